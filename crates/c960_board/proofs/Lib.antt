@@ -1,0 +1,9 @@
+pub mod Colours
+pub mod KindFacts
+pub mod NumberFacts
+pub mod NumberTable
+pub mod Ranges
+pub mod Reading
+pub mod StartFacts
+pub mod StartTable
+pub mod Written

@@ -1,0 +1,8 @@
+-- The lemmas on the written text.
+pub mod Steps
+pub mod SideRights
+pub mod Lengths
+pub mod Ranks
+pub mod Rights
+pub mod Fields
+pub mod Laws

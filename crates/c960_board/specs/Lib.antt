@@ -1,0 +1,9 @@
+pub mod Squares
+pub mod Pieces
+pub mod Position
+pub mod Conditions
+pub mod Array
+pub mod LawfulRank
+pub mod Start
+pub mod Moves
+pub mod Fen

@@ -1,0 +1,21 @@
+//! Shredder-FEN: the text of a position.
+
+mod bytes;
+mod counters;
+mod fault;
+mod fields;
+mod placement;
+mod rank;
+mod reader;
+mod rights;
+mod symbol;
+mod target;
+#[cfg(test)]
+mod tests;
+mod turn;
+mod writer;
+
+pub use bytes::FenBytes;
+pub use fault::FenFault;
+pub use reader::read_fen;
+pub use writer::write_fen;

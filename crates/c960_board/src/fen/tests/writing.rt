@@ -1,0 +1,131 @@
+//! Texts of positions that are made of their parts.
+
+use crate::fen::writer::write_fen;
+use crate::parts::Parts;
+use crate::piece::{Colour, Kind, Piece};
+use crate::position::Position;
+use crate::rights::CastlingRights;
+use crate::square::Square;
+use std::test::*;
+
+/// What a square of a drawing holds: a capital is White's, a point is an empty square.
+fn piece(letter: u8) -> Option<Piece> {
+    let kind = match letter.to_ascii_lowercase() {
+        b'p' => Kind::Pawn,
+        b'n' => Kind::Knight,
+        b'b' => Kind::Bishop,
+        b'r' => Kind::Rook,
+        b'q' => Kind::Queen,
+        b'k' => Kind::King,
+        _ => return None,
+    };
+    let colour = if letter.is_ascii_uppercase() {
+        Colour::White
+    } else {
+        Colour::Black
+    };
+    Some(Piece { colour, kind })
+}
+
+/// The squares of a board that is drawn from rank 8 to rank 1.
+fn drawn(board: &[u8; 64]) -> [Option<Piece>; 64] {
+    let mut placement = [None; 64];
+    for square in 0..64 {
+        placement[square] = piece(board[8 * (7 - square / 8) + square % 8]);
+    }
+    placement
+}
+
+/// The rights with the rooks of these files.
+fn rights(white: &[usize], black: &[usize]) -> CastlingRights {
+    CastlingRights {
+        white: files(white),
+        black: files(black),
+    }
+}
+
+fn files(rooks: &[usize]) -> [bool; 8] {
+    let mut files = [false; 8];
+    for file in 0..8 {
+        files[file] = rooks.contains(&file);
+    }
+    files
+}
+
+#[test]
+fn text_with_a_right(rt: HostRuntime) -> Result<(), Fail> {
+    let board = b"\
+        ....k...\
+        ........\
+        ........\
+        ........\
+        ........\
+        ........\
+        ........\
+        .RK.....";
+    let position = Position::make(Parts {
+        placement: drawn(board),
+        turn: Colour::White,
+        rights: rights(&[1], &[]),
+        target: None,
+        half_moves: 0,
+        number: 1,
+    });
+    let text = write_fen(&position.ok_or("no position")?);
+    let whole = b"4k3/8/8/8/8/8/8/1RK5 w B - 0 1";
+    assert_eq!(rt; text.as_slice(), whole.as_slice());
+    Ok(())
+}
+
+#[test]
+fn longest_text(rt: HostRuntime) -> Result<(), Fail> {
+    let board = b"\
+        rnbqkbnr\
+        pppp.ppp\
+        nnnn.nnn\
+        nnnnpnnn\
+        NNNNNNNN\
+        NNNNNNNN\
+        PPPPPPPP\
+        RNBQKBNR";
+    let position = Position::make(Parts {
+        placement: drawn(board),
+        turn: Colour::White,
+        rights: rights(&[0, 7], &[0, 7]),
+        target: Square::new(44),
+        half_moves: 65535,
+        number: 65535,
+    });
+    let text = write_fen(&position.ok_or("no position")?);
+    let whole =
+        b"rnbqkbnr/pppp1ppp/nnnn1nnn/nnnnpnnn/NNNNNNNN/NNNNNNNN/PPPPPPPP/RNBQKBNR w HAha e6 65535 65535";
+    assert_eq!(rt; text.len(), 93);
+    assert_eq!(rt; text.as_slice(), whole.as_slice());
+    Ok(())
+}
+
+#[test]
+fn text_with_no_rights(rt: HostRuntime) -> Result<(), Fail> {
+    let board = b"\
+        ........\
+        ..k..p..\
+        ........\
+        .......q\
+        b...P...\
+        ........\
+        ........\
+        .R....K.";
+    let position = Position::make(Parts {
+        placement: drawn(board),
+        turn: Colour::Black,
+        rights: rights(&[], &[]),
+        target: Square::new(20),
+        half_moves: 0,
+        number: 40,
+    });
+    let text = write_fen(&position.ok_or("no position")?);
+    let whole = b"8/2k2p2/8/7q/b3P3/8/8/1R4K1 b - e3 0 40";
+    assert!(rt; !text.is_empty());
+    assert_eq!(rt; text.as_slice(), whole.as_slice());
+    Ok(())
+}

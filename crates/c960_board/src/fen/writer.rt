@@ -1,0 +1,184 @@
+//! Writing the text of a position, field by field. Each function appends to a text that has room for it.
+
+ghost use Rattle.std.specs.Prelude.{◌≡◌, ◌≤◌, ◌<◌, ◌+◌, ◌++◌, [], length, decimal};
+ghost use Rattle.arrayvec.specs.ArrayVec.{array_vec_len};
+ghost use Rattle.c960_board.specs.Fen.Canonical.{canonical, ranks_text, rights_text, run_text, side_text, squares_text};
+ghost use Rattle.c960_board.specs.Fen.Letters.{letter, right_base, turn_text};
+ghost use Rattle.c960_board.specs.Fen.Target.{target_text};
+
+use crate::fen::bytes::FenBytes;
+use crate::piece::{Colour, Kind, Piece};
+use crate::position::Position;
+use crate::rights::CastlingRights;
+use crate::square::Square;
+use crate::square_text::square_bytes;
+use arrayvec::ArrayVec;
+use itoa::Buffer;
+
+/// The letter of a piece: a capital for White, a small letter for Black.
+fn letter_of(piece: Piece) -> u8
+    ensures { result ≡ letter piece }
+{
+    let small = match piece.kind {
+        Kind::Pawn => b'p',
+        Kind::Knight => b'n',
+        Kind::Bishop => b'b',
+        Kind::Rook => b'r',
+        Kind::Queen => b'q',
+        Kind::King => b'k',
+    };
+    match piece.colour {
+        Colour::White => small - 32,
+        Colour::Black => small,
+    }
+}
+
+/// Appends the digit of a run of empty squares: nothing where there is none.
+fn write_run(text: &mut ArrayVec<u8, 93>, empty: u8)
+    requires digit { empty ≤ 8 }
+    requires room { array_vec_len text.old + length (run_text empty) ≤ 93 }
+    ensures { text.new.items ≡ text.old.items ++ run_text empty }
+{
+    if empty > 0 {
+        text.push(b'0' + empty);
+    }
+}
+
+/// Appends the squares of a rank, from file a to file h.
+#[tactic(auto, unfolding(crate::specs::Fen::Canonical::squares_text))]
+fn write_rank(text: &mut ArrayVec<u8, 93>, squares: &[Option<Piece>])
+    requires width { length squares.now ≤ 8 }
+    requires room { array_vec_len text.old + length (squares_text squares.now 0) ≤ 93 }
+    ensures { text.new.items ≡ text.old.items ++ squares_text squares.now 0 }
+{
+    let mut empty: u8 = 0;
+    for square in squares {
+        match square {
+            None => empty += 1,
+            Some(piece) => {
+                write_run(text, empty);
+                text.push(letter_of(*piece));
+                empty = 0;
+            }
+        }
+    }
+    write_run(text, empty);
+}
+
+/// Appends the ranks from the eighth to the first, parted by slashes.
+#[tactic(auto, using(crate::proofs::Written::Steps::ranks_text_last))]
+fn write_placement(text: &mut ArrayVec<u8, 93>, placement: &[Option<Piece>; 64])
+    requires { array_vec_len text.old + length (ranks_text 7 placement.now) ≤ 93 }
+    ensures text { text.new.items ≡ text.old.items ++ ranks_text 7 placement.now }
+    ensures len { array_vec_len text.new ≡ array_vec_len text.old + length (ranks_text 7 placement.now) }
+{
+    let mut squares = placement.as_slice();
+    for rank in (1..8).rev() {
+        let (lower, highest) = squares.split_at(8 * rank);
+        write_rank(text, highest);
+        text.push(b'/');
+        squares = lower;
+    }
+    write_rank(text, squares);
+}
+
+/// Appends the letter of the side to move.
+fn write_turn(text: &mut ArrayVec<u8, 93>, turn: Colour)
+    requires { array_vec_len text.old + length (turn_text turn) ≤ 93 }
+    ensures text { text.new.items ≡ text.old.items ++ turn_text turn }
+    ensures len { array_vec_len text.new ≡ array_vec_len text.old + length (turn_text turn) }
+{
+    text.push(match turn {
+        Colour::White => b'w',
+        Colour::Black => b'b',
+    });
+}
+
+/// The letter of file a among a side's rights.
+fn first_letter(colour: Colour) -> u8
+    ensures value { result ≡ right_base colour }
+    ensures bound { result ≤ 97 }
+{
+    match colour {
+        Colour::White => b'A',
+        Colour::Black => b'a',
+    }
+}
+
+/// Appends the letters of a side's rights, the higher file first.
+#[tactic(auto, using(crate::proofs::Written::Steps::side_text_without))]
+fn write_side(text: &mut ArrayVec<u8, 93>, rights: &CastlingRights, colour: Colour)
+    requires { array_vec_len text.old + length (side_text rights.now colour 8) ≤ 93 }
+    ensures { text.new.items ≡ text.old.items ++ side_text rights.now colour 8 }
+{
+    for file in (0..8).rev() {
+        if rights.has(colour, file) {
+            text.push(first_letter(colour) + file);
+        }
+    }
+}
+
+/// Appends White's rights and then Black's, a dash where there is none.
+#[tactic(auto, using(crate::proofs::Written::Steps::sides_length))]
+fn write_rights(text: &mut ArrayVec<u8, 93>, rights: &CastlingRights)
+    requires { array_vec_len text.old + length (rights_text rights.now) ≤ 93 }
+    ensures text { text.new.items ≡ text.old.items ++ rights_text rights.now }
+    ensures len { array_vec_len text.new ≡ array_vec_len text.old + length (rights_text rights.now) }
+{
+    let before = text.len();
+    write_side(text, rights, Colour::White);
+    write_side(text, rights, Colour::Black);
+    if text.len() == before {
+        text.push(b'-');
+    }
+}
+
+/// Appends the target's square, a dash for none.
+fn write_target(text: &mut ArrayVec<u8, 93>, target: Option<Square>)
+    requires { array_vec_len text.old + length (target_text target) ≤ 93 }
+    ensures text { text.new.items ≡ text.old.items ++ target_text target }
+    ensures len { array_vec_len text.new ≡ array_vec_len text.old + length (target_text target) }
+{
+    match target {
+        Some(square) => {
+            let [file, rank] = square_bytes(square);
+            text.push(file);
+            text.push(rank);
+        }
+        None => text.push(b'-'),
+    }
+}
+
+/// Appends a number in decimal.
+fn write_number(text: &mut ArrayVec<u8, 93>, number: u16)
+    requires { array_vec_len text.old + length (decimal number) ≤ 93 }
+    ensures text { text.new.items ≡ text.old.items ++ decimal number }
+    ensures len { array_vec_len text.new ≡ array_vec_len text.old + length (decimal number) }
+{
+    let mut buffer = Buffer::new();
+    // It returns `Err` only where there is no room.
+    let _ = text.try_extend_from_slice(buffer.format(number).as_bytes());
+}
+
+/// The text of the position in Shredder-FEN: the placement from rank 8 to rank 1, the side to move, the castling
+/// rights, the en passant target, the half-move counter and the move number. A right is the letter of its rook's file,
+/// a capital for White. White's rights stand before Black's, and of a side's two rights the higher file is first.
+#[tactic(auto, using(crate::proofs::Written::Lengths::fields_fit))]
+pub fn write_fen(position: &Position) -> FenBytes
+    ensures { result ≡ canonical position.now }
+{
+    let parts = position.parts();
+    let mut text = ArrayVec::new();
+    write_placement(&mut text, &parts.placement);
+    text.push(b' ');
+    write_turn(&mut text, parts.turn);
+    text.push(b' ');
+    write_rights(&mut text, &parts.rights);
+    text.push(b' ');
+    write_target(&mut text, parts.target);
+    text.push(b' ');
+    write_number(&mut text, parts.half_moves);
+    text.push(b' ');
+    write_number(&mut text, parts.number);
+    FenBytes::new(text)
+}

@@ -1,0 +1,6 @@
+//! Laws of the definitions that contracts cite. Each is a function with an empty body: its clauses hold of every value.
+
+pub mod moves;
+pub mod numbering;
+pub mod reading;
+pub mod texts;

@@ -1,0 +1,38 @@
+//! Laws of the moves' texts and codes.
+
+ghost use Rattle.std.specs.Prelude.{◌≡◌, ◌<◌, ◌≤◌, ℕ, List, length};
+ghost use Rattle.c960_board.specs.declared.moves.fault.MoveFault.{MoveFault};
+ghost use Rattle.c960_board.specs.Moves.{IsMove, IsMoveFault, MoveText, Triple, move_code, move_text};
+
+/// What `move_bytes` writes is a text of the move, so that `read_move` reads the move from it.
+pub fn written_text_is_of_the_move()
+    ensures text { (m : Triple) → IsMove m → MoveText m (move_text m) }
+    ensures short { (m : Triple) → length (move_text m) ≤ 5 }
+{}
+
+/// No two texts are of one move.
+pub fn one_text_for_a_move()
+    ensures { (m : Triple) (a b : List ℕ) → MoveText m a → MoveText m b → a ≡ b }
+{}
+
+/// No two moves have one text.
+pub fn one_move_for_a_text()
+    ensures { (m n : Triple) (text : List ℕ) → MoveText m text → MoveText n text → m ≡ n }
+{}
+
+/// No text of a move has a fault, and no text has two.
+pub fn one_fault_for_a_text()
+    ensures none_of_a_move { (m : Triple) (e : MoveFault) (text : List ℕ) → MoveText m text → IsMoveFault e text → ⊥ }
+    ensures one { (e f : MoveFault) (text : List ℕ) → IsMoveFault e text → IsMoveFault f text → e ≡ f }
+{}
+
+/// No two moves have one code.
+pub fn one_move_for_a_code()
+    ensures { (m n : Triple) → IsMove m → IsMove n → move_code m ≡ move_code n → m ≡ n }
+{}
+
+/// The codes of moves are the numbers below 20480.
+pub fn every_code_is_of_a_move()
+    ensures bound { (m : Triple) → IsMove m → move_code m < 20480 }
+    ensures every { (code : ℕ) → code < 20480 → (m : Triple) × IsMove m × (move_code m ≡ code) }
+{}

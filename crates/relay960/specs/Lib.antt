@@ -1,0 +1,4 @@
+pub mod Writing
+pub mod Faults
+pub mod Start
+pub mod Statuses

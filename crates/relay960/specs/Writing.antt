@@ -1,0 +1,11 @@
+-- What a writer holds after a whole line, or after a part of one.
+use Rattle.std.specs.Prelude.{ℕ, List, [], ◌∷◌, ◌++◌, take, Option}
+use Rattle.std.specs.Io.KnownBytes.{Appends}
+
+-- known bytes grow by a prefix of the text
+abbrev pub AppendsPart : Option (List ℕ) → Option (List ℕ) → List ℕ → Type 0
+AppendsPart old new text = (n : ℕ) × Appends old new (take n text)
+
+-- the text and a line feed
+abbrev pub line : List ℕ → List ℕ
+line text = text ++ 10 ∷ []

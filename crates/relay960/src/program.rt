@@ -1,0 +1,82 @@
+//! What the program does for its words, and the status that it ends with.
+
+ghost use Rattle.std.specs.Prelude.{◌≡◌, ◌≢◌, ◌⊎◌};
+ghost use Rattle.clap.specs.Words.{kind_of};
+ghost use Rattle.relay960.specs.Statuses.{job_status};
+
+use crate::fault::RunFault;
+use crate::start::start_run;
+use crate::words::{Job, job_of};
+use clap::error::ErrorKind;
+use std::alloc::Global;
+use std::convert::AsStr;
+use std::io;
+
+/// The job is done.
+pub const DONE: u8 = 0;
+
+/// The job's argument was refused.
+pub const REFUSED: u8 = 1;
+
+/// The words are faulty or ask for help.
+pub const FAULTY_WORDS: u8 = 2;
+
+/// A device failed.
+pub const DEVICE_FAILED: u8 = 3;
+
+/// There was no memory.
+pub const OUT_OF_MEMORY: u8 = 4;
+
+/// Does what the words ask for and gives the status. The first word is the program's name.
+pub fn status_of<R: Print + Eprint, S: AsStr>(rt: &R, alloc: Global, words: &[S]) -> u8 {
+    match job_of(alloc, words) {
+        Ok(job) => status_of_job(rt, job),
+        Err(error) => status_of_error(rt, &error),
+    }
+}
+
+/// Prints the text of an error of the words on standard error, for help too, and gives the status.
+pub fn status_of_error<R: Eprint>(rt: &R, error: &clap::Error) -> u8
+    ensures memory { kind_of error.now ≡ ErrorKind.OutOfMemory → result ≡ 4 }
+    ensures words { kind_of error.now ≢ ErrorKind.OutOfMemory → result ≡ 2 }
+{
+    if error.kind() == ErrorKind::OutOfMemory {
+        return status_without_memory(rt);
+    }
+    // The status tells of the error, also where standard error is closed.
+    let _ = rt.eprint(error);
+    FAULTY_WORDS
+}
+
+/// Tells on standard error that there was no memory, and gives the status.
+pub fn status_without_memory<R: Eprint>(rt: &R) -> u8
+    ensures { result ≡ 4 }
+{
+    let _ = rt.eprintln("fault 12 OutOfMemory");
+    OUT_OF_MEMORY
+}
+
+/// Does the job and gives the status, which is that of the job where no device fails.
+fn status_of_job<R: Print + Eprint>(rt: &R, job: Job) -> u8
+    ensures { (result ≡ job_status job) ⊎ (result ≡ 3) }
+{
+    let mut writer = io::writer(rt);
+    let ran = match job {
+        Job::Start(number) => start_run(number, &mut writer),
+    };
+    match ran {
+        Ok(true) => DONE,
+        Ok(false) => REFUSED,
+        Err(fault) => status_of_fault(rt, fault),
+    }
+}
+
+/// Tells of the fault on standard error and gives the status.
+fn status_of_fault<R: Eprint>(rt: &R, fault: RunFault) -> u8
+    ensures { result ≡ 3 }
+{
+    let _ = rt.eprintln(fault);
+    match fault {
+        RunFault::Write => DEVICE_FAILED,
+    }
+}

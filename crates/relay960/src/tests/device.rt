@@ -1,0 +1,38 @@
+//! A writer that has room for so many bytes alone.
+
+use std::io;
+use std::io::{ErrorKind, Write};
+
+/// What a full device answers.
+#[derive(Clone, Copy, PartialEq, Eq, Debug)]
+pub enum Full {
+    /// That it took no byte.
+    NoByte,
+    /// An error, of a kind that the standard `write_all` would try again.
+    Error,
+}
+
+/// A device that takes at most `step` bytes a write, until its room is used up.
+#[derive(Drop)]
+pub struct Device {
+    pub taken: Vec<u8>,
+    pub room: usize,
+    pub step: usize,
+    pub full: Full,
+}
+
+impl Write for Device {
+    fn write(&mut self, buf: &[u8]) -> io::Result<usize> {
+        if self.room == 0 && self.full == Full::Error {
+            return Err(io::Error::from(ErrorKind::Interrupted));
+        }
+        let most = self.room.min(self.step).min(buf.len());
+        self.taken.extend_from_slice(&buf[..most])?;
+        self.room -= most;
+        Ok(most)
+    }
+
+    fn flush(&mut self) -> io::Result<()> {
+        Ok(())
+    }
+}

@@ -1,0 +1,105 @@
+//! The statuses, and which stream each text goes to.
+
+use super::lines::STANDARD;
+use super::streams::Streams;
+use super::texts::{HELP, NO_NUMBER};
+use crate::program::{
+    DEVICE_FAILED, DONE, FAULTY_WORDS, OUT_OF_MEMORY, REFUSED, status_of, status_of_error,
+};
+use std::alloc::AllocError;
+use std::test::Fail;
+
+fn printed(streams: &Streams, out: &str, err: &str) -> bool {
+    match (streams.out.try_borrow(), streams.err.try_borrow()) {
+        (Ok(kept_out), Ok(kept_err)) => kept_out.as_str() == out && kept_err.as_str() == err,
+        _ => false,
+    }
+}
+
+#[test]
+fn each_run_has_its_status_and_streams(rt: HostRuntime) -> Result<(), Fail> {
+    let alloc = rt.alloc();
+    let cases = [
+        (["relay960"].as_slice(), DONE, STANDARD, ""),
+        (["relay960", "start", "518"].as_slice(), DONE, STANDARD, ""),
+        (
+            ["relay960", "start", "960"].as_slice(),
+            REFUSED,
+            "refused 3 BadStart\n",
+            "",
+        ),
+        (
+            ["relay960", "start", "65535"].as_slice(),
+            REFUSED,
+            "refused 3 BadStart\n",
+            "",
+        ),
+        (
+            ["relay960", "start", "x"].as_slice(),
+            FAULTY_WORDS,
+            "",
+            NO_NUMBER,
+        ),
+        (["relay960", "--help"].as_slice(), FAULTY_WORDS, "", HELP),
+    ];
+    for (words, status, out, err) in cases {
+        let streams = Streams::new(alloc, false);
+        assert_eq!(rt; status_of(&streams, alloc, words), status, "{words:?}");
+        assert!(rt; printed(&streams, out, err), "{words:?}");
+    }
+    Ok(())
+}
+
+#[test]
+fn faulty_words_have_status_2(rt: HostRuntime) -> Result<(), Fail> {
+    let alloc = rt.alloc();
+    let cases = [
+        ["relay960", "start", "x"].as_slice(),
+        ["relay960", "start", "65536"].as_slice(),
+        ["relay960", "start", "-1"].as_slice(),
+        ["relay960", "start", ""].as_slice(),
+        ["relay960", "start", "1", "2"].as_slice(),
+        ["relay960", "start"].as_slice(),
+        ["relay960", "nonsense"].as_slice(),
+        ["relay960", "start", "--help"].as_slice(),
+        ["relay960", "help"].as_slice(),
+    ];
+    for words in cases {
+        let streams = Streams::new(alloc, false);
+        assert_eq!(rt; status_of(&streams, alloc, words), 2, "{words:?}");
+    }
+    Ok(())
+}
+
+#[test]
+fn a_closed_output_is_fault_32(rt: HostRuntime) -> Result<(), Fail> {
+    let alloc = rt.alloc();
+    for words in [
+        ["relay960"].as_slice(),
+        ["relay960", "start", "960"].as_slice(),
+    ] {
+        let streams = Streams::new(alloc, true);
+        assert_eq!(rt;
+            status_of(&streams, alloc, words),
+            DEVICE_FAILED,
+            "{words:?}"
+        );
+        assert!(rt; printed(&streams, "", "fault 32 Write\n"), "{words:?}");
+    }
+    Ok(())
+}
+
+#[test]
+fn want_of_memory_is_fault_12(rt: HostRuntime) -> Result<(), Fail> {
+    let streams = Streams::new(rt.alloc(), false);
+    let error = clap::Error::from(AllocError);
+    assert_eq!(rt; status_of_error(&streams, &error), OUT_OF_MEMORY);
+    assert!(rt; printed(&streams, "", "fault 12 OutOfMemory\n"));
+    Ok(())
+}
+
+#[test]
+fn the_statuses_are_numbered(rt: HostRuntime) {
+    let statuses = [DONE, REFUSED, FAULTY_WORDS, DEVICE_FAILED, OUT_OF_MEMORY];
+    assert_eq!(rt; statuses, [0, 1, 2, 3, 4]);
+}

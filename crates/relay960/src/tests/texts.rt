@@ -1,0 +1,120 @@
+//! The texts of `clap` for faulty words and for help.
+
+use crate::words::{Job, job_of, not_utf8};
+use std::test::Fail;
+
+/// The help of the program.
+pub const HELP: &str = "Positions of Chess960
+
+Usage: relay960 [COMMAND]
+
+Commands:
+  start  Print the starting position N in Shredder-FEN
+  help   Print this message or the help of the given subcommand(s)
+
+Options:
+  -h, --help  Print help
+
+Without a command: start 518, the standard array
+";
+
+/// The help of `start`.
+pub const START_HELP: &str = "Print the starting position N in Shredder-FEN
+
+Usage: relay960 start <N>
+
+Arguments:
+  <N>  Scharnagl's number of the position, 0 to 959
+
+Options:
+  -h, --help  Print help
+";
+
+/// The text for words that `clap` does not read as a number.
+pub const NO_NUMBER: &str = "error: invalid value 'x' for '<N>': invalid digit found in string
+
+For more information, try '--help'.
+";
+
+const TOO_GREAT: &str = "error: invalid value '65536' for '<N>': 65536 is not in 0..=65535
+
+For more information, try '--help'.
+";
+
+const MISSING: &str = "error: the following required arguments were not provided:
+  <N>
+
+Usage: relay960 start <N>
+
+For more information, try '--help'.
+";
+
+const NEGATIVE: &str = "error: unexpected argument '-1' found
+
+  tip: to pass '-1' as a value, use '-- -1'
+
+Usage: relay960 start <N>
+
+For more information, try '--help'.
+";
+
+const UNKNOWN: &str = "error: unrecognized subcommand 'nonsense'
+
+Usage: relay960 [COMMAND]
+
+For more information, try '--help'.
+";
+
+const NOT_UTF8: &str = "error: invalid UTF-8 was detected in one or more arguments
+
+Usage: relay960 [COMMAND]
+
+For more information, try '--help'.
+";
+
+#[test]
+fn words_name_a_job(rt: HostRuntime) -> Result<(), Fail> {
+    let alloc = rt.alloc();
+    assert_eq!(rt; job_of(alloc, &["relay960"])?, Job::Start(518));
+    assert_eq!(rt; job_of(alloc, &["relay960", "start", "0"])?, Job::Start(0));
+    assert_eq!(rt;
+        job_of(alloc, &["relay960", "start", "959"])?,
+        Job::Start(959)
+    );
+    assert_eq!(rt;
+        job_of(alloc, &["relay960", "start", "65535"])?,
+        Job::Start(65535)
+    );
+    Ok(())
+}
+
+#[test]
+fn faulty_words_have_a_text(rt: HostRuntime) -> Result<(), Fail> {
+    let alloc = rt.alloc();
+    let cases = [
+        (["relay960", "start", "x"].as_slice(), NO_NUMBER),
+        (["relay960", "start", "65536"].as_slice(), TOO_GREAT),
+        (["relay960", "start", "-1"].as_slice(), NEGATIVE),
+        (["relay960", "start"].as_slice(), MISSING),
+        (["relay960", "nonsense"].as_slice(), UNKNOWN),
+        (["relay960", "--help"].as_slice(), HELP),
+        (["relay960", "help"].as_slice(), HELP),
+        (["relay960", "start", "--help"].as_slice(), START_HELP),
+    ];
+    for (words, expected) in cases {
+        let Err(error) = job_of(alloc, words) else {
+            return Err(Fail::from("the words were read"));
+        };
+        let text = error.to_string(alloc)?;
+        assert_eq!(rt; text.as_str(), expected);
+    }
+    Ok(())
+}
+
+#[test]
+fn a_word_that_is_no_text_has_a_text(rt: HostRuntime) -> Result<(), Fail> {
+    let alloc = rt.alloc();
+    let text = not_utf8(alloc).to_string(alloc)?;
+    assert_eq!(rt; text.as_str(), NOT_UTF8);
+    Ok(())
+}

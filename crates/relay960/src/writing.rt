@@ -1,0 +1,39 @@
+//! Whole lines on any writer, without memory.
+//!
+//! The standard `write_all` tries an interrupted write again and says nothing of what was written before an error. Here
+//! each error of `write` is the fault, and what was written is a prefix.
+
+ghost use Rattle.std.specs.Prelude.{◌≡◌, OnOk, OnErr, IfErr};
+ghost use Rattle.std.specs.Io.KnownBytes.{Appends};
+ghost use Rattle.relay960.specs.Writing.{AppendsPart, line};
+
+use crate::fault::RunFault;
+use std::io::Write;
+
+/// Writes the whole text, or on a fault a prefix of it.
+#[tactic(auto, using(crate::proofs::Prefixes::written_more, crate::proofs::Prefixes::part_written))]
+pub fn write_whole<W: Write>(writer: &mut W, text: &[u8]) -> Result<(), RunFault>
+    ensures whole { OnOk result (Appends (W.contents writer.old) (W.contents writer.new) text.now) }
+    ensures part { OnErr result (AppendsPart (W.contents writer.old) (W.contents writer.new) text.now) }
+    ensures fault { IfErr result (λ fault. fault ≡ RunFault.Write) }
+{
+    let mut written = 0;
+    while written < text.len() {
+        match writer.write(&text[written..]) {
+            Ok(0) | Err(_) => return Err(RunFault::Write),
+            Ok(taken) => written += taken,
+        }
+    }
+    Ok(())
+}
+
+/// Writes the text and a line feed, or on a fault a prefix of them.
+#[tactic(auto, using(crate::proofs::Prefixes::part_before, crate::proofs::Prefixes::on_err_behind))]
+pub fn write_line<W: Write>(writer: &mut W, text: &[u8]) -> Result<(), RunFault>
+    ensures whole { OnOk result (Appends (W.contents writer.old) (W.contents writer.new) (line text.now)) }
+    ensures part { OnErr result (AppendsPart (W.contents writer.old) (W.contents writer.new) (line text.now)) }
+    ensures fault { IfErr result (λ fault. fault ≡ RunFault.Write) }
+{
+    write_whole(writer, text)?;
+    write_whole(writer, b"\n")
+}
