@@ -1,1 +1,4 @@
 pub mod Prefixes
+pub mod Items
+pub mod AnswerFacts
+pub mod StatusFacts

@@ -1,5 +1,5 @@
 -- Lemmas on prefixes of a text that was written in part.
-use Rattle.std.proofs.Common.{Result, OnErr, ◌≡◌, ℕ, ◌+◌, ◌-◌, List, ◌++◌, length, take, drop, Option}
+use Rattle.std.proofs.Common.{Result, Ok, Err, OnErr, ◌≡◌, ℕ, ◌+◌, ◌-◌, List, ◌++◌, length, take, drop, Option}
 use Rattle.std.proofs.Common.{sym, ap, ◌∙◌, subst, append_assoc, take-append-drop}
 use lib.Seq.{take-append_seam}
 use Rattle.std.proofs.Math.Seq.{take-add}
@@ -37,6 +37,11 @@ part_behind a b c front back p (n, q) =
 pub on_err_behind : {T E : Type 0} (r : Result T E) (a b c : Option (List ℕ)) (front back : List ℕ) → Appends a b front
     → OnErr r (AppendsPart b c back) → OnErr r (AppendsPart a c (front ++ back))
 on_err_behind r a b c front back p q = on_err_weaker r (part_behind a b c front back p) q
+
+-- what is known holds where there is an error too
+pub on_err_known : {T E P : Type 0} (r : Result T E) → P → OnErr r P
+on_err_known (Ok x) p = tt
+on_err_known (Err e) p = p
 
 -- one more write, of m bytes of the slice behind the n that were written
 pub written_more : (a b c : Option (List ℕ)) (text : List ℕ) (n m : ℕ) → Appends a b (take n text)

@@ -1,4 +1,5 @@
 pub mod Writing
 pub mod Faults
 pub mod Start
+pub mod Moves
 pub mod Statuses

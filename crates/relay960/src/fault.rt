@@ -11,6 +11,8 @@ use thiserror::Error;
 pub enum RunFault {
     /// The device refused a write, or took no byte of it.
     Write,
+    /// There was no memory.
+    OutOfMemory,
 }
 
 impl RunFault {
@@ -20,6 +22,7 @@ impl RunFault {
     {
         match self {
             RunFault::Write => 32,
+            RunFault::OutOfMemory => 12,
         }
     }
 
@@ -29,6 +32,7 @@ impl RunFault {
     {
         match self {
             RunFault::Write => "Write",
+            RunFault::OutOfMemory => "OutOfMemory",
         }
     }
 }

@@ -2,6 +2,8 @@
 #![tactic(auto)]
 
 mod fault;
+mod listing;
+mod moves;
 mod program;
 mod start;
 #[cfg(test)]

@@ -1,10 +1,11 @@
 //! What the program does for its words, and the status that it ends with.
 
-ghost use Rattle.std.specs.Prelude.{◌≡◌, ◌≢◌, ◌⊎◌};
+ghost use Rattle.std.specs.Prelude.{◌≡◌, ◌≢◌, ◌⊎◌, MatchResult, cond};
 ghost use Rattle.clap.specs.Words.{kind_of};
-ghost use Rattle.relay960.specs.Statuses.{job_status};
+ghost use Rattle.relay960.specs.Statuses.{JobStatus, fault_status};
 
 use crate::fault::RunFault;
+use crate::moves::moves_run;
 use crate::start::start_run;
 use crate::words::{Job, job_of};
 use clap::error::ErrorKind;
@@ -30,7 +31,7 @@ pub const OUT_OF_MEMORY: u8 = 4;
 /// Does what the words ask for and gives the status. The first word is the program's name.
 pub fn status_of<R: Print + Eprint, S: AsStr>(rt: &R, alloc: Global, words: &[S]) -> u8 {
     match job_of(alloc, words) {
-        Ok(job) => status_of_job(rt, job),
+        Ok(job) => status_of_job(rt, alloc, job),
         Err(error) => status_of_error(rt, &error),
     }
 }
@@ -56,14 +57,21 @@ pub fn status_without_memory<R: Eprint>(rt: &R) -> u8
     OUT_OF_MEMORY
 }
 
-/// Does the job and gives the status, which is that of the job where no device fails.
-fn status_of_job<R: Print + Eprint>(rt: &R, job: Job) -> u8
-    ensures { (result ≡ job_status job) ⊎ (result ≡ 3) }
+/// Does the job and gives the status, which is one of the job's where no device fails.
+fn status_of_job<R: Print + Eprint>(rt: &R, alloc: Global, job: Job<'_>) -> u8
+    ensures { JobStatus job.entry result ⊎ (result ≡ 3) }
 {
     let mut writer = io::writer(rt);
-    let ran = match job {
-        Job::Start(number) => start_run(number, &mut writer),
-    };
+    match job {
+        Job::Start(number) => status_of_run(rt, start_run(number, &mut writer)),
+        Job::Moves(fen) => status_of_run(rt, moves_run(alloc, fen.as_bytes(), &mut writer)),
+    }
+}
+
+/// The status of a run: whether its argument was good, or the fault, which it tells of on standard error.
+fn status_of_run<R: Eprint>(rt: &R, ran: Result<bool, RunFault>) -> u8
+    ensures { MatchResult ran (λ good. result ≡ cond good 0 1) (λ fault. result ≡ fault_status fault) }
+{
     match ran {
         Ok(true) => DONE,
         Ok(false) => REFUSED,
@@ -73,10 +81,11 @@ fn status_of_job<R: Print + Eprint>(rt: &R, job: Job) -> u8
 
 /// Tells of the fault on standard error and gives the status.
 fn status_of_fault<R: Eprint>(rt: &R, fault: RunFault) -> u8
-    ensures { result ≡ 3 }
+    ensures { result ≡ fault_status fault }
 {
     let _ = rt.eprintln(fault);
     match fault {
         RunFault::Write => DEVICE_FAILED,
+        RunFault::OutOfMemory => OUT_OF_MEMORY,
     }
 }

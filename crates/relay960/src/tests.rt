@@ -2,6 +2,7 @@
 
 mod device;
 mod lines;
+mod moves;
 mod statuses;
 mod streams;
 mod texts;

@@ -7,9 +7,11 @@ use std::convert::AsStr;
 
 /// What the words ask for.
 #[derive(Clone, Copy, PartialEq, Eq, Debug)]
-pub enum Job {
+pub enum Job<'a> {
     /// To print the starting position of that number.
     Start(u16),
+    /// To print the legal moves and the state of the position of that text.
+    Moves(&'a str),
 }
 
 /// The number of the standard array, RNBQKBNR.
@@ -26,22 +28,34 @@ fn start_command<'a>(alloc: Global) -> Result<Command<'a>, AllocError> {
         .arg(number)
 }
 
+fn moves_command<'a>(alloc: Global) -> Result<Command<'a>, AllocError> {
+    let fen = Arg::new(alloc, "FEN")
+        .help("The position in Shredder-FEN, as one word")
+        .required(true)
+        .action(ArgAction::Set);
+    Command::new(alloc, "moves")
+        .about("Print the legal moves and the state of the position FEN")
+        .arg(fen)
+}
+
 fn program_command<'a>(alloc: Global) -> Result<Command<'a>, AllocError> {
     Command::new(alloc, "relay960")
         .about("Positions of Chess960")
         .after_help("Without a command: start 518, the standard array")
-        .subcommand(start_command(alloc)?)
+        .subcommand(start_command(alloc)?)?
+        .subcommand(moves_command(alloc)?)
 }
 
 /// What the words ask for, of which the first is the program's name; else `clap`'s error, whose text is for the user.
 /// Words that ask for help are such an error too.
-pub fn job_of<'a, S: AsStr>(alloc: Global, words: &'a [S]) -> Result<Job, Error> {
+pub fn job_of<'a, S: AsStr>(alloc: Global, words: &'a [S]) -> Result<Job<'a>, Error> {
     let matches = program_command(alloc)?.try_get_matches_from(words)?;
     match matches.subcommand() {
-        // `clap` answers an error where the number is missing, so the default is never taken here.
+        // `clap` answers an error where the number or the text is missing, so the defaults are never taken here.
         Some(("start", given)) => Ok(Job::Start(
             given.get_one::<u16>("N").unwrap_or(STANDARD_START),
         )),
+        Some(("moves", given)) => Ok(Job::Moves(given.get_str("FEN").unwrap_or(""))),
         _ => Ok(Job::Start(STANDARD_START)),
     }
 }

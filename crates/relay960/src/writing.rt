@@ -5,6 +5,7 @@
 
 ghost use Rattle.std.specs.Prelude.{◌≡◌, OnOk, OnErr, IfErr};
 ghost use Rattle.std.specs.Io.KnownBytes.{Appends};
+ghost use Rattle.std.specs.List.{flat_map};
 ghost use Rattle.relay960.specs.Writing.{AppendsPart, line};
 
 use crate::fault::RunFault;
@@ -36,4 +37,19 @@ pub fn write_line<W: Write>(writer: &mut W, text: &[u8]) -> Result<(), RunFault>
 {
     write_whole(writer, text)?;
     write_whole(writer, b"\n")
+}
+
+/// Writes the pieces one after the other, or on a fault a prefix of them.
+#[tactic(auto, using(crate::proofs::Items::items_more, crate::proofs::Items::items_part))]
+pub fn write_pieces<W: Write>(writer: &mut W, pieces: &[&[u8]]) -> Result<(), RunFault>
+    ensures whole { OnOk result (Appends (W.contents writer.old) (W.contents writer.new)
+        (flat_map (λ piece. piece.now) pieces.now)) }
+    ensures part { OnErr result (AppendsPart (W.contents writer.old) (W.contents writer.new)
+        (flat_map (λ piece. piece.now) pieces.now)) }
+    ensures fault { IfErr result (λ fault. fault ≡ RunFault.Write) }
+{
+    for piece in pieces {
+        write_whole(writer, piece)?;
+    }
+    Ok(())
 }

@@ -85,12 +85,25 @@ fn fit_king(rights: &CastlingRights, colour: Colour, square: usize) -> bool
     is_home(rights, colour, square) && one_each_side(rights, colour, (square % 8) as u8)
 }
 
+/// Whether the side's king does not stand on the square, or the rights fit it there.
+fn fit_square(
+    placement: &[Option<Piece>; 64],
+    rights: &CastlingRights,
+    colour: Colour,
+    square: usize,
+) -> bool
+    requires { square < 64 }
+    ensures { IsTrue result ↔ (cell_at placement.now square ≡ man colour King → RightsFitKing rights.now colour square) }
+{
+    !is_man(placement[square], colour, Kind::King) || fit_king(rights, colour, square)
+}
+
 /// Whether the rights fit wherever the side's king stands.
 fn kings_fit(placement: &[Option<Piece>; 64], rights: &CastlingRights, colour: Colour) -> bool
     ensures { IsTrue result ↔ ((s : ℕ) → s < 64 → cell_at placement.now s ≡ man colour King → RightsFitKing rights.now colour s) }
 {
     for square in 0..64 {
-        if is_man(placement[square], colour, Kind::King) && !fit_king(rights, colour, square) {
+        if !fit_square(placement, rights, colour, square) {
             return false;
         }
     }

@@ -93,10 +93,21 @@ fn a_device_that_takes_two_bytes_at_a_time_gets_the_whole_line(
 }
 
 #[test]
-fn the_fault_has_its_number_and_name(rt: HostRuntime) -> Result<(), Fail> {
-    assert_eq!(rt; RunFault::Write.code(), 32);
-    assert_eq!(rt; RunFault::Write.name(), "Write");
-    let text = RunFault::Write.to_string(rt.alloc())?;
-    assert_eq!(rt; text.as_str(), "fault 32 Write");
+fn each_fault_has_its_number_and_name(rt: HostRuntime) -> Result<(), Fail> {
+    let cases = [
+        (RunFault::Write, 32, "Write", "fault 32 Write"),
+        (
+            RunFault::OutOfMemory,
+            12,
+            "OutOfMemory",
+            "fault 12 OutOfMemory",
+        ),
+    ];
+    for (fault, code, name, shown) in cases {
+        assert_eq!(rt; fault.code(), code, "{name}");
+        assert_eq!(rt; fault.name(), name);
+        let text = fault.to_string(rt.alloc())?;
+        assert_eq!(rt; text.as_str(), shown);
+    }
     Ok(())
 }

@@ -1,8 +1,9 @@
 //! The statuses, and which stream each text goes to.
 
 use super::lines::STANDARD;
+use super::moves::{KINGS_AND_QUEENS, PROMOTION, PROMOTION_LINES, UNLAWFUL};
 use super::streams::Streams;
-use super::texts::{HELP, NO_NUMBER};
+use super::texts::{HELP, NO_NUMBER, TWO_WORDS};
 use crate::program::{
     DEVICE_FAILED, DONE, FAULTY_WORDS, OUT_OF_MEMORY, REFUSED, status_of, status_of_error,
 };
@@ -41,6 +42,30 @@ fn each_run_has_its_status_and_streams(rt: HostRuntime) -> Result<(), Fail> {
             NO_NUMBER,
         ),
         (["relay960", "--help"].as_slice(), FAULTY_WORDS, "", HELP),
+        (
+            ["relay960", "moves", PROMOTION].as_slice(),
+            DONE,
+            PROMOTION_LINES,
+            "",
+        ),
+        (
+            ["relay960", "moves", UNLAWFUL].as_slice(),
+            REFUSED,
+            "unlawful\n",
+            "",
+        ),
+        (
+            ["relay960", "moves", KINGS_AND_QUEENS].as_slice(),
+            REFUSED,
+            "fault 4 Castling\n",
+            "",
+        ),
+        (
+            ["relay960", "moves", "8/8/8/8", "w"].as_slice(),
+            FAULTY_WORDS,
+            "",
+            TWO_WORDS,
+        ),
     ];
     for (words, status, out, err) in cases {
         let streams = Streams::new(alloc, false);
@@ -62,6 +87,9 @@ fn faulty_words_have_status_2(rt: HostRuntime) -> Result<(), Fail> {
         ["relay960", "start"].as_slice(),
         ["relay960", "nonsense"].as_slice(),
         ["relay960", "start", "--help"].as_slice(),
+        ["relay960", "moves"].as_slice(),
+        ["relay960", "moves", "8/8/8/8", "w"].as_slice(),
+        ["relay960", "moves", "--help"].as_slice(),
         ["relay960", "help"].as_slice(),
     ];
     for words in cases {
@@ -77,6 +105,9 @@ fn a_closed_output_is_fault_32(rt: HostRuntime) -> Result<(), Fail> {
     for words in [
         ["relay960"].as_slice(),
         ["relay960", "start", "960"].as_slice(),
+        ["relay960", "moves", PROMOTION].as_slice(),
+        ["relay960", "moves", UNLAWFUL].as_slice(),
+        ["relay960", "moves", ""].as_slice(),
     ] {
         let streams = Streams::new(alloc, true);
         assert_eq!(rt;

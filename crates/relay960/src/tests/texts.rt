@@ -10,6 +10,7 @@ Usage: relay960 [COMMAND]
 
 Commands:
   start  Print the starting position N in Shredder-FEN
+  moves  Print the legal moves and the state of the position FEN
   help   Print this message or the help of the given subcommand(s)
 
 Options:
@@ -30,6 +31,17 @@ Options:
   -h, --help  Print help
 ";
 
+const MOVES_HELP: &str = "Print the legal moves and the state of the position FEN
+
+Usage: relay960 moves <FEN>
+
+Arguments:
+  <FEN>  The position in Shredder-FEN, as one word
+
+Options:
+  -h, --help  Print help
+";
+
 /// The text for words that `clap` does not read as a number.
 pub const NO_NUMBER: &str = "error: invalid value 'x' for '<N>': invalid digit found in string
 
@@ -45,6 +57,22 @@ const MISSING: &str = "error: the following required arguments were not provided
   <N>
 
 Usage: relay960 start <N>
+
+For more information, try '--help'.
+";
+
+const NO_FEN: &str = "error: the following required arguments were not provided:
+  <FEN>
+
+Usage: relay960 moves <FEN>
+
+For more information, try '--help'.
+";
+
+/// The text for a FEN in more words than one.
+pub const TWO_WORDS: &str = "error: unexpected argument 'w' found
+
+Usage: relay960 moves <FEN>
 
 For more information, try '--help'.
 ";
@@ -85,6 +113,12 @@ fn words_name_a_job(rt: HostRuntime) -> Result<(), Fail> {
         job_of(alloc, &["relay960", "start", "65535"])?,
         Job::Start(65535)
     );
+    for fen in ["", "-", "8/P6k/8/8/8/8/8/K7 w - - 0 1"] {
+        assert_eq!(rt;
+            job_of(alloc, &["relay960", "moves", fen])?,
+            Job::Moves(fen)
+        );
+    }
     Ok(())
 }
 
@@ -100,6 +134,9 @@ fn faulty_words_have_a_text(rt: HostRuntime) -> Result<(), Fail> {
         (["relay960", "--help"].as_slice(), HELP),
         (["relay960", "help"].as_slice(), HELP),
         (["relay960", "start", "--help"].as_slice(), START_HELP),
+        (["relay960", "moves"].as_slice(), NO_FEN),
+        (["relay960", "moves", "8/8/8/8", "w"].as_slice(), TWO_WORDS),
+        (["relay960", "moves", "--help"].as_slice(), MOVES_HELP),
     ];
     for (words, expected) in cases {
         let Err(error) = job_of(alloc, words) else {

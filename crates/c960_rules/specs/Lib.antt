@@ -1,0 +1,10 @@
+pub mod Lines
+pub mod Attacks
+pub mod Check
+pub mod Reaches
+pub mod Castles
+pub mod After
+pub mod Legal
+pub mod Effects
+pub mod Listing
+pub mod Rays

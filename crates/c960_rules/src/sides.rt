@@ -1,0 +1,59 @@
+//! The two sides.
+
+ghost use Rattle.std.specs.Prelude.{◌≡◌, ◌<◌, ◌≤◌, ◌==◌};
+ghost use Rattle.c960_board.specs.Pieces.{other};
+ghost use Rattle.c960_board.specs.Squares.{home_rank, home_square, ahead};
+
+use crate::squares::square_of;
+use c960_board::{Colour, Square};
+
+/// The opponent.
+pub(crate) fn other(colour: Colour) -> Colour
+    ensures { result ≡ other colour }
+{
+    match colour {
+        Colour::White => Colour::Black,
+        Colour::Black => Colour::White,
+    }
+}
+
+/// The rank on which a side's pieces stand at the start, from 0.
+pub(crate) fn home_rank(colour: Colour) -> u8
+    ensures value { result ≡ home_rank colour }
+    ensures bound { result < 8 }
+{
+    match colour {
+        Colour::White => 0,
+        Colour::Black => 7,
+    }
+}
+
+/// The square of a side's home rank on a file.
+pub(crate) fn home_square(colour: Colour, file: u8) -> Square
+    requires { file < 8 }
+    ensures { result ≡ home_square colour file }
+{
+    square_of(8 * home_rank(colour) + file)
+}
+
+/// The square one rank forward, as a side's pawns go, of a square on neither end rank.
+pub(crate) fn ahead(colour: Colour, square: Square) -> Square
+    requires low { 8 ≤ square }
+    requires high { square < 56 }
+    ensures { result ≡ ahead colour square }
+{
+    match colour {
+        Colour::White => square_of(square.number() + 8),
+        Colour::Black => square_of(square.number() - 8),
+    }
+}
+
+/// Whether a square is the one that lies one rank forward of another, as a side's pawns go.
+pub(crate) fn is_ahead(colour: Colour, square: Square, forward: Square) -> bool
+    ensures { result ≡ (forward == ahead colour square) }
+{
+    match colour {
+        Colour::White => forward.number() == square.number() + 8,
+        Colour::Black => forward.number() == square.number().saturating_sub(8),
+    }
+}
