@@ -1,5 +1,6 @@
 pub mod Colours
 pub mod KindFacts
+pub mod MoveReading
 pub mod NumberFacts
 pub mod NumberTable
 pub mod Ranges

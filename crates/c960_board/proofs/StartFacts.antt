@@ -86,7 +86,7 @@ start_rank_is rank e =
     }
 
 -- a square of a starting position
-cell_is : (rank : List Kind) (s : ℕ) → s < 64 → cell_at (start_cells rank 64) s ≡ start_cell rank s
+pub cell_is : (rank : List Kind) (s : ℕ) → s < 64 → cell_at (start_cells rank 64) s ≡ start_cell rank s
 unfolding start_cells
 cell_is rank s l = get_or-map-range_with_len (start_cell rank) 0 64 s s None l (zero-add s)
 

@@ -7,3 +7,4 @@ pub mod LawfulRank
 pub mod Start
 pub mod Moves
 pub mod Fen
+pub mod MoveReading

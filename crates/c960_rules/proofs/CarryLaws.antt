@@ -26,7 +26,7 @@ lands_same : (o : Cell) (q : Option Kind) → q ≡ None → landed o q ≡ o
 lands_same o q e = rw e refl
 
 -- no piece of the mover's stands on the goal
-goal_free : (p : Parts) (m : Triple) (u : ℕ) (k : Kind) → IsOrdinary p m → piece_on p u ≡ man p.turn k → u ≢ m.to
+pub goal_free : (p : Parts) (m : Triple) (u : ℕ) (k : Kind) → IsOrdinary p m → piece_on p u ≡ man p.turn k → u ≢ m.to
 goal_free p m u k r is e =
     let here = ap (λ (s : ℕ). piece_on p s) (sym e) ∙ is in
     both_ways (goes_to_own p m) r.free (is_own p.turn k (piece_on p m.to) here)

@@ -7,6 +7,7 @@ pub mod RayTables
 pub mod RayFacts
 pub mod TowardFacts
 pub mod AttackFacts
+pub mod WallFacts
 pub mod SlideFacts
 pub mod CountFacts
 pub mod PawnFacts
@@ -27,7 +28,13 @@ pub mod MoveLaws
 pub mod CarryLaws
 pub mod CastlingLaws
 pub mod CounterLaws
+pub mod SquareSums
+pub mod WeightFacts
+pub mod Exchange
+pub mod CastlingWeights
+pub mod ProgressLaws
 pub mod ListFacts
 pub mod AnyFacts
 pub mod Contained
 pub mod Listed
+pub mod StartFacts

@@ -25,7 +25,7 @@ pub record IsOrdinary (p : Parts) (m : Triple) : Type 0 where
   pub passed : is_en_passant p m ≡ true → piece_on p (ahead (other p.turn) m.to) ≡ man (other p.turn) Pawn
 
 -- without a promotion the mover lands
-landed_plain : (o : Cell) (k : Option Kind) → k ≡ None → landed o k ≡ o
+pub landed_plain : (o : Cell) (k : Option Kind) → k ≡ None → landed o k ≡ o
 landed_plain o k e = rw e refl
 
 -- a pawn taken en passant is no officer

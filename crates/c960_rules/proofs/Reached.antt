@@ -68,7 +68,7 @@ no_end Black r home last (inl e) = last e
 no_end Black r home last (inr e) = home e
 
 -- a promotion makes no pawn and no king
-officer_only : (j : Kind) → IsTrue (is_promotion (Some j)) → (j ≢ Pawn) × (j ≢ King)
+pub officer_only : (j : Kind) → IsTrue (is_promotion (Some j)) → (j ≢ Pawn) × (j ≢ King)
 officer_only Pawn h = cc
 officer_only King h = cc
 officer_only Knight h = (λ e. cc, λ e. cc)

@@ -6,5 +6,6 @@ pub mod Castles
 pub mod After
 pub mod Legal
 pub mod Effects
+pub mod Progress
 pub mod Listing
 pub mod Rays

@@ -8,7 +8,7 @@ ghost use Rattle.c960_rules.specs.Legal.{Legal};
 
 use crate::cells::{holds, is_of};
 use crate::placement::placement_after;
-use crate::sides::{ahead, home_square, other};
+use crate::sides::{ahead, home_square};
 use c960_board::{CastlingRights, Colour, Kind, Move, Parts, Position, Square};
 
 /// Whether the right of that file outlives the move.
@@ -58,7 +58,7 @@ fn half_moves_after(position: &Position, m: &Move) -> u16
 {
     let turn = position.turn();
     let is_pawn = holds(position.piece_at(m.from), turn, Kind::Pawn);
-    if is_pawn || is_of(position.piece_at(m.to), other(turn)) {
+    if is_pawn || is_of(position.piece_at(m.to), turn.other()) {
         0
     } else {
         position.half_moves() + 1
@@ -92,7 +92,7 @@ fn parts_after(position: &Position, m: &Move) -> Parts
     };
     Parts {
         placement,
-        turn: other(turn),
+        turn: turn.other(),
         rights,
         target: target_after(position, m),
         half_moves: half_moves_after(position, m),

@@ -7,7 +7,7 @@ ghost use Rattle.c960_rules.specs.Castles.{is_g_side, king_goal, rook_goal, span
 
 use crate::attacks::attacked;
 use crate::cells::holds;
-use crate::sides::{home_square, other};
+use crate::sides::home_square;
 use crate::squares::square_of;
 use c960_board::{Colour, Kind, Move, Position, Square};
 
@@ -82,7 +82,7 @@ fn is_on_kings_way(position: &Position, m: &Move, square: Square) -> bool
 fn is_hit(position: &Position, square: Square) -> bool
     ensures { IsTrue result ↔ AttackedBy position.now.placement (other position.now.turn) square }
 {
-    attacked(position, other(position.turn()), square)
+    attacked(position, position.turn().other(), square)
 }
 
 /// Whether the square is off the king's way, or not attacked.

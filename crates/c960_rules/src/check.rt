@@ -5,7 +5,6 @@ ghost use Rattle.c960_rules.specs.Check.{InCheck};
 
 use crate::attacks::is_attacked;
 use crate::cells::holds;
-use crate::sides::other;
 use crate::squares::square_of;
 use c960_board::{Colour, Kind, Piece, Position, Square};
 
@@ -13,7 +12,7 @@ use c960_board::{Colour, Kind, Piece, Position, Square};
 pub(crate) fn is_in_check(placement: &[Option<Piece>; 64], colour: Colour) -> bool
     ensures { IsTrue result ↔ InCheck placement.now colour }
 {
-    let by = other(colour);
+    let by = colour.other();
     for number in 0..64 {
         let square = square_of(number);
         if holds(placement[number as usize], colour, Kind::King)

@@ -3,7 +3,6 @@
 ghost use Rattle.std.specs.Prelude.{◌≡◌, ◌↔◌, IsOk, MatchResult};
 
 use crate::check::in_check;
-use crate::sides::other;
 use c960_board::Position;
 use std::marker::Model;
 
@@ -36,7 +35,7 @@ impl Lawful {
         ensures ok { IsOk result ↔ IsLawful position }
         ensures value { MatchResult result (λ l. l ≡ position) (λ p. p ≡ position) }
     {
-        if in_check(&position, other(position.turn())) {
+        if in_check(&position, position.turn().other()) {
             Err(position)
         } else {
             Ok(Lawful::of_position(position))

@@ -2,3 +2,4 @@
 
 pub mod lists;
 pub mod moves;
+pub mod starts;

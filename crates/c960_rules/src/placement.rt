@@ -6,7 +6,7 @@ ghost use Rattle.c960_rules.specs.After.{landed, is_en_passant, cell_moved, cell
 use crate::castling::{king_goal, rook_goal};
 use crate::cells::{holds, is_of};
 use crate::reaches::{is_same_file, is_target};
-use crate::sides::{is_ahead, other};
+use crate::sides::is_ahead;
 use crate::squares::square_of;
 use c960_board::{Kind, Move, Piece, Position, Square};
 
@@ -41,7 +41,7 @@ fn cell_moved(position: &Position, m: &Move, square: Square) -> Option<Piece>
     if square == m.to {
         return landed(position.piece_at(m.from), m.promotion);
     }
-    let is_taken = is_en_passant(position, m) && is_ahead(other(position.turn()), m.to, square);
+    let is_taken = is_en_passant(position, m) && is_ahead(position.turn().other(), m.to, square);
     if square == m.from || is_taken {
         None
     } else {

@@ -10,7 +10,7 @@ ghost use Rattle.c960_rules.specs.Reaches.{pawn_rank, is_target, promotes_rightl
 
 use crate::attacks::attacks;
 use crate::cells::{holds, is_of};
-use crate::sides::{ahead, home_rank, other};
+use crate::sides::{ahead, home_rank};
 use c960_board::{Colour, Kind, Move, Piece, Position, Square};
 
 /// The rank on which a side's pawns stand at the start, from 0.
@@ -87,7 +87,7 @@ fn takes(position: &Position, m: &Move) -> bool
     ensures { IsTrue result ↔ Takes position.now m.now }
 {
     attacks_goal(position, m)
-        && (is_of(position.piece_at(m.to), other(position.turn()))
+        && (is_of(position.piece_at(m.to), position.turn().other())
             || is_target(position.target(), m.to))
 }
 
@@ -95,7 +95,7 @@ fn takes(position: &Position, m: &Move) -> bool
 fn promotes_rightly(position: &Position, m: &Move) -> bool
     ensures { IsTrue result ↔ PromotesRightly position.now m.now }
 {
-    let at_last = m.to.number() / 8 == home_rank(other(position.turn()));
+    let at_last = m.to.number() / 8 == home_rank(position.turn().other());
     m.promotion.is_some() == at_last
 }
 

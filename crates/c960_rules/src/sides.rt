@@ -1,21 +1,10 @@
 //! The two sides.
 
 ghost use Rattle.std.specs.Prelude.{◌≡◌, ◌<◌, ◌≤◌, ◌==◌};
-ghost use Rattle.c960_board.specs.Pieces.{other};
 ghost use Rattle.c960_board.specs.Squares.{home_rank, home_square, ahead};
 
 use crate::squares::square_of;
 use c960_board::{Colour, Square};
-
-/// The opponent.
-pub(crate) fn other(colour: Colour) -> Colour
-    ensures { result ≡ other colour }
-{
-    match colour {
-        Colour::White => Colour::Black,
-        Colour::Black => Colour::White,
-    }
-}
 
 /// The rank on which a side's pieces stand at the start, from 0.
 pub(crate) fn home_rank(colour: Colour) -> u8

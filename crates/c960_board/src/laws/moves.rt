@@ -1,8 +1,9 @@
 //! Laws of the moves' texts and codes.
 
-ghost use Rattle.std.specs.Prelude.{◌≡◌, ◌<◌, ◌≤◌, ℕ, List, length};
+ghost use Rattle.std.specs.Prelude.{◌≡◌, ◌↔◌, ◌<◌, ◌≤◌, ℕ, List, Ok, Err, length, take};
 ghost use Rattle.c960_board.specs.declared.moves.fault.MoveFault.{MoveFault};
 ghost use Rattle.c960_board.specs.Moves.{IsMove, IsMoveFault, MoveText, Triple, move_code, move_text};
+ghost use Rattle.c960_board.specs.MoveReading.{move_read};
 
 /// What `move_bytes` writes is a text of the move, so that `read_move` reads the move from it.
 pub fn written_text_is_of_the_move()
@@ -24,6 +25,13 @@ pub fn one_move_for_a_text()
 pub fn one_fault_for_a_text()
     ensures none_of_a_move { (m : Triple) (e : MoveFault) (text : List ℕ) → MoveText m text → IsMoveFault e text → ⊥ }
     ensures one { (e f : MoveFault) (text : List ℕ) → IsMoveFault e text → IsMoveFault f text → e ≡ f }
+{}
+
+/// The function that reads a text answers exactly the move, or the first fault, of the text.
+pub fn reading_is_a_function()
+    ensures ok { (text : List ℕ) (m : Triple) → (move_read text ≡ Ok m) ↔ MoveText m text }
+    ensures fault { (text : List ℕ) (f : MoveFault) → (move_read text ≡ Err f) ↔ IsMoveFault f text }
+    ensures cut { (text : List ℕ) → move_read (take 1025 text) ≡ move_read text }
 {}
 
 /// No two moves have one code.

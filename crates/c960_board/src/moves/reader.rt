@@ -2,6 +2,7 @@
 
 ghost use Rattle.std.specs.Prelude.{◌≡◌, ◌<◌, ℕ, ◌++◌, Ok, Err, Some, IfOk, IfErr, IfSome, IsSome};
 ghost use Rattle.c960_board.specs.Moves.{Triple, MoveText, IsMoveFault, square_text};
+ghost use Rattle.c960_board.specs.MoveReading.{move_read};
 ghost use Rattle.c960_board.specs.declared.moves.fault.MoveFault.{MoveFault};
 
 use crate::moves::promotion::read_promotion;
@@ -30,6 +31,7 @@ fn read_squares(text: &[u8]) -> Option<(Square, Square)>
 ///
 /// The first fault of the text, in the order in which `MoveFault` has them.
 pub fn read_move(text: &[u8]) -> Result<Move, MoveFault>
+    ensures value { result ≡ move_read text.now }
     ensures ok { IfOk result (λ m. MoveText m text.now) }
     ensures fault { IfErr result (λ e. IsMoveFault e text.now) }
     ensures only { (m : Triple) → MoveText m text.now → result ≡ Ok m }

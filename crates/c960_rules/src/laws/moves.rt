@@ -1,4 +1,4 @@
-//! What the Laws of Chess say of every legal move (FIDE Laws, Articles 1.4, 3.1, 3.7 to 3.10 and 5; Guidelines II.3).
+//! What the Laws of Chess say of every legal move (FIDE Laws, Articles 1.4, 3.1, 3.7 to 3.10, 5 and 9; Guidelines II.3).
 
 ghost use Rattle.std.specs.Prelude.{◌≡◌, ◌≢◌, ◌<◌, ◌↔◌, ℕ, IsFalse};
 ghost use Rattle.c960_board.specs.declared.parts.Parts.{Parts};
@@ -12,6 +12,7 @@ ghost use Rattle.c960_rules.specs.Castles.{Castles};
 ghost use Rattle.c960_rules.specs.Check.{InCheck, IsLawful};
 ghost use Rattle.c960_rules.specs.Effects.{CarriesOne, CastlesRightly, IsTakenOn, with_counters};
 ghost use Rattle.c960_rules.specs.Legal.{Legal, Mate, Stale};
+ghost use Rattle.c960_rules.specs.Progress.{Advances};
 ghost use Rattle.c960_rules.specs.Reaches.{Reaches};
 
 /// A legal move does not leave its own king attacked, and does not take the other king (Articles 1.4.1 and 3.9.2).
@@ -60,6 +61,12 @@ pub fn after_is_a_position()
     ensures position { (p : Parts) (m : Triple) → IsPosition p → IsLawful p → Legal p m → p.half_moves < 65535
         → p.number < 65535 → IsPosition (after p m) }
     ensures lawful { (p : Parts) (m : Triple) → Legal p m → IsLawful (after p m) }
+{}
+
+/// A capture or a pawn move begins the half-move counter anew and cannot be undone: it raises the position's progress,
+/// which no legal move lowers (Articles 9.2 and 9.3).
+pub fn moves_advance()
+    ensures { (p : Parts) (m : Triple) → IsPosition p → IsLawful p → Legal p m → Advances p m }
 {}
 
 /// No move is an ordinary one and castling at once.
