@@ -10,7 +10,7 @@ use Rattle.c960_rules.specs.Legal.{Legal, Mate, Stale}
 use Rattle.c960_rules.specs.declared.outcome.State.{State}
 use Rattle.c960_rules.specs.declared.outcome.State.TheVariants.{Going, Checkmate, Stalemate}
 use Rattle.relay960.specs.declared.fault.RunFault.{RunFault}
-use Rattle.relay960.specs.declared.fault.RunFault.TheVariants.{Write, OutOfMemory}
+use Rattle.relay960.specs.declared.fault.RunFault.TheVariants.{Read, Write, TooLong, OutOfMemory, BadStart}
 use Rattle.relay960.specs.Moves.{IsAnswer, Answered, Failed, FailedText, Listed, moves_lines, unlawful_line}
 use Rattle.relay960.specs.Writing.{AppendsPart}
 
@@ -41,12 +41,18 @@ pub failed : (fen : List ℕ) (bytes : List ℕ) (e : RunFault) (a b : Option (L
     → FailedText bytes e a b → Failed fen e a b
 failed fen bytes Write a b is part = record { good = true; bytes = bytes; answer = is; written = part }
 failed fen bytes OutOfMemory a b is kept = record { bytes = bytes; answer = is; kept = kept }
+failed fen bytes Read a b is none = absurd none
+failed fen bytes TooLong a b is none = absurd none
+failed fen bytes BadStart a b is none = absurd none
 
 -- a fault at a position that is not lawful leaves a part of its line
 pub failed_unlawful : (fen : List ℕ) (e : RunFault) (a b : Option (List ℕ)) → IsAnswer fen false unlawful_line
     → e ≡ Write → AppendsPart a b unlawful_line → Failed fen e a b
 failed_unlawful fen Write a b is same part = record { good = false; bytes = unlawful_line; answer = is; written = part }
 failed_unlawful fen OutOfMemory a b is same part = cc
+failed_unlawful fen Read a b is same part = cc
+failed_unlawful fen TooLong a b is same part = cc
+failed_unlawful fen BadStart a b is same part = cc
 
 -- `?` passes the fault on
 pub passed_on : {T E : Type 0} (r : Result T E) (e : E) (P : E → Type 0) → IsErrAnd r (λ x. x ≡ e) → P e → IfErr r P

@@ -2,7 +2,7 @@
 use Rattle.std.proofs.Common.{◌≡◌, ◌⊎◌, ℕ, List, Option, Bool, true, false, cond, inl, inr}
 use Rattle.std.proofs.Common.{Result, Ok, Err, IfOk, IfErr, MatchResult}
 use Rattle.relay960.specs.declared.fault.RunFault.{RunFault}
-use Rattle.relay960.specs.declared.fault.RunFault.TheVariants.{Write, OutOfMemory}
+use Rattle.relay960.specs.declared.fault.RunFault.TheVariants.{Read, Write, TooLong, OutOfMemory, BadStart}
 use Rattle.relay960.specs.Moves.{Answered, Failed}
 use Rattle.relay960.specs.Statuses.{TextStatus, fault_status}
 
@@ -14,3 +14,6 @@ text_status fen (Ok true) s a b h k e = inl (inl (record { bytes = h.bytes; answ
 text_status fen (Ok false) s a b h k e = inl (inr (record { bytes = h.bytes; answer = h.answer }, e))
 text_status fen (Err Write) s a b h k e = inr e
 text_status fen (Err OutOfMemory) s a b h k e = inl (inl (record { bytes = k.bytes; answer = k.answer }, inr e))
+text_status fen (Err Read) s a b h k e = absurd k
+text_status fen (Err TooLong) s a b h k e = absurd k
+text_status fen (Err BadStart) s a b h k e = absurd k

@@ -3,3 +3,8 @@ pub mod Faults
 pub mod Start
 pub mod Moves
 pub mod Statuses
+pub mod Lines
+pub mod Taking
+pub mod Limits
+pub mod Play
+pub mod PlayCut

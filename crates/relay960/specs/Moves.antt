@@ -12,7 +12,7 @@ use Rattle.c960_rules.specs.Legal.{Legal, legal_list, Mate, Stale}
 use Rattle.c960_rules.specs.declared.outcome.State.{State}
 use Rattle.c960_rules.specs.declared.outcome.State.TheVariants.{Going, Checkmate, Stalemate}
 use Rattle.relay960.specs.declared.fault.RunFault.{RunFault}
-use Rattle.relay960.specs.declared.fault.RunFault.TheVariants.{Write, OutOfMemory}
+use Rattle.relay960.specs.declared.fault.RunFault.TheVariants.{Read, Write, TooLong, OutOfMemory, BadStart}
 use Rattle.relay960.specs.Writing.{AppendsPart, line}
 
 -- a space and the text of the move
@@ -98,8 +98,14 @@ pub record Unanswered (fen : List ℕ) (old new : Option (List ℕ)) : Type 0 wh
 abbrev pub Failed : List ℕ → RunFault → Option (List ℕ) → Option (List ℕ) → Type 0
 Failed fen Write old new = PartlyAnswered fen old new
 Failed fen OutOfMemory old new = Unanswered fen old new
+Failed fen Read old new = ⊥
+Failed fen TooLong old new = ⊥
+Failed fen BadStart old new = ⊥
 
 -- the same of a text that is to be written
 abbrev pub FailedText : List ℕ → RunFault → Option (List ℕ) → Option (List ℕ) → Type 0
 FailedText text Write old new = AppendsPart old new text
 FailedText text OutOfMemory old new = Keeps old new
+FailedText text Read old new = ⊥
+FailedText text TooLong old new = ⊥
+FailedText text BadStart old new = ⊥

@@ -9,10 +9,16 @@ use thiserror::Error;
 #[derive(Clone, Copy, PartialEq, Eq, Debug, Error)]
 #[error("fault {} {}", self.code(), self.name())]
 pub enum RunFault {
+    /// The device refused a read.
+    Read,
     /// The device refused a write, or took no byte of it.
     Write,
+    /// The input has more lines or more bytes than a run takes.
+    TooLong,
     /// There was no memory.
     OutOfMemory,
+    /// There is no such start. The line that says so was written.
+    BadStart,
 }
 
 impl RunFault {
@@ -21,8 +27,11 @@ impl RunFault {
         ensures { result ≡ run_fault_code self.now }
     {
         match self {
+            RunFault::Read => 31,
             RunFault::Write => 32,
+            RunFault::TooLong => 33,
             RunFault::OutOfMemory => 12,
+            RunFault::BadStart => 3,
         }
     }
 
@@ -31,8 +40,11 @@ impl RunFault {
         ensures { result.now ≡ run_fault_name self.now }
     {
         match self {
+            RunFault::Read => "Read",
             RunFault::Write => "Write",
+            RunFault::TooLong => "TooLong",
             RunFault::OutOfMemory => "OutOfMemory",
+            RunFault::BadStart => "BadStart",
         }
     }
 }

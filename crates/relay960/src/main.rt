@@ -1,10 +1,17 @@
 //! The program `relay960`: it reads its words and does what they ask for.
 #![tactic(auto)]
 
+mod answerer;
 mod fault;
+mod kept;
+mod limits;
+mod lines;
 mod listing;
 mod moves;
+mod play;
+mod play_texts;
 mod program;
+mod progress;
 mod start;
 #[cfg(test)]
 mod tests;

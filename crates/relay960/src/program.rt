@@ -2,12 +2,15 @@
 
 ghost use Rattle.std.specs.Prelude.{◌≡◌, ◌≢◌, ◌⊎◌, MatchResult, cond};
 ghost use Rattle.clap.specs.Words.{kind_of};
-ghost use Rattle.relay960.specs.Statuses.{JobStatus, fault_status};
+ghost use Rattle.relay960.specs.Statuses.{JobStatus, PlayStatus, fault_status};
 
 use crate::fault::RunFault;
+use crate::limits::ScriptLimits;
 use crate::moves::moves_run;
+use crate::play::play_run;
 use crate::start::start_run;
 use crate::words::{Job, job_of};
+use c960_game::Limits;
 use clap::error::ErrorKind;
 use std::alloc::Global;
 use std::convert::AsStr;
@@ -22,14 +25,14 @@ pub const REFUSED: u8 = 1;
 /// The words are faulty or ask for help.
 pub const FAULTY_WORDS: u8 = 2;
 
-/// A device failed.
+/// A device failed, or the input was too long.
 pub const DEVICE_FAILED: u8 = 3;
 
 /// There was no memory.
 pub const OUT_OF_MEMORY: u8 = 4;
 
 /// Does what the words ask for and gives the status. The first word is the program's name.
-pub fn status_of<R: Print + Eprint, S: AsStr>(rt: &R, alloc: Global, words: &[S]) -> u8 {
+pub fn status_of<R: Input + Print + Eprint, S: AsStr>(rt: &R, alloc: Global, words: &[S]) -> u8 {
     match job_of(alloc, words) {
         Ok(job) => status_of_job(rt, alloc, job),
         Err(error) => status_of_error(rt, &error),
@@ -58,13 +61,36 @@ pub fn status_without_memory<R: Eprint>(rt: &R) -> u8
 }
 
 /// Does the job and gives the status, which is one of the job's where no device fails.
-fn status_of_job<R: Print + Eprint>(rt: &R, alloc: Global, job: Job<'_>) -> u8
+fn status_of_job<R: Input + Print + Eprint>(rt: &R, alloc: Global, job: Job<'_>) -> u8
     ensures { JobStatus job.entry result ⊎ (result ≡ 3) }
 {
     let mut writer = io::writer(rt);
     match job {
         Job::Start(number) => status_of_run(rt, start_run(number, &mut writer)),
         Job::Moves(fen) => status_of_run(rt, moves_run(alloc, fen.as_bytes(), &mut writer)),
+        Job::Play(number) => status_of_play(rt, alloc, number),
+    }
+}
+
+/// The bounds of a script that the program sets: the greatest, and the limits of a relay on one machine.
+fn program_limits() -> ScriptLimits {
+    // Each number is in its range.
+    let Some(limits) = Limits::new(16, 64, 64, 1024) else {
+        unreachable!();
+    };
+    ScriptLimits::greatest(limits)
+}
+
+/// Plays the game of start `number` over the program's input and output, and gives the status, which is one of that
+/// number where no device fails.
+fn status_of_play<R: Input + Print + Eprint>(rt: &R, alloc: Global, number: u16) -> u8
+    ensures { PlayStatus number result ⊎ (result ≡ 3) }
+{
+    let mut reader = rt.reader();
+    let mut writer = io::writer(rt);
+    match play_run(alloc, number, &mut reader, &mut writer, program_limits()) {
+        Ok(_) => DONE,
+        Err(fault) => status_of_fault(rt, fault),
     }
 }
 
@@ -79,13 +105,16 @@ fn status_of_run<R: Eprint>(rt: &R, ran: Result<bool, RunFault>) -> u8
     }
 }
 
-/// Tells of the fault on standard error and gives the status.
-fn status_of_fault<R: Eprint>(rt: &R, fault: RunFault) -> u8
+/// Tells of the fault on standard error and gives the status. Of a start that was refused the output has told.
+pub fn status_of_fault<R: Eprint>(rt: &R, fault: RunFault) -> u8
     ensures { result ≡ fault_status fault }
 {
-    let _ = rt.eprintln(fault);
+    if fault != RunFault::BadStart {
+        let _ = rt.eprintln(fault);
+    }
     match fault {
-        RunFault::Write => DEVICE_FAILED,
+        RunFault::Read | RunFault::Write | RunFault::TooLong => DEVICE_FAILED,
         RunFault::OutOfMemory => OUT_OF_MEMORY,
+        RunFault::BadStart => REFUSED,
     }
 }

@@ -11,7 +11,7 @@ use c960_board::{Position, write_fen};
 use std::io::Write;
 
 /// Writes the line of a number from 960 on, which is refused.
-fn refuse<W: Write>(writer: &mut W) -> Result<(), RunFault>
+pub fn refuse<W: Write>(writer: &mut W) -> Result<(), RunFault>
     ensures whole { OnOk result (Appends (W.contents writer.old) (W.contents writer.new) refusal_line) }
     ensures part { OnErr result (AppendsPart (W.contents writer.old) (W.contents writer.new) refusal_line) }
     ensures fault { IfErr result (λ fault. fault ≡ RunFault.Write) }

@@ -12,6 +12,8 @@ pub enum Job<'a> {
     Start(u16),
     /// To print the legal moves and the state of the position of that text.
     Moves(&'a str),
+    /// To play the game of the start of that number over lines.
+    Play(u16),
 }
 
 /// The number of the standard array, RNBQKBNR.
@@ -38,12 +40,24 @@ fn moves_command<'a>(alloc: Global) -> Result<Command<'a>, AllocError> {
         .arg(fen)
 }
 
+fn play_command<'a>(alloc: Global) -> Result<Command<'a>, AllocError> {
+    let number = Arg::new(alloc, "N")
+        .help("Scharnagl's number of the start, 0 to 959")
+        .required(true)
+        .action(ArgAction::Set)
+        .value_parser(value_parser!(u16));
+    Command::new(alloc, "play")
+        .about("Play the game of start N: read a move a line, print the position after it")
+        .arg(number)
+}
+
 fn program_command<'a>(alloc: Global) -> Result<Command<'a>, AllocError> {
     Command::new(alloc, "relay960")
         .about("Positions of Chess960")
         .after_help("Without a command: start 518, the standard array")
         .subcommand(start_command(alloc)?)?
-        .subcommand(moves_command(alloc)?)
+        .subcommand(moves_command(alloc)?)?
+        .subcommand(play_command(alloc)?)
 }
 
 /// What the words ask for, of which the first is the program's name; else `clap`'s error, whose text is for the user.
@@ -56,6 +70,7 @@ pub fn job_of<'a, S: AsStr>(alloc: Global, words: &'a [S]) -> Result<Job<'a>, Er
             given.get_one::<u16>("N").unwrap_or(STANDARD_START),
         )),
         Some(("moves", given)) => Ok(Job::Moves(given.get_str("FEN").unwrap_or(""))),
+        Some(("play", given)) => Ok(Job::Play(given.get_one::<u16>("N").unwrap_or(STANDARD_START))),
         _ => Ok(Job::Start(STANDARD_START)),
     }
 }

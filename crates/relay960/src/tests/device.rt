@@ -1,4 +1,4 @@
-//! A writer that has room for so many bytes alone.
+//! Writers that fail: one has room for so many bytes alone, the other takes so many writes alone.
 
 use std::io;
 use std::io::{ErrorKind, Write};
@@ -30,6 +30,28 @@ impl Write for Device {
         self.taken.extend_from_slice(&buf[..most])?;
         self.room -= most;
         Ok(most)
+    }
+
+    fn flush(&mut self) -> io::Result<()> {
+        Ok(())
+    }
+}
+
+/// A device that takes whole writes, so many of them, and fails at the next.
+#[derive(Drop)]
+pub struct Breaking {
+    pub taken: Vec<u8>,
+    pub writes: u64,
+}
+
+impl Write for Breaking {
+    fn write(&mut self, buf: &[u8]) -> io::Result<usize> {
+        if self.writes == 0 {
+            return Err(io::Error::from(ErrorKind::BrokenPipe));
+        }
+        self.writes -= 1;
+        self.taken.extend_from_slice(buf)?;
+        Ok(buf.len())
     }
 
     fn flush(&mut self) -> io::Result<()> {

@@ -95,7 +95,10 @@ fn a_device_that_takes_two_bytes_at_a_time_gets_the_whole_line(
 #[test]
 fn each_fault_has_its_number_and_name(rt: HostRuntime) -> Result<(), Fail> {
     let cases = [
+        (RunFault::Read, 31, "Read", "fault 31 Read"),
         (RunFault::Write, 32, "Write", "fault 32 Write"),
+        (RunFault::TooLong, 33, "TooLong", "fault 33 TooLong"),
+        (RunFault::BadStart, 3, "BadStart", "fault 3 BadStart"),
         (
             RunFault::OutOfMemory,
             12,

@@ -4,13 +4,15 @@ use super::lines::STANDARD;
 use super::moves::{KINGS_AND_QUEENS, PROMOTION, PROMOTION_LINES, UNLAWFUL};
 use super::streams::Streams;
 use super::texts::{HELP, NO_NUMBER, TWO_WORDS};
+use crate::fault::RunFault;
 use crate::program::{
     DEVICE_FAILED, DONE, FAULTY_WORDS, OUT_OF_MEMORY, REFUSED, status_of, status_of_error,
+    status_of_fault,
 };
 use std::alloc::AllocError;
 use std::test::Fail;
 
-fn printed(streams: &Streams, out: &str, err: &str) -> bool {
+fn printed(streams: &Streams<'_>, out: &str, err: &str) -> bool {
     match (streams.out.try_borrow(), streams.err.try_borrow()) {
         (Ok(kept_out), Ok(kept_err)) => kept_out.as_str() == out && kept_err.as_str() == err,
         _ => false,
@@ -66,6 +68,19 @@ fn each_run_has_its_status_and_streams(rt: HostRuntime) -> Result<(), Fail> {
             "",
             TWO_WORDS,
         ),
+        (["relay960", "play", "518"].as_slice(), DONE, "", ""),
+        (
+            ["relay960", "play", "960"].as_slice(),
+            REFUSED,
+            "refused 3 BadStart\n",
+            "",
+        ),
+        (
+            ["relay960", "play", "x"].as_slice(),
+            FAULTY_WORDS,
+            "",
+            NO_NUMBER,
+        ),
     ];
     for (words, status, out, err) in cases {
         let streams = Streams::new(alloc, false);
@@ -90,12 +105,30 @@ fn faulty_words_have_status_2(rt: HostRuntime) -> Result<(), Fail> {
         ["relay960", "moves"].as_slice(),
         ["relay960", "moves", "8/8/8/8", "w"].as_slice(),
         ["relay960", "moves", "--help"].as_slice(),
+        ["relay960", "play"].as_slice(),
+        ["relay960", "play", "x"].as_slice(),
+        ["relay960", "play", "65536"].as_slice(),
         ["relay960", "help"].as_slice(),
     ];
     for words in cases {
         let streams = Streams::new(alloc, false);
         assert_eq!(rt; status_of(&streams, alloc, words), 2, "{words:?}");
     }
+    Ok(())
+}
+
+#[test]
+fn a_game_is_played_over_the_streams(rt: HostRuntime) -> Result<(), Fail> {
+    let alloc = rt.alloc();
+    let words = ["relay960", "play", "518"].as_slice();
+    let input = b"e9e4\nf2f4\n";
+    let streams = Streams::with_input(alloc, input, false);
+    assert_eq!(rt; status_of(&streams, alloc, words), DONE);
+    let out = "fault 2 Square\nrnbqkbnr/pppppppp/8/8/5P2/8/PPPPP1PP/RNBQKBNR b HAha f3 0 1\n";
+    assert!(rt; printed(&streams, out, ""));
+    let streams = Streams::with_input(alloc, input, true);
+    assert_eq!(rt; status_of(&streams, alloc, words), DEVICE_FAILED);
+    assert!(rt; printed(&streams, "", "fault 32 Write\n"));
     Ok(())
 }
 
@@ -108,6 +141,7 @@ fn a_closed_output_is_fault_32(rt: HostRuntime) -> Result<(), Fail> {
         ["relay960", "moves", PROMOTION].as_slice(),
         ["relay960", "moves", UNLAWFUL].as_slice(),
         ["relay960", "moves", ""].as_slice(),
+        ["relay960", "play", "960"].as_slice(),
     ] {
         let streams = Streams::new(alloc, true);
         assert_eq!(rt;
@@ -126,6 +160,27 @@ fn want_of_memory_is_fault_12(rt: HostRuntime) -> Result<(), Fail> {
     let error = clap::Error::from(AllocError);
     assert_eq!(rt; status_of_error(&streams, &error), OUT_OF_MEMORY);
     assert!(rt; printed(&streams, "", "fault 12 OutOfMemory\n"));
+    Ok(())
+}
+
+#[test]
+fn each_fault_but_a_refused_start_is_told(rt: HostRuntime) -> Result<(), Fail> {
+    let alloc = rt.alloc();
+    for (fault, status, err) in [
+        (RunFault::Read, DEVICE_FAILED, "fault 31 Read\n"),
+        (RunFault::Write, DEVICE_FAILED, "fault 32 Write\n"),
+        (RunFault::TooLong, DEVICE_FAILED, "fault 33 TooLong\n"),
+        (
+            RunFault::OutOfMemory,
+            OUT_OF_MEMORY,
+            "fault 12 OutOfMemory\n",
+        ),
+        (RunFault::BadStart, REFUSED, ""),
+    ] {
+        let streams = Streams::new(alloc, false);
+        assert_eq!(rt; status_of_fault(&streams, fault), status, "{fault}");
+        assert!(rt; printed(&streams, "", err), "{fault}");
+    }
     Ok(())
 }
 

@@ -11,6 +11,7 @@ Usage: relay960 [COMMAND]
 Commands:
   start  Print the starting position N in Shredder-FEN
   moves  Print the legal moves and the state of the position FEN
+  play   Play the game of start N: read a move a line, print the position after it
   help   Print this message or the help of the given subcommand(s)
 
 Options:
@@ -37,6 +38,17 @@ Usage: relay960 moves <FEN>
 
 Arguments:
   <FEN>  The position in Shredder-FEN, as one word
+
+Options:
+  -h, --help  Print help
+";
+
+const PLAY_HELP: &str = "Play the game of start N: read a move a line, print the position after it
+
+Usage: relay960 play <N>
+
+Arguments:
+  <N>  Scharnagl's number of the start, 0 to 959
 
 Options:
   -h, --help  Print help
@@ -113,6 +125,12 @@ fn words_name_a_job(rt: HostRuntime) -> Result<(), Fail> {
         job_of(alloc, &["relay960", "start", "65535"])?,
         Job::Start(65535)
     );
+    for (word, number) in [("0", 0), ("959", 959), ("960", 960), ("65535", 65535)] {
+        assert_eq!(rt;
+            job_of(alloc, &["relay960", "play", word])?,
+            Job::Play(number)
+        );
+    }
     for fen in ["", "-", "8/P6k/8/8/8/8/8/K7 w - - 0 1"] {
         assert_eq!(rt;
             job_of(alloc, &["relay960", "moves", fen])?,
@@ -137,6 +155,8 @@ fn faulty_words_have_a_text(rt: HostRuntime) -> Result<(), Fail> {
         (["relay960", "moves"].as_slice(), NO_FEN),
         (["relay960", "moves", "8/8/8/8", "w"].as_slice(), TWO_WORDS),
         (["relay960", "moves", "--help"].as_slice(), MOVES_HELP),
+        (["relay960", "play", "x"].as_slice(), NO_NUMBER),
+        (["relay960", "play", "--help"].as_slice(), PLAY_HELP),
     ];
     for (words, expected) in cases {
         let Err(error) = job_of(alloc, words) else {

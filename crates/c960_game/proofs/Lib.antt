@@ -1,0 +1,11 @@
+pub mod MoveFacts
+pub mod LogFacts
+pub mod Bounds
+pub mod EndFacts
+pub mod GameFacts
+pub mod KeptFacts
+pub mod CaptureFacts
+pub mod SameFacts
+pub mod ReplayFacts
+pub mod CounterFacts
+pub mod RecentFacts

@@ -1,0 +1,14 @@
+pub mod Refusal
+pub mod Outcome
+pub mod Ending
+pub mod Limits
+pub mod Moves
+pub mod Positions
+pub mod Ends
+pub mod Game960
+pub mod Same
+pub mod Times
+pub mod Ground
+pub mod Record
+pub mod Kept
+pub mod Replay

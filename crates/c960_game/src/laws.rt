@@ -1,0 +1,4 @@
+//! Laws of games and their definitions.
+
+pub mod games;
+pub mod joins;

@@ -1,0 +1,57 @@
+//! Laws of logs that are legal games (FIDE Laws, Articles 1, 3, 5 and 9).
+
+ghost use Rattle.std.specs.Prelude.{ℕ, ◌≡◌, ◌≢◌, ◌<◌, ◌≤◌, ◌+◌, List, [], ◌∷◌, ◌++◌, length, None};
+ghost use Rattle.c960_board.specs.Moves.{Triple};
+ghost use Rattle.c960_board.specs.Position.{IsPosition};
+ghost use Rattle.c960_board.specs.Start.{start};
+ghost use Rattle.c960_rules.specs.After.{after};
+ghost use Rattle.c960_rules.specs.Check.{IsLawful};
+ghost use Rattle.c960_game.specs.Ends.{own_outcome};
+ghost use Rattle.c960_game.specs.Game960.{Game960, MayFollow};
+ghost use Rattle.c960_game.specs.Positions.{last_position, positions};
+ghost use Rattle.c960_game.specs.Times.{recent_times, times};
+
+/// Each prefix of a legal game is one.
+#[tactic(auto, using(crate::proofs::LogFacts::prefix))]
+pub fn prefixes_are_games()
+    ensures { (n : ℕ) (l later : List Triple) → Game960 n (l ++ later) → Game960 n l }
+{}
+
+/// Without a move each start is a legal game that goes on, and a legal game goes on by a legal move while it has no
+/// outcome.
+pub fn games_grow()
+    ensures start { (n : ℕ) → n < 960 → Game960 n [] }
+    ensures going { (n : ℕ) → n < 960 → own_outcome n [] ≡ None }
+    ensures more { (n : ℕ) (l : List Triple) (m : Triple) → Game960 n l → MayFollow n l m → Game960 n (l ++ m ∷ []) }
+{}
+
+/// A game that is over has no longer one.
+#[tactic(auto, using(crate::proofs::LogFacts::over))]
+pub fn the_end_is_the_end()
+    ensures { (n : ℕ) (l : List Triple) (m : Triple) (later : List Triple) → own_outcome n l ≢ None
+        → Game960 n (l ++ m ∷ later) → ⊥ }
+{}
+
+/// The start number and the moves determine the positions: the start, and after one more move the position after it.
+pub fn positions_are_determined()
+    ensures start { (n : ℕ) → positions n [] ≡ start n ∷ [] }
+    ensures more { (n : ℕ) (l : List Triple) (m : Triple) → positions n (l ++ m ∷ [])
+        ≡ positions n l ++ after (last_position n l) m ∷ [] }
+    ensures last { (n : ℕ) (l : List Triple) (m : Triple) → last_position n (l ++ m ∷ []) ≡ after (last_position n l) m }
+{}
+
+/// The last position of a legal game is one, and the side that does not have the move is not in check. (The counters of a
+/// position go to 65,535.)
+pub fn games_have_positions()
+    ensures position { (n : ℕ) (l : List Triple) → Game960 n l → length l < 65535 → IsPosition (last_position n l) }
+    ensures lawful { (n : ℕ) (l : List Triple) → Game960 n l → IsLawful (last_position n l) }
+    ensures half_moves { (n : ℕ) (l : List Triple) → (last_position n l).half_moves ≤ length l }
+    ensures number { (n : ℕ) (l : List Triple) → (last_position n l).number ≤ length l + 1 }
+{}
+
+/// No position before the last capture or pawn move is the same as the present one, so that a count of appearances may
+/// begin there (FIDE Laws, Articles 9.2 and 9.3).
+#[tactic(auto, using(crate::proofs::CounterFacts::times_recent))]
+pub fn the_counter_bounds_the_past()
+    ensures { (n : ℕ) (l : List Triple) → Game960 n l → length l < 65535 → times n l ≡ recent_times n l }
+{}

@@ -1,0 +1,17 @@
+//! The game of Chess960: its log, claims and ends, and the types that a relay of games shares.
+#![tactic(auto)]
+
+mod ending;
+mod game;
+pub mod laws;
+mod limits;
+mod outcome;
+mod refusal;
+mod replay;
+mod same;
+
+pub use ending::Ending;
+pub use game::Game;
+pub use limits::Limits;
+pub use outcome::Outcome;
+pub use refusal::Refusal;

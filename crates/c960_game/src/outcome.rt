@@ -1,0 +1,69 @@
+//! How a game has ended.
+
+ghost use Rattle.std.specs.Prelude.{◌≡◌};
+ghost use Rattle.c960_game.specs.Outcome.{outcome_code, outcome_text};
+
+use c960_board::Colour;
+
+/// How a game has ended. Each outcome has a number, 1 to 11 in the order of its text's description.
+#[derive(Clone, Copy, PartialEq, Eq, Debug)]
+pub enum Outcome {
+    /// This side has mated the other (FIDE Laws, Article 5.1.1).
+    Checkmate(Colour),
+    /// The side to move has no legal move and is not in check (Article 5.2.1).
+    Stalemate,
+    /// This player has resigned (Article 5.1.2).
+    Resigned(Colour),
+    /// The players have agreed on a draw (Article 5.2.3).
+    Agreed,
+    /// The game was given up without a result.
+    Abandoned,
+    /// A draw was claimed for a third appearance of the position (Article 9.2).
+    Threefold,
+    /// A draw was claimed for fifty moves of each side without a capture and a pawn move (Article 9.3).
+    Fifty,
+    /// The position has appeared five times (Article 9.6.1). Not given today.
+    Fivefold,
+    /// Seventy-five moves of each side had no capture and no pawn move (Article 9.6.2). Not given today.
+    SeventyFive,
+}
+
+impl Outcome {
+    /// The number of the outcome, 1 to 11: two each for `Checkmate` and `Resigned`, White's first.
+    pub fn code(&self) -> u64
+        ensures { result ≡ outcome_code self.now }
+    {
+        match self {
+            Outcome::Checkmate(Colour::White) => 1,
+            Outcome::Checkmate(Colour::Black) => 2,
+            Outcome::Stalemate => 3,
+            Outcome::Resigned(Colour::White) => 4,
+            Outcome::Resigned(Colour::Black) => 5,
+            Outcome::Agreed => 6,
+            Outcome::Abandoned => 7,
+            Outcome::Threefold => 8,
+            Outcome::Fifty => 9,
+            Outcome::Fivefold => 10,
+            Outcome::SeventyFive => 11,
+        }
+    }
+
+    /// The outcome in words: `white mates`, `stalemate`, `black resigns` and the like.
+    pub fn text(&self) -> &'static str
+        ensures { result.now ≡ outcome_text self.now }
+    {
+        match self {
+            Outcome::Checkmate(Colour::White) => "white mates",
+            Outcome::Checkmate(Colour::Black) => "black mates",
+            Outcome::Stalemate => "stalemate",
+            Outcome::Resigned(Colour::White) => "white resigns",
+            Outcome::Resigned(Colour::Black) => "black resigns",
+            Outcome::Agreed => "agreed",
+            Outcome::Abandoned => "abandoned",
+            Outcome::Threefold => "threefold",
+            Outcome::Fifty => "fifty moves",
+            Outcome::Fivefold => "fivefold",
+            Outcome::SeventyFive => "seventy-five moves",
+        }
+    }
+}

@@ -1,0 +1,61 @@
+//! Positions that are the same for a claim (FIDE Laws, Article 9.2).
+
+ghost use Rattle.std.specs.Prelude.{◌≡◌, ◌↔◌, IsTrue, nat_eq};
+ghost use Rattle.std.specs.Cmp.Lexicographic.{pointwise};
+ghost use Rattle.std.specs.Option.{option_eq};
+ghost use Rattle.c960_board.specs.Pieces.{same_colour};
+ghost use Rattle.c960_game.specs.Same.{Same, legal_target, same, same_piece, same_rights};
+
+use c960_board::{CastlingRights, Colour, Piece, Square};
+use c960_rules::{Lawful, ep_legal};
+
+/// Whether two sides are one.
+pub(crate) fn same_colour(one: Colour, two: Colour) -> bool
+    ensures { result ≡ same_colour one two }
+{
+    one == two
+}
+
+fn same_placement(first: &[Option<Piece>; 64], second: &[Option<Piece>; 64]) -> bool
+    ensures { result ≡ pointwise (option_eq same_piece) first.now second.now }
+{
+    first == second
+}
+
+fn same_rights(one: &CastlingRights, two: &CastlingRights) -> bool
+    ensures { result ≡ same_rights one.now two.now }
+{
+    one.white == two.white && one.black == two.black
+}
+
+fn legal_target(lawful: &Lawful) -> Option<Square>
+    ensures { result ≡ legal_target lawful.now }
+{
+    ep_legal(lawful)
+}
+
+fn same_captures(one: &Lawful, two: &Lawful) -> bool
+    ensures { result ≡ option_eq nat_eq (legal_target one.now) (legal_target two.now) }
+{
+    legal_target(one) == legal_target(two)
+}
+
+#[tactic(auto, unfolding(crate::specs::Same::same))]
+fn test_same(one: &Lawful, two: &Lawful) -> bool
+    ensures { result ≡ same one.now two.now }
+{
+    let (first, second) = (one.position().parts(), two.position().parts());
+    same_colour(first.turn, second.turn)
+        && same_placement(&first.placement, &second.placement)
+        && same_rights(&first.rights, &second.rights)
+        && same_captures(one, two)
+}
+
+/// Whether two positions are the same for a claim.
+#[tactic(auto, using(crate::proofs::SameFacts::same_decides))]
+pub fn same(one: &Lawful, two: &Lawful) -> bool
+    ensures value { result ≡ same one.now two.now }
+    ensures same { IsTrue result ↔ Same one.now two.now }
+{
+    test_same(one, two)
+}

@@ -1,0 +1,166 @@
+-- Lemmas on a whole run: what was kept of the lines stands for the lines.
+use Rattle.std.proofs.Common.{◌≡◌, ℕ, ◌+◌, ◌≤◌, List, [], ◌++◌, length, take, map}
+use Rattle.std.proofs.Common.{refl, sym, ap, ◌∙◌, subst, inl, inr, arith, append-nil}
+use Rattle.std.proofs.Common.{Result, Ok, Err, OnOk, IfOk, IfErr}
+use Rattle.std.proofs.lemmas.List.{length-map, length-append, map-append}
+use Rattle.std.proofs.KnownBytes.{Consumes-nil}
+use Rattle.std.specs.Io.KnownBytes.{Consumes}
+use Rattle.relay960.specs.declared.fault.RunFault.{RunFault}
+use Rattle.relay960.specs.declared.fault.RunFault.TheVariants.{Read, Write, TooLong, OutOfMemory, BadStart}
+use Rattle.relay960.specs.declared.progress.Progress.{Progress}
+use Rattle.relay960.specs.Lines.{Giving, Known, Wrote, WrotePart, whole_lines, last_piece, last_line, lines_of}
+use Rattle.relay960.specs.Lines.{Done, Stopped, IsPast}
+use Rattle.relay960.specs.Taking.{kept_lines, kept_piece, Within, TakenAll, Unwritten, StopsReading}
+use Rattle.relay960.proofs.LineFacts.{kept_lines-take, kept_piece-take, last_line-take}
+use Rattle.relay960.proofs.AnsweredFacts.{IsCut, Wrote-nil, Wrote-trans, Wrote-part, Wrote-kept, Wrote-whole, WrotePart-whole}
+
+-- ---- The lines of a run.
+
+kept_whole : (line bytes : List ℕ) → line ≡ [] → kept_lines line bytes ≡ map (take 1025) (whole_lines [] bytes)
+kept_whole line bytes new = ap (λ l. kept_lines l bytes) new ∙ kept_lines-take [] bytes
+
+kept_last : (line piece bytes : List ℕ) → line ≡ [] → piece ≡ kept_piece line bytes
+    → last_line piece ≡ map (take 1025) (last_line (last_piece [] bytes))
+kept_last line piece bytes new left =
+    ap last_line (left ∙ ap (λ l. kept_piece l bytes) new ∙ kept_piece-take [] bytes) ∙ last_line-take (last_piece [] bytes)
+
+kept_all : (line piece bytes : List ℕ) → line ≡ [] → piece ≡ kept_piece line bytes
+    → kept_lines line bytes ++ last_line piece ≡ map (take 1025) (lines_of bytes)
+unfolding lines_of
+kept_all line piece bytes new left =
+    ap (λ ls. ls ++ last_line piece) (kept_whole line bytes new)
+    ∙ ap (λ ls. map (take 1025) (whole_lines [] bytes) ++ ls) (kept_last line piece bytes new left)
+    ∙ sym (map-append (take 1025) (whole_lines [] bytes) (last_line (last_piece [] bytes)))
+
+kept_number : (line bytes : List ℕ) → line ≡ [] → length (kept_lines line bytes) ≡ length (whole_lines [] bytes)
+kept_number line bytes new = ap length (kept_whole line bytes new) ∙ length-map (whole_lines [] bytes) (take 1025)
+
+-- ---- The end of a run that began with progress p.
+
+module _ {S : Type 0} (gives : Giving S) (cut : IsCut gives) (s : S) (p : Progress) (lines bytes : ℕ)
+    (old_input new_input a : Known) (line : p.line ≡ []) (answered : p.answered ≡ 0) (taken : p.taken ≡ 0) where
+  whole : (t : S) (b : Known) (seen : List ℕ) → Wrote gives s t (kept_lines p.line seen) a b
+      → Wrote gives s t (whole_lines [] seen) a b
+  whole t b seen wrote =
+      Wrote-whole gives s t (whole_lines [] seen) a b cut
+      (subst (λ ls. Wrote gives s t ls a b) (kept_whole p.line seen line) wrote)
+
+  -- it stopped within the bytes of the reader
+  pub stopped : (t : S) (b : Known) (fault : RunFault)
+      → StopsReading gives s t p lines bytes old_input new_input a b fault
+      → Stopped gives s t lines bytes old_input new_input a b fault
+  stopped t b Read stops = elim stops.stop [
+    | inl within ↦ absurd within.stop
+    | inr at_read ↦ record { input = stops.input; read = stops.read; wrote = whole t b stops.input at_read.1 }
+  ]
+  stopped t b Write stops = elim stops.stop [
+    | inl within ↦ record {
+      seen = within.seen;
+      unseen = within.unseen;
+      read = subst (Consumes old_input new_input) within.split stops.read;
+      wrote = inl (WrotePart-whole gives s t (whole_lines [] within.seen) a b cut
+          (subst (λ ls. WrotePart gives s t ls a b) (kept_whole p.line within.seen line) within.stop));
+    }
+    | inr at_read ↦ let other : Write ≡ Read = at_read.0 in cc
+  ]
+  stopped t b TooLong stops = elim stops.stop [
+    | inl within ↦
+        let (more, wrote, bound) = within.stop in
+        let number : length (kept_lines p.line within.seen) ≡ length (whole_lines [] within.seen) =
+        kept_number p.line within.seen line in
+        let past : IsPast lines bytes within.seen =
+        elim bound.reached [
+          | inl h ↦ inl (omega (arith, h, number, answered))
+          | inr h ↦ inr (omega (arith, h, taken))
+        ] in
+        record {
+          seen = within.seen;
+          unseen = within.unseen;
+          more = more;
+          read = subst (Consumes old_input new_input) within.split stops.read;
+          lines_within = omega (arith, bound.lines_within, number);
+          bytes_within = omega (arith, bound.bytes_within);
+          past = past;
+          wrote = whole t b within.seen wrote;
+        }
+    | inr at_read ↦ let other : TooLong ≡ Read = at_read.0 in cc
+  ]
+  stopped t b OutOfMemory stops = elim stops.stop [
+    | inl within ↦
+        let (mid, wrote) = within.stop in
+        record {
+          seen = within.seen;
+          unseen = within.unseen;
+          read = subst (Consumes old_input new_input) within.split stops.read;
+          mid = mid;
+          wrote = whole mid b within.seen wrote;
+        }
+    | inr at_read ↦ let other : OutOfMemory ≡ Read = at_read.0 in cc
+  ]
+  stopped t b BadStart stops = elim stops.stop [
+    | inl within ↦ absurd within.stop
+    | inr at_read ↦ let other : BadStart ≡ Read = at_read.0 in cc
+  ]
+
+  -- it took all bytes of the reader, and then the last line was answered
+  module _ (t u : S) (q : Progress) (b c : Known) (took : TakenAll gives s t p q old_input new_input a b) where
+    all_lines : kept_lines p.line took.input ++ last_line q.line ≡ map (take 1025) (lines_of took.input)
+    all_lines = kept_all p.line q.line took.input line took.took.piece
+
+    pub done : Within lines bytes q → (ran : Result ℕ RunFault) → OnOk ran (Wrote gives t u (last_line q.line) b c)
+        → IfOk ran (λ n. n ≡ q.answered + length (last_line q.line)) → IfOk ran (λ n. n ≤ lines)
+        → IfOk ran (λ n. Done gives s u lines bytes old_input new_input a c n)
+    done within (Err fault) wrote count few = tt
+    done within (Ok n) wrote count few =
+        let number : length (kept_lines p.line took.input) + length (last_line q.line) ≡ length (lines_of took.input) =
+        sym (length-append (kept_lines p.line took.input) (last_line q.line)) ∙ ap length all_lines
+        ∙ length-map (lines_of took.input) (take 1025) in
+        record {
+          input = took.input;
+          read = took.read;
+          at_end = took.at_end;
+          wrote = Wrote-whole gives s u (lines_of took.input) a c cut (subst (λ ls. Wrote gives s u ls a c) all_lines
+              (Wrote-trans gives s t u (kept_lines p.line took.input) (last_line q.line) a b c took.took.wrote wrote));
+          count = omega (arith, count, took.took.count, answered, number);
+          lines_within = few;
+          bytes_within = omega (arith, within.taken_within, took.took.total, taken);
+        }
+
+    -- the answer to the last line was not written whole
+    pub stopped_last : (ran : Result ℕ RunFault) → IfErr ran (λ fault. Unwritten gives t u (last_line q.line) b c fault)
+        → IfErr ran (λ fault. Stopped gives s u lines bytes old_input new_input a c fault)
+    stopped_last (Ok n) part = tt
+    stopped_last (Err Write) part = record {
+      seen = took.input;
+      unseen = [];
+      read = subst (Consumes old_input new_input) (sym (append-nil took.input)) took.read;
+      wrote = inr (
+        refl,
+        took.at_end,
+        WrotePart-whole gives s u (lines_of took.input) a c cut
+            (subst (λ ls. WrotePart gives s u ls a c) all_lines
+            (Wrote-part gives s t u (kept_lines p.line took.input) (last_line q.line) a b c took.took.wrote part)),
+      );
+    }
+    stopped_last (Err OutOfMemory) kept = record {
+      seen = took.input;
+      unseen = [];
+      read = subst (Consumes old_input new_input) (sym (append-nil took.input)) took.read;
+      mid = t;
+      wrote = whole t c took.input (Wrote-kept gives s t (kept_lines p.line took.input) a b c took.took.wrote kept);
+    }
+    stopped_last (Err Read) none = absurd none
+    stopped_last (Err TooLong) none = absurd none
+    stopped_last (Err BadStart) none = absurd none
+
+-- there was no memory for the line: nothing was read
+pub stopped_before : {S : Type 0} (gives : Giving S) (s t : S) (lines bytes : ℕ) (input output : Known)
+    → Stopped gives s t lines bytes input input output output OutOfMemory
+unfolding whole_lines
+stopped_before gives s t lines bytes input output = record {
+  seen = [];
+  unseen = [];
+  read = Consumes-nil input;
+  mid = s;
+  wrote = Wrote-nil gives s output;
+}

@@ -1,0 +1,26 @@
+use Rattle.std.proofs.Common.{[], ◌++◌, take}
+use Rattle.std.proofs.KnownBytes.{Consumes-nil, Consumes-trans}
+use Rattle.relay960.proofs.AnswerFacts.{passed_on}
+use Rattle.relay960.proofs.TakingFacts.{Taken-nil, Taken-trans, stops_reading}
+use Rattle.relay960.proofs.lines.take_all.Goals as goal
+
+pub loop-count-init : goal.loop-count-init
+loop-count-init g c =
+    record { input = []; read = Consumes-nil _; within = c.requires; took = Taken-nil _ _ _ _ }
+
+pub loop-count-preserved : goal.loop-count-preserved
+loop-count-preserved g c =
+    let before = c.loop-count.invariant in
+    let chunk = take c.in-Ok.count c.read.new.buf in
+    record {
+      input = before.input ++ chunk;
+      read = Consumes-trans _ _ _ before.input chunk before.read c.in-Ok.ensures.bytes.0;
+      within = c.in_ok-take_chunk-in-Ok.ensures.within;
+      took = Taken-trans _ _ _ _ _ _ _ before.input chunk _ _ _ before.took c.in_ok-take_chunk-in-Ok.ensures.took;
+    }
+
+pub returns-in_err-take_chunk-in-Ok-clause-failed : goal.returns-in_err-take_chunk-in-Ok-clause-failed
+returns-in_err-take_chunk-in-Ok-clause-failed g c =
+    passed_on _ _ _ c.from_residual.ensures.1 (stops_reading _ _ _ _ _ _ _ _ c.loop-count.invariant.input
+    (take c.in-Ok.count c.read.new.buf) _ _ _ _ _ _ _ c.loop-count.invariant.read c.in-Ok.ensures.bytes.0
+    c.loop-count.invariant.took c.in_err-take_chunk-in-Ok.ensures.failed)
