@@ -1,0 +1,96 @@
+-- What a history says of the spectators who follow a board.
+use Rattle.std.specs.Prelude.{ℕ, ◌+◌, ◌==◌, nat_eq, Bool, false, ◌&&◌, cond, List, [], ◌∷◌, ◌++◌, length, take, drop, Option, Some, None, count_by, unwrap_or}
+use Rattle.std.specs.Map.{lookup, remove_entry}
+use Rattle.c960_board.specs.Moves.{Triple}
+use Rattle.relay_core.specs.declared.step.Step.{Step}
+use Rattle.relay_core.specs.declared.step.Step.TheVariants.{Submit, Follow, Take, Leave}
+use Rattle.relay_core.specs.declared.reply.Reply.{Reply}
+use Rattle.relay_core.specs.declared.reply.Reply.TheVariants.{Took}
+use Rattle.relay_core.specs.declared.reply.Taken.{Taken}
+use Rattle.relay_core.specs.declared.reply.Taken.TheVariants.{Move}
+use Rattle.relay_core.specs.History.{History, is_accepted, log}
+use Rattle.relay_core.specs.Name.{same_name}
+
+-- ---- Who follows what.
+
+-- the spectators who follow, each with its board, in the order of joining: in a lawful history, those whose last accepted
+-- follow is of that board and after whom no accepted leave came
+abbrev pub following_after : List (ℕ × List ℕ) → Step → Reply → List (ℕ × List ℕ)
+following_after all (Follow who board) reply = cond (is_accepted reply) (all ++ (who, board) ∷ []) all
+following_after all (Leave who) reply = cond (is_accepted reply) (remove_entry (nat_eq who) all) all
+following_after all _ reply = all
+
+abbrev pub following : History → List (ℕ × List ℕ)
+following [] = []
+following (e ∷ h) = following_after (following h) e.0 e.1
+
+-- the board that a spectator follows
+abbrev pub board_of : History → ℕ → Option (List ℕ)
+board_of h who = lookup (nat_eq who) (following h)
+
+-- how many spectators follow a board
+abbrev pub crowd : History → List ℕ → ℕ
+crowd h board = count_by (λ e. same_name board e.1) (following h)
+
+-- ---- What a follower has had. (What is said here of who does not follow means nothing.)
+
+-- the log's length at the spectator's last accepted follow
+abbrev pub joined_after : History → ℕ → ℕ → Step → Reply → ℕ
+joined_after h who place (Follow by board) reply = cond (is_accepted reply && nat_eq by who) (length (log h board)) place
+joined_after h who place _ reply = place
+
+abbrev pub joined : History → ℕ → ℕ
+joined [] who = 0
+joined (e ∷ h) who = joined_after h who (joined h who) e.0 e.1
+
+-- the places and moves that the spectator's takes since then were answered
+abbrev pub with_move : Bool → List (ℕ × Triple) → Taken → List (ℕ × Triple)
+with_move mine had (Move place m) = cond mine (had ++ (place, m) ∷ []) had
+with_move mine had _ = had
+
+abbrev pub after_take : Bool → List (ℕ × Triple) → Reply → List (ℕ × Triple)
+after_take mine had (Took answer) = with_move mine had answer
+after_take mine had _ = had
+
+abbrev pub taken_after : ℕ → List (ℕ × Triple) → Step → Reply → List (ℕ × Triple)
+taken_after who had (Follow by board) reply = cond (is_accepted reply && nat_eq by who) [] had
+taken_after who had (Take by) reply = after_take (nat_eq by who) had reply
+taken_after who had _ reply = had
+
+abbrev pub taken : History → ℕ → List (ℕ × Triple)
+taken [] who = []
+taken (e ∷ h) who = taken_after who (taken h who) e.0 e.1
+
+-- the place that the spectator takes next
+abbrev pub next : History → ℕ → ℕ
+next h who = joined h who + length (taken h who)
+
+-- ---- When a follower is closed.
+
+-- whether the spectator follows the board, which is a whole capacity ahead of it
+abbrev pub is_behind : ℕ → History → ℕ → List ℕ → Option (List ℕ) → Bool
+is_behind capacity h who board None = false
+is_behind capacity h who board (Some followed) = same_name board followed && (length (log h board) == next h who + capacity)
+
+-- the log's length just before the first accepted submit to its board at which, since its follow, the spectator was a whole
+-- capacity behind
+abbrev pub first_cut : ℕ → History → ℕ → List ℕ → Option ℕ → Option ℕ
+first_cut capacity h who board (Some cut) = Some cut
+first_cut capacity h who board None = cond (is_behind capacity h who board (board_of h who)) (Some (length (log h board))) None
+
+abbrev pub cut_after : ℕ → History → ℕ → Option ℕ → Step → Reply → Option ℕ
+cut_after capacity h who cut (Follow by board) reply = cond (is_accepted reply && nat_eq by who) None cut
+cut_after capacity h who cut (Submit board m) reply = cond (is_accepted reply) (first_cut capacity h who board cut) cut
+cut_after capacity h who cut _ reply = cut
+
+abbrev pub cut_at : ℕ → History → ℕ → Option ℕ
+cut_at capacity [] who = None
+cut_at capacity (e ∷ h) who = cut_after capacity h who (cut_at capacity h who) e.0 e.1
+
+-- where the stretch of a spectator of a board ends: where it was closed, else at the present
+abbrev pub limit : ℕ → History → ℕ → List ℕ → ℕ
+limit capacity h who board = unwrap_or (cut_at capacity h who) (length (log h board))
+
+-- the moves that later takes must answer
+abbrev pub due : ℕ → History → ℕ → List ℕ → List Triple
+due capacity h who board = drop (next h who) (take (limit capacity h who board) (log h board))

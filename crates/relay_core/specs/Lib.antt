@@ -1,0 +1,15 @@
+pub mod Name
+pub mod NameFields
+pub mod History
+pub mod Following
+pub mod Replies
+pub mod State
+pub mod Stands
+pub mod Leads
+pub mod Stretch
+pub mod Headline
+pub mod Boards
+pub mod Held
+pub mod Next
+pub mod Followers
+pub mod Kept

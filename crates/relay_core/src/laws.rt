@@ -1,0 +1,4 @@
+//! Laws of the definitions.
+
+pub mod histories;
+pub mod names;

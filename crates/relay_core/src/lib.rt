@@ -1,0 +1,16 @@
+//! The relay on one thread: boards, the spectators who follow them, and bounded queues of moves.
+#![tactic(auto)]
+
+mod boards;
+mod follower;
+mod followers;
+pub mod laws;
+mod name;
+mod relay;
+mod reply;
+mod step;
+
+pub use name::BoardName;
+pub use relay::Relay;
+pub use reply::{Account, Reply, Taken};
+pub use step::{Spectator, Step};

@@ -1,0 +1,25 @@
+//! What is asked of a relay.
+
+use crate::name::BoardName;
+use c960_board::Move;
+use c960_game::Ending;
+
+/// The number of a spectator, chosen by who follows.
+pub type Spectator = u32;
+
+/// One step.
+#[derive(Clone, Copy, PartialEq, Eq, Debug)]
+pub enum Step {
+    /// Opens a board with the game of this start number.
+    Open(BoardName, u16),
+    /// Plays a move on a board.
+    Submit(BoardName, Move),
+    /// Ends the game of a board.
+    End(BoardName, Ending),
+    /// Lets a spectator follow a board, from the log's present length on.
+    Follow(Spectator, BoardName),
+    /// Takes the spectator's next move.
+    Take(Spectator),
+    /// Ends the spectator's following.
+    Leave(Spectator),
+}

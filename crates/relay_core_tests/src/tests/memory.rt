@@ -1,0 +1,198 @@
+//! Want of memory. Where one allocation is refused (`rt try --test --fail-alloc N`, for each N in turn), the call that wanted
+//! it says so and changes nothing, and is accepted when made again; all else is answered as ever.
+
+use crate::tests::table::Asked::{End, Follow, Leave, Open, Submit, Take};
+use crate::tests::table::Told::{Cut, Ended, Following, Left, Nothing, Opened, Over, Played, Took};
+use crate::tests::table::{
+    Asked, START_0, START_518, Told, board_of, following, limits_of, line_of, move_of, reply_of,
+    step_of,
+};
+use c960_game::{Ending, Limits, Outcome, Refusal};
+use relay_core::{Account, Relay, Reply, Step, Taken};
+use std::alloc::{AllocError, Global};
+use std::process::Abort;
+
+/// How many calls were refused for want of memory.
+#[derive(Drop)]
+struct Refused {
+    count: u32,
+}
+
+impl Refused {
+    fn note(&mut self) {
+        self.count = self.count.saturating_add(1);
+    }
+}
+
+const WANT: Reply = Reply::Refused(Refusal::OutOfMemory);
+
+/// A new relay, made again where it was refused.
+fn new_relay(rt: &impl Abort, alloc: Global, limits: Limits, refused: &mut Refused) -> Relay {
+    match Relay::new(alloc, limits) {
+        Ok(relay) => relay,
+        Err(AllocError) => {
+            refused.note();
+            Relay::new(alloc, limits).expect(rt, "one refusal at the most")
+        }
+    }
+}
+
+/// What shows that a step that takes memory was made in vain: its board or its follower is not there.
+fn in_vain(step: &Step) -> Option<(Step, Reply)> {
+    match step {
+        Step::Open(board, _) => Some((
+            Step::End(*board, Ending::Abandoned),
+            Reply::Refused(Refusal::NoSuchBoard),
+        )),
+        Step::Follow(who, _) => Some((Step::Take(*who), Reply::Refused(Refusal::NoSuchFollower))),
+        _ => None,
+    }
+}
+
+/// Asserts that a step is answered so; one that takes memory is made again where it was refused for want of it.
+fn assert_answer(
+    rt: &impl Abort,
+    relay: &mut Relay,
+    step: &Step,
+    reply: &Reply,
+    refused: &mut Refused,
+) {
+    let first = relay.step(*step);
+    let vain = in_vain(step);
+    if first != WANT || vain.is_none() {
+        assert_eq!(rt; first, *reply);
+        return;
+    }
+    refused.note();
+    if let Some((asked, told)) = vain {
+        let after = relay.step(asked);
+        assert_eq!(rt; after, told, "after a refusal");
+    }
+    let again = relay.step(*step);
+    assert_eq!(rt; again, *reply, "made again");
+}
+
+/// The replies of a run, made again where it was refused: then no step was made, as the replies show.
+fn run(rt: &impl Abort, relay: &mut Relay, steps: &[Step], refused: &mut Refused) -> Vec<Reply> {
+    match relay.run(steps) {
+        Ok(replies) => replies,
+        Err(AllocError) => {
+            refused.note();
+            relay.run(steps).expect(rt, "one refusal at the most")
+        }
+    }
+}
+
+fn played(place: u16) -> Reply {
+    Reply::Played {
+        place,
+        outcome: None,
+    }
+}
+
+fn left(joined: u16, taken: u16, limit: u16, cut: bool) -> Reply {
+    Reply::Left(Account {
+        joined,
+        taken,
+        limit,
+        cut,
+    })
+}
+
+/// The position of start 518 after e2e4 e7e5.
+const TWO_PLIES: &str = "rnbqkbnr/pppp1ppp/8/4p3/4P3/8/PPPP1PPP/RNBQKBNR w HAha e6 0 2";
+
+/// Two boards, one follower each, one move a queue. A step refused for want of memory takes no board and no seat, and leaves
+/// the other board, its follower and the queue as they were.
+const ROWS: [(Asked, Told); 20] = [
+    (Open("a", 518), Opened),
+    (Open("b", 960), Told::Refused(Refusal::BadStart)),
+    (Follow(1, "a"), Following(0, START_518)),
+    (Submit("a", "e2e4"), Played(0)),
+    (Follow(2, "a"), Told::Refused(Refusal::TooManyFollowers)),
+    (Open("b", 0), Opened),
+    (Open("c", 0), Told::Refused(Refusal::TooManyBoards)),
+    (Follow(1, "b"), Told::Refused(Refusal::FollowerExists)),
+    (Follow(2, "b"), Following(0, START_0)),
+    (Follow(3, "b"), Told::Refused(Refusal::TooManyFollowers)),
+    (Submit("a", "e7e5"), Played(1)),
+    (Take(1), Took(0, "e2e4")),
+    (Take(1), Cut),
+    (Leave(1), Left(0, 1, 1, true)),
+    (Take(2), Nothing),
+    (End("b", Ending::Agreed), Ended(Outcome::Agreed)),
+    (Take(2), Over(Outcome::Agreed)),
+    (Follow(1, "a"), Following(2, TWO_PLIES)),
+    (Leave(1), Left(2, 0, 2, false)),
+    (Follow(3, "a"), Following(2, TWO_PLIES)),
+];
+
+#[test]
+fn a_refused_step_is_accepted_when_made_again(rt: HostRuntime) {
+    let mut refused = Refused { count: 0 };
+    let limits = limits_of(&rt, (2, 1, 1, 1024));
+    let mut relay = new_relay(&rt, rt.alloc(), limits, &mut refused);
+    for (asked, told) in ROWS {
+        let step = step_of(&rt, asked, line_of(asked));
+        let reply = reply_of(&rt, told, 0);
+        assert_answer(&rt, &mut relay, &step, &reply, &mut refused);
+    }
+    assert!(rt; refused.count <= 1);
+}
+
+#[test]
+fn a_refused_run_makes_no_step(rt: HostRuntime) {
+    let mut refused = Refused { count: 0 };
+    let limits = limits_of(&rt, (1, 1, 1, 1024));
+    let mut relay = new_relay(&rt, rt.alloc(), limits, &mut refused);
+    let board = board_of(&rt, "a");
+    let (e2e4, e7e5) = (move_of(&rt, "e2e4"), move_of(&rt, "e7e5"));
+    // Each step that takes memory stands twice: where the first is refused for want of it, the second is accepted.
+    let steps = [
+        Step::Open(board, 518),
+        Step::Open(board, 518),
+        Step::Follow(1, board),
+        Step::Follow(1, board),
+        Step::Submit(board, e2e4),
+        Step::Submit(board, e7e5),
+        Step::Take(1),
+        Step::Take(1),
+        Step::Leave(1),
+        Step::Submit(board, e2e4),
+    ];
+    let opened = (Reply::Opened, Reply::Refused(Refusal::BoardExists));
+    let followed = (
+        following(&rt, 0, START_518),
+        Reply::Refused(Refusal::FollowerExists),
+    );
+    let rest = [
+        played(0),
+        played(1),
+        Reply::Took(Taken::Move(0, e2e4)),
+        Reply::Took(Taken::Cut),
+        left(0, 1, 1, true),
+        Reply::Refused(Refusal::Illegal),
+    ];
+    let replies = run(&rt, &mut relay, &steps, &mut refused);
+    assert_eq!(rt; replies.len(), 10);
+    assert_pair(&rt, (replies[0], replies[1]), opened, &mut refused);
+    assert_pair(&rt, (replies[2], replies[3]), followed, &mut refused);
+    assert_eq!(rt; &replies[4..], rest.as_slice());
+    assert!(rt; refused.count <= 1);
+}
+
+/// Asserts that a step made twice is answered so, or that the first was refused for want of memory and the second accepted.
+fn assert_pair(
+    rt: &impl Abort,
+    given: (Reply, Reply),
+    expected: (Reply, Reply),
+    refused: &mut Refused,
+) {
+    if given.0 == WANT {
+        refused.note();
+        assert_eq!(rt; given.1, expected.0, "made again");
+    } else {
+        assert_eq!(rt; given.0, expected.0);
+        assert_eq!(rt; given.1, expected.1);
+    }
+}

@@ -1,0 +1,206 @@
+//! A plain relay, written from the table of steps with queues as vectors and closings as flags. Its games are `Game`s.
+
+use c960_board::Move;
+use c960_game::{Ending, Game, Limits, Outcome, Refusal};
+use relay_core::{Account, BoardName, Reply, Spectator, Step, Taken};
+use std::alloc::{AllocError, Global};
+
+/// A board by its name.
+#[derive(Drop)]
+struct Board {
+    name: BoardName,
+    game: Game,
+}
+
+/// One who follows a board, with the moves that wait, each with its place.
+#[derive(Drop)]
+struct Seat {
+    who: Spectator,
+    board: BoardName,
+    joined: u16,
+    taken: u16,
+    closed_at: Option<u16>,
+    queue: Vec<(u16, Move)>,
+}
+
+/// A plain relay.
+#[derive(Drop)]
+pub struct Plain {
+    limits: Limits,
+    boards: Vec<Board>,
+    seats: Vec<Seat>,
+    alloc: Global,
+}
+
+impl Plain {
+    /// One without boards.
+    pub fn new(alloc: Global, limits: Limits) -> Plain {
+        Plain {
+            limits,
+            boards: Vec::new(alloc),
+            seats: Vec::new(alloc),
+            alloc,
+        }
+    }
+
+    /// Makes a step. Want of memory is an error here, so that no reply tells of it.
+    pub fn step(&mut self, step: Step) -> Result<Reply, AllocError> {
+        let reply = match step {
+            Step::Open(board, start) => self.open(board, start)?,
+            Step::Submit(board, m) => self.submit(board, m)?,
+            Step::End(board, ending) => self.end(board, ending),
+            Step::Follow(who, board) => self.follow(who, board)?,
+            Step::Take(who) => self.take(who),
+            Step::Leave(who) => self.leave(who),
+        };
+        Ok(reply)
+    }
+
+    fn game(&self, name: BoardName) -> Option<&Game> {
+        for board in &self.boards {
+            if board.name == name {
+                return Some(&board.game);
+            }
+        }
+        None
+    }
+
+    fn follows(&self, who: Spectator) -> bool {
+        self.seats.iter().any(|seat| seat.who == who)
+    }
+
+    fn open(&mut self, name: BoardName, start: u16) -> Result<Reply, AllocError> {
+        if self.game(name).is_some() {
+            return Ok(Reply::Refused(Refusal::BoardExists));
+        }
+        if start >= 960 {
+            return Ok(Reply::Refused(Refusal::BadStart));
+        }
+        if self.boards.len() >= usize::from(self.limits.boards()) {
+            return Ok(Reply::Refused(Refusal::TooManyBoards));
+        }
+        let Ok(game) = Game::open(self.alloc, start, self.limits.plies()) else {
+            return Err(AllocError);
+        };
+        self.boards.push(Board { name, game })?;
+        Ok(Reply::Opened)
+    }
+
+    fn submit(&mut self, name: BoardName, m: Move) -> Result<Reply, AllocError> {
+        match self.play(name, m) {
+            Ok((place, outcome)) => {
+                self.publish(name, place, m)?;
+                Ok(Reply::Played { place, outcome })
+            }
+            Err(refusal) => Ok(Reply::Refused(refusal)),
+        }
+    }
+
+    fn play(&mut self, name: BoardName, m: Move) -> Result<(u16, Option<Outcome>), Refusal> {
+        for board in &mut self.boards {
+            if board.name == name {
+                let place = board.game.len();
+                let outcome = board.game.play(m)?;
+                return Ok((place, outcome));
+            }
+        }
+        Err(Refusal::NoSuchBoard)
+    }
+
+    fn publish(&mut self, name: BoardName, place: u16, m: Move) -> Result<(), AllocError> {
+        let capacity = usize::from(self.limits.capacity());
+        for seat in &mut self.seats {
+            if seat.board == name && seat.closed_at.is_none() {
+                if seat.queue.len() >= capacity {
+                    seat.closed_at = Some(place);
+                } else {
+                    seat.queue.push((place, m))?;
+                }
+            }
+        }
+        Ok(())
+    }
+
+    fn end(&mut self, name: BoardName, ending: Ending) -> Reply {
+        for board in &mut self.boards {
+            if board.name == name {
+                return match board.game.end(ending) {
+                    Ok(outcome) => Reply::Ended(outcome),
+                    Err(refusal) => Reply::Refused(refusal),
+                };
+            }
+        }
+        Reply::Refused(Refusal::NoSuchBoard)
+    }
+
+    fn follow(&mut self, who: Spectator, name: BoardName) -> Result<Reply, AllocError> {
+        let Some(game) = self.game(name) else {
+            return Ok(Reply::Refused(Refusal::NoSuchBoard));
+        };
+        let joined = game.len();
+        let position = game.position();
+        if self.follows(who) {
+            return Ok(Reply::Refused(Refusal::FollowerExists));
+        }
+        let crowd = self.seats.iter().filter(|seat| seat.board == name).count();
+        if crowd >= usize::from(self.limits.followers()) {
+            return Ok(Reply::Refused(Refusal::TooManyFollowers));
+        }
+        self.seats.push(Seat {
+            who,
+            board: name,
+            joined,
+            taken: 0,
+            closed_at: None,
+            queue: Vec::new(self.alloc),
+        })?;
+        Ok(Reply::Following { joined, position })
+    }
+
+    fn take(&mut self, who: Spectator) -> Reply {
+        for seat in &mut self.seats {
+            if seat.who == who {
+                if !seat.queue.is_empty() {
+                    let (place, m) = seat.queue.remove(0);
+                    seat.taken = seat.taken.saturating_add(1);
+                    return Reply::Took(Taken::Move(place, m));
+                }
+                if seat.closed_at.is_some() {
+                    return Reply::Took(Taken::Cut);
+                }
+                return Reply::Took(over_or_nothing(&self.boards, seat.board));
+            }
+        }
+        Reply::Refused(Refusal::NoSuchFollower)
+    }
+
+    fn leave(&mut self, who: Spectator) -> Reply {
+        let Some(index) = self.seats.iter().position(|seat| seat.who == who) else {
+            return Reply::Refused(Refusal::NoSuchFollower);
+        };
+        let seat = self.seats.remove(index);
+        let present = match self.game(seat.board) {
+            Some(game) => game.len(),
+            None => 0,
+        };
+        Reply::Left(Account {
+            joined: seat.joined,
+            taken: seat.taken,
+            limit: seat.closed_at.unwrap_or(present),
+            cut: seat.closed_at.is_some(),
+        })
+    }
+}
+
+/// What is told of a board where no move waits.
+fn over_or_nothing(boards: &[Board], name: BoardName) -> Taken {
+    for board in boards {
+        if board.name == name {
+            return match board.game.outcome() {
+                Some(outcome) => Taken::Over(outcome),
+                None => Taken::Nothing,
+            };
+        }
+    }
+    Taken::Nothing
+}

@@ -1,0 +1,85 @@
+//! Full logs, and the fifty moves.
+
+use crate::tests::table::Asked::{End, Follow, Open, Submit, SubmitLine, Take};
+use crate::tests::table::Told::{
+    Ended, Following, Nothing, Opened, Over, Played, PlayedLast, Refused,
+};
+use crate::tests::table::{START_518, assert_case, with_capacity};
+use c960_board::Colour;
+use c960_game::{Ending, Outcome, Refusal};
+use std::test::Fail;
+
+#[test]
+fn ply_limit(rt: HostRuntime) -> Result<(), Fail> {
+    let rows = [
+        (Open("b1", 518), Opened),
+        (Submit("b1", "e2e4"), Played(0)),
+        (Submit("b1", "e7e5"), Refused(Refusal::LogFull)),
+        (Submit("b1", "e2e5"), Refused(Refusal::LogFull)),
+        // A full log is no end.
+        (
+            Follow(1, "b1"),
+            Following(
+                1,
+                "rnbqkbnr/pppppppp/8/8/4P3/8/PPPP1PPP/RNBQKBNR b HAha e3 0 1",
+            ),
+        ),
+        (Take(1), Nothing),
+        (End("b1", Ending::Agreed), Ended(Outcome::Agreed)),
+        (Submit("b1", "e7e5"), Refused(Refusal::GameOver)),
+    ];
+    assert_case(&rt, rt.alloc(), (16, 64, 64, 1), &rows)
+}
+
+#[test]
+fn a_mate_by_the_last_ply_is_a_mate(rt: HostRuntime) -> Result<(), Fail> {
+    let mated = Outcome::Checkmate(Colour::Black);
+    let rows = [
+        (Open("b1", 518), Opened),
+        (Follow(1, "b1"), Following(0, START_518)),
+        (SubmitLine("b1", "f2f3 e7e5 g2g4"), Played(0)),
+        (Submit("b1", "d8h4"), PlayedLast(3, mated)),
+        (Submit("b1", "a2a3"), Refused(Refusal::GameOver)),
+    ];
+    assert_case(&rt, rt.alloc(), (16, 64, 64, 4), &rows)
+}
+
+/// Twelve moves of knights.
+const SHUFFLE: &str = "g1f3 g8f6 f3g1 f6g8 g1f3 g8f6 f3g1 f6g8 g1f3 g8f6 f3g1 f6g8";
+
+#[test]
+fn fifty_moves(rt: HostRuntime) -> Result<(), Fail> {
+    let black = Ending::ClaimFifty(Colour::Black);
+    let white = Ending::ClaimFifty(Colour::White);
+    let rows = [
+        (Open("b1", 518), Opened),
+        (SubmitLine("b1", SHUFFLE), Played(0)),
+        (SubmitLine("b1", "b1c3 b8c6"), Played(12)),
+        (SubmitLine("b1", SHUFFLE), Played(14)),
+        (SubmitLine("b1", "a1b1 a8b8"), Played(26)),
+        (SubmitLine("b1", SHUFFLE), Played(28)),
+        (SubmitLine("b1", "b1a1 b8a8"), Played(40)),
+        (SubmitLine("b1", SHUFFLE), Played(42)),
+        (SubmitLine("b1", "c3b1 c6b8"), Played(54)),
+        (SubmitLine("b1", SHUFFLE), Played(56)),
+        (SubmitLine("b1", "b1a3 b8a6"), Played(68)),
+        (SubmitLine("b1", SHUFFLE), Played(70)),
+        (SubmitLine("b1", "a1b1 a8b8"), Played(82)),
+        (SubmitLine("b1", SHUFFLE), Played(84)),
+        (SubmitLine("b1", "a3c4 a6c5"), Played(96)),
+        (Submit("b1", "g1f3"), Played(98)),
+        (End("b1", black), Refused(Refusal::ClaimRefused)),
+        (Submit("b1", "g8f6"), Played(99)),
+        (
+            Follow(1, "b1"),
+            Following(
+                100,
+                "1rbqkb1r/pppppppp/5n2/2n5/2N5/5N2/PPPPPPPP/1RBQKB1R w Hh - 100 51",
+            ),
+        ),
+        (End("b1", black), Refused(Refusal::ClaimRefused)),
+        (End("b1", white), Ended(Outcome::Fifty)),
+        (Take(1), Over(Outcome::Fifty)),
+    ];
+    assert_case(&rt, rt.alloc(), with_capacity(64), &rows)
+}

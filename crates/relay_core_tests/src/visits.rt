@@ -1,0 +1,18 @@
+//! A small example of a caller: what a relay stands at after two steps.
+
+ghost use Rattle.std.specs.Prelude.{◌∷◌};
+ghost use Rattle.c960_game.specs.Limits.{LimitNumbers};
+ghost use Rattle.relay_core.specs.History.{History};
+ghost use Rattle.relay_core.specs.Stands.{Stands};
+
+use relay_core::{BoardName, Relay, Reply, Spectator, Step};
+
+/// Lets a spectator follow a board and leave again, and gives both replies.
+pub fn visit(relay: &mut Relay, who: Spectator, board: BoardName) -> (Reply, Reply)
+    ensures { (limits : LimitNumbers) (h : History) → Stands limits relay.old h
+        → Stands limits relay.new ((Step.Leave who, result.1) ∷ (Step.Follow who board, result.0) ∷ h) }
+{
+    let following = relay.step(Step::Follow(who, board));
+    let left = relay.step(Step::Leave(who));
+    (following, left)
+}
