@@ -61,7 +61,7 @@ module _ (r : Held) (bs : List (List ℕ × GameRecord)) (b : List ℕ) (e : End
         ∙ each q (same_name b q) (same_name_is b q);
     followers = st.followers;
     board_count = len ∙ st.board_count;
-    crowds = st.crowds;
+    followed = st.followed;
   }
     where
       -- the game ended at its board

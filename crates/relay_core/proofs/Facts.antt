@@ -3,9 +3,9 @@ use Rattle.std.proofs.Common.{◌≡◌, ℕ, ◌+◌, ◌≤◌, nat_eq, length
 use Rattle.std.specs.List.{IsDistinct}
 use Rattle.std.specs.Map.{keys_of}
 use Rattle.c960_game.specs.Limits.{LimitNumbers}
-use Rattle.relay_core.specs.Following.{following, board_of, joined, taken, next, limit}
+use Rattle.relay_core.specs.Following.{following, board_of, joined, taken, next, limit, stretch}
 use Rattle.relay_core.specs.History.{History, start_of, log, named}
-use Rattle.relay_core.specs.Stretch.{placed, stretch}
+use Rattle.relay_core.specs.Stretch.{placed}
 
 -- The next place lies within the stretch, the stretch within the log, and its end no further than a capacity ahead; what was
 -- taken is the log from the joining place to the next place.

@@ -92,7 +92,7 @@ module _ (r : Held) (who : ℕ) (b : List ℕ) (game : GameRecord) (found : look
         asked limits h st
         ∙ ap (λ o. answer b o (nat_le limits.followers (crowd h b)) game) (nowhere limits h st)
         ∙ ap (λ k. answer b None (nat_le limits.followers k) game)
-        (ap (count_by (λ e. same_name b e.1)) (sym st.crowds) ∙ count_shown b r.followers)
+        (ap (count_by (λ e. same_name b e.1)) (sym st.followed) ∙ count_shown b r.followers)
         ∙ ap (λ (l : LimitNumbers). answer b None (nat_le l.followers (count_by (λ e. same_name b e.1.board) r.followers)) game)
         (sym st.given)
 
@@ -134,8 +134,8 @@ module _ (r : Held) (who : ℕ) (b : List ℕ) (game : GameRecord) (found : look
                 (first_some (board_of h q) (cond m (Some b) None))) (nat_eq_equiv.symm who q)
                 ∙ ap (option_map (follower_when limits h b (nat_eq who q) q)) (sym (lookup-push (nat_eq q) (following h) who b));
             board_count = st.board_count;
-            crowds = shown-push (λ (f : HeldFollower). f.board) r.followers who (joining b (length (log h b)) limits.capacity)
-                ∙ ap (λ all. all ++ (who, b) ∷ []) st.crowds;
+            followed = shown-push (λ (f : HeldFollower). f.board) r.followers who (joining b (length (log h b)) limits.capacity)
+                ∙ ap (λ all. all ++ (who, b) ∷ []) st.followed;
           })
         where
           each : (q : ℕ) (o : Option (List ℕ)) (mine : Bool) → (mine ≡ true → o ≡ None)

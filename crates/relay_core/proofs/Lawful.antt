@@ -16,11 +16,11 @@ use Rattle.relay_core.specs.declared.step.Step.TheVariants.{Open, Submit, End, F
 use Rattle.relay_core.specs.declared.reply.Reply.{Reply}
 use Rattle.relay_core.specs.declared.reply.Reply.TheVariants.{Opened, Played, Ended, Following, Took, Left, Refused}
 use Rattle.relay_core.specs.declared.reply.Taken.TheVariants.{Move, Nothing, Over, Cut}
-use Rattle.relay_core.specs.Following.{following, board_of, joined, taken, after_take, next, cut_at, limit, due}
+use Rattle.relay_core.specs.Following.{following, board_of, joined, taken, after_take, next, cut_at, limit, due, stretch}
 use Rattle.relay_core.specs.History.{History, is_accepted, opened, start_of, log, named}
 use Rattle.relay_core.specs.Name.{same_name}
 use Rattle.relay_core.specs.Replies.{IsAllowed, LawfulHistory, taken_of, reply_to_take, over_of}
-use Rattle.relay_core.specs.Stretch.{placed, stretch}
+use Rattle.relay_core.specs.Stretch.{placed}
 use Rattle.relay_core.proofs.Facts.{Facts, IsWithin}
 use Rattle.relay_core.proofs.Grounds.{sure, submit_known, end_known, submit_room, follow_new}
 use Rattle.relay_core.proofs.Lists.{lookup-push, first_some, first_none, keys-push, absent, distinct-remove}

@@ -33,12 +33,12 @@ module _ (r : Held) (fs : List (ℕ × HeldFollower)) (who : ℕ) where
     followers = λ q. updates q ∙ ap (cond (nat_eq who q) None) (st.followers q) ∙ each q (nat_eq who q)
         ∙ ap (option_map (held_follower_of limits h q)) (now q);
     board_count = st.board_count;
-    crowds = gone;
+    followed = gone;
   }
     where
       gone : shown (λ (f : HeldFollower). f.board) fs ≡ remove_entry (nat_eq who) (following h)
       gone = ap (shown (λ (f : HeldFollower). f.board)) removed
-          ∙ remove-map (nat_eq who) (λ (f : HeldFollower). f.board) r.followers ∙ ap (remove_entry (nat_eq who)) st.crowds
+          ∙ remove-map (nat_eq who) (λ (f : HeldFollower). f.board) r.followers ∙ ap (remove_entry (nat_eq who)) st.followed
 
       each : (q : ℕ) (mine : Bool) → cond mine None (option_map (held_follower_of limits h q) (board_of h q))
           ≡ option_map (held_follower_of limits h q) (cond mine None (board_of h q))

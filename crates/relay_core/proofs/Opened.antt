@@ -72,7 +72,7 @@ module _ (r : Held) (b : List ℕ) (n : ℕ) (none : lookup (same_name b) r.boar
             board_count =
                 length-append r.boards ((b, new_game n limits.plies) ∷ []) ∙ ap (λ k. k + 1) st.board_count
                 ∙ sym (length-append (opened h) ((b, n) ∷ []));
-            crowds = st.crowds;
+            followed = st.followed;
           })
         where
           known : Facts limits h

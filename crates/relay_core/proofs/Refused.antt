@@ -25,7 +25,7 @@ refused limits r h (Open board start) refusal st ok =
       boards = st.boards;
       followers = st.followers;
       board_count = st.board_count;
-      crowds = st.crowds;
+      followed = st.followed;
     }
 refused limits r h (Submit board m) refusal st ok =
     record {
@@ -34,7 +34,7 @@ refused limits r h (Submit board m) refusal st ok =
       boards = st.boards;
       followers = st.followers;
       board_count = st.board_count;
-      crowds = st.crowds;
+      followed = st.followed;
     }
 refused limits r h (End board ending) refusal st ok =
     record {
@@ -43,7 +43,7 @@ refused limits r h (End board ending) refusal st ok =
       boards = st.boards;
       followers = st.followers;
       board_count = st.board_count;
-      crowds = st.crowds;
+      followed = st.followed;
     }
 refused limits r h (Follow who board) refusal st ok =
     record {
@@ -52,7 +52,7 @@ refused limits r h (Follow who board) refusal st ok =
       boards = st.boards;
       followers = st.followers;
       board_count = st.board_count;
-      crowds = st.crowds;
+      followed = st.followed;
     }
 refused limits r h (Take who) refusal st ok =
     record {
@@ -61,7 +61,7 @@ refused limits r h (Take who) refusal st ok =
       boards = st.boards;
       followers = st.followers;
       board_count = st.board_count;
-      crowds = st.crowds;
+      followed = st.followed;
     }
 refused limits r h (Leave who) refusal st ok =
     record {
@@ -70,7 +70,7 @@ refused limits r h (Leave who) refusal st ok =
       boards = st.boards;
       followers = st.followers;
       board_count = st.board_count;
-      crowds = st.crowds;
+      followed = st.followed;
     }
 
 -- the refusal that each history asks for, or that it allows, leaves the maps as they were

@@ -28,7 +28,7 @@ fresh limits bs fs none nobody = rw (none, nobody) (record {
     boards = λ b. refl;
     followers = λ who. refl;
     board_count = refl;
-    crowds = refl;
+    followed = refl;
   };
 })
 
@@ -42,7 +42,7 @@ shows limits r h st = record {
   followers = λ who. lookup-map (nat_eq who) plain_follower r.followers ∙ ap (option_map plain_follower) (st.followers who)
       ∙ each who (board_of h who);
   board_count = st.board_count;
-  crowds = shown-shown (λ (f : FollowerRecord). f.board) plain_follower r.followers ∙ st.crowds;
+  followed = shown-shown (λ (f : FollowerRecord). f.board) plain_follower r.followers ∙ st.followed;
 }
   where
     each : (who : ℕ) (o : Option (List ℕ)) → option_map plain_follower (option_map (held_follower_of limits h who) o)
@@ -81,11 +81,11 @@ module _ (limits : LimitNumbers) (r : Held) (h0 h : History) (st0 : HeldStands l
   same_log : (b : List ℕ) → log h0 b ≡ log h b
   same_log b = sym (log_known limits h0 r.boards st0.lawful st0.boards b) ∙ log_known limits h r.boards st.lawful st.boards b
 
-  crowds : shown (λ f. f.board) r.followers ≡ following h
-  crowds = sym (shown-shown (λ (f : FollowerRecord). f.board) plain_follower r.followers) ∙ st.crowds
+  followed : shown (λ f. f.board) r.followers ≡ following h
+  followed = sym (shown-shown (λ (f : FollowerRecord). f.board) plain_follower r.followers) ∙ st.followed
 
   same_board : (who : ℕ) → board_of h0 who ≡ board_of h who
-  same_board who = ap (lookup (nat_eq who)) (sym st0.crowds ∙ crowds)
+  same_board who = ap (lookup (nat_eq who)) (sym st0.followed ∙ followed)
 
   known : (who : ℕ) (o : Option (List ℕ)) → board_of h0 who ≡ o → board_of h who ≡ o
       → lookup (nat_eq who) r.followers ≡ option_map (held_follower_of limits h who) o
@@ -105,7 +105,7 @@ module _ (limits : LimitNumbers) (r : Held) (h0 h : History) (st0 : HeldStands l
     boards = st.boards;
     followers = λ who. known who (board_of h who) (same_board who) refl;
     board_count = st.board_count;
-    crowds = crowds;
+    followed = followed;
   }
 
 pub grounded : (limits : LimitNumbers) (r : Held) (h : History) → IsKept r → Stands limits (plain r) h → HeldStands limits r h

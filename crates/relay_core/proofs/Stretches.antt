@@ -3,7 +3,8 @@ use Rattle.std.proofs.Common.{◌≡◌, ℕ, suc, zero, ◌+◌, ◌≤◌, Boo
 use Rattle.std.proofs.lemmas.List.{take-append-le, drop-append-le}
 use Rattle.std.proofs.Math.ListN.{drop_of_length-le}
 use Rattle.c960_board.specs.Moves.{Triple}
-use Rattle.relay_core.specs.Stretch.{placed, stretch}
+use Rattle.relay_core.specs.Following.{stretch}
+use Rattle.relay_core.specs.Stretch.{placed}
 
 -- a stretch that ends before a new move
 pub before_new : (joins : Bool) (j n : ℕ) (l : List Triple) (m : Triple) → n ≤ length l

@@ -140,9 +140,9 @@ submitted limits r bs h b m n outcome st facts at ok updates len = record {
   followers = λ who. lookup-map (nat_eq who) (offered b (length (log h b)) m) r.followers
       ∙ ap (option_map (offered b (length (log h b)) m)) (st.followers who) ∙ each who (board_of h who) refl;
   board_count = len ∙ st.board_count;
-  crowds = shown-shown (λ (f : HeldFollower). f.board) (offered b (length (log h b)) m) r.followers
+  followed = shown-shown (λ (f : HeldFollower). f.board) (offered b (length (log h b)) m) r.followers
       ∙ shown-same (λ (f : HeldFollower). (offered b (length (log h b)) m f).board) (λ (f : HeldFollower). f.board)
-      (same_board b (length (log h b)) m) r.followers ∙ st.crowds;
+      (same_board b (length (log h b)) m) r.followers ∙ st.followed;
 }
   where
     each : (who : ℕ) (o : Option (List ℕ)) → board_of h who ≡ o

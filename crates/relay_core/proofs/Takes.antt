@@ -104,7 +104,7 @@ module _ (limits : LimitNumbers) (r : Held) (fs : List (ℕ × HeldFollower)) (h
         boards = st.boards;
         followers = λ q. same q ∙ st.followers q;
         board_count = st.board_count;
-        crowds = boards ∙ st.crowds;
+        followed = boards ∙ st.followed;
       }
   idle (Over outcome) none ok same boards =
       record {
@@ -113,7 +113,7 @@ module _ (limits : LimitNumbers) (r : Held) (fs : List (ℕ × HeldFollower)) (h
         boards = st.boards;
         followers = λ q. same q ∙ st.followers q;
         board_count = st.board_count;
-        crowds = boards ∙ st.crowds;
+        followed = boards ∙ st.followed;
       }
   idle Cut none ok same boards =
       record {
@@ -122,7 +122,7 @@ module _ (limits : LimitNumbers) (r : Held) (fs : List (ℕ × HeldFollower)) (h
         boards = st.boards;
         followers = λ q. same q ∙ st.followers q;
         board_count = st.board_count;
-        crowds = boards ∙ st.crowds;
+        followed = boards ∙ st.followed;
       }
 
   -- a take that answers a move
@@ -139,7 +139,7 @@ module _ (limits : LimitNumbers) (r : Held) (fs : List (ℕ × HeldFollower)) (h
     followers = λ q. updates q ∙ ap (cond (nat_eq who q) (Some (popped (held_follower_of limits h who b)))) (st.followers q)
         ∙ each q (nat_eq who q) (eqb-true who q);
     board_count = st.board_count;
-    crowds = boards ∙ st.crowds;
+    followed = boards ∙ st.followed;
   }
     where
       each : (q : ℕ) (mine : Bool) → (mine ≡ true → who ≡ q)

@@ -2,10 +2,10 @@
 use Rattle.std.proofs.Common.{◌≡◌, ℕ, ◌≤◌, List, ◌++◌, length, Some, sym, ap, ◌∙◌, arith}
 use Rattle.c960_board.specs.Moves.{Triple}
 use Rattle.c960_game.specs.Limits.{LimitNumbers}
-use Rattle.relay_core.specs.Following.{board_of, joined, next, limit, due}
+use Rattle.relay_core.specs.Following.{board_of, joined, next, limit, due, stretch}
 use Rattle.relay_core.specs.History.{History, log}
 use Rattle.relay_core.specs.Replies.{LawfulHistory}
-use Rattle.relay_core.specs.Stretch.{IsStretch, placed, stretch}
+use Rattle.relay_core.specs.Stretch.{IsStretch, placed}
 use Rattle.relay_core.proofs.Facts.{IsWithin}
 use Rattle.relay_core.proofs.Lawful.{facts}
 use Rattle.relay_core.proofs.Stretches.{joined_stretches, placed-append, stretch_length}

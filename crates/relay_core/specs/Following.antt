@@ -91,6 +91,10 @@ cut_at capacity (e ∷ h) who = cut_after capacity h who (cut_at capacity h who)
 abbrev pub limit : ℕ → History → ℕ → List ℕ → ℕ
 limit capacity h who board = unwrap_or (cut_at capacity h who) (length (log h board))
 
+-- the moves at the places from a to b - 1
+abbrev pub stretch : ℕ → ℕ → List Triple → List Triple
+stretch a b l = drop a (take b l)
+
 -- the moves that later takes must answer
 abbrev pub due : ℕ → History → ℕ → List ℕ → List Triple
-due capacity h who board = drop (next h who) (take (limit capacity h who board) (log h board))
+due capacity h who board = stretch (next h who) (limit capacity h who board) (log h board)

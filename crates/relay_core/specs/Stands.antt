@@ -30,4 +30,4 @@ pub record Stands (limits : LimitNumbers) (r : RelayRecord) (h : History) : Type
   pub boards : (board : List ℕ) → lookup (same_name board) r.boards ≡ option_map (game_of limits h board) (start_of h board)
   pub followers : (who : ℕ) → lookup (nat_eq who) r.followers ≡ option_map (follower_of limits h who) (board_of h who)
   pub board_count : length r.boards ≡ length (opened h)
-  pub crowds : map (λ e. (e.0, e.1.board)) r.followers ≡ following h
+  pub followed : map (λ e. (e.0, e.1.board)) r.followers ≡ following h

@@ -1,17 +1,13 @@
 -- The stretch of a log that a follower takes.
-use Rattle.std.specs.Prelude.{◌≡◌, ℕ, ◌+◌, ◌≤◌, List, [], ◌∷◌, ◌++◌, length, take, drop}
+use Rattle.std.specs.Prelude.{◌≡◌, ℕ, ◌+◌, ◌≤◌, List, [], ◌∷◌, ◌++◌, length}
 use Rattle.c960_board.specs.Moves.{Triple}
-use Rattle.relay_core.specs.Following.{joined, taken, next, limit, due}
+use Rattle.relay_core.specs.Following.{joined, taken, next, limit, stretch, due}
 use Rattle.relay_core.specs.History.{History, log}
 
 -- moves with their places, of which the first is given
 abbrev pub placed : ℕ → List Triple → List (ℕ × Triple)
 placed place [] = []
 placed place (m ∷ ms) = (place, m) ∷ placed (place + 1) ms
-
--- the moves at the places from a to b - 1
-abbrev pub stretch : ℕ → ℕ → List Triple → List Triple
-stretch a b l = drop a (take b l)
 
 -- The moves taken, then those due, are, each once and in order and with their places, the stretch of the log from the joining
 -- place to the limit, which lies within the log; and no more are due than a queue holds.
