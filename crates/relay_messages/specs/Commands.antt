@@ -1,0 +1,73 @@
+-- What the object of a command says: the step; or None where a key is missing, there is a key more, or a value has another form.
+-- An object has no key more where it has as many members as the command has keys, `cmd` counted.
+use Rattle.std.specs.Prelude.{ℕ, ◌==◌, cond, is_some, List, Option, Some, None, option_map, option_and_then, Result, Err, codes}
+use Rattle.std.specs.Option.{ok_or}
+use Rattle.std.specs.Str.{bytes_eq}
+use Rattle.serde_json.specs.Data.{Data}
+use Rattle.serde_json.specs.Find.{as_object}
+use Rattle.c960_game.specs.declared.ending.Ending.{Ending}
+use Rattle.c960_game.specs.declared.ending.Ending.TheVariants.{Resigns, Agreed, Abandoned, ClaimThreefold, ClaimFifty}
+use Rattle.relay_core.specs.declared.step.Step.{Step}
+use Rattle.relay_core.specs.declared.step.Step.TheVariants.{Open, Submit, End, Follow, Take, Leave}
+use Rattle.relay_messages.specs.declared.fault.MessageFault.{MessageFault}
+use Rattle.relay_messages.specs.declared.fault.MessageFault.TheVariants.{NotObject, UnknownCommand, BadField}
+use Rattle.relay_messages.specs.Fields.{member_count, text_at, board_at, start_at, spectator_at, move_at, side_at}
+
+-- what is there, where the object has n members
+abbrev pub with_members : {A : Type 0} → ℕ → Data → Option A → Option A
+with_members n d found = cond (member_count d == n) found None
+
+-- {"cmd":"open","board":"b1","start":518}
+abbrev pub open_in : Data → Option Step
+open_in d = with_members 3 d (option_and_then (λ board. option_map (λ start. Open board start) (start_at d)) (board_at d))
+
+-- {"cmd":"submit","board":"b1","move":"e2e4"}
+abbrev pub submit_in : Data → Option Step
+submit_in d = with_members 3 d (option_and_then (λ board. option_map (λ m. Submit board m) (move_at d)) (board_at d))
+
+-- `resign`, `threefold` and `fifty` name a side; `agreed` and `abandoned` allow none
+abbrev pub ending_named : Data → List ℕ → Option Ending
+ending_named d how =
+    cond (bytes_eq how (codes "resign")) (with_members 4 d (option_map Resigns (side_at d)))
+    (cond (bytes_eq how (codes "threefold")) (with_members 4 d (option_map ClaimThreefold (side_at d)))
+    (cond (bytes_eq how (codes "fifty")) (with_members 4 d (option_map ClaimFifty (side_at d)))
+    (cond (bytes_eq how (codes "agreed")) (with_members 3 d (Some Agreed))
+    (cond (bytes_eq how (codes "abandoned")) (with_members 3 d (Some Abandoned)) None))))
+
+abbrev pub ending_in : Data → Option Ending
+ending_in d = option_and_then (ending_named d) (text_at (codes "how") d)
+
+-- {"cmd":"end","board":"b1","how":"agreed"} and {"cmd":"end","board":"b1","how":"resign","side":"white"}
+abbrev pub end_in : Data → Option Step
+end_in d = option_and_then (λ board. option_map (λ ending. End board ending) (ending_in d)) (board_at d)
+
+-- {"cmd":"follow","board":"b1","spectator":1}
+abbrev pub follow_in : Data → Option Step
+follow_in d = with_members 3 d (option_and_then (λ board. option_map (λ who. Follow who board) (spectator_at d)) (board_at d))
+
+-- {"cmd":"take","spectator":1}
+abbrev pub take_in : Data → Option Step
+take_in d = with_members 2 d (option_map (λ who. Take who) (spectator_at d))
+
+-- {"cmd":"leave","spectator":1}
+abbrev pub leave_in : Data → Option Step
+leave_in d = with_members 2 d (option_map (λ who. Leave who) (spectator_at d))
+
+-- the command of the name that `cmd` gives
+unfoldable pub command_named : Data → List ℕ → Result Step MessageFault
+command_named d name =
+    cond (bytes_eq name (codes "open")) (ok_or (open_in d) BadField)
+    (cond (bytes_eq name (codes "submit")) (ok_or (submit_in d) BadField)
+    (cond (bytes_eq name (codes "end")) (ok_or (end_in d) BadField)
+    (cond (bytes_eq name (codes "follow")) (ok_or (follow_in d) BadField)
+    (cond (bytes_eq name (codes "take")) (ok_or (take_in d) BadField)
+    (cond (bytes_eq name (codes "leave")) (ok_or (leave_in d) BadField)
+    (Err UnknownCommand))))))
+
+abbrev pub command_by : Data → Option (List ℕ) → Result Step MessageFault
+command_by d (Some name) = command_named d name
+command_by d None = Err UnknownCommand
+
+-- what a JSON value says
+unfoldable pub command_in : Data → Result Step MessageFault
+command_in d = cond (is_some (as_object d)) (command_by d (text_at (codes "cmd") d)) (Err NotObject)

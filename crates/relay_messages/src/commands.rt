@@ -1,0 +1,116 @@
+//! The commands that objects say, one function each.
+
+ghost use Rattle.std.specs.Prelude.{◌≡◌, Some};
+ghost use Rattle.serde_json.specs.View.{view};
+ghost use Rattle.relay_messages.specs.Commands.{end_in, ending_in, ending_named, follow_in, leave_in, open_in, submit_in, take_in, with_members};
+ghost use Rattle.relay_messages.specs.Fields.{side_at};
+
+use crate::fields::{
+    board_field, count_of, move_field, side_field, spectator_field, start_field, text_field,
+};
+use c960_board::Colour;
+use c960_game::Ending;
+use relay_core::Step;
+use serde_json::Value;
+
+/// Opens a board: `board` and `start`.
+pub fn open_of(object: &Value) -> Option<Step>
+    ensures { result ≡ open_in (view object.now) }
+{
+    if count_of(object) != 3 {
+        return None;
+    }
+    let board = board_field(object)?;
+    let start = start_field(object)?;
+    Some(Step::Open(board, start))
+}
+
+/// Plays a move: `board` and `move`.
+pub fn submit_of(object: &Value) -> Option<Step>
+    ensures { result ≡ submit_in (view object.now) }
+{
+    if count_of(object) != 3 {
+        return None;
+    }
+    let board = board_field(object)?;
+    let chess_move = move_field(object)?;
+    Some(Step::Submit(board, chess_move))
+}
+
+/// The side, in an object with no other key more.
+fn side_of_ending(object: &Value) -> Option<Colour>
+    ensures { result ≡ with_members 4 (view object.now) (side_at (view object.now)) }
+{
+    if count_of(object) != 4 {
+        return None;
+    }
+    side_field(object)
+}
+
+/// An ending that names no side.
+fn without_side(object: &Value, ending: Ending) -> Option<Ending>
+    ensures { result ≡ with_members 3 (view object.now) (Some ending) }
+{
+    if count_of(object) != 3 {
+        return None;
+    }
+    Some(ending)
+}
+
+/// The ending of this name, with its side where it has one.
+fn ending_of(object: &Value, how: &str) -> Option<Ending>
+    ensures { result ≡ ending_named (view object.now) how.now }
+{
+    match how {
+        "resign" => Some(Ending::Resigns(side_of_ending(object)?)),
+        "threefold" => Some(Ending::ClaimThreefold(side_of_ending(object)?)),
+        "fifty" => Some(Ending::ClaimFifty(side_of_ending(object)?)),
+        "agreed" => without_side(object, Ending::Agreed),
+        "abandoned" => without_side(object, Ending::Abandoned),
+        _ => None,
+    }
+}
+
+/// Ends a game: `board`, `how` and for some endings `side`.
+pub fn end_of(object: &Value) -> Option<Step>
+    ensures { result ≡ end_in (view object.now) }
+{
+    let board = board_field(object)?;
+    let how = text_field(object, "how")?;
+    let ending = ending_of(object, how)?;
+    Some(Step::End(board, ending))
+}
+
+/// Lets a spectator follow a board: `board` and `spectator`.
+pub fn follow_of(object: &Value) -> Option<Step>
+    ensures { result ≡ follow_in (view object.now) }
+{
+    if count_of(object) != 3 {
+        return None;
+    }
+    let board = board_field(object)?;
+    let spectator = spectator_field(object)?;
+    Some(Step::Follow(spectator, board))
+}
+
+/// Takes a spectator's next move: `spectator`.
+pub fn take_of(object: &Value) -> Option<Step>
+    ensures { result ≡ take_in (view object.now) }
+{
+    if count_of(object) != 2 {
+        return None;
+    }
+    let spectator = spectator_field(object)?;
+    Some(Step::Take(spectator))
+}
+
+/// Ends a spectator's following: `spectator`.
+pub fn leave_of(object: &Value) -> Option<Step>
+    ensures { result ≡ leave_in (view object.now) }
+{
+    if count_of(object) != 2 {
+        return None;
+    }
+    let spectator = spectator_field(object)?;
+    Some(Step::Leave(spectator))
+}

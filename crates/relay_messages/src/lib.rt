@@ -1,0 +1,18 @@
+//! Commands and answers of a relay as JSON texts (RFC 8259).
+#![tactic(auto)]
+
+mod answer;
+mod answers;
+mod commands;
+mod encoding;
+mod fault;
+mod fields;
+pub mod laws;
+mod reading;
+#[cfg(test)]
+mod tests;
+
+pub use answer::Answer;
+pub use encoding::encode;
+pub use fault::MessageFault;
+pub use reading::{Command, decode};

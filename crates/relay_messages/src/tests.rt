@@ -1,0 +1,9 @@
+//! Worked cases of commands and answers.
+
+mod answers;
+mod bad_fields;
+mod bounds;
+mod commands;
+mod faults;
+mod round_trip;
+mod values;
