@@ -8,3 +8,5 @@ pub mod TakingFacts
 pub mod RunFacts
 pub mod PlayFacts
 pub mod PlayRunFacts
+pub mod ScriptFacts
+pub mod ScriptRunFacts

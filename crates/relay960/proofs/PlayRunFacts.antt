@@ -1,6 +1,6 @@
 -- Lemmas on a whole run over a live game: what the line engine did, said of the game.
 use Rattle.std.proofs.Common.{◌≡◌, ℕ, ◌<◌, List, [], ◌++◌}
-use Rattle.std.proofs.Common.{sym, ap, ◌∙◌, subst, inl, inr, append-nil}
+use Rattle.std.proofs.Common.{sym, ap, ◌∙◌, subst, inl, inr, append-nil, arith}
 use Rattle.std.proofs.Common.{Result, Ok, Err, IfOk, IfErr}
 use Rattle.std.proofs.KnownBytes.{Consumes-nil, Appends-nil}
 use Rattle.std.specs.Io.KnownBytes.{Appends}
@@ -60,17 +60,23 @@ module _ {S : Type 0} (gives : Giving S) (game : S → GameRecord) (law : IsGive
   }
 
   partly_played : (t : S) → Stopped gives s t lines bytes old_input new_input a b Write
-      → PartlyPlayed n old_input new_input a b
+      → PartlyPlayed n lines bytes old_input new_input a b
   partly_played t stopped = record {
     numbered = numbered;
-    input = stopped.seen ++ stopped.unseen;
+    seen = stopped.seen;
+    unseen = stopped.unseen;
     read = stopped.read;
     written = elim stopped.wrote [
-      | inl part ↦ part_of_output n stopped.seen stopped.unseen a b (part_written t (whole_lines [] stopped.seen) part)
+      | inl part ↦ part_of_output n stopped.seen stopped.unseen a b (part_written t (whole_lines [] stopped.seen) part.1)
       | inr last ↦
           let all : stopped.seen ≡ stopped.seen ++ stopped.unseen =
           sym (append-nil stopped.seen) ∙ ap (λ l. stopped.seen ++ l) (sym last.0) in
-          subst (λ l. AppendsPart a b (play_output n l)) all (part_written t (lines_of stopped.seen) last.2)
+          subst (λ l. AppendsPart a b (play_output n l)) all (part_written t (lines_of stopped.seen) last.3)
+    ];
+    bytes_within = stopped.bytes_within;
+    at_line = elim stopped.wrote [
+      | inl part ↦ inl (part.0, part_written t (whole_lines [] stopped.seen) part.1)
+      | inr last ↦ inr (last.0, last.1, last.2)
     ];
   }
 
@@ -82,6 +88,8 @@ module _ {S : Type 0} (gives : Giving S) (game : S → GameRecord) (law : IsGive
     numbered = numbered;
     input = stopped.input;
     read = stopped.read;
+    lines_within = stopped.lines_within;
+    bytes_within = stopped.bytes_within;
     written = written t (whole_lines [] stopped.input) stopped.wrote;
   }
   play_stopped t (Err Write) stopped = inl (partly_played t stopped)
@@ -101,6 +109,8 @@ module _ {S : Type 0} (gives : Giving S) (game : S → GameRecord) (law : IsGive
     seen = stopped.seen;
     unseen = stopped.unseen;
     read = stopped.read;
+    lines_within = stopped.lines_within;
+    bytes_within = stopped.bytes_within;
     written = written stopped.mid (whole_lines [] stopped.seen) stopped.wrote;
   }
   play_stopped t (Err BadStart) stopped = absurd stopped
@@ -109,5 +119,12 @@ module _ {S : Type 0} (gives : Giving S) (game : S → GameRecord) (law : IsGive
 pub starved_before : (n lines bytes : ℕ) (input output : Known) → n < 960
     → PlayStopped n lines bytes input input output output OutOfMemory
 unfolding whole_lines line_answers
-starved_before n lines bytes input output numbered =
-    record { numbered = numbered; seen = []; unseen = []; read = Consumes-nil input; written = Appends-nil output }
+starved_before n lines bytes input output numbered = record {
+  numbered = numbered;
+  seen = [];
+  unseen = [];
+  read = Consumes-nil input;
+  lines_within = omega arith;
+  bytes_within = omega arith;
+  written = Appends-nil output;
+}

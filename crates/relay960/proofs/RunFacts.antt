@@ -1,5 +1,5 @@
 -- Lemmas on a whole run: what was kept of the lines stands for the lines.
-use Rattle.std.proofs.Common.{◌≡◌, ℕ, ◌+◌, ◌≤◌, List, [], ◌++◌, length, take, map}
+use Rattle.std.proofs.Common.{◌≡◌, ℕ, ◌+◌, ◌<◌, ◌≤◌, List, [], ◌∷◌, ◌++◌, length, take, map}
 use Rattle.std.proofs.Common.{refl, sym, ap, ◌∙◌, subst, inl, inr, arith, append-nil}
 use Rattle.std.proofs.Common.{Result, Ok, Err, OnOk, IfOk, IfErr}
 use Rattle.std.proofs.lemmas.List.{length-map, length-append, map-append}
@@ -10,7 +10,7 @@ use Rattle.relay960.specs.declared.fault.RunFault.TheVariants.{Read, Write, TooL
 use Rattle.relay960.specs.declared.progress.Progress.{Progress}
 use Rattle.relay960.specs.Lines.{Giving, Known, Wrote, WrotePart, whole_lines, last_piece, last_line, lines_of}
 use Rattle.relay960.specs.Lines.{Done, Stopped, IsPast}
-use Rattle.relay960.specs.Taking.{kept_lines, kept_piece, Within, TakenAll, Unwritten, StopsReading}
+use Rattle.relay960.specs.Taking.{kept_lines, kept_piece, Within, IsWithin, TakenAll, Unwritten, StopsReading}
 use Rattle.relay960.proofs.LineFacts.{kept_lines-take, kept_piece-take, last_line-take}
 use Rattle.relay960.proofs.AnsweredFacts.{IsCut, Wrote-nil, Wrote-trans, Wrote-part, Wrote-kept, Wrote-whole, WrotePart-whole}
 
@@ -35,6 +35,12 @@ kept_all line piece bytes new left =
 kept_number : (line bytes : List ℕ) → line ≡ [] → length (kept_lines line bytes) ≡ length (whole_lines [] bytes)
 kept_number line bytes new = ap length (kept_whole line bytes new) ∙ length-map (whole_lines [] bytes) (take 1025)
 
+-- a last line has room
+last_fits : (line : List ℕ) (answered lines : ℕ) → answered ≤ lines → (0 < length line → answered < lines)
+    → answered + length (last_line line) ≤ lines
+last_fits [] answered lines few room = omega (arith, few)
+last_fits (b ∷ bs) answered lines few room = omega (arith, room (omega arith))
+
 -- ---- The end of a run that began with progress p.
 
 module _ {S : Type 0} (gives : Giving S) (cut : IsCut gives) (s : S) (p : Progress) (lines bytes : ℕ)
@@ -45,21 +51,39 @@ module _ {S : Type 0} (gives : Giving S) (cut : IsCut gives) (s : S) (p : Progre
       Wrote-whole gives s t (whole_lines [] seen) a b cut
       (subst (λ ls. Wrote gives s t ls a b) (kept_whole p.line seen line) wrote)
 
+  few_lines : (seen : List ℕ) → IsWithin lines bytes p seen → length (whole_lines [] seen) ≤ lines
+  few_lines seen within =
+      let number : length (kept_lines p.line seen) ≡ length (whole_lines [] seen) = kept_number p.line seen line in
+      omega (arith, within.lines_within, number)
+
+  few_bytes : (seen : List ℕ) → IsWithin lines bytes p seen → length seen ≤ bytes
+  few_bytes seen within = omega (arith, within.bytes_within)
+
   -- it stopped within the bytes of the reader
   pub stopped : (t : S) (b : Known) (fault : RunFault)
       → StopsReading gives s t p lines bytes old_input new_input a b fault
       → Stopped gives s t lines bytes old_input new_input a b fault
   stopped t b Read stops = elim stops.stop [
     | inl within ↦ absurd within.stop
-    | inr at_read ↦ record { input = stops.input; read = stops.read; wrote = whole t b stops.input at_read.1 }
+    | inr at_read ↦ record {
+      input = stops.input;
+      read = stops.read;
+      lines_within = few_lines stops.input at_read.1;
+      bytes_within = few_bytes stops.input at_read.1;
+      wrote = whole t b stops.input at_read.2;
+    }
   ]
   stopped t b Write stops = elim stops.stop [
     | inl within ↦ record {
       seen = within.seen;
       unseen = within.unseen;
       read = subst (Consumes old_input new_input) within.split stops.read;
-      wrote = inl (WrotePart-whole gives s t (whole_lines [] within.seen) a b cut
-          (subst (λ ls. WrotePart gives s t ls a b) (kept_whole p.line within.seen line) within.stop));
+      bytes_within = few_bytes within.seen within.within;
+      wrote = inl (
+        few_lines within.seen within.within,
+        WrotePart-whole gives s t (whole_lines [] within.seen) a b cut
+            (subst (λ ls. WrotePart gives s t ls a b) (kept_whole p.line within.seen line) within.stop),
+      );
     }
     | inr at_read ↦ let other : Write ≡ Read = at_read.0 in cc
   ]
@@ -69,7 +93,7 @@ module _ {S : Type 0} (gives : Giving S) (cut : IsCut gives) (s : S) (p : Progre
         let number : length (kept_lines p.line within.seen) ≡ length (whole_lines [] within.seen) =
         kept_number p.line within.seen line in
         let past : IsPast lines bytes within.seen =
-        elim bound.reached [
+        elim bound [
           | inl h ↦ inl (omega (arith, h, number, answered))
           | inr h ↦ inr (omega (arith, h, taken))
         ] in
@@ -78,8 +102,8 @@ module _ {S : Type 0} (gives : Giving S) (cut : IsCut gives) (s : S) (p : Progre
           unseen = within.unseen;
           more = more;
           read = subst (Consumes old_input new_input) within.split stops.read;
-          lines_within = omega (arith, bound.lines_within, number);
-          bytes_within = omega (arith, bound.bytes_within);
+          lines_within = few_lines within.seen within.within;
+          bytes_within = few_bytes within.seen within.within;
           past = past;
           wrote = whole t b within.seen wrote;
         }
@@ -92,6 +116,8 @@ module _ {S : Type 0} (gives : Giving S) (cut : IsCut gives) (s : S) (p : Progre
           seen = within.seen;
           unseen = within.unseen;
           read = subst (Consumes old_input new_input) within.split stops.read;
+          lines_within = few_lines within.seen within.within;
+          bytes_within = few_bytes within.seen within.within;
           mid = mid;
           wrote = whole mid b within.seen wrote;
         }
@@ -107,51 +133,63 @@ module _ {S : Type 0} (gives : Giving S) (cut : IsCut gives) (s : S) (p : Progre
     all_lines : kept_lines p.line took.input ++ last_line q.line ≡ map (take 1025) (lines_of took.input)
     all_lines = kept_all p.line q.line took.input line took.took.piece
 
+    all_number : length (kept_lines p.line took.input) + length (last_line q.line) ≡ length (lines_of took.input)
+    all_number =
+        sym (length-append (kept_lines p.line took.input) (last_line q.line)) ∙ ap length all_lines
+        ∙ length-map (lines_of took.input) (take 1025)
+
     pub done : Within lines bytes q → (ran : Result ℕ RunFault) → OnOk ran (Wrote gives t u (last_line q.line) b c)
         → IfOk ran (λ n. n ≡ q.answered + length (last_line q.line)) → IfOk ran (λ n. n ≤ lines)
         → IfOk ran (λ n. Done gives s u lines bytes old_input new_input a c n)
     done within (Err fault) wrote count few = tt
     done within (Ok n) wrote count few =
-        let number : length (kept_lines p.line took.input) + length (last_line q.line) ≡ length (lines_of took.input) =
-        sym (length-append (kept_lines p.line took.input) (last_line q.line)) ∙ ap length all_lines
-        ∙ length-map (lines_of took.input) (take 1025) in
         record {
           input = took.input;
           read = took.read;
           at_end = took.at_end;
           wrote = Wrote-whole gives s u (lines_of took.input) a c cut (subst (λ ls. Wrote gives s u ls a c) all_lines
               (Wrote-trans gives s t u (kept_lines p.line took.input) (last_line q.line) a b c took.took.wrote wrote));
-          count = omega (arith, count, took.took.count, answered, number);
+          count = omega (arith, count, took.took.count, answered, all_number);
           lines_within = few;
           bytes_within = omega (arith, within.taken_within, took.took.total, taken);
         }
 
+    last_within : Within lines bytes q → q.answered + length (last_line q.line) ≤ lines
+    last_within within = last_fits q.line q.answered lines within.answered_within within.room
+
+    short : Within lines bytes q → length took.input ≤ bytes
+    short within = omega (arith, within.taken_within, took.took.total)
+
     -- the answer to the last line was not written whole
-    pub stopped_last : (ran : Result ℕ RunFault) → IfErr ran (λ fault. Unwritten gives t u (last_line q.line) b c fault)
+    pub stopped_last : Within lines bytes q → (ran : Result ℕ RunFault) → IfErr ran (λ fault. Unwritten gives t u (last_line q.line) b c fault)
         → IfErr ran (λ fault. Stopped gives s u lines bytes old_input new_input a c fault)
-    stopped_last (Ok n) part = tt
-    stopped_last (Err Write) part = record {
+    stopped_last within (Ok n) part = tt
+    stopped_last within (Err Write) part = record {
       seen = took.input;
       unseen = [];
       read = subst (Consumes old_input new_input) (sym (append-nil took.input)) took.read;
+      bytes_within = short within;
       wrote = inr (
         refl,
         took.at_end,
+        omega (arith, last_within within, took.took.count, answered, all_number),
         WrotePart-whole gives s u (lines_of took.input) a c cut
             (subst (λ ls. WrotePart gives s u ls a c) all_lines
             (Wrote-part gives s t u (kept_lines p.line took.input) (last_line q.line) a b c took.took.wrote part)),
       );
     }
-    stopped_last (Err OutOfMemory) kept = record {
+    stopped_last within (Err OutOfMemory) kept = record {
       seen = took.input;
       unseen = [];
       read = subst (Consumes old_input new_input) (sym (append-nil took.input)) took.read;
+      lines_within = omega (arith, within.answered_within, took.took.count, kept_number p.line took.input line);
+      bytes_within = short within;
       mid = t;
       wrote = whole t c took.input (Wrote-kept gives s t (kept_lines p.line took.input) a b c took.took.wrote kept);
     }
-    stopped_last (Err Read) none = absurd none
-    stopped_last (Err TooLong) none = absurd none
-    stopped_last (Err BadStart) none = absurd none
+    stopped_last within (Err Read) none = absurd none
+    stopped_last within (Err TooLong) none = absurd none
+    stopped_last within (Err BadStart) none = absurd none
 
 -- there was no memory for the line: nothing was read
 pub stopped_before : {S : Type 0} (gives : Giving S) (s t : S) (lines bytes : ℕ) (input output : Known)
@@ -161,6 +199,8 @@ stopped_before gives s t lines bytes input output = record {
   seen = [];
   unseen = [];
   read = Consumes-nil input;
+  lines_within = omega arith;
+  bytes_within = omega arith;
   mid = s;
   wrote = Wrote-nil gives s output;
 }

@@ -8,7 +8,7 @@ use Rattle.relay960.specs.declared.fault.RunFault.{RunFault}
 use Rattle.relay960.specs.declared.fault.RunFault.TheVariants.{Read, Write, TooLong, OutOfMemory, BadStart}
 use Rattle.relay960.specs.declared.progress.Progress.{Progress}
 use Rattle.relay960.specs.Lines.{Giving, Known, Wrote, WrotePart}
-use Rattle.relay960.specs.Taking.{kept_with, kept_lines, kept_piece, Within, Taken, Unwritten, IsAtBound, StopsBy, StopsIn, StopsReading}
+use Rattle.relay960.specs.Taking.{kept_with, kept_lines, kept_piece, Within, Taken, Unwritten, IsWithin, IsAtBound, StopsBy, StopsIn, StopsReading}
 use Rattle.relay960.proofs.LineFacts.{kept_lines-append, kept_piece-append, kept_lines-end, kept_piece-end, kept_lines-more, kept_piece-more}
 use Rattle.relay960.proofs.AnsweredFacts.{Wrote-nil, Wrote-trans, Wrote-part, Wrote-kept}
 
@@ -25,13 +25,18 @@ lines_behind : (line piece xs ys : List ℕ) → piece ≡ kept_piece line xs
 lines_behind line piece xs ys same =
     ap (λ l. kept_lines line xs ++ kept_lines l ys) same ∙ sym (kept_lines-append line xs ys)
 
+number_behind : (line piece xs ys : List ℕ) → piece ≡ kept_piece line xs
+    → length (kept_lines line xs) + length (kept_lines piece ys) ≡ length (kept_lines line (xs ++ ys))
+number_behind line piece xs ys same =
+    sym (length-append (kept_lines line xs) (kept_lines piece ys)) ∙ ap length (lines_behind line piece xs ys same)
+
 pub Taken-trans : {S : Type 0} (gives : Giving S) (s t u : S) (p q r : Progress) (xs ys : List ℕ) (a b c : Known)
     → Taken gives s t p q xs a b → Taken gives t u q r ys b c → Taken gives s u p r (xs ++ ys) a c
 Taken-trans gives s t u p q r xs ys a b c first second =
     let lines : kept_lines p.line xs ++ kept_lines q.line ys ≡ kept_lines p.line (xs ++ ys) =
     lines_behind p.line q.line xs ys first.piece in
     let number : length (kept_lines p.line xs) + length (kept_lines q.line ys) ≡ length (kept_lines p.line (xs ++ ys)) =
-    sym (length-append (kept_lines p.line xs) (kept_lines q.line ys)) ∙ ap length lines in
+    number_behind p.line q.line xs ys first.piece in
     record {
       wrote = subst (λ ls. Wrote gives s u ls a c) lines
           (Wrote-trans gives s t u (kept_lines p.line xs) (kept_lines q.line ys) a b c first.wrote second.wrote);
@@ -69,13 +74,42 @@ taken_more gives s p q b a more line same total =
 -- ---- A run that stopped.
 
 -- before the first of the bytes the counts are those of the progress
-bound_before : (lines bytes answered taken : ℕ) → answered ≤ lines → taken ≤ bytes
-    → (lines ≤ answered) ⊎ (bytes ≤ taken) → IsAtBound lines bytes (answered + 0) (taken + 0)
-bound_before lines bytes answered taken lines_within bytes_within reached = record {
-  lines_within = omega arith;
-  bytes_within = omega arith;
-  reached = elim reached [ inl h ↦ inl (omega (arith, h)) | inr h ↦ inr (omega (arith, h)) ];
-}
+within_before : (lines bytes : ℕ) (p : Progress) → Within lines bytes p → IsWithin lines bytes p []
+unfolding kept_lines
+within_before lines bytes p within =
+    record { lines_within = omega (arith, within.answered_within); bytes_within = omega (arith, within.taken_within) }
+
+bound_before : (lines bytes : ℕ) (p : Progress) → (lines ≤ p.answered) ⊎ (bytes ≤ p.taken) → IsAtBound lines bytes p []
+unfolding kept_lines
+bound_before lines bytes p (inl h) = inl (omega (arith, h))
+bound_before lines bytes p (inr h) = inr (omega (arith, h))
+
+-- a line feed adds a line
+within_at_line : (lines bytes : ℕ) (p : Progress) (b : ℕ) → b ≡ 10 → p.answered < lines → p.taken < bytes
+    → IsWithin lines bytes p (b ∷ [])
+within_at_line lines bytes p b is_end few short =
+    let one : length (kept_lines p.line (b ∷ [])) ≡ 1 = ap length (kept_lines-end p.line b is_end) in
+    record { lines_within = omega (arith, one, few); bytes_within = omega (arith, short) }
+
+-- behind bytes that were taken, the counts go on
+pub within_behind : {S : Type 0} (gives : Giving S) (s t : S) (p q : Progress) (lines bytes : ℕ) (xs seen : List ℕ) (a b : Known)
+    → Taken gives s t p q xs a b → IsWithin lines bytes q seen → IsWithin lines bytes p (xs ++ seen)
+within_behind gives s t p q lines bytes xs seen a b first within =
+    let number : length (kept_lines p.line xs) + length (kept_lines q.line seen) ≡ length (kept_lines p.line (xs ++ seen)) =
+    number_behind p.line q.line xs seen first.piece in
+    record {
+      lines_within = omega (arith, first.count, number, within.lines_within);
+      bytes_within = omega (arith, first.total, length-append xs seen, within.bytes_within);
+    }
+
+bound_behind : {S : Type 0} (gives : Giving S) (s t : S) (p q : Progress) (lines bytes : ℕ) (xs seen : List ℕ) (a b : Known)
+    → Taken gives s t p q xs a b → IsAtBound lines bytes q seen → IsAtBound lines bytes p (xs ++ seen)
+bound_behind gives s t p q lines bytes xs seen a b first (inl h) =
+    let number : length (kept_lines p.line xs) + length (kept_lines q.line seen) ≡ length (kept_lines p.line (xs ++ seen)) =
+    number_behind p.line q.line xs seen first.piece in
+    inl (omega (arith, first.count, number, h))
+bound_behind gives s t p q lines bytes xs seen a b first (inr h) =
+    inr (omega (arith, first.total, length-append xs seen, h))
 
 -- a bound stands before the bytes
 pub stops_at_bound : {S : Type 0} (gives : Giving S) (s : S) (p : Progress) (lines bytes : ℕ) (b : ℕ) (bs : List ℕ) (a : Known)
@@ -86,29 +120,32 @@ stops_at_bound gives s p lines bytes b bs a within reached = record {
   seen = [];
   unseen = b ∷ bs;
   split = refl;
-  stop = (omega arith, Wrote-nil gives s a, bound_before lines bytes p.answered p.taken within.answered_within within.taken_within reached);
+  within = within_before lines bytes p within;
+  stop = (omega arith, Wrote-nil gives s a, bound_before lines bytes p reached);
 }
 
 -- the answer to a line was not written whole
 pub stops_at_line : {S : Type 0} (gives : Giving S) (s t : S) (p : Progress) (lines bytes : ℕ) (b : ℕ) (old new : Known)
-    (fault : RunFault) → b ≡ 10 → Unwritten gives s t (p.line ∷ []) old new fault
-    → StopsIn gives s t p lines bytes (b ∷ []) old new fault
+    (fault : RunFault) → b ≡ 10 → Within lines bytes p → p.answered < lines → p.taken < bytes
+    → Unwritten gives s t (p.line ∷ []) old new fault → StopsIn gives s t p lines bytes (b ∷ []) old new fault
 unfolding kept_lines
-stops_at_line gives s t p lines bytes b old new Write is_end part = record {
+stops_at_line gives s t p lines bytes b old new Write is_end within few short part = record {
   seen = b ∷ [];
   unseen = [];
   split = refl;
+  within = within_at_line lines bytes p b is_end few short;
   stop = subst (λ ls. WrotePart gives s t ls old new) (sym (kept_lines-end p.line b is_end)) part;
 }
-stops_at_line gives s t p lines bytes b old new OutOfMemory is_end kept = record {
+stops_at_line gives s t p lines bytes b old new OutOfMemory is_end within few short kept = record {
   seen = [];
   unseen = b ∷ [];
   split = refl;
+  within = within_before lines bytes p within;
   stop = (s, Wrote-kept gives s s [] old old new (Wrote-nil gives s old) kept);
 }
-stops_at_line gives s t p lines bytes b old new Read is_end none = absurd none
-stops_at_line gives s t p lines bytes b old new TooLong is_end none = absurd none
-stops_at_line gives s t p lines bytes b old new BadStart is_end none = absurd none
+stops_at_line gives s t p lines bytes b old new Read is_end within few short none = absurd none
+stops_at_line gives s t p lines bytes b old new TooLong is_end within few short none = absurd none
+stops_at_line gives s t p lines bytes b old new BadStart is_end within few short none = absurd none
 
 stop_behind : {S : Type 0} (gives : Giving S) (s t u : S) (p q : Progress) (lines bytes : ℕ) (xs seen unseen : List ℕ)
     (a b c : Known) (fault : RunFault) → Taken gives s t p q xs a b
@@ -121,21 +158,12 @@ stop_behind {S} gives s t u p q lines bytes xs seen unseen a b c OutOfMemory fir
   subst (λ ls. Wrote gives s mid ls a c) (lines_behind p.line q.line xs seen first.piece)
       (Wrote-trans gives s t mid (kept_lines p.line xs) (kept_lines q.line seen) a b c first.wrote wrote),
 )
-stop_behind gives s t u p q lines bytes xs seen unseen a b c TooLong first (more, wrote, bound) =
-    let same : kept_lines p.line xs ++ kept_lines q.line seen ≡ kept_lines p.line (xs ++ seen) =
-    lines_behind p.line q.line xs seen first.piece in
-    let number : length (kept_lines p.line xs) + length (kept_lines q.line seen) ≡ length (kept_lines p.line (xs ++ seen)) =
-    sym (length-append (kept_lines p.line xs) (kept_lines q.line seen)) ∙ ap length same in
-    let answered : q.answered + length (kept_lines q.line seen) ≡ p.answered + length (kept_lines p.line (xs ++ seen)) =
-    omega (arith, first.count, number) in
-    let taken : q.taken + length seen ≡ p.taken + length (xs ++ seen) =
-    omega (arith, first.total, length-append xs seen) in (
-      more,
-      subst (λ ls. Wrote gives s u ls a c) same
-          (Wrote-trans gives s t u (kept_lines p.line xs) (kept_lines q.line seen) a b c first.wrote wrote),
-      subst (λ n. IsAtBound lines bytes n (p.taken + length (xs ++ seen))) answered
-          (subst (λ n. IsAtBound lines bytes (q.answered + length (kept_lines q.line seen)) n) taken bound),
-    )
+stop_behind gives s t u p q lines bytes xs seen unseen a b c TooLong first (more, wrote, bound) = (
+  more,
+  subst (λ ls. Wrote gives s u ls a c) (lines_behind p.line q.line xs seen first.piece)
+      (Wrote-trans gives s t u (kept_lines p.line xs) (kept_lines q.line seen) a b c first.wrote wrote),
+  bound_behind gives s t p q lines bytes xs seen a b first bound,
+)
 stop_behind gives s t u p q lines bytes xs seen unseen a b c Read first none = absurd none
 stop_behind gives s t u p q lines bytes xs seen unseen a b c BadStart first none = absurd none
 
@@ -147,6 +175,7 @@ stops_behind gives s t u p q lines bytes xs ys a b c fault first stops = record 
   seen = xs ++ stops.seen;
   unseen = stops.unseen;
   split = ap (λ l. xs ++ l) stops.split ∙ sym (append_assoc xs stops.seen stops.unseen);
+  within = within_behind gives s t p q lines bytes xs stops.seen a b first stops.within;
   stop = stop_behind gives s t u p q lines bytes xs stops.seen stops.unseen a b c fault first stops.stop;
 }
 
@@ -168,6 +197,7 @@ stops_before gives s t p lines bytes xs ys a b fault stops = record {
   seen = stops.seen;
   unseen = stops.unseen ++ ys;
   split = ap (λ l. l ++ ys) stops.split ∙ append_assoc stops.seen stops.unseen ys;
+  within = stops.within;
   stop = stop_before gives s t p lines bytes stops.seen stops.unseen ys a b fault stops.stop;
 }
 
@@ -180,6 +210,23 @@ stops_reading gives s t u p q lines bytes xs ys old_input mid_input new_input a 
   input = xs ++ ys;
   read = Consumes-trans old_input mid_input new_input xs ys before read;
   stop = inl (stops_behind gives s t u p q lines bytes xs ys a b c fault first stops);
+}
+
+-- a read that failed behind the bytes
+pub stops_at_read : {S : Type 0} (gives : Giving S) (s t : S) (p q : Progress) (lines bytes : ℕ) (xs : List ℕ)
+    (old_input new_input a b : Known) → Consumes old_input new_input xs → Within lines bytes q → Taken gives s t p q xs a b
+    → StopsReading gives s t p lines bytes old_input new_input a b Read
+stops_at_read gives s t p q lines bytes xs old_input new_input a b read within took = record {
+  input = xs;
+  read = read;
+  stop = inr (
+    refl,
+    record {
+      lines_within = omega (arith, took.count, within.answered_within);
+      bytes_within = omega (arith, took.total, within.taken_within);
+    },
+    took.wrote,
+  );
 }
 
 -- ---- Byte by byte.

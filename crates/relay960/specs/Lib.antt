@@ -8,3 +8,5 @@ pub mod Taking
 pub mod Limits
 pub mod Play
 pub mod PlayCut
+pub mod Script
+pub mod ScriptSteps

@@ -65,20 +65,24 @@ pub record Done {S : Type 0} (gives : Giving S) (s t : S) (lines bytes : ℕ) (o
   pub lines_within : n ≤ lines
   pub bytes_within : length input ≤ bytes
 
--- a read failed: the lines that end within the bytes read were answered, and a cut one was not
-pub record StoppedReading {S : Type 0} (gives : Giving S) (s t : S) (old_input new_input old_output new_output : Known) : Type 0 where
+-- a read failed: the lines that end within the bytes read were answered, within both bounds, and a cut one was not
+pub record StoppedReading {S : Type 0} (gives : Giving S) (s t : S) (lines bytes : ℕ) (old_input new_input old_output new_output : Known) : Type 0 where
   pub input : List ℕ
   pub read : Consumes old_input new_input input
+  pub lines_within : length (whole_lines [] input) ≤ lines
+  pub bytes_within : length input ≤ bytes
   pub wrote : Wrote gives s t (whole_lines [] input) old_output new_output
 
--- a write failed: of the bytes read, some were seen, and a prefix of the answers to the lines that end within them was
--- written; or all were seen, no byte is behind them, and the last line was being answered
-pub record StoppedWriting {S : Type 0} (gives : Giving S) (s t : S) (old_input new_input old_output new_output : Known) : Type 0 where
+-- a write failed: of the bytes read, some were seen, within both bounds, and a prefix of the answers to the lines that end
+-- within them was written; or all were seen, no byte is behind them, and the last line was being answered
+pub record StoppedWriting {S : Type 0} (gives : Giving S) (s t : S) (lines bytes : ℕ) (old_input new_input old_output new_output : Known) : Type 0 where
   pub seen : List ℕ
   pub unseen : List ℕ
   pub read : Consumes old_input new_input (seen ++ unseen)
-  pub wrote : WrotePart gives s t (whole_lines [] seen) old_output new_output
-      ⊎ ((unseen ≡ []) × IsAtEnd new_input × WrotePart gives s t (lines_of seen) old_output new_output)
+  pub bytes_within : length seen ≤ bytes
+  pub wrote : ((length (whole_lines [] seen) ≤ lines) × WrotePart gives s t (whole_lines [] seen) old_output new_output)
+      ⊎ ((unseen ≡ []) × IsAtEnd new_input × (length (lines_of seen) ≤ lines)
+      × WrotePart gives s t (lines_of seen) old_output new_output)
 
 -- a bound stands in the way of one more byte
 abbrev pub IsPast : ℕ → ℕ → List ℕ → Type 0
@@ -95,22 +99,24 @@ pub record StoppedPast {S : Type 0} (gives : Giving S) (s t : S) (lines bytes : 
   pub past : IsPast lines bytes seen
   pub wrote : Wrote gives s t (whole_lines [] seen) old_output new_output
 
--- there was no memory for an answer: the lines before it were answered; the answerer's state is not told
-pub record StoppedWithoutMemory {S : Type 0} (gives : Giving S) (s : S) (old_input new_input old_output new_output : Known) : Type 0 where
+-- there was no memory for an answer: the lines before it were answered, within both bounds; the answerer's state is not told
+pub record StoppedWithoutMemory {S : Type 0} (gives : Giving S) (s : S) (lines bytes : ℕ) (old_input new_input old_output new_output : Known) : Type 0 where
   pub seen : List ℕ
   pub unseen : List ℕ
   pub read : Consumes old_input new_input (seen ++ unseen)
+  pub lines_within : length (whole_lines [] seen) ≤ lines
+  pub bytes_within : length seen ≤ bytes
   pub mid : S
   pub wrote : Wrote gives s mid (whole_lines [] seen) old_output new_output
 
 -- what a run that ends with a fault has done
 abbrev pub Stopped : {S : Type 0} → Giving S → S → S → ℕ → ℕ → Known → Known → Known → Known → RunFault → Type 0
 Stopped gives s t lines bytes old_input new_input old_output new_output Read =
-    StoppedReading gives s t old_input new_input old_output new_output
+    StoppedReading gives s t lines bytes old_input new_input old_output new_output
 Stopped gives s t lines bytes old_input new_input old_output new_output Write =
-    StoppedWriting gives s t old_input new_input old_output new_output
+    StoppedWriting gives s t lines bytes old_input new_input old_output new_output
 Stopped gives s t lines bytes old_input new_input old_output new_output TooLong =
     StoppedPast gives s t lines bytes old_input new_input old_output new_output
 Stopped gives s t lines bytes old_input new_input old_output new_output OutOfMemory =
-    StoppedWithoutMemory gives s old_input new_input old_output new_output
+    StoppedWithoutMemory gives s lines bytes old_input new_input old_output new_output
 Stopped gives s t lines bytes old_input new_input old_output new_output BadStart = ⊥

@@ -100,18 +100,25 @@ pub record NoStartPart (n : ℕ) (old_input new_input old_output new_output : Kn
   pub unread : Keeps old_input new_input
   pub written : AppendsPart old_output new_output refusal_line
 
--- a write failed: a prefix of the output for the bytes read was written
-pub record PartlyPlayed (n : ℕ) (old_input new_input old_output new_output : Known) : Type 0 where
+-- a write failed: a prefix of the output for the bytes read was written. Of these bytes some were seen, within both bounds, and
+-- the answer that was being written is that of a line which ends within them, or is their last, with no byte behind it
+pub record PartlyPlayed (n lines bytes : ℕ) (old_input new_input old_output new_output : Known) : Type 0 where
   pub numbered : n < 960
-  pub input : List ℕ
-  pub read : Consumes old_input new_input input
-  pub written : AppendsPart old_output new_output (play_output n input)
+  pub seen : List ℕ
+  pub unseen : List ℕ
+  pub read : Consumes old_input new_input (seen ++ unseen)
+  pub written : AppendsPart old_output new_output (play_output n (seen ++ unseen))
+  pub bytes_within : length seen ≤ bytes
+  pub at_line : ((length (whole_lines [] seen) ≤ lines) × AppendsPart old_output new_output (play_answers n (whole_lines [] seen)))
+      ⊎ ((unseen ≡ []) × IsAtEnd new_input × (length (lines_of seen) ≤ lines))
 
--- a read failed: the answers to the lines that end within the bytes read were written
-pub record CutOff (n : ℕ) (old_input new_input old_output new_output : Known) : Type 0 where
+-- a read failed: the answers to the lines that end within the bytes read were written, within both bounds
+pub record CutOff (n lines bytes : ℕ) (old_input new_input old_output new_output : Known) : Type 0 where
   pub numbered : n < 960
   pub input : List ℕ
   pub read : Consumes old_input new_input input
+  pub lines_within : length (whole_lines [] input) ≤ lines
+  pub bytes_within : length input ≤ bytes
   pub written : Appends old_output new_output (play_answers n (whole_lines [] input))
 
 -- a line or a byte more than the bounds allow: the answers to the lines that end within them were written
@@ -126,22 +133,24 @@ pub record CutShort (n lines bytes : ℕ) (old_input new_input old_output new_ou
   pub past : IsPast lines bytes seen
   pub written : Appends old_output new_output (play_answers n (whole_lines [] seen))
 
--- there was no memory: the answers to all earlier lines were written
-pub record Starved (n : ℕ) (old_input new_input old_output new_output : Known) : Type 0 where
+-- there was no memory: the answers to all earlier lines were written, within both bounds
+pub record Starved (n lines bytes : ℕ) (old_input new_input old_output new_output : Known) : Type 0 where
   pub numbered : n < 960
   pub seen : List ℕ
   pub unseen : List ℕ
   pub read : Consumes old_input new_input (seen ++ unseen)
+  pub lines_within : length (whole_lines [] seen) ≤ lines
+  pub bytes_within : length seen ≤ bytes
   pub written : Appends old_output new_output (play_answers n (whole_lines [] seen))
 
 -- what a run that ends with a fault has done
 abbrev pub PlayStopped : ℕ → ℕ → ℕ → Known → Known → Known → Known → RunFault → Type 0
-PlayStopped n lines bytes old_input new_input old_output new_output Read = CutOff n old_input new_input old_output new_output
+PlayStopped n lines bytes old_input new_input old_output new_output Read = CutOff n lines bytes old_input new_input old_output new_output
 PlayStopped n lines bytes old_input new_input old_output new_output Write =
-    PartlyPlayed n old_input new_input old_output new_output ⊎ NoStartPart n old_input new_input old_output new_output
+    PartlyPlayed n lines bytes old_input new_input old_output new_output ⊎ NoStartPart n old_input new_input old_output new_output
 PlayStopped n lines bytes old_input new_input old_output new_output TooLong =
     CutShort n lines bytes old_input new_input old_output new_output
 PlayStopped n lines bytes old_input new_input old_output new_output OutOfMemory =
-    Starved n old_input new_input old_output new_output
+    Starved n lines bytes old_input new_input old_output new_output
 PlayStopped n lines bytes old_input new_input old_output new_output BadStart =
     NoStart n old_input new_input old_output new_output

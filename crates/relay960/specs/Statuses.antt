@@ -3,7 +3,7 @@ use Rattle.std.specs.Prelude.{ℕ, ◌≡◌, ◌<◌, ◌≤◌, ◌⊎◌, nat
 use Rattle.relay960.specs.declared.fault.RunFault.{RunFault}
 use Rattle.relay960.specs.declared.fault.RunFault.TheVariants.{Read, Write, TooLong, OutOfMemory, BadStart}
 use Rattle.relay960.specs.declared.words.Job.{Job}
-use Rattle.relay960.specs.declared.words.Job.TheVariants.{Start, Moves, Play}
+use Rattle.relay960.specs.declared.words.Job.TheVariants.{Start, Moves, Play, Script}
 use Rattle.relay960.specs.Moves.{IsAnswer}
 
 -- 3 where a device failed or the input was too long, 4 where there was no memory, 1 where the argument was refused
@@ -27,9 +27,10 @@ TextStatus fen s = (HasAnswer fen true × ((s ≡ 0) ⊎ (s ≡ 4))) ⊎ (HasAns
 abbrev pub PlayStatus : ℕ → ℕ → Type 0
 PlayStatus n s = ((960 ≤ n) × (s ≡ 1)) ⊎ ((n < 960) × ((s ≡ 0) ⊎ (s ≡ 4)))
 
--- the status of a job where no device fails: 0 where it is done, 1 where its argument is refused, 4 where there is no
--- memory
+-- the status of a job where no device fails and no input is too long: 0 where it is done, 1 where its argument is refused, 4
+-- where there is no memory
 abbrev pub JobStatus : Job → ℕ → Type 0
 JobStatus (Start n) s = s ≡ cond (nat_lt n 960) 0 1
 JobStatus (Moves fen) s = TextStatus fen.now s
 JobStatus (Play n) s = PlayStatus n s
+JobStatus (Script limits) s = (s ≡ 0) ⊎ (s ≡ 4)

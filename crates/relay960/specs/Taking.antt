@@ -46,11 +46,14 @@ pub record TakenAll {S : Type 0} (gives : Giving S) (s t : S) (p q : Progress) (
 
 -- ---- Bytes at which a run stopped.
 
--- a bound is reached, and none is passed
-pub record IsAtBound (lines bytes answered taken : ℕ) : Type 0 where
-  pub lines_within : answered ≤ lines
-  pub bytes_within : taken ≤ bytes
-  pub reached : (lines ≤ answered) ⊎ (bytes ≤ taken)
+-- no bound is passed by the counts that a run from progress p has after these bytes
+pub record IsWithin (lines bytes : ℕ) (p : Progress) (seen : List ℕ) : Type 0 where
+  pub lines_within : p.answered + length (kept_lines p.line seen) ≤ lines
+  pub bytes_within : p.taken + length seen ≤ bytes
+
+-- a bound is reached by them
+abbrev pub IsAtBound : ℕ → ℕ → Progress → List ℕ → Type 0
+IsAtBound lines bytes p seen = (lines ≤ p.answered + length (kept_lines p.line seen)) ⊎ (bytes ≤ p.taken + length seen)
 
 -- the lines' answers were not written whole, since a write failed or there was no memory
 abbrev pub Unwritten : {S : Type 0} → Giving S → S → S → List (List ℕ) → Known → Known → RunFault → Type 0
@@ -64,21 +67,22 @@ Unwritten gives s t lines old new BadStart = ⊥
 abbrev pub StopsBy : {S : Type 0} → Giving S → S → S → Progress → ℕ → ℕ → List ℕ → List ℕ → Known → Known → RunFault → Type 0
 StopsBy gives s t p lines bytes seen unseen old new Write = WrotePart gives s t (kept_lines p.line seen) old new
 StopsBy gives s t p lines bytes seen unseen old new TooLong =
-    (0 < length unseen) × Wrote gives s t (kept_lines p.line seen) old new
-    × IsAtBound lines bytes (p.answered + length (kept_lines p.line seen)) (p.taken + length seen)
+    (0 < length unseen) × Wrote gives s t (kept_lines p.line seen) old new × IsAtBound lines bytes p seen
 StopsBy {S} gives s t p lines bytes seen unseen old new OutOfMemory = (mid : S) × Wrote gives s mid (kept_lines p.line seen) old new
 StopsBy gives s t p lines bytes seen unseen old new Read = ⊥
 StopsBy gives s t p lines bytes seen unseen old new BadStart = ⊥
 
--- from progress p, a run stopped with a fault within the bytes
+-- from progress p, a run stopped with a fault within the bytes, and no bound was passed
 pub record StopsIn {S : Type 0} (gives : Giving S) (s t : S) (p : Progress) (lines bytes : ℕ) (input : List ℕ) (old new : Known) (fault : RunFault) : Type 0 where
   pub seen : List ℕ
   pub unseen : List ℕ
   pub split : input ≡ seen ++ unseen
+  pub within : IsWithin lines bytes p seen
   pub stop : StopsBy gives s t p lines bytes seen unseen old new fault
 
 -- the same within the bytes that the reader gave, or a read failed behind them
 pub record StopsReading {S : Type 0} (gives : Giving S) (s t : S) (p : Progress) (lines bytes : ℕ) (old_input new_input old new : Known) (fault : RunFault) : Type 0 where
   pub input : List ℕ
   pub read : Consumes old_input new_input input
-  pub stop : StopsIn gives s t p lines bytes input old new fault ⊎ ((fault ≡ Read) × Wrote gives s t (kept_lines p.line input) old new)
+  pub stop : StopsIn gives s t p lines bytes input old new fault
+      ⊎ ((fault ≡ Read) × IsWithin lines bytes p input × Wrote gives s t (kept_lines p.line input) old new)

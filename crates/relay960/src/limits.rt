@@ -12,6 +12,17 @@ const MOST_LINES: u64 = 1_000_000;
 /// The most bytes that an input may have, a gibibyte.
 const MOST_BYTES: u64 = 1_073_741_824;
 
+/// The limits of a relay where none are named: 16 boards, 64 followers a board, queues of 64 moves and 1,024 plies a game.
+pub fn default_limits() -> Limits
+    ensures { result ≡ record { boards = 16; followers = 64; capacity = 64; plies = 1024 } }
+{
+    // Each number is in its range.
+    let Some(limits) = Limits::new(16, 64, 64, 1024) else {
+        unreachable!();
+    };
+    limits
+}
+
 /// The limits of the relay, and how many lines and bytes an input may have. Contracts see a `ScriptNumbers`.
 #[derive(Clone, Copy, PartialEq, Eq, Debug)]
 pub struct ScriptLimits {

@@ -12,6 +12,7 @@ mod play;
 mod play_texts;
 mod program;
 mod progress;
+mod script;
 mod start;
 #[cfg(test)]
 mod tests;

@@ -5,9 +5,10 @@ ghost use Rattle.clap.specs.Words.{kind_of};
 ghost use Rattle.relay960.specs.Statuses.{JobStatus, PlayStatus, fault_status};
 
 use crate::fault::RunFault;
-use crate::limits::ScriptLimits;
+use crate::limits::{ScriptLimits, default_limits};
 use crate::moves::moves_run;
 use crate::play::play_run;
+use crate::script::script_run;
 use crate::start::start_run;
 use crate::words::{Job, job_of};
 use c960_game::Limits;
@@ -60,7 +61,7 @@ pub fn status_without_memory<R: Eprint>(rt: &R) -> u8
     OUT_OF_MEMORY
 }
 
-/// Does the job and gives the status, which is one of the job's where no device fails.
+/// Does the job and gives the status, which is one of the job's where no device fails and no input is too long.
 fn status_of_job<R: Input + Print + Eprint>(rt: &R, alloc: Global, job: Job<'_>) -> u8
     ensures { JobStatus job.entry result ⊎ (result ≡ 3) }
 {
@@ -69,29 +70,31 @@ fn status_of_job<R: Input + Print + Eprint>(rt: &R, alloc: Global, job: Job<'_>)
         Job::Start(number) => status_of_run(rt, start_run(number, &mut writer)),
         Job::Moves(fen) => status_of_run(rt, moves_run(alloc, fen.as_bytes(), &mut writer)),
         Job::Play(number) => status_of_play(rt, alloc, number),
+        Job::Script(limits) => status_of_script(rt, alloc, limits),
     }
 }
 
-/// The bounds of a script that the program sets: the greatest, and the limits of a relay on one machine.
-fn program_limits() -> ScriptLimits {
-    // Each number is in its range.
-    let Some(limits) = Limits::new(16, 64, 64, 1024) else {
-        unreachable!();
-    };
-    ScriptLimits::greatest(limits)
-}
-
 /// Plays the game of start `number` over the program's input and output, and gives the status, which is one of that
-/// number where no device fails.
+/// number where no device fails and the input is not too long.
 fn status_of_play<R: Input + Print + Eprint>(rt: &R, alloc: Global, number: u16) -> u8
     ensures { PlayStatus number result ⊎ (result ≡ 3) }
 {
     let mut reader = rt.reader();
     let mut writer = io::writer(rt);
-    match play_run(alloc, number, &mut reader, &mut writer, program_limits()) {
-        Ok(_) => DONE,
-        Err(fault) => status_of_fault(rt, fault),
-    }
+    let limits = ScriptLimits::greatest(default_limits());
+    let ran = play_run(alloc, number, &mut reader, &mut writer, limits);
+    status_of_lines(rt, ran)
+}
+
+/// Runs a script over the program's input and output, and gives the status.
+fn status_of_script<R: Input + Print + Eprint>(rt: &R, alloc: Global, limits: Limits) -> u8
+    ensures { ((result ≡ 0) ⊎ (result ≡ 4)) ⊎ (result ≡ 3) }
+{
+    let mut reader = rt.reader();
+    let mut writer = io::writer(rt);
+    let limits = ScriptLimits::greatest(limits);
+    let ran = script_run(alloc, &mut reader, &mut writer, limits);
+    status_of_lines(rt, ran)
 }
 
 /// The status of a run: whether its argument was good, or the fault, which it tells of on standard error.
@@ -101,6 +104,16 @@ fn status_of_run<R: Eprint>(rt: &R, ran: Result<bool, RunFault>) -> u8
     match ran {
         Ok(true) => DONE,
         Ok(false) => REFUSED,
+        Err(fault) => status_of_fault(rt, fault),
+    }
+}
+
+/// The status of a run over lines, however many there were: it is done, or a fault ended it, which is told on standard error.
+fn status_of_lines<R: Eprint>(rt: &R, ran: Result<u64, RunFault>) -> u8
+    ensures { MatchResult ran (λ count. result ≡ 0) (λ fault. result ≡ fault_status fault) }
+{
+    match ran {
+        Ok(_) => DONE,
         Err(fault) => status_of_fault(rt, fault),
     }
 }

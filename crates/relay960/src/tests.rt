@@ -9,6 +9,8 @@ mod moves;
 mod play;
 mod play_devices;
 mod readers;
+mod script;
+mod script_devices;
 mod statuses;
 mod streams;
 mod texts;

@@ -1,7 +1,9 @@
 //! The words of the command line, read by `clap`.
 
+use crate::limits::default_limits;
+use c960_game::Limits;
 use clap::error::ErrorKind;
-use clap::{Arg, ArgAction, Command, Error, value_parser};
+use clap::{Arg, ArgAction, ArgMatches, Command, Error, value_parser};
 use std::alloc::{AllocError, Global};
 use std::convert::AsStr;
 
@@ -14,10 +16,9 @@ pub enum Job<'a> {
     Moves(&'a str),
     /// To play the game of the start of that number over lines.
     Play(u16),
+    /// To run a script over a relay with these limits.
+    Script(Limits),
 }
-
-/// The number of the standard array, RNBQKBNR.
-const STANDARD_START: u16 = 518;
 
 fn start_command<'a>(alloc: Global) -> Result<Command<'a>, AllocError> {
     let number = Arg::new(alloc, "N")
@@ -51,13 +52,43 @@ fn play_command<'a>(alloc: Global) -> Result<Command<'a>, AllocError> {
         .arg(number)
 }
 
+/// An option of `script`: a limit from 1 on.
+fn limit_option<'a>(
+    alloc: Global,
+    name: &'static str,
+    help: &'static str,
+    most: i64,
+    default: &'static str,
+) -> Arg<'a> {
+    Arg::new(alloc, name)
+        .long(name)
+        .help(help)
+        .action(ArgAction::Set)
+        .value_parser(value_parser!(u16).range(1..=most))
+        .default_value(default)
+}
+
+fn script_command<'a>(alloc: Global) -> Result<Command<'a>, AllocError> {
+    let boards = "How many boards there may be";
+    let followers = "How many followers a board may have";
+    let capacity = "How many moves a follower's queue holds";
+    let plies = "How many plies a game may have";
+    Command::new(alloc, "script")
+        .about("Run a relay: read a command a line as JSON, print its answer")
+        .arg(limit_option(alloc, "boards", boards, 256, "16"))?
+        .arg(limit_option(alloc, "followers", followers, 1024, "64"))?
+        .arg(limit_option(alloc, "capacity", capacity, 1024, "64"))?
+        .arg(limit_option(alloc, "plies", plies, 16384, "1024"))
+}
+
 fn program_command<'a>(alloc: Global) -> Result<Command<'a>, AllocError> {
     Command::new(alloc, "relay960")
-        .about("Positions of Chess960")
-        .after_help("Without a command: start 518, the standard array")
+        .about("A relay for live Chess960 games")
+        .after_help("Without a command: script, with the default limits")
         .subcommand(start_command(alloc)?)?
         .subcommand(moves_command(alloc)?)?
-        .subcommand(play_command(alloc)?)
+        .subcommand(play_command(alloc)?)?
+        .subcommand(script_command(alloc)?)
 }
 
 /// What the words ask for, of which the first is the program's name; else `clap`'s error, whose text is for the user.
@@ -65,14 +96,25 @@ fn program_command<'a>(alloc: Global) -> Result<Command<'a>, AllocError> {
 pub fn job_of<'a, S: AsStr>(alloc: Global, words: &'a [S]) -> Result<Job<'a>, Error> {
     let matches = program_command(alloc)?.try_get_matches_from(words)?;
     match matches.subcommand() {
-        // `clap` answers an error where the number or the text is missing, so the defaults are never taken here.
-        Some(("start", given)) => Ok(Job::Start(
-            given.get_one::<u16>("N").unwrap_or(STANDARD_START),
-        )),
+        // `clap` answers an error where the number or the text is missing, so `unwrap_or` is never needed here.
+        Some(("start", given)) => Ok(Job::Start(given.get_one::<u16>("N").unwrap_or(0))),
         Some(("moves", given)) => Ok(Job::Moves(given.get_str("FEN").unwrap_or(""))),
-        Some(("play", given)) => Ok(Job::Play(given.get_one::<u16>("N").unwrap_or(STANDARD_START))),
-        _ => Ok(Job::Start(STANDARD_START)),
+        Some(("play", given)) => Ok(Job::Play(given.get_one::<u16>("N").unwrap_or(0))),
+        Some((_, given)) => Ok(Job::Script(limits_of(given))),
+        None => Ok(Job::Script(default_limits())),
     }
+}
+
+/// The limits that are given. `clap` has tried each against its range, so they make limits.
+fn limits_of(given: &ArgMatches) -> Limits {
+    let limit = |name| given.get_one::<u16>(name).unwrap_or(1);
+    Limits::new(
+        limit("boards"),
+        limit("followers"),
+        limit("capacity"),
+        limit("plies"),
+    )
+    .unwrap_or(default_limits())
 }
 
 /// The error for a word that is no text in UTF-8.

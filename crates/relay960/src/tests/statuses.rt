@@ -2,6 +2,7 @@
 
 use super::lines::STANDARD;
 use super::moves::{KINGS_AND_QUEENS, PROMOTION, PROMOTION_LINES, UNLAWFUL};
+use super::script::{two_boards_answers, two_boards_refused, two_boards_script};
 use super::streams::Streams;
 use super::texts::{HELP, NO_NUMBER, TWO_WORDS};
 use crate::fault::RunFault;
@@ -23,7 +24,8 @@ fn printed(streams: &Streams<'_>, out: &str, err: &str) -> bool {
 fn each_run_has_its_status_and_streams(rt: HostRuntime) -> Result<(), Fail> {
     let alloc = rt.alloc();
     let cases = [
-        (["relay960"].as_slice(), DONE, STANDARD, ""),
+        (["relay960"].as_slice(), DONE, "", ""),
+        (["relay960", "script"].as_slice(), DONE, "", ""),
         (["relay960", "start", "518"].as_slice(), DONE, STANDARD, ""),
         (
             ["relay960", "start", "960"].as_slice(),
@@ -108,6 +110,11 @@ fn faulty_words_have_status_2(rt: HostRuntime) -> Result<(), Fail> {
         ["relay960", "play"].as_slice(),
         ["relay960", "play", "x"].as_slice(),
         ["relay960", "play", "65536"].as_slice(),
+        ["relay960", "script", "518"].as_slice(),
+        ["relay960", "script", "--boards"].as_slice(),
+        ["relay960", "script", "--lines", "1"].as_slice(),
+        ["relay960", "script", "--help"].as_slice(),
+        ["relay960", "--boards", "1"].as_slice(),
         ["relay960", "help"].as_slice(),
     ];
     for words in cases {
@@ -133,10 +140,62 @@ fn a_game_is_played_over_the_streams(rt: HostRuntime) -> Result<(), Fail> {
 }
 
 #[test]
+fn a_limit_out_of_its_range_is_a_faulty_word(rt: HostRuntime) -> Result<(), Fail> {
+    let alloc = rt.alloc();
+    for (option, past) in [
+        ("--boards", "257"),
+        ("--followers", "1025"),
+        ("--capacity", "1025"),
+        ("--plies", "16385"),
+    ] {
+        for word in ["0", past, "x", "-1", "65537", ""] {
+            let streams = Streams::new(alloc, false);
+            let words = ["relay960", "script", option, word];
+            assert_eq!(rt; status_of(&streams, alloc, &words), 2, "{option} {word}");
+        }
+    }
+    Ok(())
+}
+
+#[test]
+fn a_script_is_run_over_the_streams(rt: HostRuntime) -> Result<(), Fail> {
+    let alloc = rt.alloc();
+    let script = two_boards_script(alloc)?;
+    let answers = two_boards_answers(alloc)?;
+    let refused = two_boards_refused(alloc)?;
+    let narrow = [
+        "relay960",
+        "script",
+        "--boards=1",
+        "--followers=1",
+        "--capacity=1",
+        "--plies=2",
+    ];
+    for (words, output) in [
+        (["relay960"].as_slice(), answers.as_slice()),
+        (["relay960", "script"].as_slice(), answers.as_slice()),
+        (narrow.as_slice(), refused.as_slice()),
+    ] {
+        let out = str::from_utf8(output)?;
+        let streams = Streams::with_input(alloc, script.as_slice(), false);
+        assert_eq!(rt; status_of(&streams, alloc, words), DONE, "{words:?}");
+        assert!(rt; printed(&streams, out, ""), "{words:?}");
+        let streams = Streams::with_input(alloc, script.as_slice(), true);
+        assert_eq!(rt;
+            status_of(&streams, alloc, words),
+            DEVICE_FAILED,
+            "{words:?}"
+        );
+        assert!(rt; printed(&streams, "", "fault 32 Write\n"), "{words:?}");
+    }
+    Ok(())
+}
+
+#[test]
 fn a_closed_output_is_fault_32(rt: HostRuntime) -> Result<(), Fail> {
     let alloc = rt.alloc();
     for words in [
-        ["relay960"].as_slice(),
+        ["relay960", "start", "518"].as_slice(),
         ["relay960", "start", "960"].as_slice(),
         ["relay960", "moves", PROMOTION].as_slice(),
         ["relay960", "moves", UNLAWFUL].as_slice(),

@@ -1,23 +1,25 @@
 //! The texts of `clap` for faulty words and for help.
 
 use crate::words::{Job, job_of, not_utf8};
+use c960_game::Limits;
 use std::test::Fail;
 
 /// The help of the program.
-pub const HELP: &str = "Positions of Chess960
+pub const HELP: &str = "A relay for live Chess960 games
 
 Usage: relay960 [COMMAND]
 
 Commands:
-  start  Print the starting position N in Shredder-FEN
-  moves  Print the legal moves and the state of the position FEN
-  play   Play the game of start N: read a move a line, print the position after it
-  help   Print this message or the help of the given subcommand(s)
+  start   Print the starting position N in Shredder-FEN
+  moves   Print the legal moves and the state of the position FEN
+  play    Play the game of start N: read a move a line, print the position after it
+  script  Run a relay: read a command a line as JSON, print its answer
+  help    Print this message or the help of the given subcommand(s)
 
 Options:
   -h, --help  Print help
 
-Without a command: start 518, the standard array
+Without a command: script, with the default limits
 ";
 
 /// The help of `start`.
@@ -54,6 +56,18 @@ Options:
   -h, --help  Print help
 ";
 
+const SCRIPT_HELP: &str = "Run a relay: read a command a line as JSON, print its answer
+
+Usage: relay960 script [OPTIONS]
+
+Options:
+      --boards <boards>        How many boards there may be [default: 16]
+      --followers <followers>  How many followers a board may have [default: 64]
+      --capacity <capacity>    How many moves a follower's queue holds [default: 64]
+      --plies <plies>          How many plies a game may have [default: 1024]
+  -h, --help                   Print help
+";
+
 /// The text for words that `clap` does not read as a number.
 pub const NO_NUMBER: &str = "error: invalid value 'x' for '<N>': invalid digit found in string
 
@@ -61,6 +75,18 @@ For more information, try '--help'.
 ";
 
 const TOO_GREAT: &str = "error: invalid value '65536' for '<N>': 65536 is not in 0..=65535
+
+For more information, try '--help'.
+";
+
+const TOO_MANY_BOARDS: &str =
+    "error: invalid value '257' for '--boards <boards>': 257 is not in 1..=256
+
+For more information, try '--help'.
+";
+
+const NO_PLIES: &str =
+    "error: invalid value 'x' for '--plies <plies>': invalid digit found in string
 
 For more information, try '--help'.
 ";
@@ -115,7 +141,6 @@ For more information, try '--help'.
 #[test]
 fn words_name_a_job(rt: HostRuntime) -> Result<(), Fail> {
     let alloc = rt.alloc();
-    assert_eq!(rt; job_of(alloc, &["relay960"])?, Job::Start(518));
     assert_eq!(rt; job_of(alloc, &["relay960", "start", "0"])?, Job::Start(0));
     assert_eq!(rt;
         job_of(alloc, &["relay960", "start", "959"])?,
@@ -141,6 +166,37 @@ fn words_name_a_job(rt: HostRuntime) -> Result<(), Fail> {
 }
 
 #[test]
+fn words_of_a_script_give_its_limits(rt: HostRuntime) -> Result<(), Fail> {
+    let alloc = rt.alloc();
+    let cases = [
+        ("", Limits::new(16, 64, 64, 1024)),
+        ("script", Limits::new(16, 64, 64, 1024)),
+        (
+            "script --boards 1 --followers=2 --capacity 3 --plies 4",
+            Limits::new(1, 2, 3, 4),
+        ),
+        (
+            "script --plies=16384 --capacity=1024 --followers 1024 --boards 256",
+            Limits::new(256, 1024, 1024, 16384),
+        ),
+        ("script --capacity 1", Limits::new(16, 64, 1, 1024)),
+    ];
+    for (given, limits) in cases {
+        let mut words = Vec::new(alloc);
+        words.push("relay960")?;
+        for word in given.split_whitespace() {
+            words.push(word)?;
+        }
+        let Some(limits) = limits else {
+            return Err(Fail::from("no limits"));
+        };
+        let job = job_of(alloc, words.as_slice())?;
+        assert_eq!(rt; job, Job::Script(limits), "{given:?}");
+    }
+    Ok(())
+}
+
+#[test]
 fn faulty_words_have_a_text(rt: HostRuntime) -> Result<(), Fail> {
     let alloc = rt.alloc();
     let cases = [
@@ -157,6 +213,12 @@ fn faulty_words_have_a_text(rt: HostRuntime) -> Result<(), Fail> {
         (["relay960", "moves", "--help"].as_slice(), MOVES_HELP),
         (["relay960", "play", "x"].as_slice(), NO_NUMBER),
         (["relay960", "play", "--help"].as_slice(), PLAY_HELP),
+        (["relay960", "script", "--help"].as_slice(), SCRIPT_HELP),
+        (
+            ["relay960", "script", "--boards", "257"].as_slice(),
+            TOO_MANY_BOARDS,
+        ),
+        (["relay960", "script", "--plies=x"].as_slice(), NO_PLIES),
     ];
     for (words, expected) in cases {
         let Err(error) = job_of(alloc, words) else {

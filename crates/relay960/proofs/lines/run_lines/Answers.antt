@@ -20,4 +20,4 @@ pub returns-clause-failed : goal.returns-clause-failed
 returns-clause-failed g c =
     stopped_last _ g.met.A.Answerer.cut _ _ c.args.lines c.args.bytes _ _ _
     c.in-Ok.ensures.line c.in-Ok.ensures.answered c.in-Ok.ensures.taken _ _ _ _ _ c.in_ok-take_all.ensures.took
-    _ c.answer_last.ensures.failed
+    c.in_ok-take_all.ensures.within _ c.answer_last.ensures.failed

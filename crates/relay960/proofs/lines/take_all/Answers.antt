@@ -1,7 +1,7 @@
-use Rattle.std.proofs.Common.{[], ◌++◌, take}
+use Rattle.std.proofs.Common.{[], ◌++◌, take, rules}
 use Rattle.std.proofs.KnownBytes.{Consumes-nil, Consumes-trans}
 use Rattle.relay960.proofs.AnswerFacts.{passed_on}
-use Rattle.relay960.proofs.TakingFacts.{Taken-nil, Taken-trans, stops_reading}
+use Rattle.relay960.proofs.TakingFacts.{Taken-nil, Taken-trans, stops_at_read, stops_reading}
 use Rattle.relay960.proofs.lines.take_all.Goals as goal
 
 pub loop-count-init : goal.loop-count-init
@@ -18,6 +18,11 @@ loop-count-preserved g c =
       within = c.in_ok-take_chunk-in-Ok.ensures.within;
       took = Taken-trans _ _ _ _ _ _ _ before.input chunk _ _ _ before.took c.in_ok-take_chunk-in-Ok.ensures.took;
     }
+
+pub returns-in-Err-clause-failed : goal.returns-in-Err-clause-failed
+returns-in-Err-clause-failed g c =
+    stops_at_read _ _ _ _ _ _ _ c.loop-count.invariant.input _ _ _ _ (search rules) c.loop-count.invariant.within
+    c.loop-count.invariant.took
 
 pub returns-in_err-take_chunk-in-Ok-clause-failed : goal.returns-in_err-take_chunk-in-Ok-clause-failed
 returns-in_err-take_chunk-in-Ok-clause-failed g c =

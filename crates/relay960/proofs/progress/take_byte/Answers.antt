@@ -19,7 +19,8 @@ returns-then-byte-ne10-clause-took g c =
 
 pub returns-in_err-answer_line-clause-failed : goal.returns-in_err-answer_line-clause-failed
 returns-in_err-answer_line-clause-failed g c =
-    passed_on _ _ _ c.from_residual.ensures.1 (stops_at_line _ _ _ _ _ _ c.args.byte _ _ _ (search rules)
+    passed_on _ _ _ c.from_residual.ensures.1 (stops_at_line _ _ _ _ _ _ c.args.byte _ _ _ (search rules) c.requires
+    (search rules) (search rules)
     (rw c.as_slice.ensures at c.in_err-answer_line.ensures.failed))
 
 pub returns-clause-took : goal.returns-clause-took
