@@ -42,5 +42,8 @@ fn main(rt: HostRuntime) -> io::Result<()> {
     let four = count_of(alloc, start, 4)?;
     println!(rt; "518 4 {four}")?;
     let three = count_of(alloc, middle, 3)?;
-    println!(rt; "3 {three}")
+    println!(rt; "3 {three}")?;
+    let pawns = b"n1n5/PPPk4/8/8/8/8/4Kppp/5N1N b - - 0 1";
+    let promoted = count_of(alloc, pawns, 4)?;
+    println!(rt; "4 {promoted}")
 }

@@ -5,6 +5,8 @@ pub mod NumberFacts
 pub mod NumberTable
 pub mod Ranges
 pub mod Reading
+pub mod SetCells
+pub mod SetFacts
 pub mod StartFacts
 pub mod StartTable
 pub mod Written

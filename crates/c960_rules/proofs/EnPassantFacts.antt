@@ -1,14 +1,24 @@
 -- A legal capture en passant comes from one of the 64 squares, goes to the target and names no promotion.
-use Rattle.std.proofs.Common.{◌≡◌, ◌≢◌, ℕ, ◌<◌, arith, subst, Option, Some, None, inl, inr}
+use Rattle.std.proofs.Common.{◌≡◌, ◌≢◌, ℕ, ◌<◌, arith, subst, true, refl, sym, ◌∙◌, Option, Some, None, inl, inr}
+use Rattle.std.proofs.lemmas.Bool.{and_from, both_ways, eq-eqb}
 use Rattle.c960_board.specs.declared.piece.Colour.{Colour}
 use Rattle.c960_board.specs.declared.piece.Colour.TheVariants.{White, Black}
 use Rattle.c960_board.specs.declared.piece.Kind.{Kind}
+use Rattle.c960_board.specs.declared.piece.Kind.TheVariants.{Pawn, King}
 use Rattle.c960_board.specs.declared.parts.Parts.{Parts}
-use Rattle.c960_board.specs.Squares.{rank_of}
+use Rattle.c960_board.specs.Squares.{file_of, rank_of, ahead}
+use Rattle.c960_board.specs.Pieces.{man, holds}
+use Rattle.c960_board.specs.Sets.{is_occupied, set_of}
 use Rattle.c960_board.specs.Position.{target_rank, IsTarget, IsPosition}
 use Rattle.c960_board.specs.Moves.{Triple}
-use Rattle.c960_rules.specs.Reaches.{last_rank}
+use Rattle.c960_rules.specs.Lines.{same_file}
+use Rattle.c960_rules.specs.Attacks.{Attacks}
+use Rattle.c960_rules.specs.Reaches.{pawn_rank, last_rank}
+use Rattle.c960_rules.specs.Wheres.{is_pawn_hit, is_taker}
 use Rattle.c960_rules.specs.Legal.{LegalEnPassant}
+use Rattle.c960_rules.proofs.AttackAgree.{attacks_agree}
+use Rattle.c960_rules.proofs.AttackTests.{attacks_from}
+use Rattle.c960_rules.proofs.PieceFacts.{piece_on, is_holds, one_kind}
 use Rattle.c960_rules.proofs.Reached.{at_target}
 
 -- an option holds one value or none
@@ -59,3 +69,36 @@ on_target p m t valid e h =
 pub no_target : (p : Parts) (t : ℕ) → IsPosition p → p.target ≡ Some t
     → ((s : ℕ) → s < 64 → LegalEnPassant p (capture s t) → ⊥) → (m : Triple) × LegalEnPassant p m → ⊥
 no_target p t valid e none h = none h.0.from h.1.legal.move.from (on_target p h.0 t valid e h.1)
+
+-- the squares of a double step lie on one file
+twice_file : (c : Colour) (s t : ℕ) → rank_of s ≡ pawn_rank c → t ≡ ahead c (ahead c s) → same_file s t ≡ true
+twice_file White s t first goal = eq-eqb (file_of s) (file_of t) (omega arith)
+twice_file Black s t first goal = eq-eqb (file_of s) (file_of t) (omega arith)
+
+-- a pawn's attack, as a test
+pawn_attack : (p : Parts) (s t : ℕ) → IsPosition p → piece_on p s ≡ man p.turn Pawn → Attacks p.placement s t
+    → is_pawn_hit p.turn s t ≡ true
+pawn_attack p s t valid e w =
+    let occupied = set_of is_occupied p.placement in
+    let attack = sym (attacks_agree p.placement occupied s t valid.placement.full refl) ∙ attacks_from p.placement s t w in
+    rw e at attack
+
+-- a legal capture en passant is a pawn's that attacks the target
+pub legal_taker : (p : Parts) (s t : ℕ) → IsPosition p → LegalEnPassant p (capture s t) → is_taker p s t ≡ true
+legal_taker p s t valid h =
+    let w = at_target p (capture s t) h.takes in
+    let target : IsTarget p.placement p.turn t = valid.target t w.target in
+    let pawn = is_holds p.turn Pawn (piece_on p s) w.pawn in
+    let hit : is_pawn_hit p.turn s t ≡ true =
+    elim h.legal.goes [
+      | inl r ↦ elim r.goes [
+        | inl v ↦ absurd (v.officer (one_kind p.turn p.turn v.kind Pawn (sym v.mover ∙ w.pawn)))
+        | inr v ↦ elim v.way [
+          | inl x ↦ absurd (both_ways (same_file s t) w.file x.file)
+          | inr (inl x) ↦ absurd (both_ways (same_file s t) w.file (twice_file p.turn s t x.first x.goal))
+          | inr (inr x) ↦ pawn_attack p s t valid w.pawn x.attack
+        ]
+      ]
+      | inr r ↦ absurd (let k = one_kind p.turn p.turn King Pawn (sym r.king ∙ w.pawn) in let f : King ≡ Pawn = k in cc)
+    ] in
+    and_from (is_pawn_hit p.turn s t) (holds p.turn Pawn (piece_on p s)) hit pawn

@@ -24,7 +24,7 @@ use Rattle.c960_rules.proofs.MoveTests.{leaves_check, reaches_tells, castles_tel
 -- ---- What a move that passes the test must be.
 
 -- it goes by its piece's rules or is castling
-goes_by_test : (p : Parts) (m : Triple) → is_legal p m ≡ true → Reaches p m ⊎ Castles p m
+pub goes_by_test : (p : Parts) (m : Triple) → is_legal p m ≡ true → Reaches p m ⊎ Castles p m
 unfolding is_legal
 goes_by_test p m h =
     let w = so_parts (reaches p m || castles p m) (not (leaves_check p m)) h in
@@ -34,7 +34,7 @@ goes_by_test p m h =
     ]
 
 -- it leaves a square with a piece of the side to move
-goes_from_own : (p : Parts) (m : Triple) → Reaches p m ⊎ Castles p m → is_of p.turn (piece_on p m.from) ≡ true
+pub goes_from_own : (p : Parts) (m : Triple) → Reaches p m ⊎ Castles p m → is_of p.turn (piece_on p m.from) ≡ true
 goes_from_own p m (inl w) =
     elim w.goes [
       | inl v ↦ is_own p.turn v.kind (piece_on p m.from) v.mover
@@ -47,10 +47,6 @@ none_from_other : (p : Parts) (m : Triple) → is_of p.turn (piece_on p m.from) 
 none_from_other p m h =
     false_from_ne_true (is_legal p m)
     (λ e. both_ways (is_of p.turn (piece_on p m.from)) h (goes_from_own p m (goes_by_test p m e)))
-
--- the test of a cell, by way of what the code has read
-pub other_there : (b : Bool) (c d : Colour) (o q : Cell) → b ≡ is_of c o → c ≡ d → o ≡ q → b ≡ false → is_of d q ≡ false
-other_there b c d o q e same there none = rw (← same, ← there) (sym e ∙ none)
 
 -- an option is not both none and some
 none_or_some : {X : Type 0} (o : Option X) → o ≡ None → IsSome o → ⊥
@@ -126,7 +122,7 @@ after_illegal xs p m move h =
 -- ---- The moves between two squares.
 
 -- where no choice passes the test, nothing is listed
-none_passes : (test : Triple → Bool) (s t : ℕ) (ks : List (Option Kind))
+pub none_passes : (test : Triple → Bool) (s t : ℕ) (ks : List (Option Kind))
     → ((k : Option Kind) → test (triple s t k) ≡ false) → filter test (map (triple s t) ks) ≡ []
 none_passes test s t [] h = refl
 none_passes test s t (k ∷ ks) h = let e = h k in rw e (none_passes test s t ks h)
@@ -193,7 +189,7 @@ between_plain p s t h =
     rw (knight, bishop, rook, queen)
 
 -- nothing is listed from a square without a piece of the side to move
-between_other : (p : Parts) (s t : ℕ) → is_of p.turn (piece_on p s) ≡ false → legal_between p s t ≡ []
+pub between_other : (p : Parts) (s t : ℕ) → is_of p.turn (piece_on p s) ≡ false → legal_between p s t ≡ []
 unfolding legal_between moves_between
 between_other p s t h = none_passes (is_legal p) s t promotions (λ k. none_from_other p (triple s t k) h)
 
@@ -228,13 +224,6 @@ to_more p s n =
     ap (filter (is_legal p)) (stretch_more (moves_between s) n)
     ∙ filter-append (is_legal p) (flat_map (moves_between s) (range_with_len 0 n)) (moves_between s n)
 
--- behind what was listed before
-pub to_after : (xs a b : List Triple) (p : Parts) (s t n : ℕ) → t ≡ n → a ≡ xs ++ legal_to_below p s n
-    → b ≡ a ++ legal_between p s t → b ≡ xs ++ legal_to_below p s (n + 1)
-to_after xs a b p s t n e ea eb =
-    let more = to_more p s n in
-    rw (eb, ea, e, more) (append_assoc xs (legal_to_below p s n) (legal_between p s n))
-
 -- all goals
 pub to_all : (p : Parts) (s n : ℕ) → n ≡ 64 → legal_to_below p s n ≡ legal_on p s
 unfolding legal_on moves_from legal_to_below
@@ -251,42 +240,12 @@ to_other p s (suc n) h =
     rw (← on, more, before, last)
 
 -- whatever its goals
-on_other : (p : Parts) (s : ℕ) → is_of p.turn (piece_on p s) ≡ false → legal_on p s ≡ []
+pub on_other : (p : Parts) (s : ℕ) → is_of p.turn (piece_on p s) ≡ false → legal_on p s ≡ []
 on_other p s h = sym (to_all p s 64 refl) ∙ to_other p s 64 h
 
 -- ---- All moves.
-
--- no square, no move
-pub from_none : (p : Parts) → legal_from_below p 0 ≡ []
-unfolding legal_from_below moves_from_below
-from_none p = refl
-
--- one square more
-from_more : (p : Parts) (n : ℕ) → legal_from_below p (n + 1) ≡ legal_from_below p n ++ legal_on p n
-unfolding legal_from_below moves_from_below legal_on
-from_more p n =
-    ap (filter (is_legal p)) (stretch_more moves_from n)
-    ∙ filter-append (is_legal p) (flat_map moves_from (range_with_len 0 n)) (moves_from n)
-
--- behind what was listed before
-pub from_after : (a b : List Triple) (p : Parts) (s n : ℕ) → s ≡ n → a ≡ legal_from_below p n → b ≡ a ++ legal_on p s
-    → b ≡ legal_from_below p (n + 1)
-from_after a b p s n e ea eb = let more = from_more p n in rw (eb, ea, e, more)
-
--- from a square without a piece of the side to move, there is nothing to add
-pub from_other : (a : List Triple) (p : Parts) (s n : ℕ) → s ≡ n → a ≡ legal_from_below p n
-    → is_of p.turn (piece_on p s) ≡ false → a ≡ legal_from_below p (n + 1)
-from_other a p s n e ea h =
-    let more = from_more p n in
-    let none = on_other p n (rw e at h) in
-    rw (ea, more, none) (sym (append-nil (legal_from_below p n)))
 
 -- the squares' moves are all moves
 pub all_are : moves_from_below 64 ≡ all_moves
 unfolding moves_from_below moves_from moves_to_below moves_between all_moves
 all_are = refl
-
--- all squares
-pub from_all : (p : Parts) (n : ℕ) → n ≡ 64 → legal_from_below p n ≡ legal_list p
-unfolding legal_from_below legal_list
-from_all p n e = ap (λ (k : ℕ). filter (is_legal p) (moves_from_below k)) e ∙ ap (filter (is_legal p)) all_are

@@ -8,4 +8,5 @@ pub mod Legal
 pub mod Effects
 pub mod Progress
 pub mod Listing
-pub mod Rays
+pub mod Wheres
+pub mod Safety

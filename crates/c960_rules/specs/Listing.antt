@@ -1,16 +1,19 @@
 -- The stretches of the list of all legal moves, and the legal moves from a square. The contracts of inner functions
 -- alone cite these definitions; the rules say nothing by them.
-use Rattle.std.specs.Prelude.{ℕ, ◌<◌, ◌==◌, ◌&&◌, Bool, List, [], ◌∷◌, Option, Some, map, filter}
+use Rattle.std.specs.Prelude.{ℕ, ◌<◌, ◌==◌, ◌&&◌, ◌||◌, not, Bool, true, false, cond, List, [], ◌∷◌, Option, Some, map, filter}
 use Rattle.std.specs.List.{range_with_len, flat_map}
 use Rattle.c960_board.specs.declared.piece.Kind.{Kind}
 use Rattle.c960_board.specs.declared.piece.Kind.TheVariants.{Pawn, Knight, Bishop, Rook, Queen}
 use Rattle.c960_board.specs.declared.parts.Parts.{Parts}
 use Rattle.c960_board.specs.Squares.{rank_of}
-use Rattle.c960_board.specs.Pieces.{holds}
+use Rattle.c960_board.specs.Pieces.{is_of, holds}
 use Rattle.c960_board.specs.Position.{cell_at}
 use Rattle.c960_board.specs.Moves.{Triple}
-use Rattle.c960_rules.specs.Reaches.{last_rank}
+use Rattle.c960_rules.specs.Attacks.{attacks}
+use Rattle.c960_rules.specs.Reaches.{last_rank, steps, steps_twice, takes, Reaches}
+use Rattle.c960_rules.specs.Castles.{Castles}
 use Rattle.c960_rules.specs.Legal.{Legal, is_legal, promotions}
+use Rattle.c960_board.specs.Sets.{is_in}
 
 -- a pawn of the side to move stands on s, and t is on its last rank
 abbrev pub promotes : Parts → ℕ → ℕ → Bool
@@ -71,3 +74,25 @@ pub record HasMoveFrom (p : Parts) (s : ℕ) : Type 0 where
   pub to : ℕ
   pub on_board : to < 64
   pub between : HasMoveBetween p s to
+
+-- a pawn of the side to move on s goes to t, whatever it becomes there
+unfoldable pub pawn_goes : Parts → ℕ → ℕ → Bool
+pawn_goes p s t =
+    steps p.placement p.turn s t || (steps_twice p.placement p.turn s t || takes p.placement p.turn p.target s t)
+
+-- the piece of the side to move on s goes to t, whatever it becomes there
+unfoldable pub goes_to : Parts → ℕ → ℕ → Bool
+goes_to p s t =
+    elim (is_of p.turn (cell_at p.placement s) && not (is_of p.turn (cell_at p.placement t))) [
+      | false ↦ false
+      | true ↦ elim (holds p.turn Pawn (cell_at p.placement s)) [ true ↦ pawn_goes p s t | false ↦ attacks p.placement s t ]
+    ]
+
+-- no move from s to t goes by its piece's rules, and none is castling
+pub record NoneGoes (p : Parts) (s t : ℕ) : Type 0 where
+  pub reaches : (k : Option Kind) → Reaches p (triple s t k) → ⊥
+  pub castles : (k : Option Kind) → Castles p (triple s t k) → ⊥
+
+-- the stretches of the squares of a set
+unfoldable pub stretches_in : (ℕ → List Triple) → ℕ → List ℕ → List Triple
+stretches_in f set squares = flat_map (λ t. cond (is_in set t) (f t) []) squares

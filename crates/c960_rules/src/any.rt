@@ -5,11 +5,11 @@ ghost use Rattle.c960_board.specs.Moves.{Triple, is_promotion};
 ghost use Rattle.c960_rules.specs.Legal.{Legal};
 ghost use Rattle.c960_rules.specs.Listing.{triple, promotes, HasMoveBetween, HasMoveFrom};
 
-use crate::cells::is_of;
+use crate::bitset::{lowest, without};
+use crate::goals::candidates;
 use crate::lawful::Lawful;
 use crate::legal::is_legal_in;
 use crate::promotion::promotes;
-use crate::squares::square_of;
 use c960_board::{Kind, Move, Position, Square};
 
 /// Whether the move of two squares and a promotion is legal.
@@ -53,11 +53,11 @@ fn has_move_between(position: &Position, from: Square, to: Square) -> bool
 fn has_move_from(position: &Position, from: Square) -> bool
     ensures { IsTrue result ↔ HasMoveFrom position.now from }
 {
-    if !is_of(position.piece_at(from), position.turn()) {
-        return false;
-    }
-    for number in 0..64 {
-        if has_move_between(position, from, square_of(number)) {
+    let mut left = candidates(position, from);
+    while left != 0 {
+        let to = lowest(left);
+        left = without(left, to);
+        if has_move_between(position, from, to) {
             return true;
         }
     }
@@ -69,8 +69,12 @@ pub fn any_legal(lawful: &Lawful) -> bool
     ensures { IsTrue result ↔ ((m : Triple) × Legal lawful.now m) }
 {
     let position = lawful.position();
-    for number in 0..64 {
-        if has_move_from(&position, square_of(number)) {
+    let turn = position.turn();
+    let mut left = position.sets().colour(turn);
+    while left != 0 {
+        let from = lowest(left);
+        left = without(left, from);
+        if has_move_from(&position, from) {
             return true;
         }
     }

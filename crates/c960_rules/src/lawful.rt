@@ -56,7 +56,7 @@ impl Lawful {
         ensures lawful { IsLawful self.now }
         ensures valid { IsPosition self.now }
     {
-        let _parts = self.position.parts();
+        let _sets = self.position.sets();
         self.position
     }
 }

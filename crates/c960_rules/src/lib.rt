@@ -3,27 +3,32 @@
 
 mod after;
 mod any;
+mod attack_sets;
 mod attacks;
+mod between;
+mod bitset;
 mod castling;
 mod cells;
 mod check;
-mod direction;
 mod en_passant;
 mod ending;
+mod goals;
 mod lawful;
 pub mod laws;
-mod leaps;
 mod legal;
 mod listing;
+mod lookups;
 mod outcome;
 mod placement;
 mod promotion;
-mod rays;
 mod reaches;
+mod safety;
 mod sides;
 mod squares;
+mod tables;
 
 pub use any::any_legal;
+pub use attack_sets::attackers;
 pub use attacks::attacked;
 pub use check::in_check;
 pub use en_passant::ep_legal;

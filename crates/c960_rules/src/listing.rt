@@ -1,16 +1,19 @@
 //! The list of all legal moves.
 
-ghost use Rattle.std.specs.Prelude.{◌≡◌, ◌++◌, ◌<◌, IfOk, IsTrue};
+ghost use Rattle.std.specs.Prelude.{◌≡◌, ◌++◌, IfOk, IsTrue};
 ghost use Rattle.c960_board.specs.Moves.{is_promotion};
 ghost use Rattle.c960_rules.specs.Legal.{legal_list};
-ghost use Rattle.c960_rules.specs.Listing.{triple, legal_one, legal_promotions, legal_between, legal_on};
+ghost use Rattle.c960_rules.specs.Wheres.{where_set};
+ghost use Rattle.c960_rules.specs.Reaches.{Reaches};
+ghost use Rattle.c960_rules.specs.Listing.{triple, promotes, legal_one, legal_promotions, legal_between, legal_on, goes_to};
 
-use crate::cells::is_of;
+use crate::bitset::{lowest, without};
+use crate::goals::{goals, rooks_to_castle};
 use crate::lawful::Lawful;
 use crate::legal::is_legal_in;
 use crate::promotion::promotes;
-use crate::squares::square_of;
-use c960_board::{Kind, Move, Position, Square};
+use crate::safety::exposes_king;
+use c960_board::{Kind, Move, Position, Sets, Square};
 use std::alloc::{AllocError, Global};
 
 /// Adds the move, if it is legal.
@@ -70,12 +73,99 @@ fn push_between(
     }
 }
 
+/// Adds the move of a piece that goes there, if it leaves its own king safe.
+#[inline(always)]
+fn push_safe(
+    moves: &mut Vec<Move>,
+    position: &Position,
+    from: Square,
+    to: Square,
+    promotion: Option<Kind>,
+) -> Result<(), AllocError>
+    requires promotion { IsTrue (is_promotion promotion) }
+    requires reaches { Reaches position.now (triple from to promotion) }
+    ensures { IfOk result (λ _.
+        moves.new.items ≡ moves.old.items ++ legal_one position.now (triple from to promotion)) }
+{
+    let m = Move {
+        from,
+        to,
+        promotion,
+    };
+    prove!(m.code() < 20480);
+    if !exposes_king(position, &m) {
+        moves.push(m)?;
+    }
+    Ok(())
+}
+
+/// Adds the legal moves that name a promotion, of a pawn that goes to its last rank.
+fn push_promoted(
+    moves: &mut Vec<Move>,
+    position: &Position,
+    from: Square,
+    to: Square,
+) -> Result<(), AllocError>
+    requires goes { IsTrue (goes_to position.now from to) }
+    requires promotes { IsTrue (promotes position.now from to) }
+    ensures { IfOk result (λ _. moves.new.items ≡ moves.old.items ++ legal_promotions position.now from to) }
+{
+    push_safe(moves, position, from, to, Some(Kind::Knight))?;
+    push_safe(moves, position, from, to, Some(Kind::Bishop))?;
+    push_safe(moves, position, from, to, Some(Kind::Rook))?;
+    push_safe(moves, position, from, to, Some(Kind::Queen))?;
+    Ok(())
+}
+
+/// Adds the legal moves between two squares, of a piece that goes from one to the other.
+#[inline(always)]
+#[tactic(auto, using(crate::proofs::ListFacts::between_promoted, crate::proofs::ListFacts::between_plain))]
+fn push_reached(
+    moves: &mut Vec<Move>,
+    position: &Position,
+    from: Square,
+    to: Square,
+) -> Result<(), AllocError>
+    requires { IsTrue (goes_to position.now from to) }
+    ensures { IfOk result (λ _. moves.new.items ≡ moves.old.items ++ legal_between position.now from to) }
+{
+    if promotes(position, from, to) {
+        push_promoted(moves, position, from, to)
+    } else {
+        push_safe(moves, position, from, to, None)
+    }
+}
+
+/// Adds the legal moves between two squares, by the set of the squares to which the piece goes.
+#[inline(always)]
+fn push_at(
+    moves: &mut Vec<Move>,
+    position: &Position,
+    goals: u64,
+    from: Square,
+    to: Square,
+) -> Result<(), AllocError>
+    requires { goals ≡ where_set (λ t. goes_to position.now from t) }
+    ensures { IfOk result (λ _. moves.new.items ≡ moves.old.items ++ legal_between position.now from to) }
+{
+    let _bound = to.number();
+    if Sets::is_in(goals, to) {
+        push_reached(moves, position, from, to)
+    } else {
+        push_between(moves, position, from, to)
+    }
+}
+
 /// Adds the legal moves from a square.
 fn push_from(moves: &mut Vec<Move>, position: &Position, from: Square) -> Result<(), AllocError>
     ensures { IfOk result (λ _. moves.new.items ≡ moves.old.items ++ legal_on position.now from) }
 {
-    for number in 0..64 {
-        push_between(moves, position, from, square_of(number))?;
+    let goals = goals(position, from);
+    let mut left = goals | rooks_to_castle(position, from);
+    while left != 0 {
+        let to = lowest(left);
+        left = without(left, to);
+        push_at(moves, position, goals, from, to)?;
     }
     Ok(())
 }
@@ -91,12 +181,13 @@ pub fn legal_moves(alloc: Global, lawful: &Lawful) -> Result<Vec<Move>, AllocErr
 {
     let position = lawful.position();
     let turn = position.turn();
-    let mut moves = Vec::new(alloc);
-    for number in 0..64 {
-        let from = square_of(number);
-        if is_of(position.piece_at(from), turn) {
-            push_from(&mut moves, &position, from)?;
-        }
+    let mut moves = Vec::with_capacity(alloc, 64)?;
+    let own = position.sets().colour(turn);
+    let mut left = own;
+    while left != 0 {
+        let from = lowest(left);
+        left = without(left, from);
+        push_from(&mut moves, &position, from)?;
     }
     Ok(moves)
 }

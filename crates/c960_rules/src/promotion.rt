@@ -1,16 +1,31 @@
 //! Pawns that reach their last rank (FIDE Laws, Article 3.7, promotion).
 
-ghost use Rattle.std.specs.Prelude.{◌≡◌};
+ghost use Rattle.std.specs.Prelude.{◌≡◌, ◌==◌};
+ghost use Rattle.c960_board.specs.Squares.{rank_of};
 ghost use Rattle.c960_rules.specs.Listing.{promotes};
+ghost use Rattle.c960_rules.specs.Reaches.{last_rank};
 
 use crate::cells::holds;
 use crate::sides::home_rank;
-use c960_board::{Kind, Position, Square};
+use c960_board::{Colour, Kind, Position, Square};
+
+/// Whether the square is on the rank where the side's pawns are promoted.
+#[inline(always)]
+fn is_on_last_rank(colour: Colour, square: Square) -> bool
+    ensures { result ≡ (rank_of square == last_rank colour) }
+{
+    square.number() / 8 == home_rank(colour.other())
+}
 
 /// Whether a pawn of the side to move stands on `from`, and `to` is on its last rank.
+#[inline(always)]
 pub(crate) fn promotes(position: &Position, from: Square, to: Square) -> bool
     ensures { result ≡ promotes position.now from to }
 {
     let turn = position.turn();
-    holds(position.piece_at(from), turn, Kind::Pawn) && to.number() / 8 == home_rank(turn.other())
+    let is_last = is_on_last_rank(turn, to);
+    if !is_last {
+        return false;
+    }
+    holds(position.piece_at(from), turn, Kind::Pawn)
 }

@@ -8,13 +8,13 @@ ghost use Rattle.c960_rules.specs.Lines.{same_file};
 ghost use Rattle.c960_rules.specs.Attacks.{is_forward, Attacks};
 ghost use Rattle.c960_rules.specs.Reaches.{pawn_rank, is_target, promotes_rightly, Steps, StepsTwice, Takes, PromotesRightly, GoesAsPawn, GoesAsOfficer, Reaches};
 
-use crate::attacks::attacks;
+use crate::attack_sets::attacks;
 use crate::cells::{holds, is_of};
 use crate::sides::{ahead, home_rank};
 use c960_board::{Colour, Kind, Move, Piece, Position, Square};
 
 /// The rank on which a side's pawns stand at the start, from 0.
-fn pawn_rank(colour: Colour) -> u8
+pub(crate) fn pawn_rank(colour: Colour) -> u8
     ensures { result ≡ pawn_rank colour }
 {
     match colour {
@@ -78,8 +78,7 @@ fn steps_twice(position: &Position, m: &Move) -> bool
 fn attacks_goal(position: &Position, m: &Move) -> bool
     ensures { IsTrue result ↔ Attacks position.now.placement m.now.from m.now.to }
 {
-    let placement = position.parts().placement;
-    attacks(&placement, m.from, m.to)
+    attacks(position, m.from, m.to)
 }
 
 /// Whether a pawn may take on the goal.

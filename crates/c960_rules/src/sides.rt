@@ -1,6 +1,6 @@
 //! The two sides.
 
-ghost use Rattle.std.specs.Prelude.{◌≡◌, ◌<◌, ◌≤◌, ◌==◌};
+ghost use Rattle.std.specs.Prelude.{◌≡◌, ◌<◌, ◌≤◌};
 ghost use Rattle.c960_board.specs.Squares.{home_rank, home_square, ahead};
 
 use crate::squares::square_of;
@@ -34,15 +34,5 @@ pub(crate) fn ahead(colour: Colour, square: Square) -> Square
     match colour {
         Colour::White => square_of(square.number() + 8),
         Colour::Black => square_of(square.number() - 8),
-    }
-}
-
-/// Whether a square is the one that lies one rank forward of another, as a side's pawns go.
-pub(crate) fn is_ahead(colour: Colour, square: Square, forward: Square) -> bool
-    ensures { result ≡ (forward == ahead colour square) }
-{
-    match colour {
-        Colour::White => forward.number() == square.number() + 8,
-        Colour::Black => forward.number() == square.number().saturating_sub(8),
     }
 }

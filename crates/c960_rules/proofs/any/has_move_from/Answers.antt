@@ -1,19 +1,32 @@
-use Rattle.std.proofs.Common.{ℕ, ◌≤◌, subst, sym, below_more, arith}
 use Rattle.std.proofs.lemmas.Bool.{both_ways}
 use Rattle.c960_rules.specs.Listing.{HasMoveBetween}
 use Rattle.c960_rules.proofs.AnyFacts.{no_move_from}
+use Rattle.c960_rules.proofs.SetLoops.{searched_more, searched_all}
+use Rattle.c960_rules.proofs.WayCandidates.{no_between}
+use Rattle.c960_rules.proofs.WhereFacts.{IsWithout}
 use Rattle.c960_rules.proofs.any.has_move_from.Goals as goal
 
-pub loop-number-preserved : goal.loop-number-preserved
-loop-number-preserved c =
-    below_more _ _ c.loop-number.invariant
-    (λ h. both_ways c.has_move_between.result c.if-has_move_between.false
-    (c.has_move_between.ensures.1
-    (subst (λ (t : ℕ). HasMoveBetween c.args.position.now c.args.from t) (sym c.square_of.ensures) h)))
+pub loop-left-init : goal.loop-left-init
+loop-left-init c =
+    λ t l e. no_between c.args.position.now c.args.from t (c.candidates-left.ensures t l e)
+
+pub loop-left-preserved : goal.loop-left-preserved
+loop-left-preserved c =
+    let p = c.args.position.now in
+    let k = c.lowest-to.result in
+    let w : IsWithout c.loop-left.left k c.without-left.result =
+    record {
+      on_board = c.lowest-to.ensures.bound;
+      was = c.lowest-to.ensures.inside;
+      gone = c.without-left.ensures.gone;
+      others = c.without-left.ensures.others;
+    } in
+    searched_more (HasMoveBetween p c.args.from) c.loop-left.left k c.without-left.result w c.loop-left.invariant
+    (λ h. both_ways c.has_move_between.result c.if-has_move_between.false (c.has_move_between.ensures.1 h))
 
 pub returns : goal.returns
-returns c =
-    let searched : 64 ≤ c.loop-number.number = omega arith in (
-      (λ e. cc),
-      (λ h. absurd (no_move_from c.args.position.now c.args.from (λ t l. c.loop-number.invariant t (omega arith)) h)),
-    )
+returns c = (
+  (λ e. cc),
+  (λ h. absurd (no_move_from c.args.position.now c.args.from
+      (λ t l. c.loop-left.invariant t l (searched_all c.loop-left.left t c.loop-left-test.false)) h)),
+)

@@ -1,20 +1,43 @@
 use Rattle.std.proofs.Common.{◌++◌, ◌∙◌, List, ap, sym, arith}
 use Rattle.std.proofs.lemmas.List.{append-nil}
 use Rattle.c960_board.specs.Moves.{Triple}
-use Rattle.c960_rules.proofs.ListFacts.{to_none, to_after, to_all}
+use Rattle.c960_board.specs.Sets.{is_in}
+use Rattle.c960_rules.specs.Listing.{legal_between, legal_on}
+use Rattle.c960_rules.proofs.WhereFacts.{IsWithout, where_or, where_itself}
+use Rattle.c960_rules.proofs.GoalFacts.{none_goes}
+use Rattle.c960_rules.proofs.WayCandidates.{none_between}
+use Rattle.c960_rules.proofs.SetLoops.{stretches_step, stretches_none, stretches_all, legal_on_is}
 use Rattle.c960_rules.proofs.listing.push_from.Goals as goal
 
-pub loop-number-init : goal.loop-number-init
-loop-number-init c =
-    sym (append-nil c.args.moves.now.items)
-    ∙ ap (λ (l : List Triple). c.args.moves.now.items ++ l) (sym (to_none c.args.position.now c.args.from))
+pub loop-left-init : goal.loop-left-init
+loop-left-init c =
+    let p = c.args.position.now in
+    let set =
+    where_or (is_in c.goals-goals.result) (is_in c.rooks_to_castle.result) c.goals-goals.result c.rooks_to_castle.result
+    (where_itself c.goals-goals.result (omega arith)) (where_itself c.rooks_to_castle.result (omega arith)) in
+    let all =
+    stretches_all (legal_between p c.args.from) _ 0 64
+    (λ t l e. none_between p c.args.from t
+    (none_goes p c.args.from t c.goals-goals.result c.rooks_to_castle.result _ c.goals-goals.ensures set (λ k. c.rooks_to_castle.ensures t k l) l e)) in
+    ap (λ (l : List Triple). c.args.moves.now.items ++ l) (all ∙ legal_on_is p c.args.from)
 
-pub loop-number-preserved : goal.loop-number-preserved
-loop-number-preserved c =
-    to_after _ _ _ c.args.position.now c.args.from c.square_of.result c.loop-number.number c.square_of.ensures
-    c.loop-number.invariant c.in_ok-push_between.ensures
+pub loop-left-preserved : goal.loop-left-preserved
+loop-left-preserved c =
+    let p = c.args.position.now in
+    let k = c.lowest-to.result in
+    let w : IsWithout c.loop-left.left k c.without-left.result =
+    record {
+      on_board = c.lowest-to.ensures.bound;
+      was = c.lowest-to.ensures.inside;
+      gone = c.without-left.ensures.gone;
+      others = c.without-left.ensures.others;
+    } in
+    stretches_step (legal_between p c.args.from) _ _ _ c.loop-left.left k c.without-left.result w c.lowest-to.ensures.least
+    c.loop-left.invariant c.in_ok-push_at.ensures
 
 pub returns : goal.returns
 returns c =
-    let all = to_all c.args.position.now c.args.from c.loop-number.number (omega arith) in
-    c.loop-number.invariant ∙ ap (λ (l : List Triple). c.args.moves.now.items ++ l) all
+    let f = legal_between c.args.position.now c.args.from in
+    let none = stretches_none f c.loop-left.left c.loop-left-test.false in
+    sym (append-nil c.loop-left.moves.items) ∙ ap (λ (l : List Triple). c.loop-left.moves.items ++ l) (sym none)
+    ∙ c.loop-left.invariant

@@ -1,0 +1,108 @@
+-- The sets of attackers.
+use Rattle.std.proofs.Common.{◌≡◌, ◌≢◌, ℕ, ◌<◌, Bool, true, false, not, ◌&&◌, ◌||◌, List, Some, None, length, refl, ap, sym, ◌∙◌, arith}
+use Rattle.std.specs.Prelude.{◌==◌, bit_and, bit_or}
+use Rattle.std.proofs.lemmas.Bool.{eq-eqb, ne_eqb}
+use Rattle.c960_board.specs.declared.piece.Colour.{Colour}
+use Rattle.c960_board.specs.declared.piece.Colour.TheVariants.{White, Black}
+use Rattle.c960_board.specs.declared.piece.Kind.{Kind}
+use Rattle.c960_board.specs.declared.piece.Kind.TheVariants.{Pawn, Knight, Bishop, Rook, Queen, King}
+use Rattle.c960_board.specs.declared.sets.Sets.{Sets}
+use Rattle.c960_board.specs.Pieces.{Cell, same_colour, same_kind, is_of}
+use Rattle.c960_board.specs.Position.{cell_at}
+use Rattle.c960_board.specs.Sets.{is_kind, set_of, sets_of, colour_set, is_in}
+use Rattle.c960_rules.specs.Lines.{between}
+use Rattle.c960_rules.specs.Wheres.{where_set, is_free, is_knight_leap, is_king_step, is_pawn_hit, is_rook_line, is_bishop_line, is_leaper_on, is_slider_on, is_attacker_on, attacks_over, attacks_over_as}
+use Rattle.c960_rules.proofs.WhereFacts.{where_or, where_and, where_agree, set_where, in_where}
+
+-- the set of a side
+pub side_where : (c : Colour) (cells : List Cell) (a : ℕ) → length cells ≡ 64 → a ≡ colour_set c (sets_of cells)
+    → a ≡ where_set (λ s. is_of c (cell_at cells s))
+side_where White cells a full e = e ∙ set_where (is_of White) cells full
+side_where Black cells a full e = e ∙ set_where (is_of Black) cells full
+
+-- the set of a kind
+pub kind_where : (k : Kind) (cells : List Cell) (a : ℕ) → length cells ≡ 64 → a ≡ set_of (is_kind k) cells
+    → a ≡ where_set (λ s. is_kind k (cell_at cells s))
+kind_where k cells a full e = e ∙ set_where (is_kind k) cells full
+
+pub and-false : (a : Bool) → (a && false) ≡ false
+and-false true = refl
+and-false false = refl
+
+pub and-true : (a : Bool) → (a && true) ≡ a
+and-true true = refl
+and-true false = refl
+
+pub or-false : (a : Bool) → (a || false) ≡ a
+or-false true = refl
+or-false false = refl
+
+pub and-and : (a b c : Bool) → ((a && b) && c) ≡ (a && (b && c))
+and-and true b c = refl
+and-and false b c = refl
+
+-- a pawn of that colour hits as its own colour does
+pawn_same : (c by : Colour) (s t : ℕ) → (same_colour c by && is_pawn_hit by s t) ≡ (same_colour c by && is_pawn_hit c s t)
+pawn_same White White s t = refl
+pawn_same Black Black s t = refl
+pawn_same White Black s t = refl
+pawn_same Black White s t = refl
+
+-- the leapers and the sliders with a free way are all attackers: of one piece, by its kind
+kind_attacker : (c by : Colour) (k : Kind) (occupied s t : ℕ)
+    → ((same_colour c by
+    && (((is_knight_leap s t && same_kind k Knight) || (is_king_step s t && same_kind k King))
+    || (is_pawn_hit by s t && same_kind k Pawn)))
+    || ((same_colour c by
+    && ((is_rook_line s t && (same_kind k Rook || same_kind k Queen))
+    || (is_bishop_line s t && (same_kind k Bishop || same_kind k Queen))))
+    && is_free occupied s t))
+    ≡ (same_colour c by && attacks_over_as occupied c k s t)
+kind_attacker c by Pawn occupied s t = simp (and-false, and-true, or-false) (pawn_same c by s t)
+kind_attacker c by Knight occupied s t = simp (and-false, and-true, or-false)
+kind_attacker c by Bishop occupied s t = simp (and-false, and-true, or-false, and-and)
+kind_attacker c by Rook occupied s t = simp (and-false, and-true, or-false, and-and)
+kind_attacker c by Queen occupied s t = simp (and-false, and-true, or-false, and-and)
+kind_attacker c by King occupied s t = simp (and-false, and-true, or-false)
+
+-- of one cell
+attackers_of : (o : Cell) (occupied : ℕ) (by : Colour) (s t : ℕ)
+    → ((is_of by o
+    && (((is_knight_leap s t && is_kind Knight o) || (is_king_step s t && is_kind King o)) || (is_pawn_hit by s t && is_kind Pawn o)))
+    || ((is_of by o
+    && ((is_rook_line s t && (is_kind Rook o || is_kind Queen o)) || (is_bishop_line s t && (is_kind Bishop o || is_kind Queen o))))
+    && is_free occupied s t))
+    ≡ (is_of by o && attacks_over occupied o s t)
+attackers_of None occupied by s t = refl
+attackers_of (Some p) occupied by s t = kind_attacker p.colour by p.kind occupied s t
+
+-- a free way, from its test
+pub free_is : (occupied s t between_them : ℕ) → between_them ≡ where_set (λ u. between s u t)
+    → bit_and between_them occupied ≡ 0 → is_free occupied s t ≡ true
+unfolding is_free
+free_is occupied s t w e h = eq-eqb (bit_and (where_set (λ u. between s u t)) occupied) 0 (ap (λ (x : ℕ). bit_and x occupied) (sym e) ∙ h)
+
+-- and one that is not free
+pub free_isnt : (occupied s t between_them : ℕ) → between_them ≡ where_set (λ u. between s u t)
+    → bit_and between_them occupied ≢ 0 → is_free occupied s t ≡ false
+unfolding is_free
+free_isnt occupied s t w e h =
+    ne_eqb (bit_and (where_set (λ u. between s u t)) occupied) 0 (λ z. h (ap (λ (x : ℕ). bit_and x occupied) e ∙ z))
+
+-- the leapers and the sliders with a free way are all attackers
+pub all_attackers : (cells : List Cell) (occupied : ℕ) (by : Colour) (s t : ℕ)
+    → (is_leaper_on cells by s t || (is_slider_on cells by s t && is_free occupied s t)) ≡ is_attacker_on cells occupied by s t
+all_attackers cells occupied by s t = attackers_of (cell_at cells s) occupied by s t
+
+-- joined with the leapers
+pub attackers_join : (cells : List Cell) (occupied : ℕ) (by : Colour) (t leapers sliders free : ℕ)
+    → leapers ≡ where_set (λ s. is_leaper_on cells by s t) → sliders ≡ where_set (λ s. is_slider_on cells by s t)
+    → free ≡ where_set (λ s. is_in sliders s && is_free occupied s t)
+    → bit_or leapers free ≡ where_set (λ s. is_attacker_on cells occupied by s t)
+attackers_join cells occupied by t leapers sliders free el es ef =
+    where_or (λ s. is_leaper_on cells by s t) (λ s. is_in sliders s && is_free occupied s t) leapers free el ef
+    ∙ where_agree (λ s. is_leaper_on cells by s t || (is_in sliders s && is_free occupied s t))
+    (λ s. is_attacker_on cells occupied by s t)
+    (λ s l.
+    let on = in_where (λ u. is_slider_on cells by u t) sliders s es l in
+    rw on (all_attackers cells occupied by s t))

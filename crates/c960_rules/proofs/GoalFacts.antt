@@ -1,0 +1,314 @@
+-- Where pieces go, as tests of the goal.
+use Rattle.std.proofs.Common.{◌≡◌, ◌≢◌, ℕ, ◌+◌, ◌<◌, ◌≤◌, Bool, true, false, not, ◌&&◌, ◌||◌, List, Option, Some, None, length, refl, ap, sym, ◌∙◌, inl, inr, arith, IsTrue}
+use Rattle.std.specs.Prelude.{◌==◌, is_none}
+use Rattle.std.proofs.lemmas.Bool.{and_parts, and_from, both_ways, eqb-true, eq-eqb, false_from_ne_true, or_parts, not_from_false}
+use Rattle.c960_board.specs.declared.piece.Colour.{Colour}
+use Rattle.c960_board.specs.declared.piece.Colour.TheVariants.{White, Black}
+use Rattle.c960_board.specs.declared.piece.Kind.{Kind}
+use Rattle.c960_board.specs.declared.piece.Kind.TheVariants.{Pawn, Knight, Bishop, Rook, Queen, King}
+use Rattle.c960_board.specs.declared.piece.Piece.{Piece}
+use Rattle.c960_board.specs.declared.parts.Parts.{Parts}
+use Rattle.c960_board.specs.Moves.{Triple, is_promotion}
+use Rattle.c960_board.specs.Squares.{file_of, rank_of, ahead}
+use Rattle.c960_board.specs.Pieces.{Cell, man, other, is_of, holds}
+use Rattle.c960_board.specs.Position.{cell_at, IsPosition}
+use Rattle.c960_board.specs.Sets.{is_kind, is_occupied, set_of, is_in}
+use Rattle.c960_rules.specs.Lines.{same_file}
+use Rattle.c960_rules.specs.Attacks.{attacks, is_forward}
+use Rattle.c960_rules.specs.Reaches.{Reaches, pawn_rank, last_rank, is_empty, is_target, promotes_rightly, steps, steps_twice, takes, reaches}
+use Rattle.c960_rules.specs.Castles.{Castles}
+use Rattle.c960_rules.specs.Listing.{promotes, triple, pawn_goes, goes_to, NoneGoes}
+use Rattle.c960_rules.specs.Wheres.{where_set, is_way, is_slider, is_pawn_hit, is_free, attacks_over, attacks_over_as}
+use Rattle.c960_rules.proofs.AttackAgree.{same_tests, attacks_agree}
+use Rattle.c960_rules.proofs.InnerRanks.{IsInner, pawn_inner}
+use Rattle.c960_rules.proofs.MoveTests.{reaches_tells, reaches_from}
+use Rattle.c960_rules.proofs.PieceFacts.{piece_on, is_holds}
+use Rattle.c960_rules.proofs.WayCandidates.{castle_rook}
+use Rattle.c960_rules.proofs.WhereFacts.{in_where, where_agree, where_and, where_or, where_not, where_nothing}
+use Rattle.c960_rules.proofs.AttackerFacts.{and-false, and-true}
+
+-- ---- Pawns.
+
+-- a pawn stands off both end ranks
+pub pawn_in : (p : Parts) (s : ℕ) → IsPosition p → s < 64 → piece_on p s ≡ man p.turn Pawn → IsInner s
+pawn_in p s valid l e = pawn_inner p s valid l (is_holds p.turn Pawn (piece_on p s) e)
+
+-- one square forward is the square ahead
+forward_one : (c : Colour) (s t : ℕ) → IsInner s → t < 64 → (same_file s t && is_forward c s t) ≡ (t == ahead c s)
+forward_one White s t inner l =
+    let low = inner.low in
+    let high = inner.high in
+    same_tests (same_file s t && is_forward White s t) (t == ahead White s)
+    (λ h.
+    let both = and_parts (same_file s t) (is_forward White s t) h in
+    let file = eqb-true (file_of s) (file_of t) both.0 in
+    let rank = eqb-true (rank_of t) (rank_of s + 1) both.1 in
+    eq-eqb t (ahead White s) (omega arith))
+    (λ h.
+    let e = eqb-true t (ahead White s) h in
+    and_from (same_file s t) (is_forward White s t) (eq-eqb (file_of s) (file_of t) (omega arith))
+    (eq-eqb (rank_of t) (rank_of s + 1) (omega arith)))
+forward_one Black s t inner l =
+    let low = inner.low in
+    let high = inner.high in
+    same_tests (same_file s t && is_forward Black s t) (t == ahead Black s)
+    (λ h.
+    let both = and_parts (same_file s t) (is_forward Black s t) h in
+    let file = eqb-true (file_of s) (file_of t) both.0 in
+    let rank = eqb-true (rank_of s) (rank_of t + 1) both.1 in
+    eq-eqb t (ahead Black s) (omega arith))
+    (λ h.
+    let e = eqb-true t (ahead Black s) h in
+    and_from (same_file s t) (is_forward Black s t) (eq-eqb (file_of s) (file_of t) (omega arith))
+    (eq-eqb (rank_of s) (rank_of t + 1) (omega arith)))
+
+empty_free : (o : Cell) → is_none o ≡ not (is_occupied o)
+empty_free None = refl
+empty_free (Some q) = refl
+
+and_three : (a b c : Bool) → (a && (b && c)) ≡ ((a && b) && c)
+and_three true b c = refl
+and_three false b c = refl
+
+-- one step, by the square ahead
+pub step_is : (p : Parts) (s t : ℕ) → IsInner s → t < 64
+    → steps p.placement p.turn s t ≡ ((t == ahead p.turn s) && not (is_occupied (piece_on p t)))
+unfolding steps
+step_is p s t inner l =
+    and_three (same_file s t) (is_forward p.turn s t) (is_empty p.placement t)
+    ∙ ap (λ (b : Bool). b && is_empty p.placement t) (forward_one p.turn s t inner l)
+    ∙ ap (λ (b : Bool). (t == ahead p.turn s) && b) (empty_free (piece_on p t))
+
+-- the square ahead of a pawn on its first rank
+pub first_ahead : (c : Colour) (s : ℕ) → (rank_of s == pawn_rank c) ≡ true → IsInner (ahead c s)
+first_ahead White s h = let e = eqb-true (rank_of s) 1 h in record { low = omega arith; high = omega arith }
+first_ahead Black s h = let e = eqb-true (rank_of s) 6 h in record { low = omega arith; high = omega arith }
+
+-- two steps: from no other rank
+pub twice_elsewhere : (p : Parts) (s t : ℕ) → (rank_of s == pawn_rank p.turn) ≡ false → steps_twice p.placement p.turn s t ≡ false
+unfolding steps_twice
+twice_elsewhere p s t h = rw h refl
+
+barred_bits : (a b : Bool) (o e : Cell) → is_occupied o ≡ true → (a && (b && (is_none o && is_none e))) ≡ false
+barred_bits a b None e h = cc
+barred_bits a b (Some q) e h = ap (λ (x : Bool). a && x) (and-false b) ∙ and-false a
+
+-- over no piece
+pub twice_barred : (p : Parts) (s t : ℕ) → is_occupied (piece_on p (ahead p.turn s)) ≡ true → steps_twice p.placement p.turn s t ≡ false
+unfolding steps_twice
+twice_barred p s t h =
+    barred_bits (rank_of s == pawn_rank p.turn) (t == ahead p.turn (ahead p.turn s)) (piece_on p (ahead p.turn s)) (piece_on p t) h
+
+open_bits : (a b : Bool) (o e : Cell) → a ≡ true → is_occupied o ≡ false → (a && (b && (is_none o && is_none e))) ≡ (b && not (is_occupied e))
+open_bits true b None None h f = refl
+open_bits true b None (Some q) h f = refl
+open_bits true b (Some q) e h f = cc
+open_bits false b o e h f = cc
+
+-- else to the square that is empty
+pub twice_is : (p : Parts) (s t : ℕ) → (rank_of s == pawn_rank p.turn) ≡ true → is_occupied (piece_on p (ahead p.turn s)) ≡ false
+    → steps_twice p.placement p.turn s t ≡ ((t == ahead p.turn (ahead p.turn s)) && not (is_occupied (piece_on p t)))
+unfolding steps_twice
+twice_is p s t h f =
+    open_bits (rank_of s == pawn_rank p.turn) (t == ahead p.turn (ahead p.turn s)) (piece_on p (ahead p.turn s)) (piece_on p t) h f
+
+-- a pawn's attack, by its table
+pawn_attacks : (p : Parts) (s t : ℕ) → IsPosition p → piece_on p s ≡ man p.turn Pawn → attacks p.placement s t ≡ is_pawn_hit p.turn s t
+pawn_attacks p s t valid e =
+    let occupied = set_of is_occupied p.placement in
+    attacks_agree p.placement occupied s t valid.placement.full refl ∙ ap (λ (o : Cell). attacks_over occupied o s t) e
+
+-- taking, by the table
+pub prey_is : (p : Parts) (s t : ℕ) → IsPosition p → piece_on p s ≡ man p.turn Pawn
+    → takes p.placement p.turn p.target s t ≡ (is_pawn_hit p.turn s t && (is_of (other p.turn) (piece_on p t) || is_target p.target t))
+unfolding takes
+prey_is p s t valid e =
+    ap (λ (b : Bool). b && (is_of (other p.turn) (piece_on p t) || is_target p.target t)) (pawn_attacks p s t valid e)
+
+-- ---- All pieces.
+
+-- the tests of a cell, by way of what the code has read
+pub own_test : (b : Bool) (c d : Colour) (o q : Cell) → b ≡ is_of c o → c ≡ d → o ≡ q → b ≡ is_of d q
+own_test b c d o q e same there = rw (← same, ← there) e
+
+pub holds_test : (k : Kind) (b : Bool) (c d : Colour) (o q : Cell) → b ≡ holds c k o → c ≡ d → o ≡ q → b ≡ holds d k q
+holds_test k b c d o q e same there = rw (← same, ← there) e
+
+abbrev goes_by : Bool → Bool → Bool → Bool → Bool
+goes_by a h x y = elim a as (λ _. Bool) [ false ↦ false | true ↦ elim h as (λ _. Bool) [ true ↦ x | false ↦ y ] ]
+
+none_by : (a n h x y : Bool) → a ≡ false → goes_by (a && n) h x y ≡ false
+none_by true n h x y e = cc
+none_by false n h x y e = refl
+
+-- what is not of the side goes nowhere
+pub goes_none : (p : Parts) (s t : ℕ) → is_of p.turn (piece_on p s) ≡ false → goes_to p s t ≡ false
+unfolding goes_to
+goes_none p s t h =
+    none_by (is_of p.turn (piece_on p s)) (not (is_of p.turn (piece_on p t))) (holds p.turn Pawn (piece_on p s)) (pawn_goes p s t)
+    (attacks p.placement s t) h
+
+own_by : (a n h x y : Bool) → a ≡ true → goes_by (a && n) h x y ≡ (goes_by true h x y && n)
+own_by true true true x y e = sym (and-true x)
+own_by true true false x y e = sym (and-true y)
+own_by true false h x y e = sym (and-false (goes_by true h x y))
+own_by false n h x y e = cc
+
+-- a pawn
+pub goes_pawn : (p : Parts) (s t : ℕ) → is_of p.turn (piece_on p s) ≡ true → holds p.turn Pawn (piece_on p s) ≡ true
+    → goes_to p s t ≡ (pawn_goes p s t && not (is_of p.turn (piece_on p t)))
+unfolding goes_to
+goes_pawn p s t own pawn =
+    own_by (is_of p.turn (piece_on p s)) (not (is_of p.turn (piece_on p t))) (holds p.turn Pawn (piece_on p s)) (pawn_goes p s t)
+    (attacks p.placement s t) own
+    ∙ rw pawn refl
+
+-- another piece
+pub goes_officer : (p : Parts) (s t : ℕ) → is_of p.turn (piece_on p s) ≡ true → holds p.turn Pawn (piece_on p s) ≡ false
+    → goes_to p s t ≡ (attacks p.placement s t && not (is_of p.turn (piece_on p t)))
+unfolding goes_to
+goes_officer p s t own officer =
+    own_by (is_of p.turn (piece_on p s)) (not (is_of p.turn (piece_on p t))) (holds p.turn Pawn (piece_on p s)) (pawn_goes p s t)
+    (attacks p.placement s t) own
+    ∙ rw officer refl
+
+slider_over : (occupied : ℕ) (c : Colour) (k : Kind) (s t : ℕ) → is_slider k ≡ true
+    → attacks_over_as occupied c k s t ≡ (is_way c k s t && is_free occupied s t)
+slider_over occupied c Bishop s t h = refl
+slider_over occupied c Rook s t h = refl
+slider_over occupied c Queen s t h = refl
+slider_over occupied c Pawn s t h = cc
+slider_over occupied c Knight s t h = cc
+slider_over occupied c King s t h = cc
+
+leaper_over : (occupied : ℕ) (c : Colour) (k : Kind) (s t : ℕ) → is_slider k ≡ false → k ≢ Pawn
+    → attacks_over_as occupied c k s t ≡ is_way c k s t
+leaper_over occupied c Knight s t h ne = refl
+leaper_over occupied c King s t h ne = refl
+leaper_over occupied c Pawn s t h ne = absurd (ne refl)
+leaper_over occupied c Bishop s t h ne = cc
+leaper_over occupied c Rook s t h ne = cc
+leaper_over occupied c Queen s t h ne = cc
+
+and_swap : (a b c : Bool) → ((a && b) && c) ≡ ((a && c) && b)
+and_swap true true true = refl
+and_swap true true false = refl
+and_swap true false true = refl
+and_swap true false false = refl
+and_swap false b c = refl
+
+-- a bishop, a rook or a queen
+pub sliders_go : (p : Parts) (s goals set occupied : ℕ) (q : Piece) → IsPosition p → piece_on p s ≡ Some q
+    → is_of p.turn (piece_on p s) ≡ true → holds p.turn Pawn (piece_on p s) ≡ false → is_slider q.kind ≡ true
+    → occupied ≡ set_of is_occupied p.placement
+    → goals ≡ where_set (λ u. is_way q.colour q.kind s u && not (is_of p.turn (piece_on p u)))
+    → set ≡ where_set (λ u. is_in goals u && is_free occupied s u) → set ≡ where_set (λ u. goes_to p s u)
+sliders_go p s goals set occupied q valid e own officer slider eo eg es =
+    es ∙ where_agree (λ u. is_in goals u && is_free occupied s u) (λ u. goes_to p s u)
+    (λ u l.
+    let way = is_way q.colour q.kind s u in
+    let off = not (is_of p.turn (piece_on p u)) in
+    let attack =
+    attacks_agree p.placement occupied s u valid.placement.full eo ∙ ap (λ (o : Cell). attacks_over occupied o s u) e
+    ∙ slider_over occupied q.colour q.kind s u slider in
+    ap (λ (b : Bool). b && is_free occupied s u)
+    (in_where (λ v. is_way q.colour q.kind s v && not (is_of p.turn (piece_on p v))) goals u eg l)
+    ∙ and_swap way off (is_free occupied s u) ∙ ap (λ (b : Bool). b && off) (sym attack) ∙ sym (goes_officer p s u own officer))
+
+-- a knight or a king
+pub leapers_go : (p : Parts) (s goals : ℕ) (q : Piece) → IsPosition p → piece_on p s ≡ Some q
+    → is_of p.turn (piece_on p s) ≡ true → holds p.turn Pawn (piece_on p s) ≡ false → is_slider q.kind ≡ false → q.colour ≡ p.turn
+    → goals ≡ where_set (λ u. is_way q.colour q.kind s u && not (is_of p.turn (piece_on p u)))
+    → goals ≡ where_set (λ u. goes_to p s u)
+leapers_go p s goals q valid e own officer leaper side eg =
+    let occupied = set_of is_occupied p.placement in
+    let no_pawn : q.kind ≢ Pawn =
+    λ f. both_ways (holds p.turn Pawn (piece_on p s)) officer (is_holds p.turn Pawn (piece_on p s) (e ∙ rw (← side, ← f) refl)) in
+    eg ∙ where_agree (λ u. is_way q.colour q.kind s u && not (is_of p.turn (piece_on p u))) (λ u. goes_to p s u)
+    (λ u l.
+    let attack =
+    attacks_agree p.placement occupied s u valid.placement.full refl ∙ ap (λ (o : Cell). attacks_over occupied o s u) e
+    ∙ leaper_over occupied q.colour q.kind s u leaper no_pawn in
+    ap (λ (b : Bool). b && not (is_of p.turn (piece_on p u))) (sym attack) ∙ sym (goes_officer p s u own officer))
+
+-- a pawn
+pub pawns_go : (p : Parts) (s result : ℕ) → is_of p.turn (piece_on p s) ≡ true → holds p.turn Pawn (piece_on p s) ≡ true
+    → result ≡ where_set (λ u. pawn_goes p s u && not (is_of p.turn (piece_on p u))) → result ≡ where_set (λ u. goes_to p s u)
+pawns_go p s result own pawn e =
+    e ∙ where_agree (λ u. pawn_goes p s u && not (is_of p.turn (piece_on p u))) (λ u. goes_to p s u)
+    (λ u l. sym (goes_pawn p s u own pawn))
+
+-- ---- From the test to the rule.
+
+fits_by : (a n h l x y : Bool) (k : Option Kind) → goes_by (a && n) h x y ≡ true → (h && l) ≡ false → k ≡ None
+    → goes_by (a && n) h (promotes_rightly l k && x) (is_none k && y) ≡ true
+fits_by true true true true x y k g f e = cc
+fits_by true true true false x y None g f e = g
+fits_by true true true false x y (Some j) g f e = cc
+fits_by true true false l x y None g f e = g
+fits_by true true false l x y (Some j) g f e = cc
+fits_by true false h l x y k g f e = cc
+fits_by false n h l x y k g f e = cc
+
+due_by : (a n h l x y : Bool) (j : Kind) → goes_by (a && n) h x y ≡ true → (h && l) ≡ true
+    → goes_by (a && n) h (promotes_rightly l (Some j) && x) (is_none (Some j) && y) ≡ true
+due_by true true true true x y j g f = g
+due_by true true true false x y j g f = cc
+due_by true true false l x y j g f = cc
+due_by true false h l x y j g f = cc
+due_by false n h l x y j g f = cc
+
+any_by : (a n h l x y : Bool) (k : Option Kind) → goes_by (a && n) h (promotes_rightly l k && x) (is_none k && y) ≡ true
+    → goes_by (a && n) h x y ≡ true
+any_by true true true l x y k g = (and_parts (promotes_rightly l k) x g).1
+any_by true true false l x y k g = (and_parts (is_none k) y g).1
+any_by true false h l x y k g = cc
+any_by false n h l x y k g = cc
+
+-- what goes there without a promotion
+pub reaches_plain : (p : Parts) (s t : ℕ) → goes_to p s t ≡ true → promotes p s t ≡ false → Reaches p (triple s t None)
+unfolding goes_to reaches pawn_goes
+reaches_plain p s t g f =
+    reaches_tells p (triple s t None)
+    (fits_by (is_of p.turn (piece_on p s)) (not (is_of p.turn (piece_on p t))) (holds p.turn Pawn (piece_on p s)) (rank_of t == last_rank p.turn)
+    (steps p.placement p.turn s t || (steps_twice p.placement p.turn s t || takes p.placement p.turn p.target s t)) (attacks p.placement s t) None g f refl)
+
+-- and with one
+pub reaches_due : (p : Parts) (s t : ℕ) (j : Kind) → goes_to p s t ≡ true → promotes p s t ≡ true → Reaches p (triple s t (Some j))
+unfolding goes_to reaches pawn_goes
+reaches_due p s t j g f =
+    reaches_tells p (triple s t (Some j))
+    (due_by (is_of p.turn (piece_on p s)) (not (is_of p.turn (piece_on p t))) (holds p.turn Pawn (piece_on p s)) (rank_of t == last_rank p.turn)
+    (steps p.placement p.turn s t || (steps_twice p.placement p.turn s t || takes p.placement p.turn p.target s t)) (attacks p.placement s t) j g f)
+
+-- from the rule to the test
+pub goes_from : (p : Parts) (s t : ℕ) (k : Option Kind) → Reaches p (triple s t k) → goes_to p s t ≡ true
+unfolding goes_to reaches pawn_goes
+goes_from p s t k w =
+    any_by (is_of p.turn (piece_on p s)) (not (is_of p.turn (piece_on p t))) (holds p.turn Pawn (piece_on p s)) (rank_of t == last_rank p.turn)
+    (steps p.placement p.turn s t || (steps_twice p.placement p.turn s t || takes p.placement p.turn p.target s t)) (attacks p.placement s t) k
+    (reaches_from p (triple s t k) w)
+
+-- ---- The squares to which nothing goes.
+
+pub no_castle : (p : Parts) (s t set : ℕ) (k : Option Kind) → IsPosition p
+    → set ≡ where_set (λ u. is_of p.turn (piece_on p u) && is_kind Rook (piece_on p u)) → t < 64 → is_in set t ≡ false
+    → Castles p (triple s t k) → ⊥
+no_castle p s t set k valid es l out w =
+    both_ways (is_of p.turn (piece_on p t) && is_kind Rook (piece_on p t))
+    (sym (in_where (λ u. is_of p.turn (piece_on p u) && is_kind Rook (piece_on p u)) set t es l) ∙ out)
+    (castle_rook p (triple s t k) valid w l)
+
+pub no_kings_castle : (p : Parts) (s t : ℕ) (k : Option Kind) → holds p.turn King (piece_on p s) ≡ false → Castles p (triple s t k) → ⊥
+no_kings_castle p s t k h w = both_ways (holds p.turn King (piece_on p s)) h (is_holds p.turn King (piece_on p s) w.king)
+
+-- off the goals and the rooks
+pub none_goes : (p : Parts) (s t goals rooks set : ℕ) → goals ≡ where_set (λ u. goes_to p s u) → set ≡ where_set (λ u. is_in goals u || is_in rooks u)
+    → ((k : Option Kind) → is_in rooks t ≡ false → Castles p (triple s t k) → ⊥) → t < 64 → is_in set t ≡ false → NoneGoes p s t
+none_goes p s t goals rooks set eg es castle l out =
+    let either = or_parts (is_in goals t) (is_in rooks t) (sym (in_where (λ u. is_in goals u || is_in rooks u) set t es l) ∙ out) in
+    let off = sym (in_where (λ u. goes_to p s u) goals t eg l) ∙ either.0 in
+    record {
+      reaches = λ k w. both_ways (goes_to p s t) off (goes_from p s t k w);
+      castles = λ k w. castle k either.1 w;
+    }

@@ -1,0 +1,61 @@
+-- The tables against the relations between squares: checked by computing over all squares.
+use Rattle.std.proofs.Common.{◌≡◌, ℕ, ◌<◌, List, map, get_or, refl, ap, sym, ◌∙◌, zero-add}
+use Rattle.std.proofs.lemmas.List.FromFn.{get_or-map-range_with_len}
+use Rattle.c960_rules.specs.declared.tables.TheConstants.{KNIGHT, KING, ROOK_LINES, BISHOP_LINES, WHITE_PAWN, BLACK_PAWN}
+use Rattle.c960_board.specs.declared.piece.Colour.TheVariants.{White, Black}
+use Rattle.c960_rules.specs.Lines.{squares}
+use Rattle.c960_rules.specs.Wheres.{where_set, is_knight_leap, is_king_step, is_rook_line, is_bishop_line, is_pawn_hit}
+
+pub knight_table : KNIGHT ≡ map (λ s. where_set (is_knight_leap s)) squares
+unfolding where_set
+knight_table = refl
+
+pub king_table : KING ≡ map (λ s. where_set (is_king_step s)) squares
+unfolding where_set
+king_table = refl
+
+pub rook_table : ROOK_LINES ≡ map (λ s. where_set (is_rook_line s)) squares
+unfolding where_set
+rook_table = refl
+
+pub bishop_table : BISHOP_LINES ≡ map (λ s. where_set (is_bishop_line s)) squares
+unfolding where_set
+bishop_table = refl
+
+-- the same from the other end
+pub knight_table_to : KNIGHT ≡ map (λ t. where_set (λ s. is_knight_leap s t)) squares
+unfolding where_set
+knight_table_to = refl
+
+pub king_table_to : KING ≡ map (λ t. where_set (λ s. is_king_step s t)) squares
+unfolding where_set
+king_table_to = refl
+
+pub rook_table_to : ROOK_LINES ≡ map (λ t. where_set (λ s. is_rook_line s t)) squares
+unfolding where_set
+rook_table_to = refl
+
+pub bishop_table_to : BISHOP_LINES ≡ map (λ t. where_set (λ s. is_bishop_line s t)) squares
+unfolding where_set
+bishop_table_to = refl
+
+pub white_table : WHITE_PAWN ≡ map (λ s. where_set (is_pawn_hit White s)) squares
+unfolding where_set
+white_table = refl
+
+pub black_table : BLACK_PAWN ≡ map (λ s. where_set (is_pawn_hit Black s)) squares
+unfolding where_set
+black_table = refl
+
+pub white_table_to : BLACK_PAWN ≡ map (λ t. where_set (λ s. is_pawn_hit White s t)) squares
+unfolding where_set
+white_table_to = refl
+
+pub black_table_to : WHITE_PAWN ≡ map (λ t. where_set (λ s. is_pawn_hit Black s t)) squares
+unfolding where_set
+black_table_to = refl
+
+-- a row of a table of a function
+pub row_of : (f : ℕ → ℕ) (table : List ℕ) (s : ℕ) → table ≡ map f squares → s < 64 → get_or table s 0 ≡ f s
+row_of f table s e h =
+    ap (λ (l : List ℕ). get_or l s 0) e ∙ get_or-map-range_with_len f 0 64 s s 0 h (zero-add s)

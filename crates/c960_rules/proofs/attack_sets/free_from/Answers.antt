@@ -1,0 +1,42 @@
+use Rattle.std.proofs.Common.{rules}
+use Rattle.c960_rules.specs.Wheres.{is_free}
+use Rattle.c960_rules.proofs.WhereFacts.{filtered_none, filtered_in, filtered_out, filtered_all, IsWithout}
+use Rattle.c960_rules.proofs.AttackerFacts.{free_is, free_isnt}
+use Rattle.c960_rules.proofs.attack_sets.free_from.Goals as goal
+
+pub loop-left-init : goal.loop-left-init
+loop-left-init c = filtered_none (λ s. is_free c.args.occupied c.args.square s) c.args.set
+
+pub loop-left-preserved-then-squares_between-occupied-eq0 : goal.loop-left-preserved-then-squares_between-occupied-eq0
+loop-left-preserved-then-squares_between-occupied-eq0 c =
+    let k = c.lowest-goal.result in
+    let w : IsWithout c.loop-left.left k c.without-left.result =
+    record {
+      on_board = c.lowest-goal.ensures.bound;
+      was = c.lowest-goal.ensures.inside;
+      gone = c.without-left.ensures.gone;
+      others = c.without-left.ensures.others;
+    } in
+    filtered_in (λ s. is_free c.args.occupied c.args.square s) c.args.set c.loop-left.left c.loop-left.found k
+    c.without-left.result c.only-found.result c.loop-left.invariant w
+    (free_is c.args.occupied c.args.square k c.squares_between.result c.squares_between.ensures
+    c.if-squares_between-occupied-eq0.true)
+    c.only-found.ensures
+
+pub loop-left-preserved : goal.loop-left-preserved
+loop-left-preserved c =
+    let k = c.lowest-goal.result in
+    let w : IsWithout c.loop-left.left k c.without-left.result =
+    record {
+      on_board = c.lowest-goal.ensures.bound;
+      was = c.lowest-goal.ensures.inside;
+      gone = c.without-left.ensures.gone;
+      others = c.without-left.ensures.others;
+    } in
+    filtered_out (λ s. is_free c.args.occupied c.args.square s) c.args.set c.loop-left.left c.loop-left.found k
+    c.without-left.result c.loop-left.invariant w
+    (free_isnt c.args.occupied c.args.square k c.squares_between.result c.squares_between.ensures
+    c.if-squares_between-occupied-eq0.false)
+
+pub returns : goal.returns
+returns c = filtered_all (λ s. is_free c.args.occupied c.args.square s) c.args.set c.loop-left.left c.loop-left.found (search rules) c.loop-left-test.false c.loop-left.invariant

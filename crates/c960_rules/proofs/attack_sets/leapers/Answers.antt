@@ -1,0 +1,39 @@
+use Rattle.std.proofs.Common.{◌&&◌, ◌||◌, ap, ◌∙◌}
+use Rattle.c960_board.specs.declared.piece.Kind.TheVariants.{Pawn, Knight, King}
+use Rattle.c960_board.specs.declared.sets.Sets.{Sets}
+use Rattle.c960_board.specs.Pieces.{is_of}
+use Rattle.c960_board.specs.Position.{cell_at}
+use Rattle.c960_board.specs.Sets.{is_kind, colour_set}
+use Rattle.c960_rules.specs.Wheres.{is_knight_leap, is_king_step, is_pawn_hit}
+use Rattle.c960_rules.proofs.WhereFacts.{where_and, where_or}
+use Rattle.c960_rules.proofs.AttackerFacts.{side_where, kind_where}
+use Rattle.c960_rules.proofs.attack_sets.leapers.Goals as goal
+
+pub returns : goal.returns
+returns c =
+    let p = c.args.position.now.placement in
+    let by = c.args.by in
+    let t = c.args.square in
+    let full = c.sets-sets.ensures.valid.placement.full in
+    let sets = c.sets-sets.ensures.value in
+    let s = c.sets-sets.result in
+    let side = side_where by p c.colour-side.result full (c.colour-side.ensures ∙ ap (colour_set by) sets) in
+    let knights =
+    where_and (λ s. is_knight_leap s t) (λ s. is_kind Knight (cell_at p s)) c.knight_leaps.result s.knights c.knight_leaps.ensures.to
+    (kind_where Knight p s.knights full (ap (λ (x : Sets). x.knights) sets)) in
+    let kings =
+    where_and (λ s. is_king_step s t) (λ s. is_kind King (cell_at p s)) c.king_steps.result s.kings c.king_steps.ensures.to
+    (kind_where King p s.kings full (ap (λ (x : Sets). x.kings) sets)) in
+    let pawns =
+    where_and (λ s. is_pawn_hit by s t) (λ s. is_kind Pawn (cell_at p s)) c.pawn_hits_on.result s.pawns c.pawn_hits_on.ensures
+    (kind_where Pawn p s.pawns full (ap (λ (x : Sets). x.pawns) sets)) in
+    let two =
+    where_or (λ s. is_knight_leap s t && is_kind Knight (cell_at p s)) (λ s. is_king_step s t && is_kind King (cell_at p s)) _ _
+    knights kings in
+    let three =
+    where_or
+    (λ s. (is_knight_leap s t && is_kind Knight (cell_at p s)) || (is_king_step s t && is_kind King (cell_at p s)))
+    (λ s. is_pawn_hit by s t && is_kind Pawn (cell_at p s)) _ _ two pawns in
+    where_and (λ s. is_of by (cell_at p s))
+    (λ s. ((is_knight_leap s t && is_kind Knight (cell_at p s)) || (is_king_step s t && is_kind King (cell_at p s)))
+    || (is_pawn_hit by s t && is_kind Pawn (cell_at p s))) _ _ side three

@@ -1,0 +1,35 @@
+use Rattle.std.proofs.Common.{ℕ, sym, ◌∙◌, ap}
+use Rattle.c960_board.specs.declared.piece.Colour.{Colour}
+use Rattle.c960_board.specs.declared.piece.Kind.TheVariants.{King, Rook}
+use Rattle.c960_board.specs.declared.sets.Sets.{Sets}
+use Rattle.c960_board.specs.Pieces.{is_of}
+use Rattle.c960_board.specs.Position.{cell_at}
+use Rattle.c960_board.specs.Sets.{is_kind, colour_set}
+use Rattle.c960_rules.proofs.AttackerFacts.{side_where, kind_where}
+use Rattle.c960_rules.proofs.GoalFacts.{holds_test, no_castle, no_kings_castle}
+use Rattle.c960_rules.proofs.PieceFacts.{piece_on}
+use Rattle.c960_rules.proofs.WhereFacts.{where_and}
+use Rattle.c960_rules.proofs.goals.rooks_to_castle.Goals as goal
+
+pub returns-then-holds : goal.returns-then-holds
+returns-then-holds c =
+    let p = c.args.position.now in
+    let s = c.args.from in
+    let valid = c.sets-sets.ensures.valid in
+    let full = valid.placement.full in
+    let side =
+    side_where p.turn p.placement c.colour.result full
+    (c.colour.ensures ∙ ap (λ (d : Colour). colour_set d c.sets-sets.result) c.turn-turn.ensures ∙ ap (colour_set p.turn) c.sets-sets.ensures.value) in
+    let rooks =
+    where_and (λ u. is_of p.turn (cell_at p.placement u)) (λ u. is_kind Rook (cell_at p.placement u)) _ _ side
+    (kind_where Rook p.placement c.sets-sets.result.rooks full (ap (λ (x : Sets). x.rooks) c.sets-sets.ensures.value)) in
+    λ t k l e. no_castle p s t _ k valid rooks l e
+
+pub returns-else-holds : goal.returns-else-holds
+returns-else-holds c =
+    let p = c.args.position.now in
+    let s = c.args.from in
+    let no =
+    sym (holds_test King c.holds.result c.turn-turn.result p.turn c.piece_at.result (piece_on p s) c.holds.ensures.test c.turn-turn.ensures c.piece_at.ensures)
+    ∙ c.if-holds.false in
+    λ t k l e. no_kings_castle p s t k no

@@ -1,0 +1,156 @@
+//! Where the pieces of the side to move go, castling and the safety of the king left out: as sets of squares.
+
+ghost use Rattle.std.specs.Prelude.{◌≡◌, ◌≢◌, ◌==◌, ◌<◌, ℕ, Option, false};
+ghost use Rattle.c960_board.specs.declared.piece.Kind.{Kind};
+ghost use Rattle.c960_board.specs.declared.piece.Kind.TheVariants.{Pawn};
+ghost use Rattle.c960_board.specs.Moves.{Triple};
+ghost use Rattle.c960_board.specs.Pieces.{man};
+ghost use Rattle.c960_board.specs.Position.{cell_at};
+ghost use Rattle.c960_board.specs.Sets.{is_in};
+ghost use Rattle.c960_board.specs.Squares.{rank_of};
+ghost use Rattle.c960_rules.specs.Castles.{Castles};
+ghost use Rattle.c960_rules.specs.Reaches.{pawn_rank, is_target, steps, steps_twice, takes};
+ghost use Rattle.c960_rules.specs.Listing.{triple, pawn_goes, goes_to, NoneGoes};
+ghost use Rattle.c960_rules.specs.Wheres.{where_set, is_slider};
+
+use crate::attack_sets::free_from;
+use crate::bitset::only;
+use crate::cells::{holds, is_of};
+use crate::lookups::{pawn_hits, ways};
+use crate::reaches::pawn_rank;
+use crate::sides::ahead;
+use c960_board::{Colour, Kind, Position, Sets, Square};
+
+/// The en passant target, as a set.
+#[inline(always)]
+fn target_set(target: Option<Square>) -> u64
+    ensures { result ≡ where_set (λ t. is_target target t) }
+{
+    match target {
+        Some(square) => only(square),
+        None => 0,
+    }
+}
+
+/// Whether the square is on the rank where the side's pawns stand at the start.
+#[inline(always)]
+fn is_on_pawn_rank(colour: Colour, square: Square) -> bool
+    ensures { result ≡ (rank_of square == pawn_rank colour) }
+{
+    square.number() / 8 == pawn_rank(colour)
+}
+
+/// The square in front of a pawn, where it is empty.
+#[inline(always)]
+fn single_step(position: &Position, from: Square) -> u64
+    requires { cell_at position.now.placement from ≡ man position.now.turn Pawn }
+    ensures { result ≡ where_set (λ t. steps position.now.placement position.now.turn from t) }
+{
+    let _sets = position.sets();
+    let _bound = from.number();
+    let turn = position.turn();
+    let step = ahead(turn, from);
+    only(step) & !position.occupied()
+}
+
+/// The square two in front of a pawn on its first rank, where both are empty.
+#[inline(always)]
+fn double_step(position: &Position, from: Square) -> u64
+    requires { cell_at position.now.placement from ≡ man position.now.turn Pawn }
+    ensures { result ≡ where_set (λ t. steps_twice position.now.placement position.now.turn from t) }
+{
+    let _sets = position.sets();
+    let _bound = from.number();
+    let turn = position.turn();
+    let is_first = is_on_pawn_rank(turn, from);
+    if !is_first {
+        return 0;
+    }
+    let occupied = position.occupied();
+    let passed = ahead(turn, from);
+    let is_barred = Sets::is_in(occupied, passed);
+    if is_barred {
+        return 0;
+    }
+    let goal = ahead(turn, passed);
+    only(goal) & !occupied
+}
+
+/// The squares on which a pawn takes, en passant too.
+#[inline(always)]
+fn prey(position: &Position, from: Square) -> u64
+    requires { cell_at position.now.placement from ≡ man position.now.turn Pawn }
+    ensures { result ≡ where_set (λ t. takes position.now.placement position.now.turn position.now.target from t) }
+{
+    let sets = position.sets();
+    let turn = position.turn();
+    let theirs = sets.colour(turn.other());
+    let target = target_set(position.target());
+    pawn_hits(turn, from) & (theirs | target)
+}
+
+/// The squares to which a pawn goes.
+#[inline(always)]
+fn pawn_goals(position: &Position, from: Square) -> u64
+    requires { cell_at position.now.placement from ≡ man position.now.turn Pawn }
+    ensures { result ≡ where_set (λ t. pawn_goes position.now from t) }
+{
+    single_step(position, from) | (double_step(position, from) | prey(position, from))
+}
+
+/// Whether it is a bishop, a rook or a queen.
+#[inline(always)]
+fn is_slider(kind: Kind) -> bool
+    ensures { result ≡ is_slider kind }
+{
+    match kind {
+        Kind::Bishop | Kind::Rook | Kind::Queen => true,
+        Kind::Pawn | Kind::Knight | Kind::King => false,
+    }
+}
+
+/// The squares to which the piece on a square goes, if it is one of the side to move.
+#[inline(always)]
+pub(crate) fn goals(position: &Position, from: Square) -> u64
+    ensures { result ≡ where_set (λ t. goes_to position.now from t) }
+{
+    let cell = position.piece_at(from);
+    let turn = position.turn();
+    if !is_of(cell, turn) {
+        return 0;
+    }
+    let Some(piece) = cell else {
+        return 0;
+    };
+    let sets = position.sets();
+    let side = sets.colour(turn);
+    if holds(cell, turn, Kind::Pawn) {
+        return pawn_goals(position, from) & !side;
+    }
+    let goals = ways(piece, from) & !side;
+    if is_slider(piece.kind) {
+        return free_from(goals, from, position.occupied());
+    }
+    goals
+}
+
+/// The squares of own rooks, if the king stands on the square: every legal castling goes to one.
+#[inline(always)]
+pub(crate) fn rooks_to_castle(position: &Position, from: Square) -> u64
+    ensures { (t : ℕ) (k : Option Kind) → t < 64 → is_in result t ≡ false → Castles position.now (triple from t k) → ⊥ }
+{
+    let sets = position.sets();
+    let turn = position.turn();
+    if holds(position.piece_at(from), turn, Kind::King) {
+        sets.colour(turn) & sets.rooks
+    } else {
+        0
+    }
+}
+
+/// Squares to which a legal move from the square may go, and others.
+pub(crate) fn candidates(position: &Position, from: Square) -> u64
+    ensures { (t : ℕ) → t < 64 → is_in result t ≡ false → NoneGoes position.now from t }
+{
+    goals(position, from) | rooks_to_castle(position, from)
+}

@@ -1,0 +1,124 @@
+//! The squares that stand in a relation to a square, as sets from tables.
+
+ghost use Rattle.std.specs.Prelude.{◌≡◌, ◌↔◌, ◌<◌, ℕ, IsTrue};
+ghost use Rattle.c960_rules.specs.Wheres.{where_set, is_knight_leap, is_king_step, is_rook_line, is_bishop_line, is_pawn_hit, is_way};
+ghost use Rattle.c960_board.specs.declared.piece.Colour.TheVariants.{White, Black};
+ghost use Rattle.c960_rules.specs.Lines.{between};
+
+use crate::between::BETWEEN;
+use crate::tables::{BISHOP_LINES, BLACK_PAWN, KING, KNIGHT, ROOK_LINES, WHITE_PAWN};
+use c960_board::{Colour, Kind, Piece, Square};
+
+/// The squares that a knight attacks.
+#[inline(always)]
+pub fn knight_leaps(square: Square) -> u64
+    ensures from { result ≡ where_set (is_knight_leap square) }
+    ensures to { result ≡ where_set (λ s. is_knight_leap s square) }
+{
+    KNIGHT[square.number() as usize]
+}
+
+/// The squares that a king attacks.
+#[inline(always)]
+pub fn king_steps(square: Square) -> u64
+    ensures from { result ≡ where_set (is_king_step square) }
+    ensures to { result ≡ where_set (λ s. is_king_step s square) }
+{
+    KING[square.number() as usize]
+}
+
+/// The other squares of the rank and the file.
+#[inline(always)]
+pub fn rook_lines(square: Square) -> u64
+    ensures from { result ≡ where_set (is_rook_line square) }
+    ensures to { result ≡ where_set (λ s. is_rook_line s square) }
+{
+    ROOK_LINES[square.number() as usize]
+}
+
+/// The other squares of the two diagonals.
+#[inline(always)]
+pub fn bishop_lines(square: Square) -> u64
+    ensures from { result ≡ where_set (is_bishop_line square) }
+    ensures to { result ≡ where_set (λ s. is_bishop_line s square) }
+{
+    BISHOP_LINES[square.number() as usize]
+}
+
+/// The squares from which a white pawn attacks the square.
+#[inline(always)]
+fn white_hits_on(square: Square) -> u64
+    ensures { result ≡ where_set (λ s. is_pawn_hit White s square) }
+{
+    BLACK_PAWN[square.number() as usize]
+}
+
+/// The squares from which a black pawn attacks the square.
+#[inline(always)]
+fn black_hits_on(square: Square) -> u64
+    ensures { result ≡ where_set (λ s. is_pawn_hit Black s square) }
+{
+    WHITE_PAWN[square.number() as usize]
+}
+
+/// The squares from which a pawn of the colour attacks the square.
+#[inline(always)]
+pub fn pawn_hits_on(by: Colour, square: Square) -> u64
+    ensures { result ≡ where_set (λ s. is_pawn_hit by s square) }
+{
+    match by {
+        Colour::White => white_hits_on(square),
+        Colour::Black => black_hits_on(square),
+    }
+}
+
+/// The squares that a white pawn attacks.
+#[inline(always)]
+fn white_hits(square: Square) -> u64
+    ensures { result ≡ where_set (is_pawn_hit White square) }
+{
+    WHITE_PAWN[square.number() as usize]
+}
+
+/// The squares that a black pawn attacks.
+#[inline(always)]
+fn black_hits(square: Square) -> u64
+    ensures { result ≡ where_set (is_pawn_hit Black square) }
+{
+    BLACK_PAWN[square.number() as usize]
+}
+
+/// The squares that a pawn of the colour attacks.
+#[inline(always)]
+pub fn pawn_hits(colour: Colour, square: Square) -> u64
+    ensures { result ≡ where_set (is_pawn_hit colour square) }
+{
+    match colour {
+        Colour::White => white_hits(square),
+        Colour::Black => black_hits(square),
+    }
+}
+
+/// The squares that a piece attacks on an empty board.
+#[inline(always)]
+pub fn ways(piece: Piece, square: Square) -> u64
+    ensures { result ≡ where_set (is_way piece.colour piece.kind square) }
+{
+    match piece.kind {
+        Kind::Pawn => pawn_hits(piece.colour, square),
+        Kind::Knight => knight_leaps(square),
+        Kind::Bishop => bishop_lines(square),
+        Kind::Rook => rook_lines(square),
+        Kind::Queen => rook_lines(square) | bishop_lines(square),
+        Kind::King => king_steps(square),
+    }
+}
+
+/// The squares strictly between two squares of one line; none where they lie on none.
+#[inline(always)]
+pub fn squares_between(from: Square, to: Square) -> u64
+    ensures { result ≡ where_set (λ u. between from u to) }
+{
+    let index = from.number() as usize * 64 + to.number() as usize;
+    BETWEEN[index]
+}
