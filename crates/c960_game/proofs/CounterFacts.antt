@@ -1,7 +1,7 @@
 -- How far back a position can be the same as the present one: the half-move counter bounds it.
-use Rattle.std.proofs.Common.{◌≡◌, ℕ, suc, ◌+◌, ◌<◌, ◌≤◌, List, [], ◌∷◌, ◌++◌, length, take, drop, Bool, false, cond, count_by, refl, ap, sym, ◌∙◌, subst, arith, length-append, length-drop, ◌⊎◌, inl, inr}
+use Rattle.std.proofs.Common.{◌≡◌, ℕ, suc, ◌+◌, ◌-◌, ◌<◌, ◌≤◌, List, [], ◌∷◌, ◌++◌, length, take, drop, Bool, false, cond, count_by, refl, ap, sym, ◌∙◌, subst, arith, length-append, length-drop, ◌⊎◌, inl, inr}
 use Rattle.std.proofs.lemmas.Bool.{false_from_ne_true}
-use Rattle.std.proofs.lemmas.List.{take-append-drop}
+use Rattle.std.proofs.lemmas.List.{take-append-drop, length-take-le}
 use Rattle.std.proofs.lemmas.List.Sums.{sum_by-append}
 use Rattle.c960_board.specs.declared.parts.Parts.{Parts}
 use Rattle.c960_board.specs.Moves.{Triple}
@@ -18,9 +18,10 @@ use Rattle.c960_game.specs.Game960.{Game960}
 use Rattle.c960_game.specs.Positions.{position_after, positions_from, last_position}
 use Rattle.c960_game.specs.Replay.{AllLegal}
 use Rattle.c960_game.specs.Same.{same}
-use Rattle.c960_game.specs.Times.{times, uncounted, recent_times}
+use Rattle.c960_game.specs.Times.{times, uncounted, recent_positions, recent_times}
 use Rattle.c960_game.proofs.Bounds.{half_moves_grow, number_grows, half_moves_bound, number_bound}
 use Rattle.c960_game.proofs.LogFacts.{legal_from}
+use Rattle.c960_game.proofs.PositionFacts.{later_positions}
 use Rattle.c960_game.proofs.SameFacts.{same_placement_of}
 
 -- ---- Moves that can be made from a position.
@@ -134,6 +135,21 @@ uncounted_left : (n : ℕ) (l : List Triple) → (last_position n l).half_moves 
 unfolding uncounted
 uncounted_left n l = omega (arith, half_moves_bound n l, length-drop (uncounted n l) l)
 
+-- where the counter began to count is a place of the log
+uncounted_within : (n : ℕ) (l : List Triple) → length (take (uncounted n l) l) ≡ uncounted n l
+unfolding uncounted
+uncounted_within n l = length-take-le (length l - (last_position n l).half_moves) l (omega arith)
+
+-- the recent positions, from there on
+recent_from : (n : ℕ) (l : List Triple)
+    → recent_positions n l ≡ positions_from (last_position n (take (uncounted n l) l)) (drop (uncounted n l) l)
+unfolding recent_positions
+recent_from n l =
+    let u = uncounted n l in
+    let whole : take u l ++ drop u l ≡ l = take-append-drop u l in
+    let later = later_positions (start n) (take u l) (drop u l) in
+    rw (whole, uncounted_within n l) at later
+
 -- the count of a game, from where its counter began to count
 pub times_recent : (n : ℕ) (l : List Triple) → Game960 n l → length l < 65535 → times n l ≡ recent_times n l
 unfolding times recent_times
@@ -145,3 +161,4 @@ times_recent n l game short =
     let near : (last_position n l).half_moves ≤ length (drop u l) = uncounted_left n l in
     let count = count_later (start n) (last_position n l) (take u l) (drop u l) can last near in
     ap (λ (k : List Triple). count_by (λ x. same x (last_position n l)) (positions_from (start n) k)) (sym whole) ∙ count
+    ∙ ap (λ ps. count_by (λ x. same x (last_position n l)) ps) (sym (recent_from n l))

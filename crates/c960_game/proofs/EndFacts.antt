@@ -1,5 +1,5 @@
 -- A position has an outcome by itself exactly where it is mate or stalemate.
-use Rattle.std.proofs.Common.{◌≡◌, List, [], ◌∷◌, length, Option, Some, None, Bool, true, false, cond, refl, sym, subst, ◌∙◌}
+use Rattle.std.proofs.Common.{◌≡◌, List, [], ◌∷◌, length, Option, Some, None, Bool, true, false, cond, refl, sym, subst, ◌∙◌, ◌⊎◌, inl, inr}
 use Rattle.std.specs.Prelude.{◌==◌, ◌↔◌}
 use Rattle.std.specs.List.{Contains}
 use Rattle.std.proofs.Math.Dec.{eqb-suc-zero}
@@ -125,3 +125,16 @@ stalemate p = (
   λ e. stale_tells_by p (legal_list p) (in_check p.placement p.turn) (seen_here p) e,
   λ w. stale_from_by p (legal_list p) (in_check p.placement p.turn) (seen_here p) w,
 )
+
+-- ---- No other outcome.
+
+mate_or_stale_by : (a b : Bool) (c : Colour) (x : Outcome) → cond a (Some (cond b (Checkmate c) Stalemate)) None ≡ Some x
+    → (x ≡ Checkmate c) ⊎ (x ≡ Stalemate)
+mate_or_stale_by true true c x e = inl cc
+mate_or_stale_by true false c x e = inr cc
+mate_or_stale_by false b c x e = cc
+
+-- an outcome of a position is one of the two
+pub mate_or_stale : (p : Parts) (x : Outcome) → outcome_of p ≡ Some x → (x ≡ Checkmate (other p.turn)) ⊎ (x ≡ Stalemate)
+unfolding outcome_of
+mate_or_stale p x e = mate_or_stale_by (length (legal_list p) == 0) (in_check p.placement p.turn) (other p.turn) x e

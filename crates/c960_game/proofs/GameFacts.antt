@@ -7,6 +7,7 @@ use Rattle.c960_board.specs.Start.{start}
 use Rattle.c960_board.proofs.StartFacts.{start_is_position}
 use Rattle.c960_rules.specs.After.{after}
 use Rattle.c960_rules.specs.Check.{IsLawful}
+use Rattle.c960_rules.specs.Legal.{Legal}
 use Rattle.c960_rules.proofs.AfterFacts.{after_position, after_lawful}
 use Rattle.c960_rules.proofs.StartFacts.{start_is_lawful, start_has_move}
 use Rattle.c960_game.specs.Ends.{own_outcome}
@@ -14,8 +15,9 @@ use Rattle.c960_game.specs.Game960.{Game960}
 use Rattle.c960_game.specs.Positions.{position_after, last_position}
 use Rattle.c960_game.specs.Replay.{AllLegal}
 use Rattle.c960_game.proofs.Bounds.{half_moves_step, number_step, start_half_moves, start_number}
-use Rattle.c960_game.proofs.EndFacts.{going}
+use Rattle.c960_game.proofs.DrawFacts.{going}
 use Rattle.c960_game.proofs.LogFacts.{legal_from, position_after_none}
+use Rattle.c960_game.proofs.PositionFacts.{times_bound}
 
 -- moves made one after another leave a position whose side not to move is not in check
 pub lawful_after : (p : Parts) (l : List Triple) → IsLawful p → AllLegal p l → IsLawful (position_after p l)
@@ -49,5 +51,7 @@ last_is_position n l game short =
 
 -- before the first move the game goes on
 pub start_goes_on : (n : ℕ) → n < 960 → own_outcome n [] ≡ None
-unfolding own_outcome
-start_goes_on n numbered = rw (position_after_none (start n)) ((going (start n)).1 (start_has_move n numbered))
+start_goes_on n numbered =
+    let here : last_position n [] ≡ start n = position_after_none (start n) in
+    let move : (m : Triple) × Legal (last_position n []) m = rw here (start_has_move n numbered) in
+    (going n []).1 (move, omega (arith, times_bound n []), rw here (omega (arith, start_half_moves n)))

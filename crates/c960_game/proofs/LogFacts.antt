@@ -1,12 +1,13 @@
 -- The positions of a log with one move more, and logs that are legal games: their prefixes and how they grow.
-use Rattle.std.proofs.Common.{◌≡◌, ◌≢◌, ℕ, ◌<◌, List, [], ◌∷◌, ◌++◌, None, refl, sym, ap, subst, ◌∙◌, append_assoc, ◌⊎◌, inl, inr}
+use Rattle.std.proofs.Common.{◌≡◌, ◌≢◌, ℕ, ◌<◌, ◌≤◌, List, [], ◌∷◌, ◌++◌, length, take, None, Some, refl, sym, ap, subst, ◌∙◌, append_assoc, ◌⊎◌, inl, inr}
+use Rattle.std.proofs.lemmas.Bool.{le-leb}
 use Rattle.c960_board.specs.declared.parts.Parts.{Parts}
 use Rattle.c960_board.specs.Moves.{Triple}
 use Rattle.c960_board.specs.Start.{start}
 use Rattle.c960_rules.specs.After.{after}
 use Rattle.c960_game.specs.Ends.{own_outcome}
 use Rattle.c960_game.specs.Game960.{Game960, MayFollow}
-use Rattle.c960_game.specs.Positions.{position_after, positions_from, last_position, positions}
+use Rattle.c960_game.specs.Positions.{position_after, positions_from, last_position, positions, position_at}
 use Rattle.c960_game.specs.Replay.{AllLegal}
 
 -- ---- The positions.
@@ -51,6 +52,12 @@ game_positions_more n l m = positions_more (start n) l m
 
 pub last_more : (n : ℕ) (l : List Triple) (m : Triple) → last_position n (l ++ m ∷ []) ≡ after (last_position n l) m
 last_more n l m = position_after_more (start n) l m
+
+-- the position after so many moves, where so many were made
+pub position_made : (n : ℕ) (l : List Triple) (place : ℕ) → place ≤ length l
+    → position_at n l place ≡ Some (last_position n (take place l))
+unfolding position_at
+position_made n l place made = rw (le-leb place (length l) made) refl
 
 -- ---- Legal games.
 

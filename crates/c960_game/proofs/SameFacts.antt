@@ -6,7 +6,7 @@ use Rattle.std.specs.Cmp.{booleans_Decides}
 use Rattle.std.specs.Cmp.Lexicographic.{pointwise}
 use Rattle.std.specs.Option.{option_eq}
 use Rattle.std.proofs.lemmas.Bool.{and_parts, and_from}
-use Rattle.std.proofs.lemmas.Bool.Decides.{Decides-eqb}
+use Rattle.std.proofs.lemmas.Bool.Decides.{Decides-eqb, same_from_decides}
 use Rattle.std.proofs.lemmas.Slice.Eq.{slice_eq-Decides}
 use Rattle.c960_board.specs.declared.piece.Colour.{Colour}
 use Rattle.c960_board.specs.declared.piece.Colour.TheVariants.{White, Black}
@@ -34,6 +34,11 @@ cell_decides (Some p) (Some q) = (λ e. holds_is q.colour q.kind (Some p) e, λ 
 -- the test of two placements
 placement_decides : (xs ys : List Cell) → Decides (pointwise (option_eq same_piece) xs ys) (xs ≡ ys)
 placement_decides xs ys = slice_eq-Decides {E = option_eq same_piece} cell_decides xs ys _ refl
+
+-- whatever decides whether two placements are equal is that test
+pub placement_test : (b : Bool) (xs ys : List Cell) → (IsTrue b ↔ (xs ≡ ys)) → b ≡ pointwise (option_eq same_piece) xs ys
+placement_test b xs ys h =
+    same_from_decides b (pointwise (option_eq same_piece) xs ys) h (placement_decides xs ys)
 
 -- the test of the rights of a side
 files_decide : (xs ys : List Bool) → Decides (pointwise beq xs ys) (xs ≡ ys)
@@ -77,7 +82,7 @@ same_tells p q h =
     record { turn = turn; placement = placement; rights = rights; captures = same_captures p q turn placement rights target }
 
 -- and the same positions pass it
-same_from : (p q : Parts) → Same p q → same p q ≡ true
+pub same_from : (p q : Parts) → Same p q → same p q ≡ true
 unfolding same
 same_from p q h =
     let turn = (colour_decides p.turn q.turn).1 h.turn in

@@ -4,10 +4,11 @@ pub mod Ending
 pub mod Limits
 pub mod Moves
 pub mod Positions
-pub mod Ends
-pub mod Game960
 pub mod Same
 pub mod Times
+pub mod Draws
+pub mod Ends
+pub mod Game960
 pub mod Ground
 pub mod Record
 pub mod Kept

@@ -1,6 +1,6 @@
 -- The positions of a game, read off its start number and its list of moves. They mean something where each move is legal in
 -- its position and the number is below 960.
-use Rattle.std.specs.Prelude.{ℕ, List, [], ◌∷◌}
+use Rattle.std.specs.Prelude.{ℕ, nat_le, List, [], ◌∷◌, length, take, Option, Some, None, cond}
 use Rattle.c960_board.specs.declared.parts.Parts.{Parts}
 use Rattle.c960_board.specs.Moves.{Triple}
 use Rattle.c960_board.specs.Start.{start}
@@ -23,3 +23,7 @@ last_position n l = position_after (start n) l
 -- the start and the position after each move
 abbrev pub positions : ℕ → List Triple → List Parts
 positions n l = positions_from (start n) l
+
+-- the position after that many of the moves, none where fewer were made
+unfoldable pub position_at : ℕ → List Triple → ℕ → Option Parts
+position_at n l place = cond (nat_le place (length l)) (Some (last_position n (take place l))) None

@@ -1,7 +1,8 @@
 -- How often the present position has appeared (FIDE Laws, Article 9.2).
-use Rattle.std.specs.Prelude.{ℕ, ◌-◌, List, length, take, drop, count_by}
+use Rattle.std.specs.Prelude.{ℕ, ◌-◌, List, length, drop, count_by}
+use Rattle.c960_board.specs.declared.parts.Parts.{Parts}
 use Rattle.c960_board.specs.Moves.{Triple}
-use Rattle.c960_game.specs.Positions.{last_position, positions, positions_from}
+use Rattle.c960_game.specs.Positions.{last_position, positions}
 use Rattle.c960_game.specs.Same.{same}
 
 -- how many of the positions are the same as the last, which is one of them
@@ -13,8 +14,10 @@ times n l = count_by (λ p. same p (last_position n l)) (positions n l)
 unfoldable pub uncounted : ℕ → List Triple → ℕ
 uncounted n l = length l - (last_position n l).half_moves
 
--- how many of the positions since then are the same as the last
+-- the positions since then: that from which the counter counts, and those after it
+unfoldable pub recent_positions : ℕ → List Triple → List Parts
+recent_positions n l = drop (uncounted n l) (positions n l)
+
+-- how many of them are the same as the last
 unfoldable pub recent_times : ℕ → List Triple → ℕ
-recent_times n l =
-    count_by (λ p. same p (last_position n l))
-    (positions_from (last_position n (take (uncounted n l) l)) (drop (uncounted n l) l))
+recent_times n l = count_by (λ p. same p (last_position n l)) (recent_positions n l)

@@ -4,33 +4,37 @@ ghost use Rattle.std.specs.Prelude.{◌≡◌, ◌≤◌, ◌<◌, ◌↔◌, �
 ghost use Rattle.c960_board.specs.Moves.{Triple};
 ghost use Rattle.c960_rules.specs.After.{after};
 ghost use Rattle.c960_rules.specs.Legal.{Legal};
+ghost use Rattle.c960_game.specs.Draws.{draw_of};
 ghost use Rattle.c960_game.specs.Ending.{named_outcome};
-ghost use Rattle.c960_game.specs.Ends.{outcome_of};
+ghost use Rattle.c960_game.specs.Ends.{outcome_of, own_outcome};
 ghost use Rattle.c960_game.specs.Ground.{Ground, has_ground};
 ghost use Rattle.c960_game.specs.Moves.{is_legal_move};
-ghost use Rattle.c960_game.specs.Positions.{last_position};
+ghost use Rattle.c960_game.specs.Positions.{last_position, position_at};
 ghost use Rattle.c960_game.specs.Record.{IsGame, end_answer, opened, play_answer, with_move, with_outcome};
-ghost use Rattle.c960_game.specs.Times.{times, uncounted};
+ghost use Rattle.c960_game.specs.Times.{times};
 
 use crate::ending::Ending;
+use crate::kept::{MILE, RECENT, add_milestone, add_recent, count_same, row_of};
 use crate::outcome::Outcome;
 use crate::refusal::Refusal;
-use crate::replay::count_same;
+use crate::replay::replay;
 use crate::same::same_colour;
 use c960_board::{Colour, Move, Position};
 use c960_rules::{Lawful, State, play, state};
 use std::alloc::Global;
 use std::marker::Model;
 
-/// A game from a numbered start. It keeps its moves, the present position, and the position from which the half-move
-/// counter counts: what was before that cannot come back. Contracts see a `GameRecord`.
+/// A game from a numbered start. It keeps its moves, the present position, the positions since the last capture or pawn
+/// move (what was before them cannot come back), and every sixty-fourth position. All its memory is reserved at the opening,
+/// and no row ever grows. Contracts see a `GameRecord`.
 #[derive(Drop)]
 pub struct Game {
     start: u16,
     plies: u16,
     moves: Vec<Move>,
     position: Lawful,
-    counted_from: Lawful,
+    recent: Vec<Lawful>,
+    milestones: Vec<Lawful>,
     outcome: Option<Outcome>,
 }
 
@@ -53,6 +57,21 @@ fn outcome_of(position: &Lawful) -> Option<Outcome>
         State::Going => None,
         State::Checkmate => Some(Outcome::Checkmate(position.position().turn().other())),
         State::Stalemate => Some(Outcome::Stalemate),
+    }
+}
+
+/// The draw that comes without a claim (FIDE Laws, Articles 9.6.1 and 9.6.2), if any: of a position that has appeared so often
+/// and has that half-move counter.
+#[tactic(auto, unfolding(crate::specs::Draws::draw_of))]
+fn draw_of(appearances: usize, half_moves: u16) -> Option<Outcome>
+    ensures { result ≡ draw_of appearances half_moves }
+{
+    if appearances >= 5 {
+        Some(Outcome::Fivefold)
+    } else if half_moves >= 150 {
+        Some(Outcome::SeventyFive)
+    } else {
+        None
     }
 }
 
@@ -87,12 +106,19 @@ impl Game {
         let Ok(moves) = Vec::with_capacity(alloc, usize::from(plies)) else {
             return Err(Refusal::OutOfMemory);
         };
+        let Ok(recent) = row_of(alloc, RECENT, position) else {
+            return Err(Refusal::OutOfMemory);
+        };
+        let Ok(milestones) = row_of(alloc, usize::from(plies) / MILE + 1, position) else {
+            return Err(Refusal::OutOfMemory);
+        };
         Ok(Game {
             start,
             plies,
             moves,
             position,
-            counted_from: position,
+            recent,
+            milestones,
             outcome: None,
         })
     }
@@ -133,21 +159,35 @@ impl Game {
         self.position.position()
     }
 
+    /// The position after that many moves: None exactly where fewer were made.
+    #[tactic(auto, unfolding(crate::specs::Positions::position_at))]
+    pub fn position_at(&self, place: u16) -> Option<Position>
+        ensures { result ≡ position_at self.now.start self.now.log place }
+    {
+        if self.len() < place {
+            return None;
+        }
+        Some(self.replayed(place).position())
+    }
+
+    /// The position after that many moves, of which so many were made. It replays those since the last one that is kept.
+    fn replayed(&self, place: u16) -> Lawful
+        requires { place ≤ length self.now.log }
+        ensures { result ≡ last_position self.now.start (take place self.now.log) }
+    {
+        let mile = usize::from(place) / MILE;
+        replay(
+            &self.milestones[mile],
+            &self.moves[mile * MILE..usize::from(place)],
+        )
+    }
+
     /// How often the present position has appeared, itself counted (FIDE Laws, Article 9.2). It looks back no further than
     /// to the last capture or pawn move.
     pub fn appearances(&self) -> u16
         ensures { result ≡ times self.now.start self.now.log }
     {
-        count_same(&self.counted_from, self.counted_moves(), &self.position) as u16
-    }
-
-    /// The moves since the half-move counter began to count.
-    fn counted_moves(&self) -> &[Move]
-        ensures value { result.now ≡ drop (uncounted self.now.start self.now.log) self.now.log }
-        ensures valid { IsGame self.now }
-    {
-        let half_moves = usize::from(self.position().half_moves());
-        &self.moves[self.moves.len() - half_moves..]
+        count_same(&self.recent, &self.position) as u16
     }
 
     /// Whether the game is over.
@@ -175,16 +215,35 @@ impl Game {
         play(&self.position, m)
     }
 
-    /// The position from which the half-move counter counts once a move has led to `next`.
-    fn counts_from(&self, next: &Lawful) -> Lawful
-        ensures { (m : Triple) → next.now ≡ after (last_position self.now.start self.now.log) m
-            → result ≡ last_position self.now.start
-            (take (uncounted self.now.start (self.now.log ++ m ∷ [])) (self.now.log ++ m ∷ [])) }
+    /// How often the position after a legal move has then appeared, itself counted.
+    fn appearances_after(&self, m: Move, next: &Lawful) -> usize
+        requires going { is_some self.now.outcome ≡ false }
+        requires room { length self.now.log < self.now.plies }
+        requires legal { Legal (last_position self.now.start self.now.log) m }
+        requires next { next.now ≡ after (last_position self.now.start self.now.log) m }
+        ensures { result ≡ times self.now.start (self.now.log ++ m ∷ []) }
     {
         if next.position().half_moves() == 0 {
-            *next
+            1
         } else {
-            self.counted_from
+            count_same(&self.recent, next) + 1
+        }
+    }
+
+    /// The outcome that the game has by itself after a legal move.
+    fn outcome_after(&self, m: Move, next: &Lawful) -> Option<Outcome>
+        requires going { is_some self.now.outcome ≡ false }
+        requires room { length self.now.log < self.now.plies }
+        requires legal { Legal (last_position self.now.start self.now.log) m }
+        requires next { next.now ≡ after (last_position self.now.start self.now.log) m }
+        ensures { result ≡ own_outcome self.now.start (self.now.log ++ m ∷ []) }
+    {
+        match outcome_of(next) {
+            Some(outcome) => Some(outcome),
+            None => draw_of(
+                self.appearances_after(m, next),
+                next.position().half_moves(),
+            ),
         }
     }
 
@@ -194,14 +253,14 @@ impl Game {
         requires room { length self.old.log < self.old.plies }
         requires legal { Legal (last_position self.old.start self.old.log) m }
         requires next { next ≡ after (last_position self.old.start self.old.log) m }
-        requires outcome { outcome ≡ outcome_of next }
+        requires outcome { outcome ≡ own_outcome self.old.start (self.old.log ++ m ∷ []) }
         ensures game { self.new ≡ with_move self.old m }
         ensures valid { IsGame self.new }
     {
-        let counted_from = self.counts_from(&next);
+        add_recent(&mut self.recent, next);
+        add_milestone(&mut self.milestones, self.moves.len() + 1, next);
         self.moves.push_reserved(m);
         self.position = next;
-        self.counted_from = counted_from;
         self.outcome = outcome;
     }
 
@@ -235,9 +294,11 @@ impl Game {
         outcome
     }
 
-    /// Makes a move, and tells the outcome where it mates or stalemates. Refused, in this order: `GameOver`; `LogFull`
-    /// where the log has as many moves as it may have; `Illegal`. A refused move changes nothing.
-    #[tactic(auto, unfolding(crate::specs::Record::play_answer), using(crate::proofs::KeptFacts::outcome_more))]
+    /// Makes a move, and tells the outcome where it ends the game: by mate or stalemate, or else by a draw that comes without a
+    /// claim, of a position that has appeared five times or after seventy-five moves of each side without a capture and a pawn
+    /// move (FIDE Laws, Articles 5.1.1, 5.2.1 and 9.6). Refused, in this order: `GameOver`; `LogFull` where the log has as many
+    /// moves as it may have; `Illegal`. A refused move changes nothing.
+    #[tactic(auto, unfolding(crate::specs::Record::play_answer))]
     pub fn play(&mut self, m: Move) -> Result<Option<Outcome>, Refusal>
         ensures answer { result ≡ play_answer self.old m }
         ensures game { self.new ≡ (if is_ok result then with_move self.old m else self.old) }
@@ -255,7 +316,7 @@ impl Game {
         let Some(next) = self.next(m) else {
             return Err(Refusal::Illegal);
         };
-        let outcome = outcome_of(&next);
+        let outcome = self.outcome_after(m, &next);
         self.append(m, next, outcome);
         Ok(outcome)
     }

@@ -3,6 +3,7 @@
 
 mod ending;
 mod game;
+mod kept;
 pub mod laws;
 mod limits;
 mod outcome;

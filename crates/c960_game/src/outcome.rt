@@ -1,6 +1,6 @@
 //! How a game has ended.
 
-ghost use Rattle.std.specs.Prelude.{◌≡◌};
+ghost use Rattle.std.specs.Prelude.{◌≡◌, ◌≤◌, ◌↔◌, Some, IsSome, IfSome};
 ghost use Rattle.c960_game.specs.Outcome.{outcome_code, outcome_text};
 
 use c960_board::Colour;
@@ -22,9 +22,9 @@ pub enum Outcome {
     Threefold,
     /// A draw was claimed for fifty moves of each side without a capture and a pawn move (Article 9.3).
     Fifty,
-    /// The position has appeared five times (Article 9.6.1). Not given today.
+    /// The position has appeared five times (Article 9.6.1).
     Fivefold,
-    /// Seventy-five moves of each side had no capture and no pawn move (Article 9.6.2). Not given today.
+    /// Seventy-five moves of each side had no capture and no pawn move (Article 9.6.2).
     SeventyFive,
 }
 
@@ -45,6 +45,29 @@ impl Outcome {
             Outcome::Fifty => 9,
             Outcome::Fivefold => 10,
             Outcome::SeventyFive => 11,
+        }
+    }
+
+    /// The outcome of that number: None exactly for 0 and from 12 on.
+    #[tactic(auto, using(crate::proofs::OutcomeFacts::only_outcome))]
+    pub fn of_code(code: u64) -> Option<Outcome>
+        ensures some { IsSome result ↔ ((1 ≤ code) × (code ≤ 11)) }
+        ensures value { IfSome result (λ outcome. outcome_code outcome ≡ code) }
+        ensures only { (outcome : Outcome) → outcome_code outcome ≡ code → result ≡ Some outcome }
+    {
+        match code {
+            1 => Some(Outcome::Checkmate(Colour::White)),
+            2 => Some(Outcome::Checkmate(Colour::Black)),
+            3 => Some(Outcome::Stalemate),
+            4 => Some(Outcome::Resigned(Colour::White)),
+            5 => Some(Outcome::Resigned(Colour::Black)),
+            6 => Some(Outcome::Agreed),
+            7 => Some(Outcome::Abandoned),
+            8 => Some(Outcome::Threefold),
+            9 => Some(Outcome::Fifty),
+            10 => Some(Outcome::Fivefold),
+            11 => Some(Outcome::SeventyFive),
+            _ => None,
         }
     }
 

@@ -34,9 +34,9 @@ pub enum Refusal {
     NotYourBoard,
     /// The command does not fit what the connection does.
     WrongMode,
-    /// The place is further back than a queue holds. Not given today.
+    /// The place is further back than a queue holds.
     TooFarBack,
-    /// The log has not reached the place. Not given today.
+    /// The log has not reached the place.
     NotYet,
 }
 

@@ -6,7 +6,7 @@ ghost use Rattle.std.specs.Option.{option_eq};
 ghost use Rattle.c960_board.specs.Pieces.{same_colour};
 ghost use Rattle.c960_game.specs.Same.{Same, legal_target, same, same_piece, same_rights};
 
-use c960_board::{CastlingRights, Colour, Piece, Square};
+use c960_board::{CastlingRights, Colour, Position, Square};
 use c960_rules::{Lawful, ep_legal};
 
 /// Whether two sides are one.
@@ -16,10 +16,10 @@ pub(crate) fn same_colour(one: Colour, two: Colour) -> bool
     one == two
 }
 
-fn same_placement(first: &[Option<Piece>; 64], second: &[Option<Piece>; 64]) -> bool
-    ensures { result ≡ pointwise (option_eq same_piece) first.now second.now }
+fn same_placement(one: &Position, two: &Position) -> bool
+    ensures { result ≡ pointwise (option_eq same_piece) one.now.placement two.now.placement }
 {
-    first == second
+    one.same_placement(two)
 }
 
 fn same_rights(one: &CastlingRights, two: &CastlingRights) -> bool
@@ -40,14 +40,16 @@ fn same_captures(one: &Lawful, two: &Lawful) -> bool
     legal_target(one) == legal_target(two)
 }
 
+/// The test goes from what is cheap and differs most to what is dear: every other position of a game has the other side to
+/// move, and captures en passant are looked for only where all else is equal.
 #[tactic(auto, unfolding(crate::specs::Same::same))]
 fn test_same(one: &Lawful, two: &Lawful) -> bool
     ensures { result ≡ same one.now two.now }
 {
-    let (first, second) = (one.position().parts(), two.position().parts());
-    same_colour(first.turn, second.turn)
-        && same_placement(&first.placement, &second.placement)
-        && same_rights(&first.rights, &second.rights)
+    let (first, second) = (one.position(), two.position());
+    same_colour(first.turn(), second.turn())
+        && same_placement(&first, &second)
+        && same_rights(&first.rights(), &second.rights())
         && same_captures(one, two)
 }
 

@@ -25,6 +25,15 @@ pub fn games_grow()
     ensures more { (n : ℕ) (l : List Triple) (m : Triple) → Game960 n l → MayFollow n l m → Game960 n (l ++ m ∷ []) }
 {}
 
+/// In a game that goes on the half-move counter is below 150, and the position has appeared four times at the most; so it was
+/// before each of its moves (FIDE Laws, Article 9.6).
+pub fn games_that_go_on_are_bounded()
+    ensures present { (n : ℕ) (l : List Triple) → own_outcome n l ≡ None
+        → ((last_position n l).half_moves < 150) × (times n l ≤ 4) }
+    ensures before { (n : ℕ) (l : List Triple) (m : Triple) (later : List Triple) → Game960 n (l ++ m ∷ later)
+        → ((last_position n l).half_moves < 150) × (times n l ≤ 4) }
+{}
+
 /// A game that is over has no longer one.
 #[tactic(auto, using(crate::proofs::LogFacts::over))]
 pub fn the_end_is_the_end()

@@ -35,10 +35,10 @@ fn the_third_appearance_may_be_claimed_by_the_side_on_move(rt: HostRuntime) -> R
 }
 
 /// Twelve moves of knights.
-const SHUFFLE: &str = "g1f3 g8f6 f3g1 f6g8 g1f3 g8f6 f3g1 f6g8 g1f3 g8f6 f3g1 f6g8";
+pub const SHUFFLE: &str = "g1f3 g8f6 f3g1 f6g8 g1f3 g8f6 f3g1 f6g8 g1f3 g8f6 f3g1 f6g8";
 
 /// Two moves after each shuffle, so that no position comes back too often.
-const TURNS: [&str; 7] = [
+pub const TURNS: [&str; 7] = [
     "b1c3 b8c6",
     "a1b1 a8b8",
     "b1a1 b8a8",

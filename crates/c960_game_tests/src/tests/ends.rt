@@ -25,7 +25,7 @@ fn fools_mate(rt: HostRuntime) -> Result<(), Fail> {
 }
 
 /// The shortest known game from the standard array that ends in stalemate, by Sam Loyd, but for its last move.
-const LOYDS_STALEMATE: &str =
+pub const LOYDS_STALEMATE: &str =
     "e2e3 a7a5 d1h5 a8a6 h5a5 h7h5 h2h4 a6h6 a5c7 f7f6 c7d7 e8f7 d7b7 d8d3 b7b8 d3h7 b8c8 f7g6";
 
 #[test]

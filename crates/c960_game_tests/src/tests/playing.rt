@@ -32,6 +32,13 @@ pub fn play_on(rt: &impl Abort, game: &mut Game, moves: &str) {
     }
 }
 
+/// Makes the moves of several lines.
+pub fn play_lines(rt: &impl Abort, game: &mut Game, lines: &[&str]) {
+    for line in lines {
+        play_on(rt, game, line);
+    }
+}
+
 /// Makes a move that ends the game.
 pub fn play_last(rt: &impl Abort, game: &mut Game, text: &str, outcome: Outcome) {
     assert_eq!(rt;

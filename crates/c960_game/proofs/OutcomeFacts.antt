@@ -1,0 +1,39 @@
+-- The numbers of outcomes, which no two share.
+use Rattle.std.proofs.Common.{◌≡◌, ℕ, Option, Some, None, cond, refl, sym, ap, ◌∙◌}
+use Rattle.std.specs.Prelude.{◌==◌}
+use Rattle.c960_board.specs.declared.piece.Colour.TheVariants.{White, Black}
+use Rattle.c960_game.specs.declared.outcome.Outcome.{Outcome}
+use Rattle.c960_game.specs.declared.outcome.Outcome.TheVariants.{Checkmate, Stalemate, Resigned, Agreed, Abandoned, Threefold, Fifty, Fivefold, SeventyFive}
+use Rattle.c960_game.specs.Outcome.{outcome_code}
+
+-- the outcome of a number, tried one after another
+abbrev decoded : ℕ → Option Outcome
+decoded code =
+    cond (code == 1) (Some (Checkmate White))
+    (cond (code == 2) (Some (Checkmate Black))
+    (cond (code == 3) (Some Stalemate)
+    (cond (code == 4) (Some (Resigned White))
+    (cond (code == 5) (Some (Resigned Black))
+    (cond (code == 6) (Some Agreed)
+    (cond (code == 7) (Some Abandoned)
+    (cond (code == 8) (Some Threefold)
+    (cond (code == 9) (Some Fifty)
+    (cond (code == 10) (Some Fivefold)
+    (cond (code == 11) (Some SeventyFive) None))))))))))
+
+found : (o : Outcome) → decoded (outcome_code o) ≡ Some o
+found (Checkmate White) = refl
+found (Checkmate Black) = refl
+found Stalemate = refl
+found (Resigned White) = refl
+found (Resigned Black) = refl
+found Agreed = refl
+found Abandoned = refl
+found Threefold = refl
+found Fifty = refl
+found Fivefold = refl
+found SeventyFive = refl
+
+-- a number is that of one outcome, or none
+pub only_outcome : (o : Outcome) (code : ℕ) → outcome_code o ≡ code → decoded code ≡ Some o
+only_outcome o code e = sym (ap decoded e) ∙ found o

@@ -1,0 +1,33 @@
+//! The numbers of outcomes.
+
+use c960_board::Colour;
+use c960_game::Outcome;
+
+/// The outcomes by their numbers, from 1 on.
+const OUTCOMES: [Outcome; 11] = [
+    Outcome::Checkmate(Colour::White),
+    Outcome::Checkmate(Colour::Black),
+    Outcome::Stalemate,
+    Outcome::Resigned(Colour::White),
+    Outcome::Resigned(Colour::Black),
+    Outcome::Agreed,
+    Outcome::Abandoned,
+    Outcome::Threefold,
+    Outcome::Fifty,
+    Outcome::Fivefold,
+    Outcome::SeventyFive,
+];
+
+#[test]
+fn each_number_from_1_to_11_is_of_an_outcome(rt: HostRuntime) {
+    let mut code = 1;
+    for outcome in OUTCOMES {
+        assert_eq!(rt; outcome.code(), code);
+        assert_eq!(rt; Outcome::of_code(code), Some(outcome), "number {code}");
+        assert!(rt; code < 12);
+        code += 1;
+    }
+    for other in [0, 12, 13, 65536, u64::MAX] {
+        assert_eq!(rt; Outcome::of_code(other), None, "number {other}");
+    }
+}
