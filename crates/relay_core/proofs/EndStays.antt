@@ -56,7 +56,7 @@ module _ (limits : LimitNumbers) (h : History) (b : List ℕ) (n : ℕ) (outcome
         ap (λ t. cond t (Some (named_outcome ending)) (named h b))
         (other to r (λ took there. end_fine limits h to ending r n ok took there));
   }
-  stays (Follow who to) r ok = record { start = refl; moves = refl; named_too = refl }
+  stays (Follow who to from) r ok = record { start = refl; moves = refl; named_too = refl }
   stays (Take who) r ok = record { start = refl; moves = refl; named_too = refl }
   stays (Leave who) r ok = record { start = refl; moves = refl; named_too = refl }
 

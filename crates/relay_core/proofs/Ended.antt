@@ -13,10 +13,10 @@ use Rattle.c960_game.specs.Record.{GameRecord, end_answer}
 use Rattle.relay_core.specs.declared.step.Step.TheVariants.{End}
 use Rattle.relay_core.specs.declared.reply.Reply.{Reply}
 use Rattle.relay_core.specs.declared.reply.Reply.TheVariants.{Ended, Refused}
-use Rattle.relay_core.specs.Boards.{end_answer_at, ended_by}
-use Rattle.relay_core.specs.Held.{Held}
+use Rattle.relay_core.specs.Inner.Boards.{end_answer_at, ended_by}
+use Rattle.relay_core.specs.Inner.Held.{Held}
 use Rattle.relay_core.specs.History.{History, start_of, log, end_of, named, or_else}
-use Rattle.relay_core.specs.Kept.{HeldStands}
+use Rattle.relay_core.specs.Inner.Kept.{HeldStands}
 use Rattle.relay_core.specs.Name.{same_name}
 use Rattle.relay_core.specs.Replies.{reply_to_end}
 use Rattle.relay_core.specs.Stands.{game_of}

@@ -75,6 +75,6 @@ games limits ((Submit to m, r) ∷ h) (ok, law) b n at =
         one_move_more n (log h b) m before (subst (λ (q : List ℕ). MayFollow n (log h q) m) e
         (fine refl (ap (start_of h) e ∙ at)))
 games limits ((End to ending, r) ∷ h) (ok, law) b n at = games limits h law b n at
-games limits ((Follow who to, r) ∷ h) (ok, law) b n at = games limits h law b n at
+games limits ((Follow who to from, r) ∷ h) (ok, law) b n at = games limits h law b n at
 games limits ((Take who, r) ∷ h) (ok, law) b n at = games limits h law b n at
 games limits ((Leave who, r) ∷ h) (ok, law) b n at = games limits h law b n at

@@ -1,8 +1,9 @@
 -- What an accepted step tells of the history before it.
-use Rattle.std.proofs.Common.{◌≡◌, ℕ, nat_le, Bool, true, false, not, cond, is_some, ◌==◌, List, [], ◌∷◌, ◌++◌, length, Option, Some, None, sym, ap, ◌∙◌, true≢false, inl, inr, refl}
+use Rattle.std.proofs.Common.{◌≡◌, ℕ, ◌+◌, ◌-◌, ◌≤◌, nat_le, nat_lt, Bool, true, false, not, cond, is_some, ◌==◌, List, [], ◌∷◌, ◌++◌, length, take, Option, Some, None, sym, ap, ◌∙◌, true≢false, inl, inr, refl, arith}
+use Rattle.std.proofs.lemmas.Bool.Decides.{nat_tests}
 use Rattle.c960_board.specs.Moves.{Triple}
 use Rattle.c960_game.specs.declared.ending.Ending.{Ending}
-use Rattle.c960_game.specs.declared.refusal.Refusal.TheVariants.{BoardExists, BadStart, TooManyBoards, GameOver, LogFull, Illegal, ClaimRefused, FollowerExists, TooManyFollowers}
+use Rattle.c960_game.specs.declared.refusal.Refusal.TheVariants.{BoardExists, BadStart, TooManyBoards, GameOver, LogFull, Illegal, ClaimRefused, FollowerExists, TooManyFollowers, TooFarBack, NotYet}
 use Rattle.c960_game.specs.Ending.{named_outcome}
 use Rattle.c960_game.specs.Ends.{own_outcome}
 use Rattle.c960_game.specs.Ground.{has_ground}
@@ -13,7 +14,7 @@ use Rattle.relay_core.specs.declared.step.Step.{Step}
 use Rattle.relay_core.specs.declared.step.Step.TheVariants.{Open, Submit, End, Follow}
 use Rattle.relay_core.specs.declared.reply.Reply.{Reply}
 use Rattle.relay_core.specs.declared.reply.Reply.TheVariants.{Opened, Played, Ended, Following, Refused}
-use Rattle.relay_core.specs.Following.{board_of, crowd}
+use Rattle.relay_core.specs.Following.{board_of, crowd, place_of}
 use Rattle.relay_core.specs.History.{History, is_accepted, opened, start_of, log, end_of}
 use Rattle.relay_core.specs.Replies.{IsAllowed, may_grow, reply_to, reply_to_submit, reply_to_end, reply_to_follow}
 
@@ -104,16 +105,35 @@ end_fine limits h b e r n ok took at =
 
 -- ---- Follow.
 
-pub follow_new : (limits : LimitNumbers) (h : History) (who : ℕ) (b : List ℕ) (r : Reply) → IsAllowed limits h (Follow who b) r
-    → is_accepted r ≡ true → board_of h who ≡ None
-follow_new limits h who b r ok took = by (start_of h b) (accepts limits h (Follow who b) r ok took)
+-- who joins follows nothing, and joins at a place of the log, no further back than a queue holds
+pub follow_new : (limits : LimitNumbers) (h : History) (who : ℕ) (b : List ℕ) (from : Option ℕ) (r : Reply)
+    → IsAllowed limits h (Follow who b from) r → is_accepted r ≡ true
+    → (board_of h who ≡ None) × (place_of h b from ≤ length (log h b)) ×
+    (length (log h b) ≤ place_of h b from + limits.capacity)
+follow_new limits h who b from r ok took = by (start_of h b) (accepts limits h (Follow who b from) r ok took)
   where
-    free : (o : Option (List ℕ)) (full : Bool) (n : ℕ)
+    free : (o : Option (List ℕ)) (early far full : Bool) (place n : ℕ)
         → is_accepted (cond (is_some o) (Refused FollowerExists)
-        (cond full (Refused TooManyFollowers) (Following (length (log h b)) (last_position n (log h b))))) ≡ true → o ≡ None
-    free None full n g = refl
-    free (Some x) full n g = absurd (true≢false (sym g))
+        (cond early (Refused NotYet) (cond far (Refused TooFarBack)
+        (cond full (Refused TooManyFollowers) (Following place (last_position n (take place (log h b)))))))) ≡ true
+        → (o ≡ None) × (early ≡ false) × (far ≡ false)
+    free (Some x) early far full place n g = absurd (true≢false (sym g))
+    free None true far full place n g = absurd (true≢false (sym g))
+    free None false true full place n g = absurd (true≢false (sym g))
+    free None false false full place n g = (refl, refl, refl)
 
-    by : (o : Option ℕ) → is_accepted (reply_to_follow limits h who b o) ≡ true → board_of h who ≡ None
+    by : (o : Option ℕ) → is_accepted (reply_to_follow limits h who b (place_of h b from) o) ≡ true
+        → (board_of h who ≡ None) × (place_of h b from ≤ length (log h b)) ×
+        (length (log h b) ≤ place_of h b from + limits.capacity)
     by None g = absurd (true≢false (sym g))
-    by (Some n) g = free (board_of h who) (nat_le limits.followers (crowd h b)) n g
+    by (Some n) g =
+        let (new, early, far) = free (board_of h who) (nat_lt (length (log h b)) (place_of h b from))
+        (nat_lt limits.capacity (length (log h b) - place_of h b from)) (nat_le limits.followers (crowd h b)) (place_of h b from) n g in
+        let low = reached (length (log h b)) (place_of h b from) early in
+        (new, low, near (length (log h b)) (place_of h b from) limits.capacity low far)
+      where
+        reached : (l p : ℕ) → nat_lt l p ≡ false → p ≤ l
+        reached l p e = grind (arith, nat_tests)
+
+        near : (l p c : ℕ) → p ≤ l → nat_lt c (l - p) ≡ false → l ≤ p + c
+        near l p c low e = grind (arith, nat_tests)

@@ -16,7 +16,7 @@ use Rattle.relay_core.specs.declared.step.Step.TheVariants.{Open, Submit, End, F
 use Rattle.relay_core.specs.declared.reply.Reply.{Reply}
 use Rattle.relay_core.specs.declared.reply.Reply.TheVariants.{Opened, Played, Ended, Following, Took, Left, Refused}
 use Rattle.relay_core.specs.declared.reply.Taken.TheVariants.{Move, Nothing, Over, Cut}
-use Rattle.relay_core.specs.Following.{following, board_of, joined, taken, after_take, next, cut_at, limit, due, stretch}
+use Rattle.relay_core.specs.Following.{following, board_of, place_of, joined, taken, after_take, next, cut_at, limit, due, stretch}
 use Rattle.relay_core.specs.History.{History, is_accepted, opened, start_of, log, named}
 use Rattle.relay_core.specs.Name.{same_name}
 use Rattle.relay_core.specs.Replies.{IsAllowed, LawfulHistory, taken_of, reply_to_take, over_of}
@@ -108,54 +108,60 @@ end_facts limits h b e r ok f = record {
 
 -- ---- Follow.
 
-follow_facts : (limits : LimitNumbers) (h : History) (who : ℕ) (b : List ℕ) (r : Reply) → IsAllowed limits h (Follow who b) r
-    → Facts limits h → Facts limits ((Follow who b, r) ∷ h)
-follow_facts limits h who b r ok f = record {
-  once = keeps (is_accepted r) (follow_new limits h who b r ok);
+-- who joins at this place follows nothing, and the place is one of the log, no further back than a queue holds
+abbrev IsNew : LimitNumbers → History → ℕ → List ℕ → ℕ → Bool → Type 0
+IsNew limits h who b place took = took ≡ true
+    → (board_of h who ≡ None) × (place ≤ length (log h b)) × (length (log h b) ≤ place + limits.capacity)
+
+follow_facts : (limits : LimitNumbers) (h : History) (who : ℕ) (b : List ℕ) (from : Option ℕ) (r : Reply)
+    → IsAllowed limits h (Follow who b from) r → Facts limits h → Facts limits ((Follow who b from, r) ∷ h)
+follow_facts limits h who b from r ok f = record {
+  once = keeps (is_accepted r) (follow_new limits h who b from r ok);
   silent = f.silent;
   unnamed = f.unnamed;
   within = λ q to at.
-      let w = by q to (is_accepted r) (nat_eq who q) (follow_new limits h who b r ok) (eqb-true who q)
+      let w = by q to (is_accepted r) (nat_eq who q) (follow_new limits h who b from r ok) (eqb-true who q)
       (nat_eq_equiv.symm q who) at in
       record { reached = w.0; ends = w.1; few = w.2; had = w.3 };
   short = f.short;
 }
   where
-    keeps : (took : Bool) → (took ≡ true → board_of h who ≡ None)
+    keeps : (took : Bool) → IsNew limits h who b (place_of h b from) took
         → IsDistinct nat_eq (keys_of (cond took (following h ++ (who, b) ∷ []) (following h)))
     keeps false new = f.once
     keeps true new =
         rw (keys-push (following h) who b) (IsDistinct-push nat_eq_equiv (keys_of (following h)) who f.once
-        (absent (nat_eq who) (following h) (new refl)))
+        (absent (nat_eq who) (following h) (new refl).0))
 
     only : {X : Type 0} (x y : X) → Some x ≡ Some y → x ≡ y
     only x y e = cc
 
-    by : (q : ℕ) (to : List ℕ) (took mine : Bool) → (took ≡ true → board_of h who ≡ None) → (mine ≡ true → who ≡ q)
+    by : (q : ℕ) (to : List ℕ) (took mine : Bool) → IsNew limits h who b (place_of h b from) took → (mine ≡ true → who ≡ q)
         → nat_eq q who ≡ mine
         → lookup (nat_eq q) (cond took (following h ++ (who, b) ∷ []) (following h)) ≡ Some to
-        → (cond (took && mine) (length (log h b)) (joined h q) + length (cond (took && mine) [] (taken h q)) ≤ unwrap_or
+        → (cond (took && mine) (place_of h b from) (joined h q) + length (cond (took && mine) [] (taken h q)) ≤ unwrap_or
         (cond (took && mine) None (cut_at limits.capacity h q)) (length (log h to)))
         × (unwrap_or (cond (took && mine) None (cut_at limits.capacity h q)) (length (log h to)) ≤ length (log h to))
         × (unwrap_or (cond (took && mine) None (cut_at limits.capacity h q)) (length (log h to)) ≤ cond (took && mine)
-        (length (log h b)) (joined h q) + length (cond (took && mine) [] (taken h q)) + limits.capacity)
+        (place_of h b from) (joined h q) + length (cond (took && mine) [] (taken h q)) + limits.capacity)
         × (cond (took && mine) [] (taken h q)
-        ≡ placed (cond (took && mine) (length (log h b)) (joined h q))
-        (stretch (cond (took && mine) (length (log h b)) (joined h q))
-        (cond (took && mine) (length (log h b)) (joined h q) + length (cond (took && mine) [] (taken h q))) (log h to)))
+        ≡ placed (cond (took && mine) (place_of h b from) (joined h q))
+        (stretch (cond (took && mine) (place_of h b from) (joined h q))
+        (cond (took && mine) (place_of h b from) (joined h q) + length (cond (took && mine) [] (taken h q))) (log h to)))
     by q to false mine new same turn at = let w = f.within q to at in (w.reached, w.ends, w.few, w.had)
     by q to true false new same turn at =
         let e = ap (λ m. first_some (board_of h q) (cond m (Some b) None)) (sym turn)
         ∙ sym (lookup-push (nat_eq q) (following h) who b) ∙ at in
         let w = f.within q to (sym (first_none (board_of h q)) ∙ e) in (w.reached, w.ends, w.few, w.had)
     by q to true true new same turn at =
+        let (none, low, near) = new refl in
         let e : first_some (board_of h q) (Some b) ≡ Some to =
         ap (λ m. first_some (board_of h q) (cond m (Some b) None)) (sym turn)
         ∙ sym (lookup-push (nat_eq q) (following h) who b) ∙ at in
-        let n : board_of h q ≡ None = ap (board_of h) (sym (same refl)) ∙ new refl in
+        let n : board_of h q ≡ None = ap (board_of h) (sym (same refl)) ∙ none in
         let g : b ≡ to = only b to (ap (λ o. first_some o (Some b)) (sym n) ∙ e) in
         let l : length (log h b) ≡ length (log h to) = ap (λ x. length (log h x)) g in
-        (omega arith, omega arith, omega arith, sym (ap (placed (length (log h b))) (empty_here (length (log h b)) (log h to))))
+        (omega (arith, low, l), omega arith, omega (arith, near, l), sym (ap (placed (place_of h b from)) (empty_here (place_of h b from) (log h to))))
 
 -- ---- Take.
 
@@ -292,6 +298,6 @@ facts limits [] law =
 facts limits ((Open b n, r) ∷ h) (ok, law) = open_facts limits h b n r (facts limits h law)
 facts limits ((Submit b m, r) ∷ h) (ok, law) = submit_facts limits h b m r ok (facts limits h law)
 facts limits ((End b e, r) ∷ h) (ok, law) = end_facts limits h b e r ok (facts limits h law)
-facts limits ((Follow who b, r) ∷ h) (ok, law) = follow_facts limits h who b r ok (facts limits h law)
+facts limits ((Follow who b from, r) ∷ h) (ok, law) = follow_facts limits h who b from r ok (facts limits h law)
 facts limits ((Take who, r) ∷ h) (ok, law) = take_facts limits h who r ok (facts limits h law)
 facts limits ((Leave who, r) ∷ h) (ok, law) = leave_facts limits h who r (facts limits h law)

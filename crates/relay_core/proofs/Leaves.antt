@@ -6,12 +6,12 @@ use Rattle.c960_game.specs.Limits.{LimitNumbers}
 use Rattle.relay_core.specs.declared.reply.Account.{Account}
 use Rattle.relay_core.specs.declared.step.Step.TheVariants.{Leave}
 use Rattle.relay_core.specs.declared.reply.Reply.TheVariants.{Left, Refused}
-use Rattle.relay_core.specs.Boards.{length_at}
-use Rattle.relay_core.specs.Followers.{account_of}
+use Rattle.relay_core.specs.Inner.Boards.{length_at}
+use Rattle.relay_core.specs.Inner.Followers.{account_of}
 use Rattle.relay_core.specs.Following.{following, board_of, joined, taken, cut_at}
-use Rattle.relay_core.specs.Held.{HeldFollower, Held}
+use Rattle.relay_core.specs.Inner.Held.{HeldFollower, Held}
 use Rattle.relay_core.specs.History.{History, start_of, log}
-use Rattle.relay_core.specs.Kept.{HeldStands, held_follower_of}
+use Rattle.relay_core.specs.Inner.Kept.{HeldStands, held_follower_of}
 use Rattle.relay_core.specs.Name.{same_name}
 use Rattle.relay_core.specs.Replies.{reply_to_leave}
 use Rattle.relay_core.specs.Stands.{game_of}

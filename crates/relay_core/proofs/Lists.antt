@@ -1,6 +1,6 @@
 -- Lists of entries, none of whose keys change.
 use Rattle.std.proofs.lemmas.Bool.Decides.{nat_tests}
-use Rattle.std.proofs.Common.{◌≡◌, ℕ, ◌<◌, nat_le, suc, zero, Bool, true, false, ◌||◌, cond, List, [], ◌∷◌, ◌++◌, take, drop, map, slice_get, Option, Some, None, option_map, ap, refl, sym, ◌∙◌, arith}
+use Rattle.std.proofs.Common.{◌≡◌, ℕ, ◌<◌, ◌≤◌, nat_le, suc, zero, Bool, true, false, ◌||◌, cond, List, [], ◌∷◌, ◌++◌, length, take, drop, map, slice_get, Option, Some, None, option_map, ap, refl, sym, ◌∙◌, arith}
 use Rattle.std.specs.Map.{lookup, keys_of, remove_entry, set_value}
 use Rattle.std.specs.List.{AllByRecursion, IsDistinct, list_any}
 use Rattle.std.proofs.lemmas.Map.Keys.{IsDistinct-head, IsDistinct-tail, IsDistinct-cons}
@@ -17,6 +17,13 @@ module _ {K V : Type 0} (f : V → V) where
   done_one_more [] (suc i) k v h = refl
   done_one_more (x ∷ xs) zero k v h = let e : x ≡ (k, v) = cc in ap (λ (p : K × V). (x.0, f p.1) ∷ xs) (sym e)
   done_one_more (x ∷ xs) (suc i) k v h = ap (λ t. (x.0, f x.1) ∷ t) (done_one_more xs i k v h)
+
+  -- all are changed
+  pub done_all : (xs : List (K × V)) (i : ℕ) → length xs ≤ i → done_up_to i xs ≡ map (λ e. (e.0, f e.1)) xs
+  done_all [] zero all = refl
+  done_all [] (suc i) all = refl
+  done_all (x ∷ xs) zero all = absurd (omega arith)
+  done_all (x ∷ xs) (suc i) all = ap (λ t. (x.0, f x.1) ∷ t) (done_all xs i (omega arith))
 
 abbrev pub first_some : {X : Type 0} → Option X → Option X → Option X
 first_some (Some x) y = Some x

@@ -7,9 +7,9 @@ use Rattle.c960_game.specs.Limits.{LimitNumbers}
 use Rattle.c960_game.specs.Record.{GameRecord, opened as new_game}
 use Rattle.relay_core.specs.declared.step.Step.TheVariants.{Open}
 use Rattle.relay_core.specs.declared.reply.Reply.TheVariants.{Opened, Refused}
-use Rattle.relay_core.specs.Held.{Held}
+use Rattle.relay_core.specs.Inner.Held.{Held}
 use Rattle.relay_core.specs.History.{History, opened, start_of, log, named}
-use Rattle.relay_core.specs.Kept.{HeldStands}
+use Rattle.relay_core.specs.Inner.Kept.{HeldStands}
 use Rattle.relay_core.specs.Name.{same_name}
 use Rattle.relay_core.specs.Replies.{reply_to_open}
 use Rattle.relay_core.specs.Stands.{game_of}

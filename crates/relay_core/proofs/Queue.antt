@@ -4,7 +4,7 @@ use Rattle.std.proofs.lemmas.List.{take-append-le, drop-append-le}
 use Rattle.std.proofs.Math.Seq.{take-length}
 use Rattle.std.proofs.lemmas.Bool.Decides.{nat_tests}
 use Rattle.c960_board.specs.Moves.{Triple}
-use Rattle.relay_core.specs.Held.{HeldFollower}
+use Rattle.relay_core.specs.Inner.Held.{HeldFollower}
 
 -- the first of two cuts
 abbrev pub cut_by : Option ℕ → Bool → ℕ → Option ℕ

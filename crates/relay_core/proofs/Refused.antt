@@ -6,11 +6,11 @@ use Rattle.c960_game.specs.Record.{GameRecord}
 use Rattle.relay_core.specs.declared.step.Step.{Step}
 use Rattle.relay_core.specs.declared.step.Step.TheVariants.{Open, Submit, End, Follow, Take, Leave}
 use Rattle.relay_core.specs.declared.reply.Reply.TheVariants.{Refused}
-use Rattle.relay_core.specs.Held.{Held, HeldFollower}
+use Rattle.relay_core.specs.Inner.Held.{Held, HeldFollower}
 use Rattle.relay_core.specs.History.{History}
-use Rattle.relay_core.specs.Kept.{HeldStands}
+use Rattle.relay_core.specs.Inner.Kept.{HeldStands}
 use Rattle.relay_core.specs.Replies.{IsAllowed}
-use Rattle.relay_core.proofs.Standing.{Goes}
+use Rattle.relay_core.proofs.Standing.{Goes, standing}
 
 -- the relay with these boards and followers
 abbrev pub turned : Held → List (List ℕ × GameRecord) → List (ℕ × HeldFollower) → Held
@@ -18,60 +18,16 @@ turned r bs fs = record { limits = r.limits; boards = bs; followers = fs }
 
 pub refused : (limits : LimitNumbers) (r : Held) (h : History) (s : Step) (refusal : Refusal)
     → HeldStands limits r h → IsAllowed limits h s (Refused refusal) → HeldStands limits r ((s, Refused refusal) ∷ h)
-refused limits r h (Open board start) refusal st ok =
-    record {
-      given = st.given;
-      lawful = (ok, st.lawful);
-      boards = st.boards;
-      followers = st.followers;
-      board_count = st.board_count;
-      followed = st.followed;
-    }
-refused limits r h (Submit board m) refusal st ok =
-    record {
-      given = st.given;
-      lawful = (ok, st.lawful);
-      boards = st.boards;
-      followers = st.followers;
-      board_count = st.board_count;
-      followed = st.followed;
-    }
-refused limits r h (End board ending) refusal st ok =
-    record {
-      given = st.given;
-      lawful = (ok, st.lawful);
-      boards = st.boards;
-      followers = st.followers;
-      board_count = st.board_count;
-      followed = st.followed;
-    }
-refused limits r h (Follow who board) refusal st ok =
-    record {
-      given = st.given;
-      lawful = (ok, st.lawful);
-      boards = st.boards;
-      followers = st.followers;
-      board_count = st.board_count;
-      followed = st.followed;
-    }
-refused limits r h (Take who) refusal st ok =
-    record {
-      given = st.given;
-      lawful = (ok, st.lawful);
-      boards = st.boards;
-      followers = st.followers;
-      board_count = st.board_count;
-      followed = st.followed;
-    }
-refused limits r h (Leave who) refusal st ok =
-    record {
-      given = st.given;
-      lawful = (ok, st.lawful);
-      boards = st.boards;
-      followers = st.followers;
-      board_count = st.board_count;
-      followed = st.followed;
-    }
+refused limits r h s refusal st ok = by s ok
+  where
+    by : (s : Step) → IsAllowed limits h s (Refused refusal) → HeldStands limits r ((s, Refused refusal) ∷ h)
+    by (Open board start) ok = standing limits r _ st.given (ok, st.lawful) st.boards st.followers st.board_count st.followed
+    by (Submit board m) ok = standing limits r _ st.given (ok, st.lawful) st.boards st.followers st.board_count st.followed
+    by (End board ending) ok = standing limits r _ st.given (ok, st.lawful) st.boards st.followers st.board_count st.followed
+    by (Follow who board from) ok =
+        standing limits r _ st.given (ok, st.lawful) st.boards st.followers st.board_count st.followed
+    by (Take who) ok = standing limits r _ st.given (ok, st.lawful) st.boards st.followers st.board_count st.followed
+    by (Leave who) ok = standing limits r _ st.given (ok, st.lawful) st.boards st.followers st.board_count st.followed
 
 -- the refusal that each history asks for, or that it allows, leaves the maps as they were
 pub goes_refused : (r : Held) (bs : List (List ℕ × GameRecord)) (fs : List (ℕ × HeldFollower)) (s : Step) (refusal : Refusal)

@@ -7,15 +7,29 @@ use Rattle.c960_game.specs.Record.{GameRecord}
 use Rattle.relay_core.specs.declared.step.Step.{Step}
 use Rattle.relay_core.specs.declared.reply.Reply.{Reply}
 use Rattle.relay_core.specs.Following.{following, board_of}
-use Rattle.relay_core.specs.Held.{HeldFollower, Held, plain_follower, plain}
-use Rattle.relay_core.specs.History.{History, start_of, log}
-use Rattle.relay_core.specs.Kept.{HeldStands, IsKept, held_follower_of}
+use Rattle.relay_core.specs.Inner.Held.{HeldFollower, Held, plain_follower, plain}
+use Rattle.relay_core.specs.History.{History, opened, start_of, log}
+use Rattle.relay_core.specs.Inner.Kept.{HeldStands, IsKept, held_follower_of}
 use Rattle.relay_core.specs.Name.{same_name}
 use Rattle.relay_core.specs.Replies.{LawfulHistory}
 use Rattle.relay_core.specs.Stands.{Stands, game_of, follower_of}
 use Rattle.relay_core.specs.State.{FollowerRecord, RelayRecord}
 use Rattle.relay_core.proofs.Lawful.{facts}
 use Rattle.relay_core.proofs.Lists.{shown, lookup-map, shown-shown}
+
+-- the facts of `HeldStands`, one after another
+pub standing : (limits : LimitNumbers) (r : Held) (h : History) → r.limits ≡ limits → LawfulHistory limits h
+    → ((b : List ℕ) → lookup (same_name b) r.boards ≡ option_map (game_of limits h b) (start_of h b))
+    → ((who : ℕ) → lookup (nat_eq who) r.followers ≡ option_map (held_follower_of limits h who) (board_of h who))
+    → length r.boards ≡ length (opened h) → shown (λ f. f.board) r.followers ≡ following h → HeldStands limits r h
+standing limits r h given lawful boards followers count followed = record {
+  given = given;
+  lawful = lawful;
+  boards = boards;
+  followers = followers;
+  board_count = count;
+  followed = followed;
+}
 
 -- a relay with no board and no follower stands at the empty history
 pub fresh : (limits : LimitNumbers) (bs : List (List ℕ × GameRecord)) (fs : List (ℕ × HeldFollower)) → bs ≡ [] → fs ≡ []

@@ -1,5 +1,5 @@
 -- Stretches of a log, and moves with their places.
-use Rattle.std.proofs.Common.{◌≡◌, ℕ, suc, zero, ◌+◌, ◌≤◌, Bool, true, false, cond, List, [], ◌∷◌, ◌++◌, length, length-take, length-drop, take, drop, refl, sym, ap, ◌∙◌, arith, add-one}
+use Rattle.std.proofs.Common.{◌≡◌, ℕ, suc, zero, ◌+◌, ◌≤◌, Bool, true, false, cond, List, [], ◌∷◌, ◌++◌, length, length-take, length-drop, take, drop, slice_get, Some, None, refl, sym, ap, ◌∙◌, arith, add-one}
 use Rattle.std.proofs.lemmas.List.{take-append-le, drop-append-le}
 use Rattle.std.proofs.Math.ListN.{drop_of_length-le}
 use Rattle.c960_board.specs.Moves.{Triple}
@@ -32,6 +32,29 @@ pub grown : (j n k : ℕ) (l rest : List Triple) (m : Triple) → j ≤ n → n 
     → stretch j (n + 1) l ≡ stretch j n l ++ m ∷ []
 grown j n k l rest m low high h =
     rw add-one (ap (drop j) (take_next n k l rest m h) ∙ drop-append-le j (take n l) (m ∷ []) (simp length-take (omega arith)))
+
+-- a stretch and the move at the place behind it
+pub stretch_more : (j n : ℕ) (l : List Triple) (m : Triple) → j ≤ n → slice_get l n ≡ Some m
+    → stretch j (n + 1) l ≡ stretch j n l ++ m ∷ []
+stretch_more j n l m low h =
+    rw add-one (ap (drop j) (take_at n l m h)
+    ∙ drop-append-le j (take n l) (m ∷ []) (simp length-take (omega (arith, in_list n l m h))))
+  where
+    take_at : (n : ℕ) (l : List Triple) (m : Triple) → slice_get l n ≡ Some m → take (suc n) l ≡ take n l ++ m ∷ []
+    take_at n [] m h = cc
+    take_at zero (x ∷ l) m h = let e : x ≡ m = cc in ap (λ y. y ∷ []) e
+    take_at (suc n) (x ∷ l) m h = ap (λ t. x ∷ t) (take_at n l m h)
+
+    in_list : (n : ℕ) (l : List Triple) (m : Triple) → slice_get l n ≡ Some m → suc n ≤ length l
+    in_list n [] m h = cc
+    in_list zero (x ∷ l) m h = omega arith
+    in_list (suc n) (x ∷ l) m h = let w = in_list n l m h in omega (arith, w)
+
+-- a place of the list has a move
+pub move_there : (n : ℕ) (l : List Triple) → suc n ≤ length l → slice_get l n ≡ None → ⊥
+move_there n [] low h = absurd (omega arith)
+move_there zero (x ∷ l) low h = cc
+move_there (suc n) (x ∷ l) low h = move_there n l (omega arith) h
 
 -- two stretches, one behind the other
 pub joined_stretches : (j n k : ℕ) (l : List Triple) → j ≤ n → n ≤ k → k ≤ length l

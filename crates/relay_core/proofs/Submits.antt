@@ -9,11 +9,11 @@ use Rattle.c960_game.specs.Record.{GameRecord, play_answer, with_move}
 use Rattle.relay_core.specs.declared.step.Step.TheVariants.{Submit}
 use Rattle.relay_core.specs.declared.reply.Reply.TheVariants.{Played, Refused}
 use Rattle.relay_core.specs.declared.reply.Reply.{Reply}
-use Rattle.relay_core.specs.Boards.{play_answer_at, with_place}
-use Rattle.relay_core.specs.Followers.{published}
-use Rattle.relay_core.specs.Held.{HeldFollower, Held}
+use Rattle.relay_core.specs.Inner.Boards.{play_answer_at, with_place}
+use Rattle.relay_core.specs.Inner.Followers.{published}
+use Rattle.relay_core.specs.Inner.Held.{HeldFollower, Held}
 use Rattle.relay_core.specs.History.{History, start_of, log}
-use Rattle.relay_core.specs.Kept.{HeldStands}
+use Rattle.relay_core.specs.Inner.Kept.{HeldStands}
 use Rattle.relay_core.specs.Name.{same_name}
 use Rattle.relay_core.specs.Replies.{reply_to_submit}
 use Rattle.relay_core.specs.Stands.{game_of}

@@ -13,11 +13,11 @@ use Rattle.c960_game.specs.Record.{GameRecord, play_answer, with_move}
 use Rattle.relay_core.specs.declared.step.Step.TheVariants.{Submit}
 use Rattle.relay_core.specs.declared.reply.Reply.{Reply}
 use Rattle.relay_core.specs.declared.reply.Reply.TheVariants.{Played, Refused}
-use Rattle.relay_core.specs.Followers.{offered, published, closed_at, queued}
+use Rattle.relay_core.specs.Inner.Followers.{offered, published, closed_at, queued}
 use Rattle.relay_core.specs.Following.{board_of, joined, taken, next, cut_at, first_cut, is_behind}
-use Rattle.relay_core.specs.Held.{HeldFollower, Held}
+use Rattle.relay_core.specs.Inner.Held.{HeldFollower, Held}
 use Rattle.relay_core.specs.History.{History, start_of, log, end_of, named, or_else}
-use Rattle.relay_core.specs.Kept.{HeldStands, held_follower_of}
+use Rattle.relay_core.specs.Inner.Kept.{HeldStands, held_follower_of}
 use Rattle.relay_core.specs.Name.{same_name}
 use Rattle.relay_core.specs.Replies.{reply_to_submit}
 use Rattle.relay_core.specs.Stands.{game_of}

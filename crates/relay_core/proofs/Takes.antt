@@ -12,20 +12,20 @@ use Rattle.relay_core.specs.declared.step.Step.TheVariants.{Take}
 use Rattle.relay_core.specs.declared.reply.Reply.TheVariants.{Took, Refused}
 use Rattle.relay_core.specs.declared.reply.Taken.{Taken}
 use Rattle.relay_core.specs.declared.reply.Taken.TheVariants.{Move, Nothing, Over, Cut}
-use Rattle.relay_core.specs.Boards.{outcome_at}
-use Rattle.relay_core.specs.Followers.{popped, popped_from, boards_of}
+use Rattle.relay_core.specs.Inner.Boards.{outcome_at}
+use Rattle.relay_core.specs.Inner.Followers.{popped, popped_from, boards_of}
 use Rattle.relay_core.specs.Following.{board_of, joined, taken, next, cut_at, limit, due}
-use Rattle.relay_core.specs.Held.{HeldFollower, Held}
+use Rattle.relay_core.specs.Inner.Held.{HeldFollower, Held}
 use Rattle.relay_core.specs.History.{History, log, start_of}
-use Rattle.relay_core.specs.Kept.{HeldStands, held_follower_of}
+use Rattle.relay_core.specs.Inner.Kept.{HeldStands, held_follower_of}
 use Rattle.relay_core.specs.Name.{same_name}
-use Rattle.relay_core.specs.Next.{next_of, next_by, take_answer, over_or_nothing}
+use Rattle.relay_core.specs.Inner.Next.{next_of, next_by, take_answer, over_or_nothing}
 use Rattle.relay_core.specs.Replies.{IsAllowed, reply_to_take, taken_of, over_of}
 use Rattle.relay_core.specs.Stands.{game_of}
 use Rattle.relay_core.proofs.Lawful.{facts}
 use Rattle.relay_core.proofs.Lists.{none_below}
 use Rattle.relay_core.proofs.Refused.{turned, goes_refused}
-use Rattle.relay_core.proofs.Standing.{Goes}
+use Rattle.relay_core.proofs.Standing.{Goes, standing}
 use Rattle.relay_core.proofs.Stretches.{drop_past}
 
 -- a follower of whom is known how many moves it took, and what waits for it
@@ -98,32 +98,11 @@ module _ (limits : LimitNumbers) (r : Held) (fs : List (ℕ × HeldFollower)) (h
   unfolding IsIdle
   idle (Move place m) moves ok same boards = absurd moves
   idle Nothing none ok same boards =
-      record {
-        given = st.given;
-        lawful = (ok, st.lawful);
-        boards = st.boards;
-        followers = λ q. same q ∙ st.followers q;
-        board_count = st.board_count;
-        followed = boards ∙ st.followed;
-      }
+      standing limits _ _ st.given (ok, st.lawful) st.boards (λ q. same q ∙ st.followers q) st.board_count (boards ∙ st.followed)
   idle (Over outcome) none ok same boards =
-      record {
-        given = st.given;
-        lawful = (ok, st.lawful);
-        boards = st.boards;
-        followers = λ q. same q ∙ st.followers q;
-        board_count = st.board_count;
-        followed = boards ∙ st.followed;
-      }
+      standing limits _ _ st.given (ok, st.lawful) st.boards (λ q. same q ∙ st.followers q) st.board_count (boards ∙ st.followed)
   idle Cut none ok same boards =
-      record {
-        given = st.given;
-        lawful = (ok, st.lawful);
-        boards = st.boards;
-        followers = λ q. same q ∙ st.followers q;
-        board_count = st.board_count;
-        followed = boards ∙ st.followed;
-      }
+      standing limits _ _ st.given (ok, st.lawful) st.boards (λ q. same q ∙ st.followers q) st.board_count (boards ∙ st.followed)
 
   -- a take that answers a move
   moved : (b : List ℕ) (m : Triple) (rest : List Triple) → board_of h who ≡ Some b → due limits.capacity h who b ≡ m ∷ rest

@@ -16,7 +16,7 @@ use Rattle.relay_core.specs.Name.{same_name}
 -- the spectators who follow, each with its board, in the order of joining: in a lawful history, those whose last accepted
 -- follow is of that board and after whom no accepted leave came
 abbrev pub following_after : List (ℕ × List ℕ) → Step → Reply → List (ℕ × List ℕ)
-following_after all (Follow who board) reply = cond (is_accepted reply) (all ++ (who, board) ∷ []) all
+following_after all (Follow who board from) reply = cond (is_accepted reply) (all ++ (who, board) ∷ []) all
 following_after all (Leave who) reply = cond (is_accepted reply) (remove_entry (nat_eq who) all) all
 following_after all _ reply = all
 
@@ -34,9 +34,13 @@ crowd h board = count_by (λ e. same_name board e.1) (following h)
 
 -- ---- What a follower has had. (What is said here of who does not follow means nothing.)
 
--- the log's length at the spectator's last accepted follow
+-- where a follow joins: at the place that it names, else at the log's length
+abbrev pub place_of : History → List ℕ → Option ℕ → ℕ
+place_of h board from = unwrap_or from (length (log h board))
+
+-- where the spectator's last accepted follow joined
 abbrev pub joined_after : History → ℕ → ℕ → Step → Reply → ℕ
-joined_after h who place (Follow by board) reply = cond (is_accepted reply && nat_eq by who) (length (log h board)) place
+joined_after h who place (Follow by board from) reply = cond (is_accepted reply && nat_eq by who) (place_of h board from) place
 joined_after h who place _ reply = place
 
 abbrev pub joined : History → ℕ → ℕ
@@ -53,7 +57,7 @@ after_take mine had (Took answer) = with_move mine had answer
 after_take mine had _ = had
 
 abbrev pub taken_after : ℕ → List (ℕ × Triple) → Step → Reply → List (ℕ × Triple)
-taken_after who had (Follow by board) reply = cond (is_accepted reply && nat_eq by who) [] had
+taken_after who had (Follow by board from) reply = cond (is_accepted reply && nat_eq by who) [] had
 taken_after who had (Take by) reply = after_take (nat_eq by who) had reply
 taken_after who had _ reply = had
 
@@ -79,7 +83,7 @@ first_cut capacity h who board (Some cut) = Some cut
 first_cut capacity h who board None = cond (is_behind capacity h who board (board_of h who)) (Some (length (log h board))) None
 
 abbrev pub cut_after : ℕ → History → ℕ → Option ℕ → Step → Reply → Option ℕ
-cut_after capacity h who cut (Follow by board) reply = cond (is_accepted reply && nat_eq by who) None cut
+cut_after capacity h who cut (Follow by board from) reply = cond (is_accepted reply && nat_eq by who) None cut
 cut_after capacity h who cut (Submit board m) reply = cond (is_accepted reply) (first_cut capacity h who board cut) cut
 cut_after capacity h who cut _ reply = cut
 

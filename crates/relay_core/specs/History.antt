@@ -57,7 +57,8 @@ abbrev pub or_else : Option Outcome → Option Outcome → Option Outcome
 or_else (Some outcome) next = Some outcome
 or_else None next = next
 
--- how the game of a board with this start ended: as an accepted end named it, else by mate or stalemate in its last position
+-- how the game of a board with this start ended: as an accepted end named it, else as its log ends by itself, by mate, by stalemate
+-- or by a draw that needs no claim
 abbrev pub end_of : History → ℕ → List ℕ → Option Outcome
 end_of h start board = or_else (named h board) (own_outcome start (log h board))
 

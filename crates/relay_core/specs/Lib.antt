@@ -1,5 +1,4 @@
 pub mod Name
-pub mod NameFields
 pub mod History
 pub mod Following
 pub mod Replies
@@ -8,8 +7,4 @@ pub mod Stands
 pub mod Leads
 pub mod Stretch
 pub mod Headline
-pub mod Boards
-pub mod Held
-pub mod Next
-pub mod Followers
-pub mod Kept
+pub mod Inner

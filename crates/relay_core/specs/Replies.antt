@@ -1,10 +1,10 @@
 -- The reply that a history asks for, and the histories whose replies are these, want of memory aside.
-use Rattle.std.specs.Prelude.{◌≡◌, ℕ, ◌==◌, nat_le, Bool, true, false, not, cond, is_some, List, [], ◌∷◌, ◌++◌, length, Option, Some, None, ◌⊎◌}
+use Rattle.std.specs.Prelude.{◌≡◌, ℕ, ◌-◌, ◌==◌, nat_le, nat_lt, Bool, true, false, not, cond, is_some, List, [], ◌∷◌, ◌++◌, length, take, Option, Some, None, ◌⊎◌}
 use Rattle.c960_board.specs.Moves.{Triple}
 use Rattle.c960_game.specs.declared.ending.Ending.{Ending}
 use Rattle.c960_game.specs.declared.outcome.Outcome.{Outcome}
 use Rattle.c960_game.specs.declared.refusal.Refusal.{Refusal}
-use Rattle.c960_game.specs.declared.refusal.Refusal.TheVariants.{NoSuchBoard, BoardExists, BadStart, TooManyBoards, GameOver, Illegal, LogFull, ClaimRefused, NoSuchFollower, FollowerExists, TooManyFollowers, OutOfMemory}
+use Rattle.c960_game.specs.declared.refusal.Refusal.TheVariants.{NoSuchBoard, BoardExists, BadStart, TooManyBoards, GameOver, Illegal, LogFull, ClaimRefused, NoSuchFollower, FollowerExists, TooManyFollowers, OutOfMemory, TooFarBack, NotYet}
 use Rattle.c960_game.specs.Ending.{named_outcome}
 use Rattle.c960_game.specs.Ends.{own_outcome}
 use Rattle.c960_game.specs.Ground.{has_ground}
@@ -17,7 +17,7 @@ use Rattle.relay_core.specs.declared.reply.Reply.{Reply}
 use Rattle.relay_core.specs.declared.reply.Reply.TheVariants.{Opened, Played, Ended, Following, Took, Left, Refused}
 use Rattle.relay_core.specs.declared.reply.Taken.{Taken}
 use Rattle.relay_core.specs.declared.reply.Taken.TheVariants.{Move, Nothing, Over, Cut}
-use Rattle.relay_core.specs.Following.{board_of, crowd, joined, taken, next, cut_at, limit, due}
+use Rattle.relay_core.specs.Following.{board_of, crowd, place_of, joined, taken, next, cut_at, limit, due}
 use Rattle.relay_core.specs.History.{History, is_accepted, opened, start_of, log, end_of}
 
 -- ---- The reply to each step: the first refusal whose ground holds, else the accepted reply.
@@ -48,12 +48,16 @@ reply_to_end h board ending (Some start) =
     (is_some (end_of h start board), GameOver) ∷ (not (has_ground start (log h board) ending), ClaimRefused) ∷ []
     ) (Ended (named_outcome ending))
 
-abbrev pub reply_to_follow : LimitNumbers → History → ℕ → List ℕ → Option ℕ → Reply
-reply_to_follow limits h who board None = Refused NoSuchBoard
-reply_to_follow limits h who board (Some start) =
+-- to one who joins at this place: a place that the log has not reached, and one of which a queue does not hold the moves since,
+-- are refused
+abbrev pub reply_to_follow : LimitNumbers → History → ℕ → List ℕ → ℕ → Option ℕ → Reply
+reply_to_follow limits h who board place None = Refused NoSuchBoard
+reply_to_follow limits h who board place (Some start) =
     first_of (
-    (is_some (board_of h who), FollowerExists) ∷ (nat_le limits.followers (crowd h board), TooManyFollowers) ∷ []
-    ) (Following (length (log h board)) (last_position start (log h board)))
+    (is_some (board_of h who), FollowerExists) ∷ (nat_lt (length (log h board)) place, NotYet)
+    ∷ (nat_lt limits.capacity (length (log h board) - place), TooFarBack)
+    ∷ (nat_le limits.followers (crowd h board), TooManyFollowers) ∷ []
+    ) (Following place (last_position start (take place (log h board))))
 
 -- the first of the moves due, with its place; else that the follower was closed; else that the game has ended; else nothing
 abbrev pub taken_of : ℕ → Option Outcome → Option ℕ → List Triple → Taken
@@ -86,7 +90,7 @@ abbrev pub reply_to : LimitNumbers → History → Step → Reply
 reply_to limits h (Open board start) = reply_to_open limits h board start
 reply_to limits h (Submit board m) = reply_to_submit limits h board m (start_of h board)
 reply_to limits h (End board ending) = reply_to_end h board ending (start_of h board)
-reply_to limits h (Follow who board) = reply_to_follow limits h who board (start_of h board)
+reply_to limits h (Follow who board from) = reply_to_follow limits h who board (place_of h board from) (start_of h board)
 reply_to limits h (Take who) = reply_to_take limits h who (board_of h who)
 reply_to limits h (Leave who) = reply_to_leave limits h who (board_of h who)
 
@@ -95,7 +99,7 @@ reply_to limits h (Leave who) = reply_to_leave limits h who (board_of h who)
 -- the steps that take memory
 abbrev pub may_grow : Step → Bool
 may_grow (Open board start) = true
-may_grow (Follow who board) = true
+may_grow (Follow who board from) = true
 may_grow _ = false
 
 -- want of memory may refuse an Open or a Follow, where no other refusal's ground holds

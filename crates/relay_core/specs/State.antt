@@ -3,7 +3,7 @@ use Rattle.std.specs.Prelude.{ℕ, List, Option}
 use Rattle.c960_game.specs.Limits.{LimitNumbers}
 use Rattle.c960_game.specs.Record.{GameRecord}
 
--- a follower: its board, the log's length at its joining, how many moves it has taken, and the length at which it was closed
+-- a follower: its board, the place of the log at which it joined, how many moves it has taken, and the length at which it was closed
 pub record FollowerRecord : Type 0 where
   pub board : List ℕ
   pub joined : ℕ

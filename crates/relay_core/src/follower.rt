@@ -1,12 +1,13 @@
 //! One follower of a board: where it joined, how many moves it took, where it was closed, and the moves that wait for it.
 
-ghost use Rattle.std.specs.Prelude.{◌≡◌, ◌+◌, ◌<◌, ◌^◌, length, IfOk};
-ghost use Rattle.relay_core.specs.Followers.{account_of, joining, offered, popped};
-ghost use Rattle.relay_core.specs.Next.{next_of};
+ghost use Rattle.std.specs.Prelude.{◌≡◌, ◌+◌, ◌-◌, ◌≤◌, ◌<◌, ◌^◌, [], length, drop, IfOk};
+ghost use Rattle.relay_core.specs.Inner.Followers.{account_of, joining, offered, popped};
+ghost use Rattle.relay_core.specs.Inner.Next.{next_of};
 
 use crate::name::BoardName;
 use crate::reply::Account;
 use c960_board::Move;
+use c960_game::Game;
 use circular_buffer::HeapCircularBuffer;
 use std::alloc::{AllocError, Global};
 use std::marker::Model;
@@ -22,7 +23,7 @@ pub(crate) struct Follower {
 }
 
 impl Model for Follower {
-    ghost use Rattle.relay_core.specs.Held.{HeldFollower};
+    ghost use Rattle.relay_core.specs.Inner.Held.{HeldFollower};
 
     ghost Value = { HeldFollower };
 
@@ -47,22 +48,41 @@ pub(crate) enum Next {
     Idle(BoardName),
 }
 
+/// Puts the moves of a game from a place on into an empty queue that holds them.
+fn fill(queue: &mut HeapCircularBuffer<Move>, game: &Game, place: u16)
+    requires empty { queue.old.items ≡ [] }
+    requires room { length game.now.log - place ≤ queue.old.capacity }
+    ensures items { queue.new.items ≡ drop place game.now.log }
+    ensures capacity { queue.new.capacity ≡ queue.old.capacity }
+{
+    for at in place..game.len() {
+        let Some(m) = game.move_at(at) else {
+            unreachable!();
+        };
+        queue.try_push_back(m).unwrap();
+    }
+}
+
 impl Follower {
-    /// One who joins at a place, with its whole queue reserved.
+    /// One who joins at a place of a game's log, with its whole queue reserved and the moves from there on in it.
     pub(crate) fn new(
         alloc: Global,
         board: BoardName,
-        joined: u16,
+        place: u16,
+        game: &Game,
         capacity: u16,
     ) -> Result<Follower, AllocError>
-        ensures { IfOk result (λ follower. follower ≡ joining board joined capacity) }
+        requires { length game.now.log - place ≤ capacity }
+        ensures { IfOk result (λ follower. follower ≡ joining board place game.now.log capacity) }
     {
+        let mut queue = HeapCircularBuffer::with_capacity(alloc, usize::from(capacity))?;
+        fill(&mut queue, game, place);
         Ok(Follower {
             board,
-            joined,
+            joined: place,
             taken: 0,
             cut: None,
-            queue: HeapCircularBuffer::with_capacity(alloc, usize::from(capacity))?,
+            queue,
         })
     }
 

@@ -1,75 +1,120 @@
 //! The followers of all boards, by their spectators.
 
-ghost use Rattle.std.specs.Prelude.{◌≡◌, ◌+◌, ◌<◌, ◌^◌, ℕ, nat_eq, length, cond, option_map, count_by, IfNone, IfSome, OnOk, OnErr, None, [], ◌∷◌, ◌++◌};
-ghost use Rattle.std.specs.Map.{lookup};
-ghost use Rattle.relay_core.specs.Followers.{boards_of, joining, popped, published};
+ghost use Rattle.std.specs.Prelude.{◌≡◌, ◌+◌, ◌-◌, ◌≤◌, ◌<◌, ◌^◌, ℕ, nat_eq, is_some, length, cond, option_map, count_by, IfNone, IfSome, OnOk, OnErr, None, [], ◌∷◌, ◌++◌};
+ghost use Rattle.std.specs.Map.{lookup, remove_entry};
+ghost use Rattle.relay_core.specs.Inner.Followers.{boards_of, joining, popped, published};
 ghost use Rattle.relay_core.specs.Name.{same_name};
-ghost use Rattle.relay_core.specs.Next.{next_of};
+ghost use Rattle.relay_core.specs.Inner.Next.{next_of};
 
 use crate::follower::{Follower, Next};
 use crate::name::BoardName;
 use crate::step::Spectator;
 use c960_board::Move;
+use c960_game::Game;
 use indexmap::IndexMap;
 use std::alloc::{AllocError, Global};
+use std::marker::Model;
 
-/// Offers a move made on a board at a place to each follower.
-pub(crate) fn publish(
-    followers: &mut IndexMap<Spectator, Follower>,
-    board: BoardName,
-    place: u16,
-    m: Move,
-)
-    ensures { followers.new.entries ≡ published board place m followers.old.entries }
-{
-    for i in 0..followers.len() {
-        let (_, follower) = followers.pair_mut(i);
-        follower.offer(board, place, m);
+/// The spectators who follow a board, in the order of joining. Contracts see a `HeldFollowers`.
+#[derive(Drop)]
+pub(crate) struct Followers {
+    seats: IndexMap<Spectator, Follower>,
+}
+
+impl Model for Followers {
+    ghost use Rattle.std.specs.HashMap.{spare};
+    ghost use Rattle.relay_core.specs.Inner.Held.{HeldFollowers};
+
+    ghost Value = { HeldFollowers };
+
+    ghost view = { λ f. record {
+      entries = f.seats.entries;
+      room = spare f.seats;
+    } };
+}
+
+impl Followers {
+    /// Nobody follows.
+    pub(crate) fn new(alloc: Global) -> Followers
+        ensures { result.entries ≡ [] }
+    {
+        Followers {
+            seats: IndexMap::new(alloc),
+        }
     }
-}
 
-/// Takes the first move that waits for a spectator, if it follows a board.
-#[tactic(auto, using(crate::proofs::BoardKept::boards_kept))]
-pub(crate) fn take_next(
-    followers: &mut IndexMap<Spectator, Follower>,
-    who: Spectator,
-) -> Option<Next>
-    requires { IfSome (lookup (nat_eq who) followers.old.entries) (λ f. f.joined + f.taken + length f.queue < 2 ^ 16) }
-    ensures next { result ≡ option_map next_of (lookup (nat_eq who) followers.old.entries) }
-    ensures updates { (q : ℕ) → lookup (nat_eq q) followers.new.entries
-        ≡ cond (nat_eq who q) (option_map popped (lookup (nat_eq who) followers.old.entries))
-        (lookup (nat_eq q) followers.old.entries) }
-    ensures none { IfNone result (followers.new.entries ≡ followers.old.entries) }
-    ensures boards { boards_of followers.new.entries ≡ boards_of followers.old.entries }
-{
-    let follower = followers.get_mut(&who)?;
-    Some(follower.take())
-}
+    /// Whether a spectator follows a board.
+    pub(crate) fn contains(&self, who: Spectator) -> bool
+        ensures { result ≡ is_some (lookup (nat_eq who) self.now.entries) }
+    {
+        self.seats.contains_key(&who)
+    }
 
-/// How many follow a board.
-pub(crate) fn count(followers: &IndexMap<Spectator, Follower>, board: BoardName) -> usize
-    ensures { result ≡ count_by (λ e. same_name board e.1.board) followers.now.entries }
-{
-    followers
-        .iter()
-        .filter(|(_, follower)| board == follower.board())
-        .count()
-}
+    /// How many follow a board.
+    pub(crate) fn count(&self, board: BoardName) -> usize
+        ensures { result ≡ count_by (λ e. same_name board e.1.board) self.now.entries }
+    {
+        self.seats
+            .iter()
+            .filter(|(_, follower)| board == follower.board())
+            .count()
+    }
 
-/// Lets a spectator join a board at a place, who follows none.
-pub(crate) fn admit(
-    alloc: Global,
-    followers: &mut IndexMap<Spectator, Follower>,
-    who: Spectator,
-    board: BoardName,
-    place: u16,
-    capacity: u16,
-) -> Result<(), AllocError>
-    requires { lookup (nat_eq who) followers.old.entries ≡ None }
-    ensures ok { OnOk result (followers.new.entries ≡ followers.old.entries ++ (who, joining board place capacity) ∷ []) }
-    ensures err { OnErr result (followers.new.entries ≡ followers.old.entries) }
-{
-    let follower = Follower::new(alloc, board, place, capacity)?;
-    followers.insert(who, follower)?;
-    Ok(())
+    /// Offers a move made on a board at a place to each follower. It takes no memory.
+    pub(crate) fn publish(&mut self, board: BoardName, place: u16, m: Move)
+        ensures entries { self.new.entries ≡ published board place m self.old.entries }
+        ensures room { self.new.room ≡ self.old.room }
+    {
+        for i in 0..self.seats.len() {
+            let (_, follower) = self.seats.pair_mut(i);
+            follower.offer(board, place, m);
+        }
+    }
+
+    /// Takes the first move that waits for a spectator, if it follows a board. It takes no memory.
+    #[tactic(auto, using(crate::proofs::BoardKept::boards_kept))]
+    pub(crate) fn take(&mut self, who: Spectator) -> Option<Next>
+        requires { IfSome (lookup (nat_eq who) self.old.entries) (λ f. f.joined + f.taken + length f.queue < 2 ^ 16) }
+        ensures next { result ≡ option_map next_of (lookup (nat_eq who) self.old.entries) }
+        ensures updates { (q : ℕ) → lookup (nat_eq q) self.new.entries
+            ≡ cond (nat_eq who q) (option_map popped (lookup (nat_eq who) self.old.entries))
+            (lookup (nat_eq q) self.old.entries) }
+        ensures none { IfNone result (self.new.entries ≡ self.old.entries) }
+        ensures boards { boards_of self.new.entries ≡ boards_of self.old.entries }
+        ensures room { self.new.room ≡ self.old.room }
+    {
+        let follower = self.seats.get_mut(&who)?;
+        Some(follower.take())
+    }
+
+    /// Lets a spectator who follows none join a board at a place of its game's log.
+    pub(crate) fn admit(
+        &mut self,
+        alloc: Global,
+        who: Spectator,
+        board: BoardName,
+        place: u16,
+        game: &Game,
+        capacity: u16,
+    ) -> Result<(), AllocError>
+        requires new { lookup (nat_eq who) self.old.entries ≡ None }
+        requires few { length game.now.log - place ≤ capacity }
+        ensures ok { OnOk result (self.new.entries ≡ self.old.entries ++ (who, joining board place game.now.log capacity) ∷ []) }
+        ensures err { OnErr result (self.new.entries ≡ self.old.entries) }
+    {
+        let follower = Follower::new(alloc, board, place, game, capacity)?;
+        self.seats.insert(who, follower)?;
+        Ok(())
+    }
+
+    /// Lets a spectator go.
+    pub(crate) fn remove(&mut self, who: Spectator) -> Option<Follower>
+        ensures value { result ≡ lookup (nat_eq who) self.old.entries }
+        ensures updates { (q : ℕ) → lookup (nat_eq q) self.new.entries
+            ≡ cond (nat_eq who q) None (lookup (nat_eq q) self.old.entries) }
+        ensures entries { self.new.entries ≡ remove_entry (nat_eq who) self.old.entries }
+        ensures none { IfNone result (self.new.entries ≡ self.old.entries) }
+    {
+        self.seats.shift_remove(&who)
+    }
 }

@@ -18,7 +18,7 @@ impl Model for BoardName {
     ghost use Rattle.std.specs.Prelude.{ℕ, List, ◌≡◌, ◌≤◌, length as length_of, take};
     ghost use Rattle.std.proofs.Common.{sym};
     ghost use Rattle.relay_core.specs.Name.{IsName, filled};
-    ghost use Rattle.relay_core.specs.NameFields.{length-front};
+    ghost use Rattle.relay_core.specs.Inner.NameFields.{length-front};
 
     ghost Value = { List ℕ };
 

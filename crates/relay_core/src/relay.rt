@@ -8,15 +8,13 @@ ghost use Rattle.relay_core.specs.Leads.{Leads};
 ghost use Rattle.relay_core.specs.Replies.{may_grow, reply_to};
 ghost use Rattle.relay_core.specs.Stands.{Stands};
 
-use crate::boards::{add, answer, end, find, length_of, play};
-use crate::follower::Follower;
-use crate::followers::{admit, count, publish, take_next};
+use crate::boards::Boards;
+use crate::followers::Followers;
 use crate::name::BoardName;
 use crate::reply::{Reply, Taken};
 use crate::step::{Spectator, Step};
 use c960_board::Move;
 use c960_game::{Ending, Game, Limits, Refusal};
-use indexmap::IndexMap;
 use std::alloc::{AllocError, Global};
 use std::marker::Model;
 
@@ -24,13 +22,13 @@ use std::marker::Model;
 #[derive(Drop)]
 pub struct Relay {
     limits: Limits,
-    boards: IndexMap<BoardName, Game>,
-    followers: IndexMap<Spectator, Follower>,
+    boards: Boards,
+    followers: Followers,
     alloc: Global,
 }
 
 impl Model for Relay {
-    ghost use Rattle.relay_core.specs.Kept.{IsKept, held_of, view_of};
+    ghost use Rattle.relay_core.specs.Inner.Kept.{IsKept, held_of, view_of};
     ghost use Rattle.relay_core.specs.State.{RelayRecord};
 
     ghost Value = { RelayRecord };
@@ -47,8 +45,8 @@ impl Relay {
     {
         Ok(Relay {
             limits,
-            boards: IndexMap::with_capacity(alloc, usize::from(limits.boards()))?,
-            followers: IndexMap::new(alloc),
+            boards: Boards::with_capacity(alloc, limits.boards())?,
+            followers: Followers::new(alloc),
             alloc,
         })
     }
@@ -58,7 +56,7 @@ impl Relay {
         ensures stands { Leads self.old self.new (Step.Open board start) result }
         ensures refused { is_accepted result ≡ false → self.new ≡ self.old }
     {
-        if self.boards.contains_key(&board) {
+        if self.boards.contains(board) {
             return Reply::Refused(Refusal::BoardExists);
         }
         if start >= 960 {
@@ -70,7 +68,7 @@ impl Relay {
         let Ok(game) = Game::open(self.alloc, start, self.limits.plies()) else {
             return Reply::Refused(Refusal::OutOfMemory);
         };
-        let Ok(()) = add(&mut self.boards, board, game) else {
+        let Ok(()) = self.boards.add(board, game) else {
             return Reply::Refused(Refusal::OutOfMemory);
         };
         Reply::Opened
@@ -82,10 +80,10 @@ impl Relay {
         ensures stands { Leads self.old self.new (Step.Submit board m) result }
         ensures refused { is_accepted result ≡ false → self.new ≡ self.old }
     {
-        match play(&mut self.boards, board, m) {
+        match self.boards.play(board, m) {
             Err(refusal) => Reply::Refused(refusal),
             Ok((place, outcome)) => {
-                publish(&mut self.followers, board, place, m);
+                self.followers.publish(board, place, m);
                 Reply::Played { place, outcome }
             }
         }
@@ -96,39 +94,44 @@ impl Relay {
         ensures stands { Leads self.old self.new (Step.End board ending) result }
         ensures refused { is_accepted result ≡ false → self.new ≡ self.old }
     {
-        let outcome = match end(&mut self.boards, board, ending) {
+        let outcome = match self.boards.end(board, ending) {
             Ok(outcome) => outcome,
             Err(refusal) => return Reply::Refused(refusal),
         };
         Reply::Ended(outcome)
     }
 
-    /// Lets a spectator follow a board from now on. Refused: `NoSuchBoard`, `FollowerExists`, `TooManyFollowers`,
-    /// `OutOfMemory`.
-    fn follow(&mut self, who: Spectator, board: BoardName) -> Reply
-        ensures stands { Leads self.old self.new (Step.Follow who board) result }
+    /// Lets a spectator follow a board from a place of its log on, or from now on. Refused: `NoSuchBoard`, `FollowerExists`,
+    /// `NotYet`, `TooFarBack`, `TooManyFollowers`, `OutOfMemory`.
+    #[tactic(auto, using(c960_game::proofs::LogFacts::position_made))]
+    fn follow(&mut self, who: Spectator, board: BoardName, from: Option<u16>) -> Reply
+        ensures stands { Leads self.old self.new (Step.Follow who board from) result }
         ensures refused { is_accepted result ≡ false → self.new ≡ self.old }
     {
-        let Some(game) = find(&self.boards, board) else {
+        let Some(game) = self.boards.get(board) else {
             return Reply::Refused(Refusal::NoSuchBoard);
         };
-        let joined = game.len();
-        let position = game.position();
-        if self.followers.contains_key(&who) {
+        if self.followers.contains(who) {
             return Reply::Refused(Refusal::FollowerExists);
         }
-        if count(&self.followers, board) >= usize::from(self.limits.followers()) {
-            return Reply::Refused(Refusal::TooManyFollowers);
+        let joined = from.unwrap_or(game.len());
+        if joined > game.len() {
+            return Reply::Refused(Refusal::NotYet);
         }
         let capacity = self.limits.capacity();
-        let Ok(()) = admit(
-            self.alloc,
-            &mut self.followers,
-            who,
-            board,
-            joined,
-            capacity,
-        ) else {
+        if game.len() - joined > capacity {
+            return Reply::Refused(Refusal::TooFarBack);
+        }
+        if self.followers.count(board) >= usize::from(self.limits.followers()) {
+            return Reply::Refused(Refusal::TooManyFollowers);
+        }
+        let Some(position) = game.position_at(joined) else {
+            unreachable!();
+        };
+        let Ok(()) = self
+            .followers
+            .admit(self.alloc, who, board, joined, game, capacity)
+        else {
             return Reply::Refused(Refusal::OutOfMemory);
         };
         Reply::Following { joined, position }
@@ -141,10 +144,10 @@ impl Relay {
     {
         // So the places of a log fit 16 bits.
         prove!(self.limits.plies() <= 16384);
-        let Some(next) = take_next(&mut self.followers, who) else {
+        let Some(next) = self.followers.take(who) else {
             return Reply::Refused(Refusal::NoSuchFollower);
         };
-        Reply::Took(answer(&self.boards, next))
+        Reply::Took(self.boards.answer(next))
     }
 
     /// Ends a spectator's following. Refused: `NoSuchFollower`.
@@ -152,10 +155,10 @@ impl Relay {
         ensures stands { Leads self.old self.new (Step.Leave who) result }
         ensures refused { is_accepted result ≡ false → self.new ≡ self.old }
     {
-        let Some(follower) = self.followers.shift_remove(&who) else {
+        let Some(follower) = self.followers.remove(who) else {
             return Reply::Refused(Refusal::NoSuchFollower);
         };
-        let present = length_of(&self.boards, follower.board());
+        let present = self.boards.length_of(follower.board());
         Reply::Left(follower.account(present))
     }
 
@@ -173,7 +176,7 @@ impl Relay {
             Step::Open(board, start) => self.open(board, start),
             Step::Submit(board, m) => self.submit(board, m),
             Step::End(board, ending) => self.end(board, ending),
-            Step::Follow(who, board) => self.follow(who, board),
+            Step::Follow(who, board, from) => self.follow(who, board, from),
             Step::Take(who) => self.take(who),
             Step::Leave(who) => self.leave(who),
         }

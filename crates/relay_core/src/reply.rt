@@ -19,7 +19,7 @@ pub enum Taken {
 /// What a follower has had, told as it leaves.
 #[derive(Clone, Copy, PartialEq, Eq, Debug)]
 pub struct Account {
-    /// The log's length when it joined.
+    /// The place of the log at which it joined.
     pub joined: u16,
     /// How many moves it has taken.
     pub taken: u16,
@@ -41,7 +41,7 @@ pub enum Reply {
     },
     /// The game was ended.
     Ended(Outcome),
-    /// The spectator follows, from this length of the log and this position on.
+    /// The spectator follows, from this place of the log on, where the game stood like this.
     Following {
         joined: u16,
         position: Position,

@@ -16,8 +16,8 @@ pub enum Step {
     Submit(BoardName, Move),
     /// Ends the game of a board.
     End(BoardName, Ending),
-    /// Lets a spectator follow a board, from the log's present length on.
-    Follow(Spectator, BoardName),
+    /// Lets a spectator follow a board, from this place of the log on; without one, from the log's present length on.
+    Follow(Spectator, BoardName, Option<u16>),
     /// Takes the spectator's next move.
     Take(Spectator),
     /// Ends the spectator's following.

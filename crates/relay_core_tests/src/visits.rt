@@ -1,6 +1,6 @@
 //! A small example of a caller: what a relay stands at after two steps.
 
-ghost use Rattle.std.specs.Prelude.{◌∷◌};
+ghost use Rattle.std.specs.Prelude.{◌∷◌, None};
 ghost use Rattle.c960_game.specs.Limits.{LimitNumbers};
 ghost use Rattle.relay_core.specs.History.{History};
 ghost use Rattle.relay_core.specs.Stands.{Stands};
@@ -10,9 +10,9 @@ use relay_core::{BoardName, Relay, Reply, Spectator, Step};
 /// Lets a spectator follow a board and leave again, and gives both replies.
 pub fn visit(relay: &mut Relay, who: Spectator, board: BoardName) -> (Reply, Reply)
     ensures { (limits : LimitNumbers) (h : History) → Stands limits relay.old h
-        → Stands limits relay.new ((Step.Leave who, result.1) ∷ (Step.Follow who board, result.0) ∷ h) }
+        → Stands limits relay.new ((Step.Leave who, result.1) ∷ (Step.Follow who board None, result.0) ∷ h) }
 {
-    let following = relay.step(Step::Follow(who, board));
+    let following = relay.step(Step::Follow(who, board, None));
     let left = relay.step(Step::Leave(who));
     (following, left)
 }

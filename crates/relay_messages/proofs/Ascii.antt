@@ -5,7 +5,7 @@ use Rattle.std.specs.Str.{IsAscii, IsUtf8}
 use Rattle.std.proofs.lemmas.Fmt.{IsAscii-decimal}
 use Rattle.std.proofs.lemmas.List.{length-take}
 use Rattle.std.proofs.lemmas.Str.{IsAscii-append, IsUtf8-from_ascii}
-use Rattle.std.proofs.lemmas.Str.Ascii.{IsAscii-nil}
+use Rattle.std.proofs.lemmas.Str.Ascii.{IsAscii-cons, IsAscii-nil}
 use Rattle.c960_board.specs.declared.parts.Parts.{Parts}
 use Rattle.c960_board.specs.declared.piece.Colour.{Colour}
 use Rattle.c960_board.specs.declared.piece.Colour.TheVariants.{White, Black}
@@ -20,17 +20,13 @@ use Rattle.c960_board.specs.Pieces.{Cell}
 use Rattle.c960_board.specs.Position.{IsPosition, IsTarget, has_right}
 use Rattle.c960_board.specs.Squares.{file_of, rank_of}
 
-behind : (b : ℕ) (bs : List ℕ) → b < 128 → IsAscii bs → IsAscii (b ∷ bs)
-behind b bs h rest zero = h
-behind b bs h rest (suc i) = rest i
-
 one : (b : ℕ) → b < 128 → IsAscii (b ∷ [])
-one b h = behind b [] h IsAscii-nil
+one b h = IsAscii-cons b [] h IsAscii-nil
 
 -- ---- Moves.
 
 square_is_ascii : (s : ℕ) → s < 64 → IsAscii (square_text s)
-square_is_ascii s h = behind (97 + file_of s) ((49 + rank_of s) ∷ []) (omega arith) (one (49 + rank_of s) (omega arith))
+square_is_ascii s h = IsAscii-cons (97 + file_of s) ((49 + rank_of s) ∷ []) (omega arith) (one (49 + rank_of s) (omega arith))
 
 promotion_is_ascii : (p : Option Kind) → IsAscii (promotion_text p)
 promotion_is_ascii (Some Knight) = one 110 (lit< tt)
@@ -71,14 +67,14 @@ squares_are_ascii [] n h = run_is_ascii n (omega arith)
 squares_are_ascii (None ∷ cells) n h = squares_are_ascii cells (n + 1) (omega arith)
 squares_are_ascii (Some p ∷ cells) n h =
     IsAscii-append _ _ (run_is_ascii n (omega arith))
-    (behind (letter p) (squares_text cells 0) (letter_is_ascii p.colour p.kind) (squares_are_ascii cells 0 (omega arith)))
+    (IsAscii-cons (letter p) (squares_text cells 0) (letter_is_ascii p.colour p.kind) (squares_are_ascii cells 0 (omega arith)))
 
 ranks_are_ascii : (n : ℕ) (cells : List Cell) → length cells ≤ 64 → IsAscii (ranks_text n cells)
 unfolding ranks_text
 ranks_are_ascii zero cells h = squares_are_ascii cells 0 (omega arith)
 ranks_are_ascii (suc n) cells h =
     IsAscii-append _ _ (squares_are_ascii (drop (8 * suc n) cells) 0 (omega (arith, length-drop (8 * suc n) cells)))
-    (behind 47 (ranks_text n (take (8 * suc n) cells)) (lit< tt) (ranks_are_ascii n (take (8 * suc n) cells) (omega (arith, length-take (8 * suc n) cells))))
+    (IsAscii-cons 47 (ranks_text n (take (8 * suc n) cells)) (lit< tt) (ranks_are_ascii n (take (8 * suc n) cells) (omega (arith, length-take (8 * suc n) cells))))
 
 -- ---- The other fields.
 
@@ -95,7 +91,7 @@ unfolding side_text
 side_is_ascii r c zero h = IsAscii-nil
 side_is_ascii r c (suc n) h =
     elim (has_right r c n) as (λ has. IsAscii (cond has ((right_base c + n) ∷ side_text r c n) (side_text r c n))) [
-      | true ↦ behind (right_base c + n) (side_text r c n) (right_is_ascii c n (omega arith)) (side_is_ascii r c n (omega arith))
+      | true ↦ IsAscii-cons (right_base c + n) (side_text r c n) (right_is_ascii c n (omega arith)) (side_is_ascii r c n (omega arith))
       | false ↦ side_is_ascii r c n (omega arith)
     ]
 
@@ -124,7 +120,7 @@ number_is_ascii n h = IsAscii-decimal n (omega arith)
 pub fen_is_utf8 : (p : Parts) → IsPosition p → IsUtf8 (canonical p)
 unfolding canonical fields_of
 fen_is_utf8 p h =
-    let space : (bs : List ℕ) → IsAscii bs → IsAscii (32 ∷ bs) = λ bs rest. behind 32 bs (lit< tt) rest in
+    let space : (bs : List ℕ) → IsAscii bs → IsAscii (32 ∷ bs) = λ bs rest. IsAscii-cons 32 bs (lit< tt) rest in
     let target : IsAscii (target_text p.target) =
     target_is_ascii p.target (λ t same. target_rank_is_low p.placement p.turn t (h.target t same)) in
     IsUtf8-from_ascii (canonical p)

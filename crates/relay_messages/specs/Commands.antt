@@ -11,7 +11,7 @@ use Rattle.relay_core.specs.declared.step.Step.{Step}
 use Rattle.relay_core.specs.declared.step.Step.TheVariants.{Open, Submit, End, Follow, Take, Leave}
 use Rattle.relay_messages.specs.declared.fault.MessageFault.{MessageFault}
 use Rattle.relay_messages.specs.declared.fault.MessageFault.TheVariants.{NotObject, UnknownCommand, BadField}
-use Rattle.relay_messages.specs.Fields.{member_count, text_at, board_at, start_at, spectator_at, move_at, side_at}
+use Rattle.relay_messages.specs.Fields.{member_count, text_at, board_at, start_at, from_at, has_from, spectator_at, move_at, side_at}
 
 -- what is there, where the object has n members
 abbrev pub with_members : {A : Type 0} → ℕ → Data → Option A → Option A
@@ -41,9 +41,14 @@ ending_in d = option_and_then (ending_named d) (text_at (codes "how") d)
 abbrev pub end_in : Data → Option Step
 end_in d = option_and_then (λ board. option_map (λ ending. End board ending) (ending_in d)) (board_at d)
 
--- {"cmd":"follow","board":"b1","spectator":1}
+-- `from` where it is there, else no place
+abbrev pub from_in : Data → Option (Option ℕ)
+from_in d = cond (has_from d) (with_members 4 d (option_map Some (from_at d))) (with_members 3 d (Some None))
+
+-- {"cmd":"follow","board":"b1","spectator":1} and {"cmd":"follow","board":"b1","spectator":1,"from":0}
 abbrev pub follow_in : Data → Option Step
-follow_in d = with_members 3 d (option_and_then (λ board. option_map (λ who. Follow who board) (spectator_at d)) (board_at d))
+follow_in d = option_and_then (λ board. option_and_then (λ who. option_map (λ from. Follow who board from) (from_in d))
+    (spectator_at d)) (board_at d)
 
 -- {"cmd":"take","spectator":1}
 abbrev pub take_in : Data → Option Step

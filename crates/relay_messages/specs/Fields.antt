@@ -1,6 +1,6 @@
 -- What the members of a JSON object say. `get` finds the member that serde_json's reading gives: where a key is repeated in
 -- the text, the last.
-use Rattle.std.specs.Prelude.{ℕ, ◌^◌, ◌&&◌, nat_le, nat_lt, Bool, cond, List, length, Option, Some, None, option_map, option_and_then, unwrap_or, codes}
+use Rattle.std.specs.Prelude.{ℕ, ◌^◌, ◌&&◌, nat_le, nat_lt, Bool, cond, List, length, Option, Some, None, is_some, option_map, option_and_then, unwrap_or, codes}
 use Rattle.std.specs.List.{list_all}
 use Rattle.std.specs.Result.{result_ok}
 use Rattle.std.specs.Str.{bytes_eq}
@@ -42,9 +42,21 @@ name_in text = cond (is_name text) (Some text) None
 abbrev pub board_at : Data → Option (List ℕ)
 board_at d = option_and_then name_in (text_at (codes "board") d)
 
--- `start`: a whole number from 0 to 65,535
+-- a whole number from 0 to 65,535
+abbrev pub small_at : List ℕ → Data → Option ℕ
+small_at key d = option_and_then (below 65536) (number_at key d)
+
+-- `start`: the number of a start
 abbrev pub start_at : Data → Option ℕ
-start_at d = option_and_then (below 65536) (number_at (codes "start") d)
+start_at d = small_at (codes "start") d
+
+-- `from`: a place of a log
+abbrev pub from_at : Data → Option ℕ
+from_at d = small_at (codes "from") d
+
+-- whether there is a member `from`, of any form
+abbrev pub has_from : Data → Bool
+has_from d = is_some (get (codes "from") d)
 
 -- `spectator`: a whole number from 0 to 4,294,967,295
 abbrev pub spectator_at : Data → Option ℕ

@@ -51,12 +51,12 @@ pub fn following(alloc: Global, joined: u16, position: &Position) -> Result<Stri
 
 /// The answer to a take that found a move.
 #[tactic(auto, using(crate::proofs::Ascii::move_is_utf8))]
-pub fn moved(alloc: Global, place: u16, chess_move: Move) -> Result<String, AllocError>
-    ensures { IfOk result (λ text. string_bytes text ≡ moved_text place chess_move) }
+pub fn moved(alloc: Global, place: u16, m: Move) -> Result<String, AllocError>
+    ensures { IfOk result (λ text. string_bytes text ≡ moved_text place m) }
 {
     // So its text is ASCII.
-    prove!(chess_move.code() < 20480);
-    let bytes = move_bytes(chess_move);
+    prove!(m.code() < 20480);
+    let bytes = move_bytes(m);
     let spelt = str::from_utf8(bytes.as_slice()).unwrap();
     format!(in alloc; "{{\"move\":\"{spelt}\",\"place\":{place},\"reply\":\"move\"}}")
 }
@@ -66,7 +66,7 @@ pub fn taken(alloc: Global, taken: Taken) -> Result<String, AllocError>
     ensures { IfOk result (λ text. string_bytes text ≡ taken_text taken) }
 {
     match taken {
-        Taken::Move(place, chess_move) => moved(alloc, place, chess_move),
+        Taken::Move(place, m) => moved(alloc, place, m),
         Taken::Nothing => alone(alloc, "nothing"),
         Taken::Over(outcome) => with_outcome(alloc, outcome, "over"),
         Taken::Cut => alone(alloc, "cut"),

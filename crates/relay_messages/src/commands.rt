@@ -2,11 +2,12 @@
 
 ghost use Rattle.std.specs.Prelude.{◌≡◌, Some};
 ghost use Rattle.serde_json.specs.View.{view};
-ghost use Rattle.relay_messages.specs.Commands.{end_in, ending_in, ending_named, follow_in, leave_in, open_in, submit_in, take_in, with_members};
+ghost use Rattle.relay_messages.specs.Commands.{end_in, ending_in, ending_named, follow_in, from_in, leave_in, open_in, submit_in, take_in, with_members};
 ghost use Rattle.relay_messages.specs.Fields.{side_at};
 
 use crate::fields::{
-    board_field, count_of, move_field, side_field, spectator_field, start_field, text_field,
+    board_field, count_of, from_field, has_from, move_field, side_field, spectator_field,
+    start_field, text_field,
 };
 use c960_board::Colour;
 use c960_game::Ending;
@@ -33,8 +34,8 @@ pub fn submit_of(object: &Value) -> Option<Step>
         return None;
     }
     let board = board_field(object)?;
-    let chess_move = move_field(object)?;
-    Some(Step::Submit(board, chess_move))
+    let m = move_field(object)?;
+    Some(Step::Submit(board, m))
 }
 
 /// The side, in an object with no other key more.
@@ -81,16 +82,25 @@ pub fn end_of(object: &Value) -> Option<Step>
     Some(Step::End(board, ending))
 }
 
-/// Lets a spectator follow a board: `board` and `spectator`.
+/// The place from which to follow, or none without the key, in an object with no other key more.
+fn from_of(object: &Value) -> Option<Option<u16>>
+    ensures { result ≡ from_in (view object.now) }
+{
+    match (has_from(object), count_of(object)) {
+        (false, 3) => Some(None),
+        (true, 4) => Some(Some(from_field(object)?)),
+        _ => None,
+    }
+}
+
+/// Lets a spectator follow a board: `board`, `spectator` and, where it is not to join at the log's present length, `from`.
 pub fn follow_of(object: &Value) -> Option<Step>
     ensures { result ≡ follow_in (view object.now) }
 {
-    if count_of(object) != 3 {
-        return None;
-    }
     let board = board_field(object)?;
     let spectator = spectator_field(object)?;
-    Some(Step::Follow(spectator, board))
+    let from = from_of(object)?;
+    Some(Step::Follow(spectator, board, from))
 }
 
 /// Takes a spectator's next move: `spectator`.

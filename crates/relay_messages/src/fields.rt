@@ -2,7 +2,7 @@
 
 ghost use Rattle.std.specs.Prelude.{◌≡◌, option_map};
 ghost use Rattle.serde_json.specs.View.{view};
-ghost use Rattle.relay_messages.specs.Fields.{board_at, member_count, move_at, number_at, side_at, side_in, spectator_at, start_at, text_at};
+ghost use Rattle.relay_messages.specs.Fields.{board_at, from_at, has_from, member_count, move_at, number_at, side_at, side_in, small_at, spectator_at, start_at, text_at};
 
 use c960_board::{Colour, Move, read_move};
 use relay_core::{BoardName, Spectator};
@@ -43,14 +43,35 @@ pub fn board_field(object: &Value) -> Option<BoardName>
     }
 }
 
-/// The number of a start, 0 to 65,535.
-pub fn start_field(object: &Value) -> Option<u16>
-    ensures { result ≡ start_at (view object.now) }
+/// The whole number of a member, 0 to 65,535.
+fn small_field(object: &Value, key: &str) -> Option<u16>
+    ensures { result ≡ small_at key.now (view object.now) }
 {
-    match number_field(object, "start") {
+    match number_field(object, key) {
         Some(number) => u16::try_from(number).ok(),
         None => None,
     }
+}
+
+/// The number of a start.
+pub fn start_field(object: &Value) -> Option<u16>
+    ensures { result ≡ start_at (view object.now) }
+{
+    small_field(object, "start")
+}
+
+/// Whether there is a place from which to follow, of any form.
+pub fn has_from(object: &Value) -> bool
+    ensures { result ≡ has_from (view object.now) }
+{
+    object.get("from").is_some()
+}
+
+/// The place from which to follow.
+pub fn from_field(object: &Value) -> Option<u16>
+    ensures { result ≡ from_at (view object.now) }
+{
+    small_field(object, "from")
 }
 
 /// The number of a spectator.

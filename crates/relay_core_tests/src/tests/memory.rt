@@ -1,12 +1,15 @@
 //! Want of memory. Where one allocation is refused (`rt try --test --fail-alloc N`, for each N in turn), the call that wanted
 //! it says so and changes nothing, and is accepted when made again; all else is answered as ever.
 
-use crate::tests::table::Asked::{End, Follow, Leave, Open, Submit, Take};
-use crate::tests::table::Told::{Cut, Ended, Following, Left, Nothing, Opened, Over, Played, Took};
+use crate::tests::table::Asked::{End, Follow, FollowFrom, Leave, Open, Submit, Take};
+use crate::tests::table::Told::{
+    Cut, Ended, Following, Left, Nothing, Opened, Over, Played, PlayedLast, Took,
+};
 use crate::tests::table::{
     Asked, START_0, START_518, Told, board_of, following, limits_of, line_of, move_of, reply_of,
     step_of,
 };
+use c960_board::Colour;
 use c960_game::{Ending, Limits, Outcome, Refusal};
 use relay_core::{Account, Relay, Reply, Step, Taken};
 use std::alloc::{AllocError, Global};
@@ -44,7 +47,10 @@ fn in_vain(step: &Step) -> Option<(Step, Reply)> {
             Step::End(*board, Ending::Abandoned),
             Reply::Refused(Refusal::NoSuchBoard),
         )),
-        Step::Follow(who, _) => Some((Step::Take(*who), Reply::Refused(Refusal::NoSuchFollower))),
+        Step::Follow(who, _, _) => Some((
+            Step::Take(*who),
+            Reply::Refused(Refusal::NoSuchFollower),
+        )),
         _ => None,
     }
 }
@@ -99,12 +105,15 @@ fn left(joined: u16, taken: u16, limit: u16, cut: bool) -> Reply {
     })
 }
 
+/// The position of start 518 after e2e4.
+const ONE_PLY: &str = "rnbqkbnr/pppppppp/8/8/4P3/8/PPPP1PPP/RNBQKBNR b HAha e3 0 1";
+
 /// The position of start 518 after e2e4 e7e5.
 const TWO_PLIES: &str = "rnbqkbnr/pppp1ppp/8/4p3/4P3/8/PPPP1PPP/RNBQKBNR w HAha e6 0 2";
 
 /// Two boards, one follower each, one move a queue. A step refused for want of memory takes no board and no seat, and leaves
 /// the other board, its follower and the queue as they were.
-const ROWS: [(Asked, Told); 20] = [
+const ROWS: [(Asked, Told); 25] = [
     (Open("a", 518), Opened),
     (Open("b", 960), Told::Refused(Refusal::BadStart)),
     (Follow(1, "a"), Following(0, START_518)),
@@ -125,19 +134,59 @@ const ROWS: [(Asked, Told); 20] = [
     (Follow(1, "a"), Following(2, TWO_PLIES)),
     (Leave(1), Left(2, 0, 2, false)),
     (Follow(3, "a"), Following(2, TWO_PLIES)),
+    (Leave(3), Left(2, 0, 2, false)),
+    (FollowFrom(4, "a", 0), Told::Refused(Refusal::TooFarBack)),
+    (FollowFrom(4, "a", 1), Following(1, ONE_PLY)),
+    (Take(4), Took(1, "e7e5")),
+    (Take(4), Nothing),
 ];
+
+/// Asserts that a new relay answers these rows, and how many of their calls were refused for want of memory.
+fn refusals_in(
+    rt: &impl Abort,
+    alloc: Global,
+    limits: (u16, u16, u16, u16),
+    rows: &[(Asked, Told)],
+) -> u32 {
+    let mut refused = Refused { count: 0 };
+    let limits = limits_of(rt, limits);
+    let mut relay = new_relay(rt, alloc, limits, &mut refused);
+    for (asked, told) in rows {
+        let step = step_of(rt, *asked, line_of(*asked));
+        let reply = reply_of(rt, *told, 0);
+        assert_answer(rt, &mut relay, &step, &reply, &mut refused);
+    }
+    refused.count
+}
 
 #[test]
 fn a_refused_step_is_accepted_when_made_again(rt: HostRuntime) {
-    let mut refused = Refused { count: 0 };
-    let limits = limits_of(&rt, (2, 1, 1, 1024));
-    let mut relay = new_relay(&rt, rt.alloc(), limits, &mut refused);
-    for (asked, told) in ROWS {
-        let step = step_of(&rt, asked, line_of(asked));
-        let reply = reply_of(&rt, told, 0);
-        assert_answer(&rt, &mut relay, &step, &reply, &mut refused);
-    }
-    assert!(rt; refused.count <= 1);
+    assert!(rt; refusals_in(&rt, rt.alloc(), (2, 1, 1, 1024), &ROWS) <= 1);
+}
+
+/// A mate that one follower takes move by move. Only the first two steps take memory.
+const MATE: [(Asked, Told); 14] = [
+    (Open("b1", 518), Opened),
+    (Follow(1, "b1"), Following(0, START_518)),
+    (Submit("b1", "f2f3"), Played(0)),
+    (Submit("b1", "e7e5"), Played(1)),
+    (Submit("b1", "g2g4"), Played(2)),
+    (Submit("b1", "d8h4"), PlayedLast(3, MATED)),
+    (Take(1), Took(0, "f2f3")),
+    (Take(1), Took(1, "e7e5")),
+    (Take(1), Took(2, "g2g4")),
+    (Take(1), Took(3, "d8h4")),
+    (Take(1), Over(MATED)),
+    (Submit("b1", "a2a3"), Told::Refused(Refusal::GameOver)),
+    (End("b1", Ending::Agreed), Told::Refused(Refusal::GameOver)),
+    (Leave(1), Left(0, 4, 4, false)),
+];
+
+const MATED: Outcome = Outcome::Checkmate(Colour::Black);
+
+#[test]
+fn the_steps_after_an_opening_and_a_follow_are_answered_whatever_is_refused(rt: HostRuntime) {
+    assert!(rt; refusals_in(&rt, rt.alloc(), (16, 64, 64, 1024), &MATE) <= 1);
 }
 
 #[test]
@@ -151,8 +200,8 @@ fn a_refused_run_makes_no_step(rt: HostRuntime) {
     let steps = [
         Step::Open(board, 518),
         Step::Open(board, 518),
-        Step::Follow(1, board),
-        Step::Follow(1, board),
+        Step::Follow(1, board, None),
+        Step::Follow(1, board, None),
         Step::Submit(board, e2e4),
         Step::Submit(board, e7e5),
         Step::Take(1),

@@ -1,6 +1,6 @@
 //! A plain relay, written from the table of steps with queues as vectors and closings as flags. Its games are `Game`s.
 
-use c960_board::Move;
+use c960_board::{Move, Position};
 use c960_game::{Ending, Game, Limits, Outcome, Refusal};
 use relay_core::{Account, BoardName, Reply, Spectator, Step, Taken};
 use std::alloc::{AllocError, Global};
@@ -49,7 +49,7 @@ impl Plain {
             Step::Open(board, start) => self.open(board, start)?,
             Step::Submit(board, m) => self.submit(board, m)?,
             Step::End(board, ending) => self.end(board, ending),
-            Step::Follow(who, board) => self.follow(who, board)?,
+            Step::Follow(who, board, from) => self.follow(who, board, from)?,
             Step::Take(who) => self.take(who),
             Step::Leave(who) => self.leave(who),
         };
@@ -133,14 +133,36 @@ impl Plain {
         Reply::Refused(Refusal::NoSuchBoard)
     }
 
-    fn follow(&mut self, who: Spectator, name: BoardName) -> Result<Reply, AllocError> {
+    /// The moves of a game from a place on, each with its place.
+    fn moves_from(&self, game: &Game, place: u16) -> Result<Vec<(u16, Move)>, AllocError> {
+        let mut moves = Vec::new(self.alloc);
+        for at in place..game.len() {
+            if let Some(m) = game.move_at(at) {
+                moves.push((at, m))?;
+            }
+        }
+        Ok(moves)
+    }
+
+    fn follow(
+        &mut self,
+        who: Spectator,
+        name: BoardName,
+        from: Option<u16>,
+    ) -> Result<Reply, AllocError> {
         let Some(game) = self.game(name) else {
             return Ok(Reply::Refused(Refusal::NoSuchBoard));
         };
-        let joined = game.len();
-        let position = game.position();
         if self.follows(who) {
             return Ok(Reply::Refused(Refusal::FollowerExists));
+        }
+        let joined = from.unwrap_or(game.len());
+        let Some(position) = replayed(self.alloc, game, joined)? else {
+            return Ok(Reply::Refused(Refusal::NotYet));
+        };
+        let queue = self.moves_from(game, joined)?;
+        if queue.len() > usize::from(self.limits.capacity()) {
+            return Ok(Reply::Refused(Refusal::TooFarBack));
         }
         let crowd = self.seats.iter().filter(|seat| seat.board == name).count();
         if crowd >= usize::from(self.limits.followers()) {
@@ -152,7 +174,7 @@ impl Plain {
             joined,
             taken: 0,
             closed_at: None,
-            queue: Vec::new(self.alloc),
+            queue,
         })?;
         Ok(Reply::Following { joined, position })
     }
@@ -190,6 +212,20 @@ impl Plain {
             cut: seat.closed_at.is_some(),
         })
     }
+}
+
+/// The position after so many moves of a game, by playing them again in a game of their own; none where it has fewer.
+fn replayed(alloc: Global, game: &Game, moves: u16) -> Result<Option<Position>, AllocError> {
+    let Ok(mut again) = Game::open(alloc, game.start(), 16384) else {
+        return Err(AllocError);
+    };
+    for place in 0..moves {
+        let Some(m) = game.move_at(place) else {
+            return Ok(None);
+        };
+        let _ = again.play(m);
+    }
+    Ok(Some(again.position()))
 }
 
 /// What is told of a board where no move waits.

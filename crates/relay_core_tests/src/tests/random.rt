@@ -42,7 +42,7 @@ const ENDINGS: [Ending; 8] = [
     Ending::ClaimFifty(Colour::Black),
 ];
 
-/// A step: of 64, 4 open, 24 submit, 2 end, 8 follow, 20 take and 6 leave.
+/// A step: of 64, 4 open, 24 submit, 2 end, 4 follow from the present and 4 from an early place, 20 take and 6 leave.
 fn any_step(rt: &impl Abort, dice: &mut Dice) -> Step {
     let board = board_of(rt, BOARDS[(dice.roll() % 2) as usize]);
     let who = dice.roll() % 3;
@@ -51,7 +51,8 @@ fn any_step(rt: &impl Abort, dice: &mut Dice) -> Step {
         0..=3 => Step::Open(board, STARTS[(which % 4) as usize]),
         4..=27 => Step::Submit(board, move_of(rt, MOVES[(which % 8) as usize])),
         28..=29 => Step::End(board, ENDINGS[(which % 8) as usize]),
-        30..=37 => Step::Follow(who, board),
+        30..=33 => Step::Follow(who, board, None),
+        34..=37 => Step::Follow(who, board, Some((which % 6) as u16)),
         38..=57 => Step::Take(who),
         _ => Step::Leave(who),
     }
@@ -102,7 +103,7 @@ fn has_kind(replies: &[Reply], kind: &str) -> bool {
 }
 
 /// Each reply that there is but for want of memory.
-const KINDS: [&str; 22] = [
+const KINDS: [&str; 24] = [
     "opened",
     "played",
     "played last",
@@ -125,6 +126,8 @@ const KINDS: [&str; 22] = [
     "NoSuchFollower",
     "FollowerExists",
     "TooManyFollowers",
+    "TooFarBack",
+    "NotYet",
 ];
 
 /// Boards, followers a board, capacity, plies.

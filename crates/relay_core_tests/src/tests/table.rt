@@ -20,7 +20,10 @@ pub enum Asked {
     Submit(&'static str, &'static str),
     SubmitLine(&'static str, &'static str),
     End(&'static str, Ending),
+    /// Follows from the log's present length on.
     Follow(Spectator, &'static str),
+    /// Follows from this place on.
+    FollowFrom(Spectator, &'static str, u16),
     Take(Spectator),
     Leave(Spectator),
 }
@@ -34,7 +37,7 @@ pub enum Told {
     /// Played at this place, which ended the game.
     PlayedLast(u16, Outcome),
     Ended(Outcome),
-    /// Follows from this length of the log and this position on.
+    /// Follows from this place of the log and this position on.
     Following(u16, &'static str),
     /// Took the move at this place.
     Took(u16, &'static str),
@@ -99,7 +102,10 @@ pub fn step_of(rt: &impl Abort, asked: Asked, m: &str) -> Step {
             Step::Submit(board_of(rt, board), move_of(rt, m))
         }
         Asked::End(board, ending) => Step::End(board_of(rt, board), ending),
-        Asked::Follow(who, board) => Step::Follow(who, board_of(rt, board)),
+        Asked::Follow(who, board) => Step::Follow(who, board_of(rt, board), None),
+        Asked::FollowFrom(who, board, place) => {
+            Step::Follow(who, board_of(rt, board), Some(place))
+        }
         Asked::Take(who) => Step::Take(who),
         Asked::Leave(who) => Step::Leave(who),
     }

@@ -24,7 +24,15 @@ fn numbers_up_to_their_bounds_are_read(rt: HostRuntime) {
         ),
         (
             r#"{"cmd":"follow","board":"b1","spectator":4294967295}"#,
-            Step::Follow(4294967295, board),
+            Step::Follow(4294967295, board, None),
+        ),
+        (
+            r#"{"cmd":"follow","board":"b1","spectator":0,"from":0}"#,
+            Step::Follow(0, board, Some(0)),
+        ),
+        (
+            r#"{"cmd":"follow","board":"b1","spectator":0,"from":65535}"#,
+            Step::Follow(0, board, Some(65535)),
         ),
         (r#"{"cmd":"take","spectator":0}"#, Step::Take(0)),
         (

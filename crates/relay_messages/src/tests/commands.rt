@@ -24,7 +24,15 @@ fn each_command_is_read(rt: HostRuntime) {
         ),
         (
             r#"{"cmd":"follow","board":"b1","spectator":1}"#,
-            Step::Follow(1, board),
+            Step::Follow(1, board, None),
+        ),
+        (
+            r#"{"cmd":"follow","board":"b1","spectator":1,"from":3}"#,
+            Step::Follow(1, board, Some(3)),
+        ),
+        (
+            r#"{"from":3,"spectator":1,"board":"b1","cmd":"follow"}"#,
+            Step::Follow(1, board, Some(3)),
         ),
         (
             r#"{"cmd":"end","board":"b1","how":"resign","side":"white"}"#,

@@ -1,5 +1,5 @@
 use Rattle.std.proofs.Common.{refl, sym, ◌∙◌}
-use Rattle.relay_core.specs.Kept.{held_of}
+use Rattle.relay_core.specs.Inner.Kept.{held_of}
 use Rattle.relay_core.proofs.Ended.{end_goes, end_refused}
 use Rattle.relay_core.proofs.Standing.{keeps, stands}
 use Rattle.relay_core.proofs.relay.Relay.end.Goals as goal
@@ -7,17 +7,17 @@ use Rattle.relay_core.proofs.relay.Relay.end.Goals as goal
 pub returns-in-Err-clause-stands : goal.returns-in-Err-clause-stands
 returns-in-Err-clause-stands c =
     stands (held_of c.self.inside) _ _ _ c.self.invariant _ c.self.view_is
-    (end_refused (held_of c.self.inside) c.end.new.boards.entries c.args.board c.args.ending c.in-Err.refusal
+    (end_refused (held_of c.self.inside) c.end.new.self.entries c.args.board c.args.ending c.in-Err.refusal
     (sym c.in-Err.is ∙ c.end.ensures.answer) c.in-Err.ensures.refused)
 
 pub invariant_of-self-2 : goal.invariant_of-self-2
 invariant_of-self-2 c =
     keeps (held_of c.self.inside) _ _ _ c.self.invariant refl
-    (end_goes (held_of c.self.inside) c.end.new.boards.entries c.args.board c.args.ending c.in-Ok.outcome
+    (end_goes (held_of c.self.inside) c.end.new.self.entries c.args.board c.args.ending c.in-Ok.outcome
     (sym c.in-Ok.is ∙ c.end.ensures.answer) c.in-Ok.ensures.updates c.end.ensures.len)
 
 pub returns-clause-stands : goal.returns-clause-stands
 returns-clause-stands c =
     stands (held_of c.self.inside) _ _ _ c.self.invariant _ c.self.view_is
-    (end_goes (held_of c.self.inside) c.end.new.boards.entries c.args.board c.args.ending c.in-Ok.outcome
+    (end_goes (held_of c.self.inside) c.end.new.self.entries c.args.board c.args.ending c.in-Ok.outcome
     (sym c.in-Ok.is ∙ c.end.ensures.answer) c.in-Ok.ensures.updates c.end.ensures.len)

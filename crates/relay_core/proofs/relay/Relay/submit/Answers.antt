@@ -1,5 +1,5 @@
 use Rattle.std.proofs.Common.{refl, sym, ◌∙◌}
-use Rattle.relay_core.specs.Kept.{held_of}
+use Rattle.relay_core.specs.Inner.Kept.{held_of}
 use Rattle.relay_core.proofs.Standing.{keeps, stands}
 use Rattle.relay_core.proofs.Submits.{submit_goes, submit_refused}
 use Rattle.relay_core.proofs.relay.Relay.submit.Goals as goal
@@ -7,19 +7,19 @@ use Rattle.relay_core.proofs.relay.Relay.submit.Goals as goal
 pub returns-in-Err-clause-stands : goal.returns-in-Err-clause-stands
 returns-in-Err-clause-stands c =
     stands (held_of c.self.inside) _ _ _ c.self.invariant _ c.self.view_is
-    (submit_refused (held_of c.self.inside) c.play.new.boards.entries _ c.args.board c.args.m c.in-Err.refusal
+    (submit_refused (held_of c.self.inside) c.play.new.self.entries _ c.args.board c.args.m c.in-Err.refusal
     (sym c.in-Err.is ∙ c.play.ensures.answer) c.in-Err.ensures.refused refl)
 
 pub invariant_of-self-in-Ok : goal.invariant_of-self-in-Ok
 invariant_of-self-in-Ok c =
     keeps (held_of c.self.inside) _ _ _ c.self.invariant refl
-    (submit_goes (held_of c.self.inside) c.play.new.boards.entries c.publish.new.followers.entries c.args.board c.args.m
+    (submit_goes (held_of c.self.inside) c.play.new.self.entries c.publish.new.self.entries c.args.board c.args.m
     c.in-Ok.place c.in-Ok.outcome (sym c.in-Ok.is
-    ∙ c.play.ensures.answer) c.in-Ok.ensures.updates c.play.ensures.len c.publish.ensures)
+    ∙ c.play.ensures.answer) c.in-Ok.ensures.updates c.play.ensures.len c.publish.ensures.entries)
 
 pub returns-in-Ok-clause-stands : goal.returns-in-Ok-clause-stands
 returns-in-Ok-clause-stands c =
     stands (held_of c.self.inside) _ _ _ c.self.invariant _ c.self.view_is
-    (submit_goes (held_of c.self.inside) c.play.new.boards.entries c.publish.new.followers.entries c.args.board c.args.m
+    (submit_goes (held_of c.self.inside) c.play.new.self.entries c.publish.new.self.entries c.args.board c.args.m
     c.in-Ok.place c.in-Ok.outcome (sym c.in-Ok.is
-    ∙ c.play.ensures.answer) c.in-Ok.ensures.updates c.play.ensures.len c.publish.ensures)
+    ∙ c.play.ensures.answer) c.in-Ok.ensures.updates c.play.ensures.len c.publish.ensures.entries)

@@ -1,28 +1,28 @@
 use Rattle.std.proofs.Common.{refl, sym, ◌∙◌, rules}
-use Rattle.relay_core.specs.Kept.{held_of}
+use Rattle.relay_core.specs.Inner.Kept.{held_of}
 use Rattle.relay_core.proofs.Standing.{keeps, stands}
 use Rattle.relay_core.proofs.Takes.{places_fit, take_goes, take_nobody}
 use Rattle.relay_core.proofs.relay.Relay.take.Goals as goal
 
-pub take_next-requires : goal.take_next-requires
-take_next-requires c =
+pub take-requires : goal.take-requires
+take-requires c =
     places_fit c.self.inside.limits
     (held_of c.self.inside) c.self.invariant.history c.args.who c.self.invariant.stands c.plies.ensures.valid.most_plies
 
 pub returns-in_default-clause-stands : goal.returns-in_default-clause-stands
 returns-in_default-clause-stands c =
     stands (held_of c.self.inside) _ _ _ c.self.invariant _ c.self.view_is
-    (take_nobody (held_of c.self.inside) c.take_next.new.followers.entries c.args.who (search rules) (search rules))
+    (take_nobody (held_of c.self.inside) c.take.new.self.entries c.args.who (search rules) (search rules))
 
 pub invariant_of-self-2 : goal.invariant_of-self-2
 invariant_of-self-2 c =
     keeps (held_of c.self.inside) _ _ _ c.self.invariant refl
-    (take_goes (held_of c.self.inside) c.take_next.new.followers.entries c.args.who c.in-Some.next
-    (sym c.in-Some.is ∙ c.take_next.ensures.next) c.take_next.ensures.updates c.take_next.ensures.boards)
+    (take_goes (held_of c.self.inside) c.take.new.self.entries c.args.who c.in-Some.next
+    (sym c.in-Some.is ∙ c.take.ensures.next) c.take.ensures.updates c.take.ensures.boards)
 
 pub returns-clause-stands : goal.returns-clause-stands
 returns-clause-stands c =
     rw c.answer.ensures
     (stands (held_of c.self.inside) _ _ _ c.self.invariant _ c.self.view_is
-    (take_goes (held_of c.self.inside) c.take_next.new.followers.entries c.args.who c.in-Some.next
-    (sym c.in-Some.is ∙ c.take_next.ensures.next) c.take_next.ensures.updates c.take_next.ensures.boards))
+    (take_goes (held_of c.self.inside) c.take.new.self.entries c.args.who c.in-Some.next
+    (sym c.in-Some.is ∙ c.take.ensures.next) c.take.ensures.updates c.take.ensures.boards))

@@ -8,8 +8,8 @@ use Rattle.relay_core.specs.declared.follower.Next.{Next}
 use Rattle.relay_core.specs.declared.follower.Next.TheVariants.{Waiting, Closed, Idle}
 use Rattle.relay_core.specs.declared.reply.Taken.{Taken}
 use Rattle.relay_core.specs.declared.reply.Taken.TheVariants.{Move, Nothing, Over, Cut}
-use Rattle.relay_core.specs.Boards.{outcome_at}
-use Rattle.relay_core.specs.Held.{HeldFollower}
+use Rattle.relay_core.specs.Inner.Boards.{outcome_at}
+use Rattle.relay_core.specs.Inner.Held.{HeldFollower}
 use Rattle.relay_core.specs.Name.{same_name}
 
 abbrev pub next_by : ℕ → List ℕ → Option ℕ → List Triple → Next

@@ -14,6 +14,16 @@ pub record HeldFollower : Type 0 where
   pub queue : List Triple
   pub capacity : ℕ
 
+-- the boards, and how many more fit without memory
+pub record HeldBoards : Type 0 where
+  pub entries : List (List ℕ × GameRecord)
+  pub room : ℕ
+
+-- the spectators who follow, and how many more fit without memory, their queues aside
+pub record HeldFollowers : Type 0 where
+  pub entries : List (ℕ × HeldFollower)
+  pub room : ℕ
+
 pub record Held : Type 0 where
   pub limits : LimitNumbers
   pub boards : List (List ℕ × GameRecord)

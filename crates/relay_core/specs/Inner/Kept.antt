@@ -4,7 +4,7 @@ use Rattle.std.specs.Map.{lookup}
 use Rattle.c960_game.specs.Limits.{LimitNumbers}
 use Rattle.relay_core.specs.declared.relay.Relay.TheInside.{Inside}
 use Rattle.relay_core.specs.Following.{following, board_of, joined, taken, cut_at, due}
-use Rattle.relay_core.specs.Held.{HeldFollower, Held, plain}
+use Rattle.relay_core.specs.Inner.Held.{HeldFollower, Held, plain}
 use Rattle.relay_core.specs.History.{History, opened, start_of}
 use Rattle.relay_core.specs.Name.{same_name}
 use Rattle.relay_core.specs.Replies.{LawfulHistory}

@@ -1,14 +1,14 @@
 -- What becomes of the followers.
-use Rattle.std.specs.Prelude.{ℕ, ◌+◌, ◌==◌, ◌&&◌, not, cond, is_some, List, [], ◌∷◌, ◌++◌, length, map, Some, None, unwrap_or}
+use Rattle.std.specs.Prelude.{ℕ, ◌+◌, ◌==◌, ◌&&◌, not, cond, is_some, List, [], ◌∷◌, ◌++◌, length, drop, map, Some, None, unwrap_or}
 use Rattle.c960_board.specs.Moves.{Triple}
 use Rattle.relay_core.specs.declared.reply.Account.{Account}
-use Rattle.relay_core.specs.Held.{HeldFollower}
+use Rattle.relay_core.specs.Inner.Held.{HeldFollower}
 use Rattle.relay_core.specs.Name.{same_name}
 
--- one who joins at a place
-abbrev pub joining : List ℕ → ℕ → ℕ → HeldFollower
-joining board place capacity =
-    record { board = board; joined = place; taken = 0; cut = None; queue = []; capacity = capacity }
+-- one who joins at a place of a log, with the moves from there on in its queue
+abbrev pub joining : List ℕ → ℕ → List Triple → ℕ → HeldFollower
+joining board place moves capacity =
+    record { board = board; joined = place; taken = 0; cut = None; queue = drop place moves; capacity = capacity }
 
 abbrev pub closed_at : ℕ → HeldFollower → HeldFollower
 closed_at place f = record f { cut = Some place }
