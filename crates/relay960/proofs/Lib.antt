@@ -1,12 +1,1 @@
-pub mod Prefixes
-pub mod Items
-pub mod AnswerFacts
-pub mod StatusFacts
-pub mod LineFacts
-pub mod AnsweredFacts
-pub mod TakingFacts
-pub mod RunFacts
-pub mod PlayFacts
-pub mod PlayRunFacts
-pub mod ScriptFacts
-pub mod ScriptRunFacts
+pub mod EndFacts

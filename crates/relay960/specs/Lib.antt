@@ -1,12 +1,1 @@
-pub mod Writing
-pub mod Faults
-pub mod Start
-pub mod Moves
 pub mod Statuses
-pub mod Lines
-pub mod Taking
-pub mod Limits
-pub mod Play
-pub mod PlayCut
-pub mod Script
-pub mod ScriptSteps

@@ -1,10 +1,19 @@
--- The statuses with which the program ends.
-use Rattle.std.specs.Prelude.{ℕ, ◌≡◌, ◌<◌, ◌≤◌, ◌⊎◌, nat_lt, cond, Bool, true, false, List}
-use Rattle.relay960.specs.declared.fault.RunFault.{RunFault}
-use Rattle.relay960.specs.declared.fault.RunFault.TheVariants.{Read, Write, TooLong, OutOfMemory, BadStart}
+-- What a job has done, and the status with which the program ends: from what the input holds and the output was given before it to
+-- what they are after it.
+use Rattle.std.specs.Prelude.{ℕ, ◌≡◌, ◌⊎◌, nat_lt, cond, Bool, List}
+use Rattle.std.specs.Io.KnownBytes.{Appends, Keeps}
+use Rattle.c960_game.specs.Limits.{LimitNumbers}
+use Rattle.relay960_engines.specs.declared.fault.RunFault.{RunFault}
+use Rattle.relay960_engines.specs.declared.fault.RunFault.TheVariants.{Read, Write, TooLong, OutOfMemory, BadStart}
+use Rattle.relay960_engines.specs.Limits.{greatest_bounds}
+use Rattle.relay960_engines.specs.Moves.{Answered, Failed}
+use Rattle.relay960_engines.specs.Play.{Played, PlayStopped}
+use Rattle.relay960_engines.specs.Script.{Ran, ScriptStopped}
+use Rattle.relay960_engines.specs.Runs.{Known}
+use Rattle.relay960_engines.specs.Start.{start_line}
+use Rattle.relay960_engines.specs.Writing.{AppendsPart}
 use Rattle.relay960.specs.declared.words.Job.{Job}
 use Rattle.relay960.specs.declared.words.Job.TheVariants.{Start, Moves, Play, Script}
-use Rattle.relay960.specs.Moves.{IsAnswer}
 
 -- 3 where a device failed or the input was too long, 4 where there was no memory, 1 where the argument was refused
 abbrev pub fault_status : RunFault → ℕ
@@ -14,23 +23,39 @@ fault_status TooLong = 3
 fault_status OutOfMemory = 4
 fault_status BadStart = 1
 
--- some answer to the text is of that kind: true for a lawful position, false for what is refused
-pub record HasAnswer (fen : List ℕ) (good : Bool) : Type 0 where
-  pub bytes : List ℕ
-  pub answer : IsAnswer fen good bytes
+-- 0 with the line of start n, or 1 with that of its refusal; 3 with a prefix of it
+abbrev pub StartEnds : ℕ → Known → Known → ℕ → Type 0
+StartEnds n old new s = ((s ≡ cond (nat_lt n 960) 0 1) × Appends old new (start_line n)) ⊎ ((s ≡ 3) × AppendsPart old new (start_line n))
 
--- 0 or for want of memory 4 where the text is a lawful position's, 1 where it is refused
-abbrev pub TextStatus : List ℕ → ℕ → Type 0
-TextStatus fen s = (HasAnswer fen true × ((s ≡ 0) ⊎ (s ≡ 4))) ⊎ (HasAnswer fen false × (s ≡ 1))
+-- 0 with the lines of a lawful position, 1 with the line that refuses the text; or a fault's, with what stands then
+abbrev pub MovesEnds : List ℕ → Known → Known → ℕ → Type 0
+MovesEnds fen old new s =
+    ((good : Bool) × (s ≡ cond good 0 1) × Answered fen good old new)
+    ⊎ ((fault : RunFault) × (s ≡ fault_status fault) × Failed fen fault old new)
 
--- 1 where there is no such start; else 0, or 4 for want of memory
-abbrev pub PlayStatus : ℕ → ℕ → Type 0
-PlayStatus n s = ((960 ≤ n) × (s ≡ 1)) ⊎ ((n < 960) × ((s ≡ 0) ⊎ (s ≡ 4)))
+-- 0 with all answers of the game of start n, or a fault's, with what stands then
+abbrev pub PlayEnds : ℕ → Known → Known → Known → Known → ℕ → Type 0
+PlayEnds n old_input new_input old_output new_output s =
+    ((count : ℕ) × (s ≡ 0) × Played n greatest_bounds old_input new_input old_output new_output count)
+    ⊎ ((fault : RunFault) × (s ≡ fault_status fault)
+    × PlayStopped n greatest_bounds old_input new_input old_output new_output fault)
 
--- the status of a job where no device fails and no input is too long: 0 where it is done, 1 where its argument is refused, 4
--- where there is no memory
-abbrev pub JobStatus : Job → ℕ → Type 0
-JobStatus (Start n) s = s ≡ cond (nat_lt n 960) 0 1
-JobStatus (Moves fen) s = TextStatus fen.now s
-JobStatus (Play n) s = PlayStatus n s
-JobStatus (Script limits) s = (s ≡ 0) ⊎ (s ≡ 4)
+-- 0 with all answers of a relay with these limits, or a fault's, with what stands then
+abbrev pub ScriptEnds : LimitNumbers → Known → Known → Known → Known → ℕ → Type 0
+ScriptEnds limits old_input new_input old_output new_output s =
+    ((count : ℕ) × (s ≡ 0) × Ran limits greatest_bounds old_input new_input old_output new_output count)
+    ⊎ ((fault : RunFault) × (s ≡ fault_status fault)
+    × ScriptStopped limits greatest_bounds old_input new_input old_output new_output fault)
+
+-- the job was done so, and ends with status s; `start` and `moves` read nothing
+abbrev pub Ends : Job → Known → Known → Known → Known → ℕ → Type 0
+Ends (Start n) old_input new_input old_output new_output s = Keeps old_input new_input × StartEnds n old_output new_output s
+Ends (Moves fen) old_input new_input old_output new_output s = Keeps old_input new_input × MovesEnds fen.now old_output new_output s
+Ends (Play n) old_input new_input old_output new_output s = PlayEnds n old_input new_input old_output new_output s
+Ends (Script limits) old_input new_input old_output new_output s = ScriptEnds limits old_input new_input old_output new_output s
+
+-- the same over streams that do not tell what they hold
+abbrev pub EndsSomehow : Job → ℕ → Type 0
+EndsSomehow job s =
+    (old_input : Known) × (new_input : Known) × (old_output : Known) × (new_output : Known)
+    × Ends job old_input new_input old_output new_output s

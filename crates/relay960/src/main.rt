@@ -1,25 +1,13 @@
 //! The program `relay960`: it reads its words and does what they ask for.
 #![tactic(auto)]
 
-mod answerer;
-mod fault;
-mod kept;
-mod limits;
-mod lines;
-mod listing;
-mod moves;
-mod play;
-mod play_texts;
 mod program;
-mod progress;
-mod script;
-mod start;
 #[cfg(test)]
 mod tests;
 mod words;
-mod writing;
 
-use program::{status_of, status_of_error, status_without_memory};
+use program::{Course, course_of, status_of_error, status_without_memory};
+use relay960_serving::status_of_service;
 use std::env;
 use std::io::ErrorKind;
 use std::process::ExitCode;
@@ -29,7 +17,10 @@ fn main(rt: HostRuntime) -> ExitCode {
     let alloc = rt.alloc();
     let status = match env::args(&rt) {
         Ok(args) => match args.collect::<Vec<String>>(alloc) {
-            Ok(words) => status_of(&rt, alloc, words.as_slice()),
+            Ok(words) => match course_of(&rt, alloc, words.as_slice()) {
+                Course::Ended(status) => status,
+                Course::Serves(service) => status_of_service(&rt, alloc, &service),
+            },
             Err(_) => status_without_memory(&rt),
         },
         Err(error) if error.kind() == ErrorKind::OutOfMemory => status_without_memory(&rt),

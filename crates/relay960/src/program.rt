@@ -1,21 +1,19 @@
 //! What the program does for its words, and the status that it ends with.
 
-ghost use Rattle.std.specs.Prelude.{◌≡◌, ◌≢◌, ◌⊎◌, MatchResult, cond};
+ghost use Rattle.std.specs.Prelude.{◌≡◌, ◌≢◌, MatchResult, cond};
 ghost use Rattle.clap.specs.Words.{kind_of};
-ghost use Rattle.relay960.specs.Statuses.{JobStatus, PlayStatus, fault_status};
+ghost use Rattle.relay960.specs.Statuses.{Ends, EndsSomehow, fault_status};
 
-use crate::fault::RunFault;
-use crate::limits::{ScriptLimits, default_limits};
-use crate::moves::moves_run;
-use crate::play::play_run;
-use crate::script::script_run;
-use crate::start::start_run;
-use crate::words::{Job, job_of};
-use c960_game::Limits;
+use crate::words::{Job, Order, order_of};
 use clap::error::ErrorKind;
+use relay960_engines::{
+    RunFault, ScriptLimits, default_limits, moves_run, play_run, script_run, start_run,
+};
+use relay960_serving::Service;
 use std::alloc::Global;
 use std::convert::AsStr;
 use std::io;
+use std::io::{Read, Write};
 
 /// The job is done.
 pub const DONE: u8 = 0;
@@ -32,11 +30,25 @@ pub const DEVICE_FAILED: u8 = 3;
 /// There was no memory.
 pub const OUT_OF_MEMORY: u8 = 4;
 
-/// Does what the words ask for and gives the status. The first word is the program's name.
-pub fn status_of<R: Input + Print + Eprint, S: AsStr>(rt: &R, alloc: Global, words: &[S]) -> u8 {
-    match job_of(alloc, words) {
-        Ok(job) => status_of_job(rt, alloc, job),
-        Err(error) => status_of_error(rt, &error),
+/// What became of the words.
+#[derive(Clone, Copy, PartialEq, Eq, Debug)]
+pub enum Course {
+    /// What they ask for is done, with this status.
+    Ended(u8),
+    /// They ask to serve.
+    Serves(Service),
+}
+
+/// Does what the words ask for and gives the status, unless they ask to serve. The first word is the program's name.
+pub fn course_of<R: Input + Print + Eprint, S: AsStr>(
+    rt: &R,
+    alloc: Global,
+    words: &[S],
+) -> Course {
+    match order_of(alloc, words) {
+        Ok(Order::Run(job)) => Course::Ended(status_over_streams(rt, alloc, &job)),
+        Ok(Order::Serve(service)) => Course::Serves(service),
+        Err(error) => Course::Ended(status_of_error(rt, &error)),
     }
 }
 
@@ -61,40 +73,40 @@ pub fn status_without_memory<R: Eprint>(rt: &R) -> u8
     OUT_OF_MEMORY
 }
 
-/// Does the job and gives the status, which is one of the job's where no device fails and no input is too long.
-fn status_of_job<R: Input + Print + Eprint>(rt: &R, alloc: Global, job: Job<'_>) -> u8
-    ensures { JobStatus job.entry result ⊎ (result ≡ 3) }
+/// Does the job over the program's own streams, and gives the status. What these hold they do not tell, so what was read and written
+/// stands at `status_of_job`.
+fn status_over_streams<R: Input + Print + Eprint>(rt: &R, alloc: Global, job: &Job<'_>) -> u8
+    ensures { EndsSomehow job.now result }
 {
+    let mut reader = rt.reader();
     let mut writer = io::writer(rt);
+    status_of_job(rt, alloc, job, &mut reader, &mut writer)
+}
+
+/// Does the job over any reader and writer, tells of a fault on standard error, and gives the status. The bounds of `play` and
+/// `script` are the greatest.
+pub fn status_of_job<E: Eprint, R: Read, W: Write>(
+    err: &E,
+    alloc: Global,
+    job: &Job<'_>,
+    reader: &mut R,
+    writer: &mut W,
+) -> u8
+    ensures { Ends job.now (R.remaining reader.old) (R.remaining reader.new) (W.contents writer.old)
+        (W.contents writer.new) result }
+{
     match job {
-        Job::Start(number) => status_of_run(rt, start_run(number, &mut writer)),
-        Job::Moves(fen) => status_of_run(rt, moves_run(alloc, fen.as_bytes(), &mut writer)),
-        Job::Play(number) => status_of_play(rt, alloc, number),
-        Job::Script(limits) => status_of_script(rt, alloc, limits),
+        Job::Start(number) => status_of_run(err, start_run(*number, writer)),
+        Job::Moves(fen) => status_of_run(err, moves_run(alloc, fen.as_bytes(), writer)),
+        Job::Play(number) => {
+            let bounds = ScriptLimits::greatest(default_limits());
+            status_of_lines(err, play_run(alloc, *number, reader, writer, bounds))
+        }
+        Job::Script(limits) => {
+            let bounds = ScriptLimits::greatest(*limits);
+            status_of_lines(err, script_run(alloc, reader, writer, bounds))
+        }
     }
-}
-
-/// Plays the game of start `number` over the program's input and output, and gives the status, which is one of that
-/// number where no device fails and the input is not too long.
-fn status_of_play<R: Input + Print + Eprint>(rt: &R, alloc: Global, number: u16) -> u8
-    ensures { PlayStatus number result ⊎ (result ≡ 3) }
-{
-    let mut reader = rt.reader();
-    let mut writer = io::writer(rt);
-    let limits = ScriptLimits::greatest(default_limits());
-    let ran = play_run(alloc, number, &mut reader, &mut writer, limits);
-    status_of_lines(rt, ran)
-}
-
-/// Runs a script over the program's input and output, and gives the status.
-fn status_of_script<R: Input + Print + Eprint>(rt: &R, alloc: Global, limits: Limits) -> u8
-    ensures { ((result ≡ 0) ⊎ (result ≡ 4)) ⊎ (result ≡ 3) }
-{
-    let mut reader = rt.reader();
-    let mut writer = io::writer(rt);
-    let limits = ScriptLimits::greatest(limits);
-    let ran = script_run(alloc, &mut reader, &mut writer, limits);
-    status_of_lines(rt, ran)
 }
 
 /// The status of a run: whether its argument was good, or the fault, which it tells of on standard error.

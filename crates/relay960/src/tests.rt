@@ -1,16 +1,6 @@
-//! Tests of what no clause says: the texts that are printed, the devices' faults and the statuses.
+//! Tests of what no clause says: the words, the texts of `clap`, the statuses, and which stream each text goes to.
 
-mod answerers;
-mod bounds;
-mod device;
-mod engine;
-mod lines;
-mod moves;
-mod play;
-mod play_devices;
-mod readers;
-mod script;
-mod script_devices;
 mod statuses;
 mod streams;
 mod texts;
+mod worked;

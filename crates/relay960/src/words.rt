@@ -1,13 +1,23 @@
 //! The words of the command line, read by `clap`.
 
-use crate::limits::default_limits;
 use c960_game::Limits;
 use clap::error::ErrorKind;
 use clap::{Arg, ArgAction, ArgMatches, Command, Error, value_parser};
+use relay960_engines::default_limits;
+use relay960_serving::Service;
 use std::alloc::{AllocError, Global};
 use std::convert::AsStr;
 
 /// What the words ask for.
+#[derive(Clone, Copy, PartialEq, Eq, Debug)]
+pub enum Order<'a> {
+    /// To do a job over the program's own streams.
+    Run(Job<'a>),
+    /// To serve.
+    Serve(Service),
+}
+
+/// A job over a reader and a writer.
 #[derive(Clone, Copy, PartialEq, Eq, Debug)]
 pub enum Job<'a> {
     /// To print the starting position of that number.
@@ -52,7 +62,7 @@ fn play_command<'a>(alloc: Global) -> Result<Command<'a>, AllocError> {
         .arg(number)
 }
 
-/// An option of `script`: a limit from 1 on.
+/// An option of `script` and `serve`: a limit from 1 on.
 fn limit_option<'a>(
     alloc: Global,
     name: &'static str,
@@ -68,17 +78,44 @@ fn limit_option<'a>(
         .default_value(default)
 }
 
-fn script_command<'a>(alloc: Global) -> Result<Command<'a>, AllocError> {
+/// The command with the options of a relay's limits.
+fn with_limits<'a>(alloc: Global, command: Command<'a>) -> Result<Command<'a>, AllocError> {
     let boards = "How many boards there may be";
     let followers = "How many followers a board may have";
     let capacity = "How many moves a follower's queue holds";
     let plies = "How many plies a game may have";
-    Command::new(alloc, "script")
-        .about("Run a relay: read a command a line as JSON, print its answer")
+    command
         .arg(limit_option(alloc, "boards", boards, 256, "16"))?
         .arg(limit_option(alloc, "followers", followers, 1024, "64"))?
         .arg(limit_option(alloc, "capacity", capacity, 1024, "64"))?
         .arg(limit_option(alloc, "plies", plies, 16384, "1024"))
+}
+
+fn script_command<'a>(alloc: Global) -> Result<Command<'a>, AllocError> {
+    let command = Command::new(alloc, "script").about(
+        "Run a relay: read a command a line as JSON, print its answer",
+    );
+    with_limits(alloc, command)
+}
+
+fn serve_command<'a>(alloc: Global) -> Result<Command<'a>, AllocError> {
+    let port = Arg::new(alloc, "port")
+        .long("port")
+        .help("The port of 127.0.0.1 on which it listens")
+        .action(ArgAction::Set)
+        .value_parser(value_parser!(u16).range(1..=65535))
+        .default_value("9600");
+    let connections = Arg::new(alloc, "connections")
+        .long("connections")
+        .help("How many connections it accepts before it ends")
+        .action(ArgAction::Set)
+        .value_parser(value_parser!(u32).range(1..=1_000_000))
+        .default_value("1000000");
+    let command = Command::new(alloc, "serve")
+        .about("Serve a relay over WebSocket: answer commands, push moves to followers")
+        .arg(port)?
+        .arg(connections)?;
+    with_limits(alloc, command)
 }
 
 fn program_command<'a>(alloc: Global) -> Result<Command<'a>, AllocError> {
@@ -88,20 +125,36 @@ fn program_command<'a>(alloc: Global) -> Result<Command<'a>, AllocError> {
         .subcommand(start_command(alloc)?)?
         .subcommand(moves_command(alloc)?)?
         .subcommand(play_command(alloc)?)?
-        .subcommand(script_command(alloc)?)
+        .subcommand(script_command(alloc)?)?
+        .subcommand(serve_command(alloc)?)
 }
 
 /// What the words ask for, of which the first is the program's name; else `clap`'s error, whose text is for the user.
 /// Words that ask for help are such an error too.
-pub fn job_of<'a, S: AsStr>(alloc: Global, words: &'a [S]) -> Result<Job<'a>, Error> {
+pub fn order_of<'a, S: AsStr>(alloc: Global, words: &'a [S]) -> Result<Order<'a>, Error> {
     let matches = program_command(alloc)?.try_get_matches_from(words)?;
     match matches.subcommand() {
         // `clap` answers an error where the number or the text is missing, so `unwrap_or` is never needed here.
-        Some(("start", given)) => Ok(Job::Start(given.get_one::<u16>("N").unwrap_or(0))),
-        Some(("moves", given)) => Ok(Job::Moves(given.get_str("FEN").unwrap_or(""))),
-        Some(("play", given)) => Ok(Job::Play(given.get_one::<u16>("N").unwrap_or(0))),
-        Some((_, given)) => Ok(Job::Script(limits_of(given))),
-        None => Ok(Job::Script(default_limits())),
+        Some(("start", given)) => Ok(Order::Run(Job::Start(number_of(given)))),
+        Some(("moves", given)) => Ok(Order::Run(Job::Moves(given.get_str("FEN").unwrap_or("")))),
+        Some(("play", given)) => Ok(Order::Run(Job::Play(number_of(given)))),
+        Some(("serve", given)) => Ok(Order::Serve(service_of(given))),
+        Some((_, given)) => Ok(Order::Run(Job::Script(limits_of(given)))),
+        None => Ok(Order::Run(Job::Script(default_limits()))),
+    }
+}
+
+/// The number that is given.
+fn number_of(given: &ArgMatches) -> u16 {
+    given.get_one::<u16>("N").unwrap_or(0)
+}
+
+/// The service that is given.
+fn service_of(given: &ArgMatches) -> Service {
+    Service {
+        port: given.get_one::<u16>("port").unwrap_or(9600),
+        connections: given.get_one::<u32>("connections").unwrap_or(1_000_000),
+        limits: limits_of(given),
     }
 }
 

@@ -1,15 +1,16 @@
 //! The statuses, and which stream each text goes to.
 
-use super::lines::STANDARD;
-use super::moves::{KINGS_AND_QUEENS, PROMOTION, PROMOTION_LINES, UNLAWFUL};
-use super::script::{two_boards_answers, two_boards_refused, two_boards_script};
 use super::streams::Streams;
 use super::texts::{HELP, NO_NUMBER, TWO_WORDS};
-use crate::fault::RunFault;
+use super::worked::{
+    KINGS_AND_QUEENS, PROMOTION, PROMOTION_LINES, STANDARD, TWO_BOARDS, TWO_BOARDS_ANSWERS,
+    TWO_BOARDS_REFUSED, UNLAWFUL,
+};
 use crate::program::{
-    DEVICE_FAILED, DONE, FAULTY_WORDS, OUT_OF_MEMORY, REFUSED, status_of, status_of_error,
+    Course, DEVICE_FAILED, DONE, FAULTY_WORDS, OUT_OF_MEMORY, REFUSED, course_of, status_of_error,
     status_of_fault,
 };
+use relay960_engines::RunFault;
 use std::alloc::AllocError;
 use std::test::Fail;
 
@@ -86,7 +87,11 @@ fn each_run_has_its_status_and_streams(rt: HostRuntime) -> Result<(), Fail> {
     ];
     for (words, status, out, err) in cases {
         let streams = Streams::new(alloc, false);
-        assert_eq!(rt; status_of(&streams, alloc, words), status, "{words:?}");
+        assert_eq!(rt;
+            course_of(&streams, alloc, words),
+            Course::Ended(status),
+            "{words:?}"
+        );
         assert!(rt; printed(&streams, out, err), "{words:?}");
     }
     Ok(())
@@ -119,7 +124,11 @@ fn faulty_words_have_status_2(rt: HostRuntime) -> Result<(), Fail> {
     ];
     for words in cases {
         let streams = Streams::new(alloc, false);
-        assert_eq!(rt; status_of(&streams, alloc, words), 2, "{words:?}");
+        assert_eq!(rt;
+            course_of(&streams, alloc, words),
+            Course::Ended(2),
+            "{words:?}"
+        );
     }
     Ok(())
 }
@@ -130,12 +139,96 @@ fn a_game_is_played_over_the_streams(rt: HostRuntime) -> Result<(), Fail> {
     let words = ["relay960", "play", "518"].as_slice();
     let input = b"e9e4\nf2f4\n";
     let streams = Streams::with_input(alloc, input, false);
-    assert_eq!(rt; status_of(&streams, alloc, words), DONE);
+    assert_eq!(rt; course_of(&streams, alloc, words), Course::Ended(DONE));
     let out = "fault 2 Square\nrnbqkbnr/pppppppp/8/8/5P2/8/PPPPP1PP/RNBQKBNR b HAha f3 0 1\n";
     assert!(rt; printed(&streams, out, ""));
     let streams = Streams::with_input(alloc, input, true);
-    assert_eq!(rt; status_of(&streams, alloc, words), DEVICE_FAILED);
+    assert_eq!(rt;
+        course_of(&streams, alloc, words),
+        Course::Ended(DEVICE_FAILED)
+    );
     assert!(rt; printed(&streams, "", "fault 32 Write\n"));
+    Ok(())
+}
+
+#[test]
+fn each_start_is_printed_and_played(rt: HostRuntime) -> Result<(), Fail> {
+    let alloc = rt.alloc();
+    let cases = [
+        (
+            "0",
+            "bbqnnrkr/pppppppp/8/8/8/8/PPPPPPPP/BBQNNRKR w HFhf - 0 1\n",
+            "bbqnnrkr/pppppppp/8/8/4P3/8/PPPP1PPP/BBQNNRKR b HFhf e3 0 1\n",
+        ),
+        (
+            "518",
+            STANDARD,
+            "rnbqkbnr/pppppppp/8/8/4P3/8/PPPP1PPP/RNBQKBNR b HAha e3 0 1\n",
+        ),
+        (
+            "959",
+            "rkrnnqbb/pppppppp/8/8/8/8/PPPPPPPP/RKRNNQBB w CAca - 0 1\n",
+            "rkrnnqbb/pppppppp/8/8/4P3/8/PPPP1PPP/RKRNNQBB b CAca e3 0 1\n",
+        ),
+    ];
+    for (number, start, after) in cases {
+        let streams = Streams::with_input(alloc, b"e2e4\n", false);
+        let words = ["relay960", "start", number];
+        assert_eq!(rt;
+            course_of(&streams, alloc, &words),
+            Course::Ended(DONE),
+            "{words:?}"
+        );
+        assert!(rt; printed(&streams, start, ""), "{words:?}");
+        let streams = Streams::with_input(alloc, b"e2e4\n", false);
+        let words = ["relay960", "play", number];
+        assert_eq!(rt;
+            course_of(&streams, alloc, &words),
+            Course::Ended(DONE),
+            "{words:?}"
+        );
+        assert!(rt; printed(&streams, after, ""), "{words:?}");
+    }
+    Ok(())
+}
+
+#[test]
+fn each_limit_is_the_relay_s(rt: HostRuntime) -> Result<(), Fail> {
+    let alloc = rt.alloc();
+    // Which of the answers to the two boards is another one.
+    let cases = [
+        (
+            "--boards=1",
+            1,
+            r#"{"code":4,"name":"TooManyBoards","reply":"refused"}"#,
+        ),
+        (
+            "--followers=1",
+            3,
+            r#"{"code":11,"name":"TooManyFollowers","reply":"refused"}"#,
+        ),
+        ("--capacity=1", 8, r#"{"reply":"cut"}"#),
+        (
+            "--plies=2",
+            6,
+            r#"{"code":7,"name":"LogFull","reply":"refused"}"#,
+        ),
+    ];
+    for (option, place, answer) in cases {
+        let mut out = String::new(alloc);
+        for (i, line) in TWO_BOARDS_ANSWERS.lines().enumerate() {
+            out.push_str(if i == place { answer } else { line })?;
+            out.push_str("\n")?;
+        }
+        let streams = Streams::with_input(alloc, TWO_BOARDS.as_bytes(), false);
+        let words = ["relay960", "script", option];
+        assert_eq!(rt;
+            course_of(&streams, alloc, &words),
+            Course::Ended(DONE),
+            "{option}"
+        );
+        assert!(rt; printed(&streams, out.as_str(), ""), "{option}");
+    }
     Ok(())
 }
 
@@ -151,7 +244,11 @@ fn a_limit_out_of_its_range_is_a_faulty_word(rt: HostRuntime) -> Result<(), Fail
         for word in ["0", past, "x", "-1", "65537", ""] {
             let streams = Streams::new(alloc, false);
             let words = ["relay960", "script", option, word];
-            assert_eq!(rt; status_of(&streams, alloc, &words), 2, "{option} {word}");
+            assert_eq!(rt;
+                course_of(&streams, alloc, &words),
+                Course::Ended(2),
+                "{option} {word}"
+            );
         }
     }
     Ok(())
@@ -160,9 +257,6 @@ fn a_limit_out_of_its_range_is_a_faulty_word(rt: HostRuntime) -> Result<(), Fail
 #[test]
 fn a_script_is_run_over_the_streams(rt: HostRuntime) -> Result<(), Fail> {
     let alloc = rt.alloc();
-    let script = two_boards_script(alloc)?;
-    let answers = two_boards_answers(alloc)?;
-    let refused = two_boards_refused(alloc)?;
     let narrow = [
         "relay960",
         "script",
@@ -171,19 +265,22 @@ fn a_script_is_run_over_the_streams(rt: HostRuntime) -> Result<(), Fail> {
         "--capacity=1",
         "--plies=2",
     ];
-    for (words, output) in [
-        (["relay960"].as_slice(), answers.as_slice()),
-        (["relay960", "script"].as_slice(), answers.as_slice()),
-        (narrow.as_slice(), refused.as_slice()),
+    for (words, out) in [
+        (["relay960"].as_slice(), TWO_BOARDS_ANSWERS),
+        (["relay960", "script"].as_slice(), TWO_BOARDS_ANSWERS),
+        (narrow.as_slice(), TWO_BOARDS_REFUSED),
     ] {
-        let out = str::from_utf8(output)?;
-        let streams = Streams::with_input(alloc, script.as_slice(), false);
-        assert_eq!(rt; status_of(&streams, alloc, words), DONE, "{words:?}");
-        assert!(rt; printed(&streams, out, ""), "{words:?}");
-        let streams = Streams::with_input(alloc, script.as_slice(), true);
+        let streams = Streams::with_input(alloc, TWO_BOARDS.as_bytes(), false);
         assert_eq!(rt;
-            status_of(&streams, alloc, words),
-            DEVICE_FAILED,
+            course_of(&streams, alloc, words),
+            Course::Ended(DONE),
+            "{words:?}"
+        );
+        assert!(rt; printed(&streams, out, ""), "{words:?}");
+        let streams = Streams::with_input(alloc, TWO_BOARDS.as_bytes(), true);
+        assert_eq!(rt;
+            course_of(&streams, alloc, words),
+            Course::Ended(DEVICE_FAILED),
             "{words:?}"
         );
         assert!(rt; printed(&streams, "", "fault 32 Write\n"), "{words:?}");
@@ -204,8 +301,8 @@ fn a_closed_output_is_fault_32(rt: HostRuntime) -> Result<(), Fail> {
     ] {
         let streams = Streams::new(alloc, true);
         assert_eq!(rt;
-            status_of(&streams, alloc, words),
-            DEVICE_FAILED,
+            course_of(&streams, alloc, words),
+            Course::Ended(DEVICE_FAILED),
             "{words:?}"
         );
         assert!(rt; printed(&streams, "", "fault 32 Write\n"), "{words:?}");

@@ -1,7 +1,8 @@
 //! The texts of `clap` for faulty words and for help.
 
-use crate::words::{Job, job_of, not_utf8};
+use crate::words::{Job, Order, not_utf8, order_of};
 use c960_game::Limits;
+use relay960_serving::Service;
 use std::test::Fail;
 
 /// The help of the program.
@@ -14,6 +15,7 @@ Commands:
   moves   Print the legal moves and the state of the position FEN
   play    Play the game of start N: read a move a line, print the position after it
   script  Run a relay: read a command a line as JSON, print its answer
+  serve   Serve a relay over WebSocket: answer commands, push moves to followers
   help    Print this message or the help of the given subcommand(s)
 
 Options:
@@ -54,6 +56,31 @@ Arguments:
 
 Options:
   -h, --help  Print help
+";
+
+const SERVE_HELP: &str = "Serve a relay over WebSocket: answer commands, push moves to followers
+
+Usage: relay960 serve [OPTIONS]
+
+Options:
+      --port <port>                The port of 127.0.0.1 on which it listens [default: 9600]
+      --connections <connections>  How many connections it accepts before it ends [default: 1000000]
+      --boards <boards>            How many boards there may be [default: 16]
+      --followers <followers>      How many followers a board may have [default: 64]
+      --capacity <capacity>        How many moves a follower's queue holds [default: 64]
+      --plies <plies>              How many plies a game may have [default: 1024]
+  -h, --help                       Print help
+";
+
+const NO_PORT: &str = "error: invalid value '0' for '--port <port>': 0 is not in 1..=65535
+
+For more information, try '--help'.
+";
+
+const TOO_MANY_CONNECTIONS: &str =
+    "error: invalid value '1000001' for '--connections <connections>': 1000001 is not in 1..=1000000
+
+For more information, try '--help'.
 ";
 
 const SCRIPT_HELP: &str = "Run a relay: read a command a line as JSON, print its answer
@@ -141,25 +168,28 @@ For more information, try '--help'.
 #[test]
 fn words_name_a_job(rt: HostRuntime) -> Result<(), Fail> {
     let alloc = rt.alloc();
-    assert_eq!(rt; job_of(alloc, &["relay960", "start", "0"])?, Job::Start(0));
     assert_eq!(rt;
-        job_of(alloc, &["relay960", "start", "959"])?,
-        Job::Start(959)
+        order_of(alloc, &["relay960", "start", "0"])?,
+        Order::Run(Job::Start(0))
     );
     assert_eq!(rt;
-        job_of(alloc, &["relay960", "start", "65535"])?,
-        Job::Start(65535)
+        order_of(alloc, &["relay960", "start", "959"])?,
+        Order::Run(Job::Start(959))
+    );
+    assert_eq!(rt;
+        order_of(alloc, &["relay960", "start", "65535"])?,
+        Order::Run(Job::Start(65535))
     );
     for (word, number) in [("0", 0), ("959", 959), ("960", 960), ("65535", 65535)] {
         assert_eq!(rt;
-            job_of(alloc, &["relay960", "play", word])?,
-            Job::Play(number)
+            order_of(alloc, &["relay960", "play", word])?,
+            Order::Run(Job::Play(number))
         );
     }
     for fen in ["", "-", "8/P6k/8/8/8/8/8/K7 w - - 0 1"] {
         assert_eq!(rt;
-            job_of(alloc, &["relay960", "moves", fen])?,
-            Job::Moves(fen)
+            order_of(alloc, &["relay960", "moves", fen])?,
+            Order::Run(Job::Moves(fen))
         );
     }
     Ok(())
@@ -190,8 +220,45 @@ fn words_of_a_script_give_its_limits(rt: HostRuntime) -> Result<(), Fail> {
         let Some(limits) = limits else {
             return Err(Fail::from("no limits"));
         };
-        let job = job_of(alloc, words.as_slice())?;
-        assert_eq!(rt; job, Job::Script(limits), "{given:?}");
+        let order = order_of(alloc, words.as_slice())?;
+        assert_eq!(rt; order, Order::Run(Job::Script(limits)), "{given:?}");
+    }
+    Ok(())
+}
+
+#[test]
+fn a_service_has_its_port_connections_and_limits(rt: HostRuntime) -> Result<(), Fail> {
+    let alloc = rt.alloc();
+    let cases = [
+        (
+            ["relay960", "serve"].as_slice(),
+            9600,
+            1_000_000,
+            Limits::new(16, 64, 64, 1024),
+        ),
+        (
+            ["relay960", "serve", "--port", "65535", "--connections", "3"].as_slice(),
+            65535,
+            3,
+            Limits::new(16, 64, 64, 1024),
+        ),
+        (
+            ["relay960", "serve", "--plies=1", "--port=1", "--capacity=2"].as_slice(),
+            1,
+            1_000_000,
+            Limits::new(16, 64, 2, 1),
+        ),
+    ];
+    for (words, port, connections, limits) in cases {
+        let Some(limits) = limits else {
+            return Err(Fail::from("no limits"));
+        };
+        let service = Service {
+            port,
+            connections,
+            limits,
+        };
+        assert_eq!(rt; order_of(alloc, words)?, Order::Serve(service), "{words:?}");
     }
     Ok(())
 }
@@ -214,6 +281,12 @@ fn faulty_words_have_a_text(rt: HostRuntime) -> Result<(), Fail> {
         (["relay960", "play", "x"].as_slice(), NO_NUMBER),
         (["relay960", "play", "--help"].as_slice(), PLAY_HELP),
         (["relay960", "script", "--help"].as_slice(), SCRIPT_HELP),
+        (["relay960", "serve", "--help"].as_slice(), SERVE_HELP),
+        (["relay960", "serve", "--port", "0"].as_slice(), NO_PORT),
+        (
+            ["relay960", "serve", "--connections", "1000001"].as_slice(),
+            TOO_MANY_CONNECTIONS,
+        ),
         (
             ["relay960", "script", "--boards", "257"].as_slice(),
             TOO_MANY_BOARDS,
@@ -221,7 +294,7 @@ fn faulty_words_have_a_text(rt: HostRuntime) -> Result<(), Fail> {
         (["relay960", "script", "--plies=x"].as_slice(), NO_PLIES),
     ];
     for (words, expected) in cases {
-        let Err(error) = job_of(alloc, words) else {
+        let Err(error) = order_of(alloc, words) else {
             return Err(Fail::from("the words were read"));
         };
         let text = error.to_string(alloc)?;

@@ -1,0 +1,7 @@
+//! Tests of what no clause says: the texts that are written, and which fault a device leads to.
+
+mod answerers;
+mod bounds;
+mod engine;
+mod moves;
+mod start;

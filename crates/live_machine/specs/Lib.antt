@@ -1,0 +1,4 @@
+pub mod Limits
+pub mod Board
+pub mod Events
+pub mod Laws

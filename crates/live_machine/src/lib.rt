@@ -1,0 +1,9 @@
+//! The board that threads share, as a machine of events: the log of a game, its outcome, and what each follower has. It knows no
+//! words of memory, no atomic steps and no threads. What is true after any list of events is proved here once, and what runs on
+//! such boards is tied to these events elsewhere.
+#![tactic(auto)]
+
+pub mod laws;
+mod limits;
+
+pub use limits::BoardLimits;

@@ -1,0 +1,14 @@
+pub mod Totals
+pub mod Codes
+pub mod Notes
+pub mod Parts
+pub mod Steps
+pub mod Taking
+pub mod Leaving
+pub mod Checking
+pub mod Looking
+pub mod Publishing
+pub mod Handing
+pub mod Opening
+pub mod SoundViews
+pub mod Allowed

@@ -1,0 +1,4 @@
+//! Laws of the words and of the kinds of step.
+
+pub mod kinds;
+pub mod words;

@@ -1,0 +1,14 @@
+//! The words of a live board, what each seat at its table knows, and the kinds of atomic step: each keeps the rule that the words and
+//! the views show a shared board, and each is one of its events or none.
+#![tactic(auto)]
+
+pub mod laws;
+mod note;
+pub mod plays;
+mod setup;
+mod view;
+pub mod words;
+
+pub use note::Note;
+pub use setup::BoardSetup;
+pub use view::{LiveRule, Part, View};

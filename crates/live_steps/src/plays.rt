@@ -1,0 +1,92 @@
+//! What each kind of step tells who steps. The numbers are those of the table of kinds in docs/LIVE.md.
+
+ghost use Rattle.live_steps.specs.Views.{given_part, kept_part, spent, taking_in};
+ghost use Rattle.live_steps.specs.Plays.{checks, cuts, finishes, follows, leaves, looks, publishes, reads, stores, takes};
+
+use crate::view::View;
+use atomic_table::{Join, Play, Split};
+
+/// 2: a vacant cursor becomes open.
+pub struct Follow;
+
+impl Play<(), View> for Follow {
+    ghost then = { follows };
+}
+
+/// 3 and 12: the first carried part goes to a seat of its own, and a seat takes in the parts of another.
+pub struct Hand;
+
+impl Split<View> for Hand {
+    ghost left = { kept_part };
+
+    ghost right = { given_part };
+}
+
+impl Join<View> for Hand {
+    ghost both = { taking_in };
+
+    ghost spent = { spent };
+}
+
+/// 4: the move is stored at the length.
+pub struct Store;
+
+impl Play<(), View> for Store {
+    ghost then = { stores };
+}
+
+/// 5: the length is one more, with the outcome of the move stored.
+pub struct Publish;
+
+impl Play<(), View> for Publish {
+    ghost then = { publishes };
+}
+
+/// 5: the ending's outcome is stored.
+pub struct Finish;
+
+impl Play<(), View> for Finish {
+    ghost then = { finishes };
+}
+
+/// 6: the status is loaded.
+pub struct Look;
+
+impl Play<(), View> for Look {
+    ghost then = { looks };
+}
+
+/// 7: a move is loaded.
+pub struct Read;
+
+impl Play<(), View> for Read {
+    ghost then = { reads };
+}
+
+/// 8: one is added to a cursor.
+pub struct Take;
+
+impl Play<(), View> for Take {
+    ghost then = { takes };
+}
+
+/// 9: a cursor is loaded.
+pub struct Check;
+
+impl Play<(), View> for Check {
+    ghost then = { checks };
+}
+
+/// 10: a full open cursor is exchanged for a closed one.
+pub struct Cut;
+
+impl Play<(), View> for Cut {
+    ghost then = { cuts };
+}
+
+/// 11: a cursor is swapped for a vacant one.
+pub struct Leave;
+
+impl Play<(), View> for Leave {
+    ghost then = { leaves };
+}

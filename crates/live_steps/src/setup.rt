@@ -1,0 +1,11 @@
+//! What a board is opened with.
+
+use live_machine::BoardLimits;
+
+/// The number of a board's start and its limits. The rule of its table is told them once, and each view has them.
+#[derive(Clone, Copy, PartialEq, Eq, Debug)]
+pub struct BoardSetup {
+    /// 0 to 959.
+    pub start: u64,
+    pub limits: BoardLimits,
+}

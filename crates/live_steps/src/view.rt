@@ -1,0 +1,63 @@
+//! What the seats of a live board's table know, and the rule of the table. No value of `Part` or `View` is ever made: they stand in
+//! contracts alone.
+
+use crate::note::Note;
+use crate::setup::BoardSetup;
+use atomic_table::TableRule;
+use c960_board::Move;
+use c960_game::Outcome;
+use std::collections::LinkedList;
+
+/// What a follower knows: its part of a view.
+pub struct Part {
+    pub setup: BoardSetup,
+    /// Its cursor place.
+    pub place: u64,
+    /// The place of the log at which it joined.
+    pub joined: u64,
+    /// The moves that it has taken.
+    pub taken: LinkedList<Move>,
+    /// The length of the log that it has seen.
+    pub seen: u64,
+    /// The outcome that it has seen.
+    pub outcome: Option<Outcome>,
+    /// How often the status was loaded for it.
+    pub loads: u64,
+    /// The move that it has loaded and not yet taken.
+    pub loaded: Option<Move>,
+    /// The closing that it has noticed.
+    pub closing: Option<u64>,
+}
+
+/// What a seat knows.
+pub struct View {
+    /// Whether it is the board's. The fields from the log to the closings are the board's alone.
+    pub owns: bool,
+    pub setup: BoardSetup,
+    pub log: LinkedList<Move>,
+    pub outcome: Option<Outcome>,
+    /// The move that was stored and not yet published.
+    pub stored: Option<Move>,
+    /// What the board notes of each cursor place.
+    pub notes: LinkedList<Note>,
+    /// How often it has loaded each cursor.
+    pub checks: LinkedList<u64>,
+    /// The cursor places that it closed, in order.
+    pub closings: LinkedList<u64>,
+    /// The followers' parts that the seat carries.
+    pub parts: LinkedList<Part>,
+    /// The parts that left through this seat.
+    pub gone: LinkedList<Part>,
+}
+
+/// The rule of a live board's table: words and views show a shared board to which events led.
+pub struct LiveRule;
+
+impl TableRule<(), View, BoardSetup> for LiveRule {
+    ghost use Rattle.live_steps.specs.Rule.{Kept};
+    ghost use Rattle.live_steps.specs.Views.{starting};
+
+    ghost holds = { Kept };
+
+    ghost first = { starting };
+}

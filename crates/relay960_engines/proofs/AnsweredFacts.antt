@@ -1,0 +1,115 @@
+-- Lemmas on lines that were answered one after another.
+use Rattle.std.proofs.Common.{◌≡◌, ℕ, ◌+◌, List, [], ◌∷◌, ◌++◌, length, take, map, refl, sym, ap, ◌∙◌, subst}
+use Rattle.std.proofs.Common.{append_assoc, append-nil}
+use Rattle.std.proofs.Common.{Result, Ok, Err, OnOk, OnErr, IfErr}
+use Rattle.std.proofs.Math.Seq.{take-append-add}
+use Rattle.std.proofs.KnownBytes.{Appends-trans, Appends-nil, Appends-kept}
+use Rattle.std.specs.Io.KnownBytes.{Appends, Keeps}
+use Rattle.relay960_engines.specs.declared.fault.RunFault.{RunFault}
+use Rattle.relay960_engines.specs.declared.fault.RunFault.TheVariants.{Read, Write, TooLong, OutOfMemory, BadStart}
+use Rattle.relay960_engines.specs.Writing.{AppendsPart}
+use Rattle.relay960_engines.specs.Lines.{Giving, Answers, Between}
+use Rattle.relay960_engines.specs.Runs.{Known, Wrote, WrotePart}
+use Rattle.relay960_engines.specs.inner.Taking.{Unwritten}
+
+-- some lines and more behind them
+pub Answers-append : {S : Type 0} (gives : Giving S) (s t u : S) (ls ms : List (List ℕ)) (xs ys : List ℕ)
+    → Answers gives s ls xs t → Answers gives t ms ys u → Answers gives s (ls ++ ms) (xs ++ ys) u
+unfolding Answers
+Answers-append gives s t u [] ms xs ys (none, same) b =
+    subst (λ x. Answers gives x ms (xs ++ ys) u) same (subst (λ x. Answers gives t ms (x ++ ys) u) (sym none) b)
+Answers-append gives s t u (l ∷ ls) ms xs ys (answer, mid, rest, one, split, others) b = (
+  answer,
+  mid,
+  rest ++ ys,
+  one,
+  ap (λ x. x ++ ys) split ∙ append_assoc answer rest ys,
+  Answers-append gives mid t u ls ms rest ys others b,
+)
+
+-- a line is answered as its first 1,025 bytes are
+abbrev pub IsCut : {S : Type 0} → Giving S → Type 0
+IsCut {S} gives = (s : S) (l bytes : List ℕ) (t : S) → gives s (take 1025 l) bytes t → gives s l bytes t
+
+-- and so are lines
+pub Answers-whole : {S : Type 0} (gives : Giving S) (s t : S) (ls : List (List ℕ)) (xs : List ℕ)
+    → IsCut gives
+    → Answers gives s (map (take 1025) ls) xs t → Answers gives s ls xs t
+unfolding Answers
+Answers-whole gives s t [] xs cut a = a
+Answers-whole gives s t (l ∷ ls) xs cut (answer, mid, rest, one, split, others) =
+    (answer, mid, rest, cut s l answer mid one, split, Answers-whole gives mid t ls rest cut others)
+
+-- one line
+pub Answers-one : {S : Type 0} (gives : Giving S) (s t : S) (l xs : List ℕ) → gives s l xs t → Answers gives s (l ∷ []) xs t
+unfolding Answers
+Answers-one gives s t l xs one = (xs, t, [], one, sym (append-nil xs), (refl, refl))
+
+pub Wrote-nil : {S : Type 0} (gives : Giving S) (s : S) (a : Known) → Wrote (Between gives s s) [] a a
+unfolding Answers
+Wrote-nil gives s a = record { answers = []; given = (refl, refl); written = Appends-nil a }
+
+pub Wrote-trans : {S : Type 0} (gives : Giving S) (s t u : S) (ls ms : List (List ℕ)) (a b c : Known)
+    → Wrote (Between gives s t) ls a b → Wrote (Between gives t u) ms b c → Wrote (Between gives s u) (ls ++ ms) a c
+Wrote-trans gives s t u ls ms a b c first second = record {
+  answers = first.answers ++ second.answers;
+  given = Answers-append gives s t u ls ms first.answers second.answers first.given second.given;
+  written = Appends-trans a b c first.answers second.answers first.written second.written;
+}
+
+pub Wrote-part : {S : Type 0} (gives : Giving S) (s t u : S) (ls ms : List (List ℕ)) (a b c : Known)
+    → Wrote (Between gives s t) ls a b → WrotePart (Between gives t u) ms b c → WrotePart (Between gives s u) (ls ++ ms) a c
+Wrote-part gives s t u ls ms a b c first second =
+    let (n, part) = second.written in
+    record {
+      answers = first.answers ++ second.answers;
+      given = Answers-append gives s t u ls ms first.answers second.answers first.given second.given;
+      written = (
+        length first.answers + n,
+        subst (Appends a c) (sym (take-append-add first.answers second.answers n))
+            (Appends-trans a b c first.answers (take n second.answers) first.written part),
+      );
+    }
+
+pub Wrote-kept : {S : Type 0} (gives : Giving S) (s t : S) (ls : List (List ℕ)) (a b c : Known)
+    → Wrote (Between gives s t) ls a b → Keeps b c → Wrote (Between gives s t) ls a c
+Wrote-kept gives s t ls a b c wrote kept =
+    record { answers = wrote.answers; given = wrote.given; written = Appends-kept a b c wrote.answers wrote.written kept }
+
+-- the same of lines that are answered as their first 1,025 bytes are
+pub Wrote-whole : {S : Type 0} (gives : Giving S) (s t : S) (ls : List (List ℕ)) (a b : Known)
+    → IsCut gives
+    → Wrote (Between gives s t) (map (take 1025) ls) a b → Wrote (Between gives s t) ls a b
+Wrote-whole gives s t ls a b cut wrote = record {
+  answers = wrote.answers;
+  given = Answers-whole gives s t ls wrote.answers cut wrote.given;
+  written = wrote.written;
+}
+
+pub WrotePart-whole : {S : Type 0} (gives : Giving S) (s t : S) (ls : List (List ℕ)) (a b : Known)
+    → IsCut gives
+    → WrotePart (Between gives s t) (map (take 1025) ls) a b → WrotePart (Between gives s t) ls a b
+WrotePart-whole gives s t ls a b cut wrote = record {
+  answers = wrote.answers;
+  given = Answers-whole gives s t ls wrote.answers cut wrote.given;
+  written = wrote.written;
+}
+
+-- ---- The writing of one answer.
+
+pub wrote_answer : {S T : Type 0} (gives : Giving S) (s t : S) (l xs : List ℕ) (a b : Known) (ran : Result T RunFault)
+    → gives s l xs t → OnOk ran (Appends a b xs) → OnOk ran (Wrote (Between gives s t) (l ∷ []) a b)
+wrote_answer gives s t l xs a b (Ok done) one written =
+    record { answers = xs; given = Answers-one gives s t l xs one; written = written }
+wrote_answer gives s t l xs a b (Err fault) one written = tt
+
+pub failed_answer : {S T : Type 0} (gives : Giving S) (s t : S) (l xs : List ℕ) (a b : Known) (ran : Result T RunFault)
+    → gives s l xs t → OnErr ran (AppendsPart a b xs) → IfErr ran (λ fault. fault ≡ Write)
+    → IfErr ran (λ fault. Unwritten gives s t (l ∷ []) a b fault)
+failed_answer gives s t l xs a b (Ok done) one part is = tt
+failed_answer gives s t l xs a b (Err Write) one part is =
+    record { answers = xs; given = Answers-one gives s t l xs one; written = part }
+failed_answer gives s t l xs a b (Err Read) one part is = cc
+failed_answer gives s t l xs a b (Err TooLong) one part is = cc
+failed_answer gives s t l xs a b (Err OutOfMemory) one part is = cc
+failed_answer gives s t l xs a b (Err BadStart) one part is = cc

@@ -1,0 +1,12 @@
+pub mod Prefixes
+pub mod Items
+pub mod AnswerFacts
+pub mod LineFacts
+pub mod AnsweredFacts
+pub mod TakingFacts
+pub mod StopFacts
+pub mod RunFacts
+pub mod PlayFacts
+pub mod PlayRunFacts
+pub mod ScriptFacts
+pub mod ScriptRunFacts

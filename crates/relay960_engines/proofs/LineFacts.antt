@@ -1,0 +1,130 @@
+-- Lemmas on the lines of bytes, and on lines of which the first 1,025 bytes are kept.
+use Rattle.std.proofs.Common.{◌≡◌, ℕ, ◌<◌, ◌≤◌, ◌==◌, nat_lt, List, [], ◌∷◌, ◌++◌, length, take, map, zero, suc}
+use Rattle.std.proofs.Common.{Bool, true, false, cond, refl, sym, ap, ◌∙◌, arith, append_assoc}
+use Rattle.std.proofs.lemmas.Bool.{ltb-true, ltb-false}
+use Rattle.std.proofs.lemmas.List.{take-append-le, length-take, length-append}
+use Rattle.relay960_engines.specs.Lines.{whole_lines, last_piece, last_line, lines_of}
+use Rattle.relay960_engines.specs.inner.Taking.{kept_with, kept_lines, kept_piece}
+
+-- the lines of some bytes and of more behind them
+pub kept_lines-append : (line xs ys : List ℕ)
+    → kept_lines line (xs ++ ys) ≡ kept_lines line xs ++ kept_lines (kept_piece line xs) ys
+unfolding kept_lines kept_piece
+kept_lines-append line [] ys = refl
+kept_lines-append line (x ∷ xs) ys =
+    elim (x == 10) as (λ is_end. cond is_end (line ∷ kept_lines [] (xs ++ ys)) (kept_lines (kept_with line x) (xs ++ ys))
+    ≡ cond is_end (line ∷ kept_lines [] xs) (kept_lines (kept_with line x) xs)
+    ++ kept_lines (cond is_end (kept_piece [] xs) (kept_piece (kept_with line x) xs)) ys) [
+      | true ↦ ap (λ ls. line ∷ ls) (kept_lines-append [] xs ys)
+      | false ↦ kept_lines-append (kept_with line x) xs ys
+    ]
+
+pub kept_piece-append : (line xs ys : List ℕ) → kept_piece line (xs ++ ys) ≡ kept_piece (kept_piece line xs) ys
+unfolding kept_piece
+kept_piece-append line [] ys = refl
+kept_piece-append line (x ∷ xs) ys =
+    elim (x == 10) as (λ is_end. cond is_end (kept_piece [] (xs ++ ys)) (kept_piece (kept_with line x) (xs ++ ys))
+    ≡ kept_piece (cond is_end (kept_piece [] xs) (kept_piece (kept_with line x) xs)) ys) [
+      | true ↦ kept_piece-append [] xs ys
+      | false ↦ kept_piece-append (kept_with line x) xs ys
+    ]
+
+-- one byte
+pub kept_lines-end : (line : List ℕ) (b : ℕ) → b ≡ 10 → kept_lines line (b ∷ []) ≡ line ∷ []
+unfolding kept_lines
+kept_lines-end line b is_end = rw is_end refl
+
+pub kept_piece-end : (line : List ℕ) (b : ℕ) → b ≡ 10 → kept_piece line (b ∷ []) ≡ []
+unfolding kept_piece
+kept_piece-end line b is_end = rw is_end refl
+
+pub kept_lines-more : (line : List ℕ) (b : ℕ) → (b == 10) ≡ false → kept_lines line (b ∷ []) ≡ []
+unfolding kept_lines
+kept_lines-more line b more = ap (λ is_end. cond is_end (line ∷ []) []) more
+
+pub kept_piece-more : (line : List ℕ) (b : ℕ) → (b == 10) ≡ false → kept_piece line (b ∷ []) ≡ kept_with line b
+unfolding kept_piece
+kept_piece-more line b more = ap (λ is_end. cond is_end [] (kept_with line b)) more
+
+-- ---- What is kept is the first 1,025 bytes.
+
+-- a list that is short enough is taken whole
+take_short : (n : ℕ) (xs : List ℕ) → length xs ≤ n → take n xs ≡ xs
+take_short zero [] short = refl
+take_short (suc n) [] short = refl
+take_short zero (x ∷ xs) short = absurd (omega arith)
+take_short (suc n) (x ∷ xs) short = ap (λ l. x ∷ l) (take_short n xs (omega arith))
+
+kept_at : (has_room : Bool) (begun : List ℕ) (b : ℕ) → nat_lt (length (take 1025 begun)) 1025 ≡ has_room
+    → cond has_room (take 1025 begun ++ b ∷ []) (take 1025 begun) ≡ take 1025 (begun ++ b ∷ [])
+kept_at true begun b e =
+    let kept : length (take 1025 begun) < 1025 = ltb-true _ _ e in
+    let short : length begun < 1025 = omega (arith, length-take 1025 begun) in
+    ap (λ l. l ++ b ∷ []) (take_short 1025 begun (omega arith))
+    ∙ sym (take_short 1025 (begun ++ b ∷ []) (omega (arith, length-append begun (b ∷ []))))
+kept_at false begun b e =
+    let kept : 1025 ≤ length (take 1025 begun) = ltb-false _ _ e in
+    let long : 1025 ≤ length begun = omega (arith, length-take 1025 begun) in
+    sym (take-append-le 1025 begun (b ∷ []) long)
+
+-- one more byte is kept where it is one of the first
+pub kept_with-take : (begun : List ℕ) (b : ℕ) → kept_with (take 1025 begun) b ≡ take 1025 (begun ++ b ∷ [])
+kept_with-take begun b = kept_at _ begun b refl
+
+-- the kept lines are the first bytes of the lines
+pub kept_lines-take : (begun bytes : List ℕ)
+    → kept_lines (take 1025 begun) bytes ≡ map (take 1025) (whole_lines begun bytes)
+unfolding kept_lines whole_lines
+kept_lines-take begun [] = refl
+kept_lines-take begun (b ∷ bs) =
+    elim (b == 10) as (λ is_end. cond is_end (take 1025 begun ∷ kept_lines [] bs)
+    (kept_lines (kept_with (take 1025 begun) b) bs)
+    ≡ map (take 1025) (cond is_end (begun ∷ whole_lines [] bs) (whole_lines (begun ++ b ∷ []) bs))) [
+      | true ↦ ap (λ ls. take 1025 begun ∷ ls) (kept_lines-take [] bs)
+      | false ↦ ap (λ l. kept_lines l bs) (kept_with-take begun b) ∙ kept_lines-take (begun ++ b ∷ []) bs
+    ]
+
+pub kept_piece-take : (begun bytes : List ℕ)
+    → kept_piece (take 1025 begun) bytes ≡ take 1025 (last_piece begun bytes)
+unfolding kept_piece last_piece
+kept_piece-take begun [] = refl
+kept_piece-take begun (b ∷ bs) =
+    elim (b == 10) as (λ is_end. cond is_end (kept_piece [] bs) (kept_piece (kept_with (take 1025 begun) b) bs)
+    ≡ take 1025 (cond is_end (last_piece [] bs) (last_piece (begun ++ b ∷ []) bs))) [
+      | true ↦ kept_piece-take [] bs
+      | false ↦ ap (λ l. kept_piece l bs) (kept_with-take begun b) ∙ kept_piece-take (begun ++ b ∷ []) bs
+    ]
+
+-- a last piece is empty where nothing of it is kept
+pub last_line-take : (piece : List ℕ) → last_line (take 1025 piece) ≡ map (take 1025) (last_line piece)
+last_line-take [] = refl
+last_line-take (b ∷ bs) = refl
+
+-- an empty piece is no line
+pub last_line-none : (line : List ℕ) → length line ≡ 0 → last_line line ≡ []
+last_line-none [] none = refl
+last_line-none (b ∷ bs) none = absurd (omega arith)
+
+-- ---- The lines of bytes and of more behind them.
+
+whole_lines-append : (begun xs ys : List ℕ)
+    → whole_lines begun (xs ++ ys) ≡ whole_lines begun xs ++ whole_lines (last_piece begun xs) ys
+unfolding whole_lines last_piece
+whole_lines-append begun [] ys = refl
+whole_lines-append begun (x ∷ xs) ys =
+    elim (x == 10) as (λ is_end. cond is_end (begun ∷ whole_lines [] (xs ++ ys)) (whole_lines (begun ++ x ∷ []) (xs ++ ys))
+    ≡ cond is_end (begun ∷ whole_lines [] xs) (whole_lines (begun ++ x ∷ []) xs)
+    ++ whole_lines (cond is_end (last_piece [] xs) (last_piece (begun ++ x ∷ []) xs)) ys) [
+      | true ↦ ap (λ ls. begun ∷ ls) (whole_lines-append [] xs ys)
+      | false ↦ whole_lines-append (begun ++ x ∷ []) xs ys
+    ]
+
+-- the lines that end within the first bytes are the first of all lines
+pub lines_before : (xs ys : List ℕ) → (more : List (List ℕ)) × (lines_of (xs ++ ys) ≡ whole_lines [] xs ++ more)
+unfolding lines_of
+lines_before xs ys =
+    let behind : List (List ℕ) = whole_lines (last_piece [] xs) ys in
+    let last : List (List ℕ) = last_line (last_piece [] (xs ++ ys)) in (
+      behind ++ last,
+      ap (λ ls. ls ++ last) (whole_lines-append [] xs ys) ∙ append_assoc (whole_lines [] xs) behind last,
+    )

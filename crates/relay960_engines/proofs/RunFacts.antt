@@ -1,0 +1,213 @@
+-- Lemmas on a whole run: what was kept of the lines stands for the lines.
+use Rattle.std.proofs.Common.{◌≡◌, ℕ, ◌+◌, ◌≤◌, List, [], ◌++◌, length, take, map}
+use Rattle.std.proofs.Common.{refl, sym, ap, ◌∙◌, subst, inl, inr, arith, append-nil}
+use Rattle.std.proofs.Common.{Result, Ok, Err, OnOk, IfOk, IfErr}
+use Rattle.std.proofs.lemmas.List.{length-map, length-append, map-append}
+use Rattle.std.specs.Io.KnownBytes.{Consumes}
+use Rattle.relay960_engines.specs.declared.bounds.Bounds.{Bounds}
+use Rattle.relay960_engines.specs.declared.fault.RunFault.{RunFault}
+use Rattle.relay960_engines.specs.declared.fault.RunFault.TheVariants.{Read, Write, TooLong, OutOfMemory, BadStart}
+use Rattle.relay960_engines.specs.declared.progress.Progress.{Progress}
+use Rattle.relay960_engines.specs.Lines.{Giving, Answers, Until, whole_lines, last_piece, last_line, lines_of, Between}
+use Rattle.relay960_engines.specs.Runs.{Known, Wrote, WrotePart, Done, Stopped, IsPast}
+use Rattle.relay960_engines.specs.inner.Taking.{kept_lines, kept_piece, Within, IsWithin, LastFits, TakenAll, Unwritten, StopsReading}
+use Rattle.relay960_engines.proofs.LineFacts.{kept_lines-take, kept_piece-take, last_line-take}
+use Rattle.relay960_engines.proofs.TakingFacts.{last_fits}
+use Rattle.relay960_engines.proofs.StopFacts.{nothing_read}
+use Rattle.relay960_engines.proofs.AnsweredFacts.{IsCut, Wrote-trans, Wrote-part, Wrote-kept, Wrote-whole, WrotePart-whole}
+
+-- ---- The lines of a run.
+
+kept_whole : (line bytes : List ℕ) → line ≡ [] → kept_lines line bytes ≡ map (take 1025) (whole_lines [] bytes)
+kept_whole line bytes new = ap (λ l. kept_lines l bytes) new ∙ kept_lines-take [] bytes
+
+kept_last : (line piece bytes : List ℕ) → line ≡ [] → piece ≡ kept_piece line bytes
+    → last_line piece ≡ map (take 1025) (last_line (last_piece [] bytes))
+kept_last line piece bytes new left =
+    ap last_line (left ∙ ap (λ l. kept_piece l bytes) new ∙ kept_piece-take [] bytes) ∙ last_line-take (last_piece [] bytes)
+
+kept_all : (line piece bytes : List ℕ) → line ≡ [] → piece ≡ kept_piece line bytes
+    → kept_lines line bytes ++ last_line piece ≡ map (take 1025) (lines_of bytes)
+unfolding lines_of
+kept_all line piece bytes new left =
+    ap (λ ls. ls ++ last_line piece) (kept_whole line bytes new)
+    ∙ ap (λ ls. map (take 1025) (whole_lines [] bytes) ++ ls) (kept_last line piece bytes new left)
+    ∙ sym (map-append (take 1025) (whole_lines [] bytes) (last_line (last_piece [] bytes)))
+
+kept_number : (line bytes : List ℕ) → line ≡ [] → length (kept_lines line bytes) ≡ length (whole_lines [] bytes)
+kept_number line bytes new = ap length (kept_whole line bytes new) ∙ length-map (whole_lines [] bytes) (take 1025)
+
+-- ---- The end of a run that began with progress p.
+
+module _ {S : Type 0} (gives : Giving S) (cut : IsCut gives) (s : S) (p : Progress) (bounds : Bounds)
+    (old_input new_input a : Known) (line : p.line ≡ []) (answered : p.answered ≡ 0) (taken : p.taken ≡ 0) where
+  whole : (t : S) (b : Known) (seen : List ℕ) → Wrote (Between gives s t) (kept_lines p.line seen) a b
+      → Wrote (Between gives s t) (whole_lines [] seen) a b
+  whole t b seen wrote =
+      Wrote-whole gives s t (whole_lines [] seen) a b cut
+      (subst (λ ls. Wrote (Between gives s t) ls a b) (kept_whole p.line seen line) wrote)
+
+  -- the lines of bytes that leave room for the last of them
+  all_fit : (seen : List ℕ) → LastFits bounds p seen → length (lines_of seen) ≤ bounds.lines
+  all_fit seen fits =
+      let number : length (kept_lines p.line seen) + length (last_line (kept_piece p.line seen)) ≡ length (lines_of seen) =
+      sym (length-append (kept_lines p.line seen) (last_line (kept_piece p.line seen)))
+      ∙ ap length (kept_all p.line (kept_piece p.line seen) seen line refl) ∙ length-map (lines_of seen) (take 1025) in
+      omega (arith, fits, number)
+
+  few_lines : (seen : List ℕ) → IsWithin bounds p seen → length (whole_lines [] seen) ≤ bounds.lines
+  few_lines seen within =
+      let number : length (kept_lines p.line seen) ≡ length (whole_lines [] seen) = kept_number p.line seen line in
+      omega (arith, within.lines_within, number)
+
+  few_bytes : (seen : List ℕ) → IsWithin bounds p seen → length seen ≤ bounds.bytes
+  few_bytes seen within = omega (arith, within.bytes_within)
+
+  -- the same where the state is not told
+  wrote_somewhere : (mid : S) (b : Known) (seen : List ℕ) → Wrote (Between gives s mid) (kept_lines p.line seen) a b
+      → Wrote (λ ls text. (m : S) × Answers gives s ls text m) (whole_lines [] seen) a b
+  wrote_somewhere mid b seen wrote =
+      let all = whole mid b seen wrote in
+      record { answers = all.answers; given = (mid, all.given); written = all.written }
+
+  -- it stopped within the bytes of the reader
+  pub stopped : (t : S) (b : Known) (fault : RunFault)
+      → StopsReading gives s t p bounds old_input new_input a b fault
+      → Stopped (Until gives s t fault) bounds old_input new_input a b fault
+  stopped t b Read stops = elim stops.stop [
+    | inl within ↦ absurd within.0.stop
+    | inr at_read ↦ record {
+      input = stops.input;
+      read = stops.read;
+      lines_within = all_fit stops.input at_read.2;
+      bytes_within = few_bytes stops.input at_read.1;
+      wrote = whole t b stops.input at_read.3;
+    }
+  ]
+  stopped t b Write stops = elim stops.stop [
+    | inl (within, one) ↦ record {
+      seen = within.seen;
+      unseen = within.unseen;
+      ahead = one;
+      read = subst (Consumes old_input new_input) within.split stops.read;
+      bytes_within = few_bytes within.seen within.within;
+      wrote = inl (
+        few_lines within.seen within.within,
+        WrotePart-whole gives s t (whole_lines [] within.seen) a b cut
+            (subst (λ ls. WrotePart (Between gives s t) ls a b) (kept_whole p.line within.seen line) within.stop),
+      );
+    }
+    | inr at_read ↦ let other : Write ≡ Read = at_read.0 in cc
+  ]
+  stopped t b TooLong stops = elim stops.stop [
+    | inl (within, one) ↦
+        let (more, wrote, bound) = within.stop in
+        let number : length (kept_lines p.line within.seen) ≡ length (whole_lines [] within.seen) =
+        kept_number p.line within.seen line in
+        let past : IsPast bounds within.seen =
+        elim bound [
+          | inl h ↦ inl (omega (arith, h, number, answered))
+          | inr h ↦ inr (omega (arith, h, taken))
+        ] in
+        record {
+          seen = within.seen;
+          unseen = within.unseen;
+          more = more;
+          ahead = one;
+          read = subst (Consumes old_input new_input) within.split stops.read;
+          lines_within = few_lines within.seen within.within;
+          bytes_within = few_bytes within.seen within.within;
+          past = past;
+          wrote = whole t b within.seen wrote;
+        }
+    | inr at_read ↦ let other : TooLong ≡ Read = at_read.0 in cc
+  ]
+  stopped t b OutOfMemory stops = elim stops.stop [
+    | inl (within, one) ↦
+        let (mid, wrote) = within.stop in
+        record {
+          seen = within.seen;
+          unseen = within.unseen;
+          ahead = one;
+          read = subst (Consumes old_input new_input) within.split stops.read;
+          lines_within = few_lines within.seen within.within;
+          bytes_within = few_bytes within.seen within.within;
+          wrote = wrote_somewhere mid b within.seen wrote;
+        }
+    | inr at_read ↦ let other : OutOfMemory ≡ Read = at_read.0 in cc
+  ]
+  stopped t b BadStart stops = elim stops.stop [
+    | inl within ↦ absurd within.0.stop
+    | inr at_read ↦ let other : BadStart ≡ Read = at_read.0 in cc
+  ]
+
+  -- it took all bytes of the reader, and then the last line was answered
+  module _ (t u : S) (q : Progress) (b c : Known) (took : TakenAll gives s t p q old_input new_input a b) where
+    all_lines : kept_lines p.line took.input ++ last_line q.line ≡ map (take 1025) (lines_of took.input)
+    all_lines = kept_all p.line q.line took.input line took.took.piece
+
+    all_number : length (kept_lines p.line took.input) + length (last_line q.line) ≡ length (lines_of took.input)
+    all_number =
+        sym (length-append (kept_lines p.line took.input) (last_line q.line)) ∙ ap length all_lines
+        ∙ length-map (lines_of took.input) (take 1025)
+
+    pub done : Within bounds q → (ran : Result ℕ RunFault) → OnOk ran (Wrote (Between gives t u) (last_line q.line) b c)
+        → IfOk ran (λ n. n ≡ q.answered + length (last_line q.line)) → IfOk ran (λ n. n ≤ bounds.lines)
+        → IfOk ran (λ n. Done (Between gives s u) bounds old_input new_input a c n)
+    done within (Err fault) wrote count few = tt
+    done within (Ok n) wrote count few =
+        record {
+          input = took.input;
+          read = took.read;
+          at_end = took.at_end;
+          wrote = Wrote-whole gives s u (lines_of took.input) a c cut (subst (λ ls. Wrote (Between gives s u) ls a c) all_lines
+              (Wrote-trans gives s t u (kept_lines p.line took.input) (last_line q.line) a b c took.took.wrote wrote));
+          count = omega (arith, count, took.took.count, answered, all_number);
+          lines_within = few;
+          bytes_within = omega (arith, within.taken_within, took.took.total, taken);
+        }
+
+    last_within : Within bounds q → q.answered + length (last_line q.line) ≤ bounds.lines
+    last_within within = last_fits q.line q.answered bounds.lines within.answered_within within.room
+
+    short : Within bounds q → length took.input ≤ bounds.bytes
+    short within = omega (arith, within.taken_within, took.took.total)
+
+    -- the answer to the last line was not written whole
+    pub stopped_last : Within bounds q → (ran : Result ℕ RunFault) → IfErr ran (λ fault. Unwritten gives t u (last_line q.line) b c fault)
+        → IfErr ran (λ fault. Stopped (Until gives s u fault) bounds old_input new_input a c fault)
+    stopped_last within (Ok n) part = tt
+    stopped_last within (Err Write) part = record {
+      seen = took.input;
+      unseen = [];
+      ahead = omega arith;
+      read = subst (Consumes old_input new_input) (sym (append-nil took.input)) took.read;
+      bytes_within = short within;
+      wrote = inr (
+        refl,
+        took.at_end,
+        omega (arith, last_within within, took.took.count, answered, all_number),
+        WrotePart-whole gives s u (lines_of took.input) a c cut
+            (subst (λ ls. WrotePart (Between gives s u) ls a c) all_lines
+            (Wrote-part gives s t u (kept_lines p.line took.input) (last_line q.line) a b c took.took.wrote part)),
+      );
+    }
+    stopped_last within (Err OutOfMemory) kept = record {
+      seen = took.input;
+      unseen = [];
+      ahead = omega arith;
+      read = subst (Consumes old_input new_input) (sym (append-nil took.input)) took.read;
+      lines_within = omega (arith, within.answered_within, took.took.count, kept_number p.line took.input line);
+      bytes_within = short within;
+      wrote = wrote_somewhere t c took.input (Wrote-kept gives s t (kept_lines p.line took.input) a b c took.took.wrote kept);
+    }
+    stopped_last within (Err Read) none = absurd none
+    stopped_last within (Err TooLong) none = absurd none
+    stopped_last within (Err BadStart) none = absurd none
+
+-- there was no memory for the line: nothing was read
+pub stopped_before : {S : Type 0} (gives : Giving S) (s t : S) (bounds : Bounds) (input output : Known)
+    → Stopped (Until gives s t OutOfMemory) bounds input input output output OutOfMemory
+unfolding Answers
+stopped_before gives s t bounds input output =
+    nothing_read (Until gives s t OutOfMemory) bounds input output (s, (refl, refl))

@@ -1,0 +1,125 @@
+-- What a run has done, said of another relation between lines and answers.
+use Rattle.std.proofs.Common.{◌≡◌, ℕ, List, [], ◌++◌}
+use Rattle.std.proofs.Common.{sym, ap, ◌∙◌, subst, inl, inr, arith, append-nil}
+use Rattle.std.proofs.KnownBytes.{Consumes-nil, Appends-nil}
+use Rattle.relay960_engines.specs.declared.bounds.Bounds.{Bounds}
+use Rattle.relay960_engines.specs.Lines.{lines_of, whole_lines}
+use Rattle.relay960_engines.specs.Runs.{Answering, Known, Wrote, WrotePart, Done, StoppedReading, StoppedWriting, StoppedPast}
+use Rattle.relay960_engines.specs.Runs.{StoppedWithoutMemory, StoppedWithin}
+use Rattle.relay960_engines.proofs.LineFacts.{lines_before}
+use Rattle.relay960_engines.proofs.Prefixes.{part_before}
+
+-- what answers lines by the one relation answers them by the other
+abbrev pub Implies : Answering → Answering → Type 0
+Implies A B = (ls : List (List ℕ)) (text : List ℕ) → A ls text → B ls text
+
+-- the answers to lines begin those to these lines and more
+abbrev pub Extends : Answering → Type 0
+Extends A = (ls ms : List (List ℕ)) (text : List ℕ) → A ls text → (rest : List ℕ) × A (ls ++ ms) (text ++ rest)
+
+module _ (A B : Answering) (implies : Implies A B) (bounds : Bounds) (old_input new_input a b : Known) where
+  all_said : (ls : List (List ℕ)) → Wrote A ls a b → Wrote B ls a b
+  all_said ls wrote =
+      record { answers = wrote.answers; given = implies ls wrote.answers wrote.given; written = wrote.written }
+
+  part_said : (ls : List (List ℕ)) → WrotePart A ls a b → WrotePart B ls a b
+  part_said ls wrote =
+      record { answers = wrote.answers; given = implies ls wrote.answers wrote.given; written = wrote.written }
+
+  pub done_said : (n : ℕ) → Done A bounds old_input new_input a b n → Done B bounds old_input new_input a b n
+  done_said n done = record {
+    input = done.input;
+    read = done.read;
+    at_end = done.at_end;
+    wrote = all_said (lines_of done.input) done.wrote;
+    count = done.count;
+    lines_within = done.lines_within;
+    bytes_within = done.bytes_within;
+  }
+
+  pub reading_said : StoppedReading A bounds old_input new_input a b → StoppedReading B bounds old_input new_input a b
+  reading_said stopped = record {
+    input = stopped.input;
+    read = stopped.read;
+    lines_within = stopped.lines_within;
+    bytes_within = stopped.bytes_within;
+    wrote = all_said (whole_lines [] stopped.input) stopped.wrote;
+  }
+
+  pub past_said : StoppedPast A bounds old_input new_input a b → StoppedPast B bounds old_input new_input a b
+  past_said stopped = record {
+    seen = stopped.seen;
+    unseen = stopped.unseen;
+    more = stopped.more;
+    ahead = stopped.ahead;
+    read = stopped.read;
+    lines_within = stopped.lines_within;
+    bytes_within = stopped.bytes_within;
+    past = stopped.past;
+    wrote = all_said (whole_lines [] stopped.seen) stopped.wrote;
+  }
+
+  pub memory_said : StoppedWithoutMemory A bounds old_input new_input a b → StoppedWithoutMemory B bounds old_input new_input a b
+  memory_said stopped = record {
+    seen = stopped.seen;
+    unseen = stopped.unseen;
+    ahead = stopped.ahead;
+    read = stopped.read;
+    lines_within = stopped.lines_within;
+    bytes_within = stopped.bytes_within;
+    wrote = all_said (whole_lines [] stopped.seen) stopped.wrote;
+  }
+
+  writing_said : StoppedWriting A bounds old_input new_input a b → StoppedWriting B bounds old_input new_input a b
+  writing_said stopped = record {
+    seen = stopped.seen;
+    unseen = stopped.unseen;
+    ahead = stopped.ahead;
+    read = stopped.read;
+    bytes_within = stopped.bytes_within;
+    wrote = elim stopped.wrote [
+      | inl part ↦ inl (part.0, part_said (whole_lines [] stopped.seen) part.1)
+      | inr last ↦ inr (last.0, last.1, last.2, part_said (lines_of stopped.seen) last.3)
+    ];
+  }
+
+  -- a prefix of the answers to some lines is one of the answers to these and more
+  part_of_more : Extends B → (ls ms : List (List ℕ)) → WrotePart B ls a b → WrotePart B (ls ++ ms) a b
+  part_of_more extends ls ms part =
+      let (rest, given) = extends ls ms part.answers part.given in
+      record {
+        answers = part.answers ++ rest;
+        given = given;
+        written = part_before a b part.answers rest part.written;
+      }
+
+  prefix_of : Extends B → (stopped : StoppedWriting B bounds old_input new_input a b)
+      → WrotePart B (lines_of (stopped.seen ++ stopped.unseen)) a b
+  prefix_of extends stopped = elim stopped.wrote [
+    | inl part ↦
+        let (more, same) = lines_before stopped.seen stopped.unseen in
+        subst (λ ls. WrotePart B ls a b) (sym same) (part_of_more extends (whole_lines [] stopped.seen) more part.1)
+    | inr last ↦
+        let all : stopped.seen ≡ stopped.seen ++ stopped.unseen =
+        sym (append-nil stopped.seen) ∙ ap (λ l. stopped.seen ++ l) (sym last.0) in
+        subst (λ l. WrotePart B (lines_of l) a b) all last.3
+  ]
+
+  pub writing_within : Extends B → StoppedWriting A bounds old_input new_input a b
+      → StoppedWithin B bounds old_input new_input a b
+  writing_within extends stopped =
+      let said = writing_said stopped in record { stopped = said; prefix = prefix_of extends said }
+
+-- nothing was read yet
+pub nothing_read : (A : Answering) (bounds : Bounds) (input output : Known) → A [] []
+    → StoppedWithoutMemory A bounds input input output output
+unfolding whole_lines
+nothing_read A bounds input output given = record {
+  seen = [];
+  unseen = [];
+  ahead = omega arith;
+  read = Consumes-nil input;
+  lines_within = omega arith;
+  bytes_within = omega arith;
+  wrote = record { answers = []; given = given; written = Appends-nil output };
+}

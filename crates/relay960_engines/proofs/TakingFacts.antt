@@ -1,0 +1,274 @@
+-- Lemmas on bytes that were taken, and on a run that stopped within them.
+use Rattle.std.proofs.Common.{◌≡◌, ℕ, ◌+◌, ◌<◌, ◌≤◌, ◌⊎◌, ◌==◌, List, [], ◌∷◌, ◌++◌, length, take, drop, get_or, false}
+use Rattle.std.proofs.Common.{refl, sym, ap, ◌∙◌, subst, inl, inr, arith, append_assoc, length-append, take-append-drop}
+use Rattle.std.proofs.lemmas.List.{take_more}
+use Rattle.std.proofs.KnownBytes.{Consumes-trans}
+use Rattle.std.specs.Io.KnownBytes.{Consumes}
+use Rattle.relay960_engines.specs.declared.bounds.Bounds.{Bounds}
+use Rattle.relay960_engines.specs.declared.fault.RunFault.{RunFault}
+use Rattle.relay960_engines.specs.declared.fault.RunFault.TheVariants.{Read, Write, TooLong, OutOfMemory, BadStart}
+use Rattle.relay960_engines.specs.declared.progress.Progress.{Progress}
+use Rattle.relay960_engines.specs.Lines.{Giving, Between, last_line}
+use Rattle.relay960_engines.specs.Runs.{Known, Wrote, WrotePart, one_read}
+use Rattle.relay960_engines.specs.inner.Taking.{kept_with, kept_lines, kept_piece, Within, Taken, Unwritten, IsWithin, IsAtBound, StopsBy, StopsIn, StopsReading}
+use Rattle.relay960_engines.proofs.LineFacts.{kept_lines-append, kept_piece-append, kept_lines-end, kept_piece-end, kept_lines-more, kept_piece-more}
+use Rattle.relay960_engines.proofs.AnsweredFacts.{Wrote-nil, Wrote-trans, Wrote-part, Wrote-kept}
+
+-- ---- Bytes that were taken.
+
+pub Taken-nil : {S : Type 0} (gives : Giving S) (s : S) (p : Progress) (a : Known) → Taken gives s s p p [] a a
+unfolding kept_lines kept_piece
+Taken-nil gives s p a =
+    record { wrote = Wrote-nil gives s a; piece = refl; count = omega arith; total = omega arith }
+
+-- the lines of more bytes, where this piece was left
+lines_behind : (line piece xs ys : List ℕ) → piece ≡ kept_piece line xs
+    → kept_lines line xs ++ kept_lines piece ys ≡ kept_lines line (xs ++ ys)
+lines_behind line piece xs ys same =
+    ap (λ l. kept_lines line xs ++ kept_lines l ys) same ∙ sym (kept_lines-append line xs ys)
+
+number_behind : (line piece xs ys : List ℕ) → piece ≡ kept_piece line xs
+    → length (kept_lines line xs) + length (kept_lines piece ys) ≡ length (kept_lines line (xs ++ ys))
+number_behind line piece xs ys same =
+    sym (length-append (kept_lines line xs) (kept_lines piece ys)) ∙ ap length (lines_behind line piece xs ys same)
+
+pub Taken-trans : {S : Type 0} (gives : Giving S) (s t u : S) (p q r : Progress) (xs ys : List ℕ) (a b c : Known)
+    → Taken gives s t p q xs a b → Taken gives t u q r ys b c → Taken gives s u p r (xs ++ ys) a c
+Taken-trans gives s t u p q r xs ys a b c first second =
+    let lines : kept_lines p.line xs ++ kept_lines q.line ys ≡ kept_lines p.line (xs ++ ys) =
+    lines_behind p.line q.line xs ys first.piece in
+    let number : length (kept_lines p.line xs) + length (kept_lines q.line ys) ≡ length (kept_lines p.line (xs ++ ys)) =
+    number_behind p.line q.line xs ys first.piece in
+    record {
+      wrote = subst (λ ls. Wrote (Between gives s u) ls a c) lines
+          (Wrote-trans gives s t u (kept_lines p.line xs) (kept_lines q.line ys) a b c first.wrote second.wrote);
+      piece = second.piece ∙ ap (λ l. kept_piece l ys) first.piece ∙ sym (kept_piece-append p.line xs ys);
+      count = omega (arith, first.count, second.count, number);
+      total = omega (arith, first.total, second.total, length-append xs ys);
+    }
+
+-- a line feed, and the answer to its line
+pub taken_end : {S : Type 0} (gives : Giving S) (s t : S) (p q : Progress) (b : ℕ) (old new : Known) → b ≡ 10
+    → Wrote (Between gives s t) (p.line ∷ []) old new → q.line ≡ [] → q.answered ≡ p.answered + 1 → q.taken ≡ p.taken + 1
+    → Taken gives s t p q (b ∷ []) old new
+taken_end gives s t p q b old new is_end wrote none count total =
+    let lines : kept_lines p.line (b ∷ []) ≡ p.line ∷ [] = kept_lines-end p.line b is_end in
+    record {
+      wrote = subst (λ ls. Wrote (Between gives s t) ls old new) (sym lines) wrote;
+      piece = none ∙ sym (kept_piece-end p.line b is_end);
+      count = count ∙ ap (λ ls. p.answered + length ls) (sym lines);
+      total = total;
+    }
+
+-- a byte of a line
+pub taken_more : {S : Type 0} (gives : Giving S) (s : S) (p q : Progress) (b : ℕ) (a : Known) → (b == 10) ≡ false
+    → q.line ≡ kept_with p.line b → q.answered ≡ p.answered → q.taken ≡ p.taken + 1
+    → Taken gives s s p q (b ∷ []) a a
+taken_more gives s p q b a more line same total =
+    let lines : kept_lines p.line (b ∷ []) ≡ [] = kept_lines-more p.line b more in
+    record {
+      wrote = subst (λ ls. Wrote (Between gives s s) ls a a) (sym lines) (Wrote-nil gives s a);
+      piece = line ∙ sym (kept_piece-more p.line b more);
+      count = omega (arith, same, ap length lines);
+      total = total;
+    }
+
+-- ---- A run that stopped.
+
+-- before the first of the bytes the counts are those of the progress
+within_before : (bounds : Bounds) (p : Progress) → Within bounds p → IsWithin bounds p []
+unfolding kept_lines
+within_before bounds p within =
+    record { lines_within = omega (arith, within.answered_within); bytes_within = omega (arith, within.taken_within) }
+
+bound_before : (bounds : Bounds) (p : Progress) → (bounds.lines ≤ p.answered) ⊎ (bounds.bytes ≤ p.taken) → IsAtBound bounds p []
+unfolding kept_lines
+bound_before bounds p (inl h) = inl (omega (arith, h))
+bound_before bounds p (inr h) = inr (omega (arith, h))
+
+-- a line feed adds a line
+within_at_line : (bounds : Bounds) (p : Progress) (b : ℕ) → b ≡ 10 → p.answered < bounds.lines → p.taken < bounds.bytes
+    → IsWithin bounds p (b ∷ [])
+within_at_line bounds p b is_end few short =
+    let one : length (kept_lines p.line (b ∷ [])) ≡ 1 = ap length (kept_lines-end p.line b is_end) in
+    record { lines_within = omega (arith, one, few); bytes_within = omega (arith, short) }
+
+-- behind bytes that were taken, the counts go on
+pub within_behind : {S : Type 0} (gives : Giving S) (s t : S) (p q : Progress) (bounds : Bounds) (xs seen : List ℕ) (a b : Known)
+    → Taken gives s t p q xs a b → IsWithin bounds q seen → IsWithin bounds p (xs ++ seen)
+within_behind gives s t p q bounds xs seen a b first within =
+    let number : length (kept_lines p.line xs) + length (kept_lines q.line seen) ≡ length (kept_lines p.line (xs ++ seen)) =
+    number_behind p.line q.line xs seen first.piece in
+    record {
+      lines_within = omega (arith, first.count, number, within.lines_within);
+      bytes_within = omega (arith, first.total, length-append xs seen, within.bytes_within);
+    }
+
+bound_behind : {S : Type 0} (gives : Giving S) (s t : S) (p q : Progress) (bounds : Bounds) (xs seen : List ℕ) (a b : Known)
+    → Taken gives s t p q xs a b → IsAtBound bounds q seen → IsAtBound bounds p (xs ++ seen)
+bound_behind gives s t p q bounds xs seen a b first (inl h) =
+    let number : length (kept_lines p.line xs) + length (kept_lines q.line seen) ≡ length (kept_lines p.line (xs ++ seen)) =
+    number_behind p.line q.line xs seen first.piece in
+    inl (omega (arith, first.count, number, h))
+bound_behind gives s t p q bounds xs seen a b first (inr h) =
+    inr (omega (arith, first.total, length-append xs seen, h))
+
+-- a bound stands before the bytes
+pub stops_at_bound : {S : Type 0} (gives : Giving S) (s : S) (p : Progress) (bounds : Bounds) (b : ℕ) (bs : List ℕ) (a : Known)
+    → Within bounds p → (bounds.lines ≤ p.answered) ⊎ (bounds.bytes ≤ p.taken)
+    → StopsIn gives s s p bounds (b ∷ bs) a a TooLong
+unfolding kept_lines
+stops_at_bound gives s p bounds b bs a within reached = record {
+  seen = [];
+  unseen = b ∷ bs;
+  split = refl;
+  within = within_before bounds p within;
+  stop = (omega arith, Wrote-nil gives s a, bound_before bounds p reached);
+}
+
+-- the answer to a line was not written whole
+pub stops_at_line : {S : Type 0} (gives : Giving S) (s t : S) (p : Progress) (bounds : Bounds) (b : ℕ) (old new : Known)
+    (fault : RunFault) → b ≡ 10 → Within bounds p → p.answered < bounds.lines → p.taken < bounds.bytes
+    → Unwritten gives s t (p.line ∷ []) old new fault → StopsIn gives s t p bounds (b ∷ []) old new fault
+unfolding kept_lines
+stops_at_line gives s t p bounds b old new Write is_end within few short part = record {
+  seen = b ∷ [];
+  unseen = [];
+  split = refl;
+  within = within_at_line bounds p b is_end few short;
+  stop = subst (λ ls. WrotePart (Between gives s t) ls old new) (sym (kept_lines-end p.line b is_end)) part;
+}
+stops_at_line gives s t p bounds b old new OutOfMemory is_end within few short kept = record {
+  seen = [];
+  unseen = b ∷ [];
+  split = refl;
+  within = within_before bounds p within;
+  stop = (s, Wrote-kept gives s s [] old old new (Wrote-nil gives s old) kept);
+}
+stops_at_line gives s t p bounds b old new Read is_end within few short none = absurd none
+stops_at_line gives s t p bounds b old new TooLong is_end within few short none = absurd none
+stops_at_line gives s t p bounds b old new BadStart is_end within few short none = absurd none
+
+stop_behind : {S : Type 0} (gives : Giving S) (s t u : S) (p q : Progress) (bounds : Bounds) (xs seen unseen : List ℕ)
+    (a b c : Known) (fault : RunFault) → Taken gives s t p q xs a b
+    → StopsBy gives t u q bounds seen unseen b c fault → StopsBy gives s u p bounds (xs ++ seen) unseen a c fault
+stop_behind gives s t u p q bounds xs seen unseen a b c Write first part =
+    subst (λ ls. WrotePart (Between gives s u) ls a c) (lines_behind p.line q.line xs seen first.piece)
+    (Wrote-part gives s t u (kept_lines p.line xs) (kept_lines q.line seen) a b c first.wrote part)
+stop_behind {S} gives s t u p q bounds xs seen unseen a b c OutOfMemory first (mid, wrote) = (
+  mid,
+  subst (λ ls. Wrote (Between gives s mid) ls a c) (lines_behind p.line q.line xs seen first.piece)
+      (Wrote-trans gives s t mid (kept_lines p.line xs) (kept_lines q.line seen) a b c first.wrote wrote),
+)
+stop_behind gives s t u p q bounds xs seen unseen a b c TooLong first (more, wrote, bound) = (
+  more,
+  subst (λ ls. Wrote (Between gives s u) ls a c) (lines_behind p.line q.line xs seen first.piece)
+      (Wrote-trans gives s t u (kept_lines p.line xs) (kept_lines q.line seen) a b c first.wrote wrote),
+  bound_behind gives s t p q bounds xs seen a b first bound,
+)
+stop_behind gives s t u p q bounds xs seen unseen a b c Read first none = absurd none
+stop_behind gives s t u p q bounds xs seen unseen a b c BadStart first none = absurd none
+
+-- bytes were taken before
+pub stops_behind : {S : Type 0} (gives : Giving S) (s t u : S) (p q : Progress) (bounds : Bounds) (xs ys : List ℕ)
+    (a b c : Known) (fault : RunFault) → Taken gives s t p q xs a b → StopsIn gives t u q bounds ys b c fault
+    → StopsIn gives s u p bounds (xs ++ ys) a c fault
+stops_behind gives s t u p q bounds xs ys a b c fault first stops = record {
+  seen = xs ++ stops.seen;
+  unseen = stops.unseen;
+  split = ap (λ l. xs ++ l) stops.split ∙ sym (append_assoc xs stops.seen stops.unseen);
+  within = within_behind gives s t p q bounds xs stops.seen a b first stops.within;
+  stop = stop_behind gives s t u p q bounds xs stops.seen stops.unseen a b c fault first stops.stop;
+}
+
+stop_before : {S : Type 0} (gives : Giving S) (s t : S) (p : Progress) (bounds : Bounds) (seen unseen ys : List ℕ)
+    (a b : Known) (fault : RunFault) → StopsBy gives s t p bounds seen unseen a b fault
+    → StopsBy gives s t p bounds seen (unseen ++ ys) a b fault
+stop_before gives s t p bounds seen unseen ys a b Write stop = stop
+stop_before gives s t p bounds seen unseen ys a b OutOfMemory stop = stop
+stop_before gives s t p bounds seen unseen ys a b TooLong (more, wrote, bound) =
+    (omega (arith, more, length-append unseen ys), wrote, bound)
+stop_before gives s t p bounds seen unseen ys a b Read none = absurd none
+stop_before gives s t p bounds seen unseen ys a b BadStart none = absurd none
+
+-- bytes behind were not looked at
+pub stops_before : {S : Type 0} (gives : Giving S) (s t : S) (p : Progress) (bounds : Bounds) (xs ys : List ℕ)
+    (a b : Known) (fault : RunFault) → StopsIn gives s t p bounds xs a b fault
+    → StopsIn gives s t p bounds (xs ++ ys) a b fault
+stops_before gives s t p bounds xs ys a b fault stops = record {
+  seen = stops.seen;
+  unseen = stops.unseen ++ ys;
+  split = ap (λ l. l ++ ys) stops.split ∙ append_assoc stops.seen stops.unseen ys;
+  within = stops.within;
+  stop = stop_before gives s t p bounds stops.seen stops.unseen ys a b fault stops.stop;
+}
+
+-- a stop within the bytes of a further read
+pub stops_reading : {S : Type 0} (gives : Giving S) (s t u : S) (p q : Progress) (bounds : Bounds) (xs ys : List ℕ)
+    (old_input mid_input new_input a b c : Known) (fault : RunFault) → length ys ≤ one_read
+    → Consumes old_input mid_input xs → Consumes mid_input new_input ys → Taken gives s t p q xs a b
+    → StopsIn gives t u q bounds ys b c fault → StopsReading gives s u p bounds old_input new_input a c fault
+unfolding stops_behind
+stops_reading gives s t u p q bounds xs ys old_input mid_input new_input a b c fault one before read first stops = record {
+  input = xs ++ ys;
+  read = Consumes-trans old_input mid_input new_input xs ys before read;
+  stop = inl (
+    stops_behind gives s t u p q bounds xs ys a b c fault first stops,
+    omega (arith, one, ap length stops.split, length-append stops.seen stops.unseen),
+  );
+}
+
+-- a last line has room
+pub last_fits : (line : List ℕ) (answered lines : ℕ) → answered ≤ lines → (0 < length line → answered < lines)
+    → answered + length (last_line line) ≤ lines
+last_fits [] answered lines few room = omega (arith, few)
+last_fits (b ∷ bs) answered lines few room = omega (arith, room (omega arith))
+
+-- a read that failed behind the bytes
+pub stops_at_read : {S : Type 0} (gives : Giving S) (s t : S) (p q : Progress) (bounds : Bounds) (xs : List ℕ)
+    (old_input new_input a b : Known) → Consumes old_input new_input xs → Within bounds q → Taken gives s t p q xs a b
+    → StopsReading gives s t p bounds old_input new_input a b Read
+stops_at_read gives s t p q bounds xs old_input new_input a b read within took = record {
+  input = xs;
+  read = read;
+  stop = inr (
+    refl,
+    record {
+      lines_within = omega (arith, took.count, within.answered_within);
+      bytes_within = omega (arith, took.total, within.taken_within);
+    },
+    omega (
+      arith,
+      took.count,
+      last_fits q.line q.answered bounds.lines within.answered_within within.room,
+      ap (λ l. length (last_line l)) took.piece,
+    ),
+    took.wrote,
+  );
+}
+
+-- ---- Byte by byte.
+
+-- one byte more of a chunk
+pub taken_byte : {S : Type 0} (gives : Giving S) (s t u : S) (p q r : Progress) (chunk : List ℕ) (i x : ℕ) (a b c : Known)
+    → i < length chunk → x ≡ get_or chunk i 0 → Taken gives s t p q (take i chunk) a b
+    → Taken gives t u q r (x ∷ []) b c → Taken gives s u p r (take (i + 1) chunk) a c
+taken_byte gives s t u p q r chunk i x a b c below same first second =
+    let grown : take i chunk ++ x ∷ [] ≡ take (i + 1) chunk =
+    ap (λ y. take i chunk ++ y ∷ []) same ∙ sym (take_more chunk i 0 below) in
+    subst (λ l. Taken gives s u p r l a c) grown
+    (Taken-trans gives s t u p q r (take i chunk) (x ∷ []) a b c first second)
+
+-- a stop at a byte of a chunk
+pub stops_at_byte : {S : Type 0} (gives : Giving S) (s t u : S) (p q : Progress) (bounds : Bounds) (chunk : List ℕ) (i x : ℕ)
+    (a b c : Known) (fault : RunFault) → i < length chunk → x ≡ get_or chunk i 0
+    → Taken gives s t p q (take i chunk) a b → StopsIn gives t u q bounds (x ∷ []) b c fault
+    → StopsIn gives s u p bounds chunk a c fault
+stops_at_byte gives s t u p q bounds chunk i x a b c fault below same first stops =
+    let grown : take i chunk ++ x ∷ [] ≡ take (i + 1) chunk =
+    ap (λ y. take i chunk ++ y ∷ []) same ∙ sym (take_more chunk i 0 below) in
+    let whole : (take i chunk ++ x ∷ []) ++ drop (i + 1) chunk ≡ chunk =
+    ap (λ l. l ++ drop (i + 1) chunk) grown ∙ take-append-drop (i + 1) chunk in
+    subst (λ l. StopsIn gives s u p bounds l a c fault) whole
+    (stops_before gives s u p bounds (take i chunk ++ x ∷ []) (drop (i + 1) chunk) a c fault
+    (stops_behind gives s t u p q bounds (take i chunk) (x ∷ []) a b c fault first stops))

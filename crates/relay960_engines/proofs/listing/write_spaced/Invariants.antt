@@ -1,0 +1,11 @@
+use Rattle.std.proofs.Common.{take}
+use Rattle.std.specs.Io.KnownBytes.{Appends}
+use Rattle.std.specs.List.{flat_map}
+use Rattle.relay960_engines.specs.Moves.{spaced}
+use Rattle.relay960_engines.proofs.listing.write_spaced.Given as goal
+
+-- the texts of the moves before this one are written, and nothing else
+abbrev pub invariant-loop-chess_move : goal.invariant-loop-chess_move
+invariant-loop-chess_move g l =
+    Appends (g.W.Write.contents l.fn.writer) (g.W.Write.contents l.writer)
+    (flat_map spaced (take l.chess_move-index l.moves))

@@ -1,0 +1,11 @@
+use Rattle.std.proofs.Common.{take}
+use Rattle.relay960_engines.specs.inner.Taking.{Taken, Within}
+use Rattle.relay960_engines.proofs.progress.take_chunk.Given as goal
+
+-- the bytes before this one are taken, and nothing else
+abbrev pub invariant-loop-byte : goal.invariant-loop-byte
+invariant-loop-byte g l = record {
+  within : Within l.bounds l.progress;
+  took : Taken g.A.Answerer.gives l.fn.answerer l.answerer l.fn.progress l.progress (take l.byte-index l.chunk)
+      (g.W.Write.contents l.fn.writer) (g.W.Write.contents l.writer);
+}

@@ -1,0 +1,13 @@
+use Rattle.std.proofs.Common.{◌≤◌, length, take, ◌-◌}
+use Rattle.std.specs.Io.KnownBytes.{Appends}
+use Rattle.relay960_engines.proofs.writing.write_whole.Given as goal
+
+-- so many bytes of the text are written, and nothing else
+abbrev pub invariant-loop-written : goal.invariant-loop-written
+invariant-loop-written g l =
+    (l.written ≤ length l.text)
+    × Appends (g.W.Write.contents l.fn.writer) (g.W.Write.contents l.writer) (take l.written l.text)
+
+-- the bytes that are left
+abbrev pub decreases-loop-written : goal.decreases-loop-written
+decreases-loop-written g l = length l.text - l.written

@@ -1,0 +1,10 @@
+pub mod Writing
+pub mod Faults
+pub mod Start
+pub mod Moves
+pub mod Limits
+pub mod Lines
+pub mod Runs
+pub mod Play
+pub mod Script
+pub mod inner

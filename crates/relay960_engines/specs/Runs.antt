@@ -1,0 +1,109 @@
+-- What a run over lines does, from what the reader holds and the writer was given before it to what they are after it. It is said of
+-- any relation that tells which bytes answer which lines; each engine has its own.
+use Rattle.std.specs.Prelude.{ℕ, ◌≡◌, ◌<◌, ◌≤◌, ◌⊎◌, List, [], ◌++◌, length, Option}
+use Rattle.std.specs.Io.KnownBytes.{Appends, Consumes, IsAtEnd}
+use Rattle.relay960_engines.specs.declared.bounds.Bounds.{Bounds}
+use Rattle.relay960_engines.specs.declared.fault.RunFault.{RunFault}
+use Rattle.relay960_engines.specs.declared.fault.RunFault.TheVariants.{Read, Write, TooLong, OutOfMemory, BadStart}
+use Rattle.relay960_engines.specs.Lines.{lines_of, whole_lines}
+use Rattle.relay960_engines.specs.Writing.{AppendsPart}
+
+-- what a reader still holds and what a writer holds, where they tell it
+abbrev pub Known : Type 0
+Known = Option (List ℕ)
+
+-- which bytes answer which lines
+abbrev pub Answering : Type 1
+Answering = List (List ℕ) → List ℕ → Type 0
+
+-- the lines' answers were written
+pub record Wrote (answering : Answering) (lines : List (List ℕ)) (old new : Known) : Type 0 where
+  pub answers : List ℕ
+  pub given : answering lines answers
+  pub written : Appends old new answers
+
+-- a prefix of the lines' answers was written
+pub record WrotePart (answering : Answering) (lines : List (List ℕ)) (old new : Known) : Type 0 where
+  pub answers : List ℕ
+  pub given : answering lines answers
+  pub written : AppendsPart old new answers
+
+-- the input was read to its end, its lines were answered, and there are n of them, within both bounds
+pub record Done (answering : Answering) (bounds : Bounds) (old_input new_input old_output new_output : Known) (n : ℕ) : Type 0 where
+  pub input : List ℕ
+  pub read : Consumes old_input new_input input
+  pub at_end : IsAtEnd new_input
+  pub wrote : Wrote answering (lines_of input) old_output new_output
+  pub count : n ≡ length (lines_of input)
+  pub lines_within : n ≤ bounds.lines
+  pub bytes_within : length input ≤ bounds.bytes
+
+-- a read failed: the lines that end within the bytes read were answered, and a cut one was not; with the cut one they are within
+-- both bounds
+pub record StoppedReading (answering : Answering) (bounds : Bounds) (old_input new_input old_output new_output : Known) : Type 0 where
+  pub input : List ℕ
+  pub read : Consumes old_input new_input input
+  pub lines_within : length (lines_of input) ≤ bounds.lines
+  pub bytes_within : length input ≤ bounds.bytes
+  pub wrote : Wrote answering (whole_lines [] input) old_output new_output
+
+-- how many bytes one read asks for: so many may be read that are not looked at
+abbrev pub one_read : ℕ
+one_read = 4096
+
+-- a write failed: of the bytes read, all but those of the last read were seen, within both bounds, and a prefix of the answers to
+-- the lines that end within them was written; or all were seen, no byte is behind them, and the last line was being answered
+pub record StoppedWriting (answering : Answering) (bounds : Bounds) (old_input new_input old_output new_output : Known) : Type 0 where
+  pub seen : List ℕ
+  pub unseen : List ℕ
+  pub ahead : length unseen ≤ one_read
+  pub read : Consumes old_input new_input (seen ++ unseen)
+  pub bytes_within : length seen ≤ bounds.bytes
+  pub wrote : ((length (whole_lines [] seen) ≤ bounds.lines) × WrotePart answering (whole_lines [] seen) old_output new_output)
+      ⊎ ((unseen ≡ []) × IsAtEnd new_input × (length (lines_of seen) ≤ bounds.lines)
+      × WrotePart answering (lines_of seen) old_output new_output)
+
+-- a bound stands in the way of one more byte
+abbrev pub IsPast : Bounds → List ℕ → Type 0
+IsPast bounds seen = (bounds.lines ≤ length (whole_lines [] seen)) ⊎ (bounds.bytes ≤ length seen)
+
+-- a line or a byte more than the bounds allow: the lines that end within them were answered, and no more was read than the last
+-- read gave
+pub record StoppedPast (answering : Answering) (bounds : Bounds) (old_input new_input old_output new_output : Known) : Type 0 where
+  pub seen : List ℕ
+  pub unseen : List ℕ
+  pub more : 0 < length unseen
+  pub ahead : length unseen ≤ one_read
+  pub read : Consumes old_input new_input (seen ++ unseen)
+  pub lines_within : length (whole_lines [] seen) ≤ bounds.lines
+  pub bytes_within : length seen ≤ bounds.bytes
+  pub past : IsPast bounds seen
+  pub wrote : Wrote answering (whole_lines [] seen) old_output new_output
+
+-- there was no memory, for a line or an answer: the lines before it were answered, within both bounds
+pub record StoppedWithoutMemory (answering : Answering) (bounds : Bounds) (old_input new_input old_output new_output : Known) : Type 0 where
+  pub seen : List ℕ
+  pub unseen : List ℕ
+  pub ahead : length unseen ≤ one_read
+  pub read : Consumes old_input new_input (seen ++ unseen)
+  pub lines_within : length (whole_lines [] seen) ≤ bounds.lines
+  pub bytes_within : length seen ≤ bounds.bytes
+  pub wrote : Wrote answering (whole_lines [] seen) old_output new_output
+
+-- what a run that ends with a fault has done
+abbrev pub Stopped : Answering → Bounds → Known → Known → Known → Known → RunFault → Type 0
+Stopped answering bounds old_input new_input old_output new_output Read =
+    StoppedReading answering bounds old_input new_input old_output new_output
+Stopped answering bounds old_input new_input old_output new_output Write =
+    StoppedWriting answering bounds old_input new_input old_output new_output
+Stopped answering bounds old_input new_input old_output new_output TooLong =
+    StoppedPast answering bounds old_input new_input old_output new_output
+Stopped answering bounds old_input new_input old_output new_output OutOfMemory =
+    StoppedWithoutMemory answering bounds old_input new_input old_output new_output
+Stopped answering bounds old_input new_input old_output new_output BadStart = ⊥
+
+-- a write failed, and where the answers to lines begin those to more lines: what was written is a prefix of the answers to all
+-- lines of the bytes read
+pub record StoppedWithin (answering : Answering) (bounds : Bounds) (old_input new_input old_output new_output : Known) : Type 0 where
+  pub stopped : StoppedWriting answering bounds old_input new_input old_output new_output
+  pub prefix : WrotePart answering (lines_of (stopped.seen ++ stopped.unseen)) old_output new_output

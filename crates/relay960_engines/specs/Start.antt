@@ -1,0 +1,13 @@
+-- The line of a start number.
+use Rattle.std.specs.Prelude.{ℕ, nat_lt, List, cond, codes}
+use Rattle.c960_board.specs.Start.{start}
+use Rattle.c960_board.specs.Fen.Canonical.{canonical}
+use Rattle.relay960_engines.specs.Writing.{line}
+
+-- the line of a number that is no start's
+abbrev pub refusal_line : List ℕ
+refusal_line = line (codes "refused 3 BadStart")
+
+-- the FEN of the starting position where there is one
+abbrev pub start_line : ℕ → List ℕ
+start_line n = cond (nat_lt n 960) (line (canonical (start n))) refusal_line

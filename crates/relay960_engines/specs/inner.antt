@@ -1,0 +1,4 @@
+-- Definitions that serve the code alone: no promise of an engine names them.
+pub mod Taking
+pub mod PlayCut
+pub mod ScriptSteps

@@ -1,0 +1,18 @@
+-- A line of a live game is answered as its first 1,025 bytes are: no move's text is longer than five bytes.
+use Rattle.std.specs.Prelude.{ℕ, ◌≡◌, List, take}
+use Rattle.std.proofs.Common.{ap, ◌∙◌, lit<}
+use Rattle.c960_board.proofs.MoveReading.{read_of_front}
+use Rattle.c960_board.specs.MoveReading.{move_read}
+use Rattle.c960_game.specs.Record.{GameRecord}
+use Rattle.relay960_engines.specs.Play.{line_answer, game_after, lines_read, game_read}
+
+front_read : (l : List ℕ) → move_read (take 1025 l) ≡ move_read l
+front_read l = read_of_front 1025 l (lit< tt)
+
+pub answer_cut : (g : GameRecord) (l bytes : List ℕ) → bytes ≡ line_answer g (take 1025 l) → bytes ≡ line_answer g l
+unfolding line_answer
+answer_cut g l bytes given = given ∙ ap (lines_read g) (front_read l)
+
+pub game_cut : (g h : GameRecord) (l : List ℕ) → h ≡ game_after g (take 1025 l) → h ≡ game_after g l
+unfolding game_after
+game_cut g h l given = given ∙ ap (game_read g) (front_read l)

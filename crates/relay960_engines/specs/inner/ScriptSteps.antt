@@ -1,0 +1,31 @@
+-- What the answerer of a script gives: a line is answered by what the relay replies to its command, or by its fault. A line is
+-- answered as its first 1,025 bytes are, since a longer one is too long for a command.
+use Rattle.std.specs.Prelude.{ℕ, ◌≡◌, List, take, Ok, Err}
+use Rattle.relay_core.specs.declared.step.Step.{Step}
+use Rattle.relay_core.specs.Leads.{Leads}
+use Rattle.relay_core.specs.State.{RelayRecord}
+use Rattle.relay_messages.proofs.Decoding.{decoding_of_front}
+use Rattle.relay_messages.specs.declared.answer.Answer.{Answer}
+use Rattle.relay_messages.specs.declared.answer.Answer.TheVariants.{Reply, Fault}
+use Rattle.relay_messages.specs.Answers.{answer_text}
+use Rattle.relay_messages.specs.Decoding.{IsDecoding}
+use Rattle.relay960_engines.specs.Writing.{line}
+
+-- from relay r the line is answered so, which leads to relay q
+abbrev pub LeadsTo : RelayRecord → List ℕ → Answer → RelayRecord → Type 0
+LeadsTo r l (Fault fault) q = IsDecoding l (Err fault) × (q ≡ r)
+LeadsTo r l (Reply reply) q = (step : Step) × IsDecoding l (Ok step) × Leads r q step reply
+
+-- the same, with the bytes of the answer
+pub record DeskGives (r : RelayRecord) (l bytes : List ℕ) (q : RelayRecord) : Type 0 where
+  pub answer : Answer
+  pub leads : LeadsTo r l answer q
+  pub spelt : bytes ≡ line (answer_text answer)
+
+leads_cut : (r : RelayRecord) (l : List ℕ) (answer : Answer) (q : RelayRecord) → LeadsTo r (take 1025 l) answer q → LeadsTo r l answer q
+leads_cut r l (Fault fault) q given = (decoding_of_front l (Err fault) given.0, given.1)
+leads_cut r l (Reply reply) q (step, says, leads) = (step, decoding_of_front l (Ok step) says, leads)
+
+pub answers_cut : (r : RelayRecord) (l bytes : List ℕ) (q : RelayRecord) → DeskGives r (take 1025 l) bytes q → DeskGives r l bytes q
+answers_cut r l bytes q given =
+    record { answer = given.answer; leads = leads_cut r l given.answer q given.leads; spelt = given.spelt }

@@ -1,0 +1,29 @@
+//! The engines of the program `relay960`: the lines of a start number and of a position, a live game over lines, a script over
+//! a relay, and the line engine below these two. They read from any reader and write to any writer, and know no words of a
+//! command line.
+#![tactic(auto)]
+
+mod answerer;
+mod bounds;
+mod fault;
+mod kept;
+mod limits;
+mod lines;
+mod listing;
+mod moves;
+mod play;
+mod play_texts;
+mod progress;
+mod script;
+mod start;
+mod writing;
+
+pub use answerer::Answerer;
+pub use bounds::Bounds;
+pub use fault::RunFault;
+pub use limits::{ScriptLimits, default_limits};
+pub use lines::run_lines;
+pub use moves::moves_run;
+pub use play::play_run;
+pub use script::script_run;
+pub use start::start_run;

@@ -1,0 +1,94 @@
+//! The line engine: it reads lines, answers each and writes the answers, within bounds on lines and bytes.
+
+ghost use Rattle.std.specs.Prelude.{◌≡◌, ◌+◌, ◌≤◌, length, IfOk, IfErr, OnOk};
+ghost use Rattle.relay960_engines.specs.Lines.{Between, Until, last_line};
+ghost use Rattle.relay960_engines.specs.Runs.{Done, Stopped, Wrote};
+ghost use Rattle.relay960_engines.specs.inner.Taking.{StopsReading, TakenAll, Unwritten, Within};
+
+use crate::answerer::Answerer;
+use crate::bounds::Bounds;
+use crate::fault::RunFault;
+use crate::progress::{Progress, answer_line, take_chunk};
+use std::alloc::Global;
+use std::io::{Read, Write};
+
+/// How many bytes are asked for by one read.
+const CHUNK: usize = 4096;
+
+/// Takes all bytes of the reader. Each error of a read is the fault, and none is tried again.
+fn take_all<R: Read, A: Answerer, W: Write>(
+    alloc: Global,
+    reader: &mut R,
+    answerer: &mut A,
+    writer: &mut W,
+    progress: &mut Progress,
+    bounds: Bounds,
+) -> Result<(), RunFault>
+    requires { Within bounds progress.old }
+    ensures within { OnOk result (Within bounds progress.new) }
+    ensures took { OnOk result (TakenAll A.gives answerer.old answerer.new progress.old progress.new
+        (R.remaining reader.old) (R.remaining reader.new) (W.contents writer.old) (W.contents writer.new)) }
+    ensures failed { IfErr result (λ fault. StopsReading A.gives answerer.old answerer.new progress.old bounds
+        (R.remaining reader.old) (R.remaining reader.new) (W.contents writer.old) (W.contents writer.new) fault) }
+{
+    let mut buffer = [0u8; CHUNK];
+    loop {
+        match reader.read(&mut buffer) {
+            Err(_) => return Err(RunFault::Read),
+            Ok(0) => return Ok(()),
+            Ok(count) => take_chunk(alloc, answerer, writer, progress, bounds, &buffer[..count])?,
+        }
+    }
+}
+
+/// Answers the last line, which has no line feed, where there is one, and gives the number of all lines.
+fn answer_last<A: Answerer, W: Write>(
+    alloc: Global,
+    answerer: &mut A,
+    writer: &mut W,
+    progress: &Progress,
+    bounds: Bounds,
+) -> Result<u64, RunFault>
+    requires { Within bounds progress.now }
+    ensures wrote { OnOk result (Wrote (Between A.gives answerer.old answerer.new) (last_line progress.now.line)
+        (W.contents writer.old) (W.contents writer.new)) }
+    ensures count { IfOk result (λ n. n ≡ progress.now.answered + length (last_line progress.now.line)) }
+    ensures within { IfOk result (λ n. n ≤ bounds.lines) }
+    ensures failed { IfErr result (λ fault. Unwritten A.gives answerer.old answerer.new (last_line progress.now.line)
+        (W.contents writer.old) (W.contents writer.new) fault) }
+{
+    if progress.line.is_empty() {
+        return Ok(progress.answered);
+    }
+    answer_line(alloc, answerer, writer, progress.line.as_slice())?;
+    Ok(progress.answered + 1)
+}
+
+/// Answers each line of the reader on the writer, and gives the number of lines. A line ends with a line feed; a last
+/// piece without one is a line where it is not empty. Of a line the answerer is given the first 1,025 bytes. At most
+/// as many lines are answered and as many bytes taken as the bounds say.
+///
+/// # Errors
+///
+/// `Read` where a read failed: the lines that ended before were answered. `Write` where a write failed: a prefix of the
+/// answers was written. `TooLong` where there is a byte behind the lines or behind the bytes that the bounds allow: the lines that end
+/// within both bounds were answered. `OutOfMemory` where there was no memory for the line or for an answer: the lines
+/// before were answered.
+pub fn run_lines<R: Read, A: Answerer, W: Write>(
+    alloc: Global,
+    reader: &mut R,
+    answerer: &mut A,
+    writer: &mut W,
+    bounds: Bounds,
+) -> Result<u64, RunFault>
+    ensures done { IfOk result (λ n. Done (Between A.gives answerer.old answerer.new) bounds (R.remaining reader.old)
+        (R.remaining reader.new) (W.contents writer.old) (W.contents writer.new) n) }
+    ensures failed { IfErr result (λ fault. Stopped (Until A.gives answerer.old answerer.new fault) bounds
+        (R.remaining reader.old) (R.remaining reader.new) (W.contents writer.old) (W.contents writer.new) fault) }
+{
+    let Ok(mut progress) = Progress::new(alloc) else {
+        return Err(RunFault::OutOfMemory);
+    };
+    take_all(alloc, reader, answerer, writer, &mut progress, bounds)?;
+    answer_last(alloc, answerer, writer, &progress, bounds)
+}

@@ -1,0 +1,64 @@
+//! The line of the legal moves: their texts with single spaces between them.
+
+ghost use Rattle.std.specs.Prelude.{◌≡◌, ◌∷◌, IfErr, OnOk, OnErr};
+ghost use Rattle.std.specs.Io.KnownBytes.{Appends};
+ghost use Rattle.std.specs.List.{flat_map};
+ghost use Rattle.relay960_engines.specs.Moves.{parted, spaced};
+ghost use Rattle.relay960_engines.specs.Writing.{AppendsPart, line};
+
+use crate::fault::RunFault;
+use crate::writing::{write_pieces, write_whole};
+use c960_board::{Move, move_bytes};
+use std::io::Write;
+
+/// Writes a space and the text of each move.
+#[tactic(auto, using(crate::proofs::Items::items_more, crate::proofs::Items::items_part))]
+fn write_spaced<W: Write>(writer: &mut W, moves: &[Move]) -> Result<(), RunFault>
+    ensures whole { OnOk result (Appends (W.contents writer.old) (W.contents writer.new) (flat_map spaced moves.now)) }
+    ensures part { OnErr result (AppendsPart (W.contents writer.old) (W.contents writer.new)
+        (flat_map spaced moves.now)) }
+    ensures fault { IfErr result (λ fault. fault ≡ RunFault.Write) }
+{
+    for chess_move in moves {
+        let text = move_bytes(*chess_move);
+        write_pieces(writer, &[b" ", text.as_slice()])?;
+    }
+    Ok(())
+}
+
+/// Writes the texts of the moves with single spaces between them.
+#[tactic(auto, using(crate::proofs::Prefixes::part_before, crate::proofs::Prefixes::on_err_behind))]
+fn write_first<W: Write>(writer: &mut W, first: &Move, others: &[Move]) -> Result<(), RunFault>
+    ensures whole { OnOk result (Appends (W.contents writer.old) (W.contents writer.new)
+        (parted (first.now ∷ others.now))) }
+    ensures part { OnErr result (AppendsPart (W.contents writer.old) (W.contents writer.new)
+        (parted (first.now ∷ others.now))) }
+    ensures fault { IfErr result (λ fault. fault ≡ RunFault.Write) }
+{
+    write_whole(writer, move_bytes(*first).as_slice())?;
+    write_spaced(writer, others)
+}
+
+/// Writes the texts of the moves with single spaces between them, and nothing where there is no move.
+fn write_parted<W: Write>(writer: &mut W, moves: &[Move]) -> Result<(), RunFault>
+    ensures whole { OnOk result (Appends (W.contents writer.old) (W.contents writer.new) (parted moves.now)) }
+    ensures part { OnErr result (AppendsPart (W.contents writer.old) (W.contents writer.new) (parted moves.now)) }
+    ensures fault { IfErr result (λ fault. fault ≡ RunFault.Write) }
+{
+    match moves {
+        [] => Ok(()),
+        [first, others @ ..] => write_first(writer, first, others),
+    }
+}
+
+/// Writes the line of the moves.
+#[tactic(auto, using(crate::proofs::Prefixes::part_before, crate::proofs::Prefixes::on_err_behind))]
+pub fn write_moves<W: Write>(writer: &mut W, moves: &[Move]) -> Result<(), RunFault>
+    ensures whole { OnOk result (Appends (W.contents writer.old) (W.contents writer.new) (line (parted moves.now))) }
+    ensures part { OnErr result (AppendsPart (W.contents writer.old) (W.contents writer.new)
+        (line (parted moves.now))) }
+    ensures fault { IfErr result (λ fault. fault ≡ RunFault.Write) }
+{
+    write_parted(writer, moves)?;
+    write_whole(writer, b"\n")
+}

@@ -1,0 +1,96 @@
+//! A live game over lines: each line is a move, and its answer is the position after it or why there is none.
+
+ghost use Rattle.std.specs.Prelude.{◌≡◌, IfOk, IfErr};
+ghost use Rattle.c960_game.specs.Record.{play_answer};
+ghost use Rattle.relay960_engines.specs.Play.{PlayStopped, Played, game_played, played_lines};
+
+use crate::answerer::Answerer;
+use crate::fault::RunFault;
+use crate::limits::ScriptLimits;
+use crate::lines::run_lines;
+use crate::play_texts::{fault_text, played_text, refused_text};
+use crate::start::refuse;
+use c960_board::{Move, read_move};
+use c960_game::{Game, Refusal};
+use std::alloc::{AllocError, Global};
+use std::io::{Read, Write};
+
+/// How many plies a game of the program may have.
+const MOST_PLIES: u16 = 16384;
+
+/// The answerer of a live game.
+#[derive(Drop)]
+pub struct Player {
+    /// The game with the moves so far.
+    pub game: Game,
+}
+
+impl Player {
+    /// Makes a move, and gives the answer to it.
+    ///
+    /// # Errors
+    ///
+    /// There was no memory for the answer.
+    fn play(&mut self, alloc: Global, chess_move: Move) -> Result<Vec<u8>, AllocError>
+        ensures text { IfOk result (λ text. text.items
+            ≡ played_lines self.old.game chess_move (play_answer self.old.game chess_move)) }
+        ensures game { self.new.game ≡ game_played self.old.game chess_move (play_answer self.old.game chess_move) }
+    {
+        match self.game.play(chess_move) {
+            Ok(outcome) => played_text(alloc, &self.game.position(), outcome),
+            Err(refusal) => refused_text(alloc, refusal),
+        }
+    }
+}
+
+impl Answerer for Player {
+    ghost use Rattle.std.specs.Prelude.{◌≡◌};
+    ghost use Rattle.relay960_engines.specs.Play.{game_after, line_answer};
+    ghost use Rattle.relay960_engines.specs.inner.PlayCut.{answer_cut, game_cut};
+
+    ghost gives = { λ s l bytes t. (bytes ≡ line_answer s.game l) × (t.game ≡ game_after s.game l) };
+
+    ghost cut = { λ s l bytes t given. (answer_cut s.game l bytes given.0, game_cut s.game t.game l given.1) };
+
+    #[tactic(auto, unfolding(crate::specs::Play::line_answer, crate::specs::Play::game_after))]
+    fn answer(&mut self, alloc: Global, line: &[u8]) -> Result<Vec<u8>, AllocError> {
+        match read_move(line) {
+            Ok(chess_move) => self.play(alloc, chess_move),
+            Err(fault) => fault_text(alloc, fault),
+        }
+    }
+}
+
+/// Plays a live game from start `number`: it reads a move a line and writes, as soon as the line has ended, the position
+/// after the move in Shredder-FEN, and where the move ends the game a line with the outcome; or the line of the refusal
+/// or of the text's fault, after which the game goes on. It gives the number of lines.
+///
+/// # Errors
+///
+/// `BadStart` from 960 on: nothing was read, and the refusal was written. `Read` where a read failed: the lines that ended
+/// before were answered. `Write` where a write failed: a prefix of the answers was written, or of the refusal. `TooLong`
+/// where there is a byte behind the lines or bytes that the limits allow: the lines that end within both were answered.
+/// `OutOfMemory` where there was no memory for the game or for an answer: the lines before were answered.
+pub fn play_run<R: Read, W: Write>(
+    alloc: Global,
+    number: u16,
+    reader: &mut R,
+    writer: &mut W,
+    limits: ScriptLimits,
+) -> Result<u64, RunFault>
+    ensures done { IfOk result (λ count. Played number limits.bounds (R.remaining reader.old)
+        (R.remaining reader.new) (W.contents writer.old) (W.contents writer.new) count) }
+    ensures failed { IfErr result (λ fault. PlayStopped number limits.bounds (R.remaining reader.old)
+        (R.remaining reader.new) (W.contents writer.old) (W.contents writer.new) fault) }
+{
+    let game = match Game::open(alloc, number, MOST_PLIES) {
+        Ok(game) => game,
+        Err(Refusal::BadStart) => {
+            refuse(writer)?;
+            return Err(RunFault::BadStart);
+        }
+        Err(_) => return Err(RunFault::OutOfMemory),
+    };
+    let mut player = Player { game };
+    run_lines(alloc, reader, &mut player, writer, limits.bounds())
+}

@@ -1,0 +1,115 @@
+//! How the bytes of a stream are taken, one after another: each line is answered as soon as its line feed is seen.
+
+ghost use Rattle.std.specs.Prelude.{◌≡◌, ◌∷◌, [], IfOk, IfErr, OnOk};
+ghost use Rattle.relay960_engines.specs.Lines.{Between};
+ghost use Rattle.relay960_engines.specs.Runs.{Wrote};
+ghost use Rattle.relay960_engines.specs.inner.Taking.{StopsIn, Taken, Unwritten, Within};
+
+use crate::answerer::Answerer;
+use crate::bounds::Bounds;
+use crate::fault::RunFault;
+use crate::kept::KeptLine;
+use crate::writing::write_whole;
+use std::alloc::{AllocError, Global};
+use std::io::Write;
+
+/// How far a run has come.
+#[derive(Drop)]
+pub struct Progress {
+    /// What is kept of the line that is being read.
+    pub line: KeptLine,
+    /// How many lines were answered.
+    pub answered: u64,
+    /// How many bytes were taken.
+    pub taken: u64,
+}
+
+impl Progress {
+    /// The progress of a run that begins.
+    ///
+    /// # Errors
+    ///
+    /// There was no memory for the line.
+    pub fn new(alloc: Global) -> Result<Progress, AllocError>
+        ensures line { IfOk result (λ progress. progress.line ≡ []) }
+        ensures answered { IfOk result (λ progress. progress.answered ≡ 0) }
+        ensures taken { IfOk result (λ progress. progress.taken ≡ 0) }
+    {
+        Ok(Progress {
+            line: KeptLine::new(alloc)?,
+            answered: 0,
+            taken: 0,
+        })
+    }
+}
+
+/// Writes the answer to a line, by one call of `write_whole`.
+pub fn answer_line<A: Answerer, W: Write>(
+    alloc: Global,
+    answerer: &mut A,
+    writer: &mut W,
+    line: &[u8],
+) -> Result<(), RunFault>
+    ensures wrote { OnOk result (Wrote (Between A.gives answerer.old answerer.new) (line.now ∷ [])
+        (W.contents writer.old) (W.contents writer.new)) }
+    ensures failed { IfErr result (λ fault. Unwritten A.gives answerer.old answerer.new (line.now ∷ [])
+        (W.contents writer.old) (W.contents writer.new) fault) }
+{
+    match answerer.answer(alloc, line) {
+        Ok(answer) => write_whole(writer, answer.as_slice()),
+        Err(_) => Err(RunFault::OutOfMemory),
+    }
+}
+
+/// Takes one byte, where both bounds allow it: a line feed ends the line, which is answered, and any other byte belongs
+/// to it.
+fn take_byte<A: Answerer, W: Write>(
+    alloc: Global,
+    answerer: &mut A,
+    writer: &mut W,
+    progress: &mut Progress,
+    bounds: Bounds,
+    byte: u8,
+) -> Result<(), RunFault>
+    requires { Within bounds progress.old }
+    ensures within { OnOk result (Within bounds progress.new) }
+    ensures took { OnOk result (Taken A.gives answerer.old answerer.new progress.old progress.new (byte ∷ [])
+        (W.contents writer.old) (W.contents writer.new)) }
+    ensures failed { IfErr result (λ fault. StopsIn A.gives answerer.old answerer.new progress.old bounds
+        (byte ∷ []) (W.contents writer.old) (W.contents writer.new) fault) }
+{
+    if progress.answered >= bounds.lines || progress.taken >= bounds.bytes {
+        return Err(RunFault::TooLong);
+    }
+    progress.taken += 1;
+    if byte != b'\n' {
+        progress.line.push(byte);
+        return Ok(());
+    }
+    answer_line(alloc, answerer, writer, progress.line.as_slice())?;
+    progress.line.clear();
+    progress.answered += 1;
+    Ok(())
+}
+
+/// Takes the bytes one after another, as far as both bounds allow it.
+pub fn take_chunk<A: Answerer, W: Write>(
+    alloc: Global,
+    answerer: &mut A,
+    writer: &mut W,
+    progress: &mut Progress,
+    bounds: Bounds,
+    chunk: &[u8],
+) -> Result<(), RunFault>
+    requires { Within bounds progress.old }
+    ensures within { OnOk result (Within bounds progress.new) }
+    ensures took { OnOk result (Taken A.gives answerer.old answerer.new progress.old progress.new chunk.now
+        (W.contents writer.old) (W.contents writer.new)) }
+    ensures failed { IfErr result (λ fault. StopsIn A.gives answerer.old answerer.new progress.old bounds
+        chunk.now (W.contents writer.old) (W.contents writer.new) fault) }
+{
+    for byte in chunk {
+        take_byte(alloc, answerer, writer, progress, bounds, *byte)?;
+    }
+    Ok(())
+}

@@ -1,0 +1,75 @@
+//! A script over a relay: each line is a command, and its answer is one line.
+
+ghost use Rattle.std.specs.Prelude.{◌≡◌, IfOk, IfErr};
+ghost use Rattle.relay_messages.specs.Answers.{answer_text};
+ghost use Rattle.relay960_engines.specs.Script.{Ran, ScriptStopped};
+ghost use Rattle.relay960_engines.specs.Writing.{line};
+
+use crate::answerer::Answerer;
+use crate::fault::RunFault;
+use crate::limits::ScriptLimits;
+use crate::lines::run_lines;
+use relay_core::Relay;
+use relay_messages::{Answer, decode, encode};
+use std::alloc::{AllocError, Global};
+use std::io::{Read, Write};
+
+/// The answerer of a script.
+#[derive(Drop)]
+pub struct Desk {
+    /// The relay that the commands so far have led to.
+    pub relay: Relay,
+}
+
+impl Answerer for Desk {
+    ghost use Rattle.relay960_engines.specs.inner.ScriptSteps.{DeskGives, answers_cut};
+
+    ghost gives = { λ s l bytes t. DeskGives s.relay l bytes t.relay };
+
+    ghost cut = { λ s l bytes t given. answers_cut s.relay l bytes t.relay given };
+
+    fn answer(&mut self, alloc: Global, line: &[u8]) -> Result<Vec<u8>, AllocError> {
+        let answer = match decode(alloc, line) {
+            Ok(command) => Answer::Reply(self.relay.step(command)),
+            Err(fault) => Answer::Fault(fault),
+        };
+        line_of(alloc, &answer)
+    }
+}
+
+/// The line of an answer.
+fn line_of(alloc: Global, answer: &Answer) -> Result<Vec<u8>, AllocError>
+    ensures { IfOk result (λ text. text.items ≡ line (answer_text answer.now)) }
+{
+    let mut text = encode(alloc, answer)?;
+    text.push('\n')?;
+    Ok(text.into_bytes())
+}
+
+/// Runs a script over a relay that has no board yet: it reads a command a line and writes, as soon as the line has ended, its
+/// answer. It gives the number of lines. Where a line could not be read for want of memory, or an Open or a Follow was
+/// refused for it, the answer says so, and the run goes on.
+///
+/// # Errors
+///
+/// `Read` where a read failed: the lines that ended before were answered. `Write` where a write failed: a prefix of the
+/// answers was written. `TooLong` where there is a byte behind the lines or bytes that the limits allow: the lines that end
+/// within both were answered. `OutOfMemory` where there was no memory for the relay or for the text of an answer: the lines
+/// before were answered.
+pub fn script_run<R: Read, W: Write>(
+    alloc: Global,
+    reader: &mut R,
+    writer: &mut W,
+    limits: ScriptLimits,
+) -> Result<u64, RunFault>
+    ensures done { IfOk result (λ count. Ran limits.limits limits.bounds (R.remaining reader.old)
+        (R.remaining reader.new) (W.contents writer.old) (W.contents writer.new) count) }
+    ensures failed { IfErr result (λ fault. ScriptStopped limits.limits limits.bounds (R.remaining reader.old)
+        (R.remaining reader.new) (W.contents writer.old) (W.contents writer.new) fault) }
+{
+    let Ok(relay) = Relay::new(alloc, limits.limits()) else {
+        return Err(RunFault::OutOfMemory);
+    };
+    let mut desk = Desk { relay };
+    run_lines(alloc, reader, &mut desk, writer, limits.bounds())
+}

@@ -1,0 +1,99 @@
+-- What a connection is answered, and which boards it has opened.
+use Rattle.std.specs.Prelude.{◌≡◌, ◌≢◌, ◌⊎◌, ℕ, List, [], ◌∷◌, ◌++◌, Bool, true, false, cond, Ok, Err, ⊤}
+use Rattle.std.specs.List.{list_any}
+use Rattle.c960_game.specs.declared.ending.Ending.TheVariants.{Abandoned}
+use Rattle.c960_game.specs.declared.refusal.Refusal.{Refusal}
+use Rattle.c960_game.specs.declared.refusal.Refusal.TheVariants.{NoSuchBoard, NotYourBoard, WrongMode}
+use Rattle.relay_core.specs.declared.step.Step.{Step}
+use Rattle.relay_core.specs.declared.step.Step.TheVariants.{Open, Submit, End, Follow, Take, Leave}
+use Rattle.relay_core.specs.declared.reply.Reply.{Reply}
+use Rattle.relay_core.specs.declared.reply.Reply.TheVariants.{Refused}
+use Rattle.relay_core.specs.History.{is_accepted}
+use Rattle.relay_core.specs.Name.{same_name}
+use Rattle.relay_messages.specs.Answers.{answer_text}
+use Rattle.relay_messages.specs.declared.answer.Answer.{Answer}
+use Rattle.relay_messages.specs.declared.answer.Answer.TheVariants as answers
+use Rattle.relay_messages.specs.Decoding.{IsDecoding}
+
+-- whether the board is one of those opened
+abbrev pub is_among : List ℕ → List (List ℕ) → Bool
+is_among board opened = list_any (λ name. same_name name board) opened
+
+-- the board that an accepted step opens
+abbrev pub opened_by : Step → List (List ℕ)
+opened_by (Open board start) = board ∷ []
+opened_by _ = []
+
+-- the boards opened, with that of an accepted Open
+abbrev pub opened_after : List (List ℕ) → Step → Reply → List (List ℕ)
+opened_after opened step reply = cond (is_accepted reply) (opened ++ opened_by step) opened
+
+-- a board that the connection did not open is NotYourBoard or NoSuchBoard, as the keeper tells that it knows the board or not
+pub record IsForeign (tells : List ℕ → Bool → Type 0) (opened : List (List ℕ)) (board : List ℕ) (refusal : Refusal) : Type 0 where
+  pub foreign : is_among board opened ≡ false
+  pub known : Bool
+  pub told : tells board known
+  pub reason : refusal ≡ cond known NotYourBoard NoSuchBoard
+
+-- the connection may not make the step, for this reason
+abbrev pub Bars : (List ℕ → Bool → Type 0) → List (List ℕ) → Step → Refusal → Type 0
+Bars tells opened (Open board start) refusal = ⊥
+Bars tells opened (Submit board m) refusal = IsForeign tells opened board refusal
+Bars tells opened (End board ending) refusal = IsForeign tells opened board refusal
+Bars tells opened (Follow who board from) refusal = (opened ≢ []) × (refusal ≡ WrongMode)
+Bars tells opened (Take who) refusal = refusal ≡ WrongMode
+Bars tells opened (Leave who) refusal = refusal ≡ WrongMode
+
+-- the connection may make the step
+abbrev pub MayMake : List (List ℕ) → Step → Type 0
+MayMake opened (Open board start) = ⊤
+MayMake opened (Submit board m) = is_among board opened ≡ true
+MayMake opened (End board ending) = is_among board opened ≡ true
+MayMake opened (Follow who board from) = opened ≡ []
+MayMake opened (Take who) = ⊥
+MayMake opened (Leave who) = ⊥
+
+-- nothing was made
+pub record IsUnmoved {K : Type 0} (opened : List (List ℕ)) (k : K) (boards : List (List ℕ)) (after : K) : Type 0 where
+  pub boards_are : boards ≡ opened
+  pub keeper_is : after ≡ k
+
+-- the keeper made this one step, with that reply
+pub record Made {K : Type 0} (makes : K → Step → Reply → K → Type 0) (opened : List (List ℕ)) (k : K) (step : Step) (reply : Reply) (boards : List (List ℕ)) (after : K) : Type 0 where
+  pub may : MayMake opened step
+  pub made : makes k step reply after
+  pub boards_are : boards ≡ opened_after opened step reply
+
+-- the step was refused to the connection, and nothing was made
+pub record Barred {K : Type 0} (tells : List ℕ → Bool → Type 0) (opened : List (List ℕ)) (k : K) (step : Step) (reply : Reply) (boards : List (List ℕ)) (after : K) : Type 0 where
+  pub refusal : Refusal
+  pub bars : Bars tells opened step refusal
+  pub reply_is : reply ≡ Refused refusal
+  pub unmoved : IsUnmoved opened k boards after
+
+-- a step gets this reply
+abbrev pub Replied : {K : Type 0} → (List ℕ → Bool → Type 0) → (K → Step → Reply → K → Type 0) → List (List ℕ) → K → Step → Reply → List (List ℕ) → K → Type 0
+Replied tells makes opened k step reply boards after =
+    Made makes opened k step reply boards after ⊎ Barred tells opened k step reply boards after
+
+-- a text gets this answer: the fault of its decoding, and nothing was made; or the reply to the step that it says
+abbrev pub Leads : {K : Type 0} → (List ℕ → Bool → Type 0) → (K → Step → Reply → K → Type 0) → List (List ℕ) → K → List ℕ → Answer → List (List ℕ) → K → Type 0
+Leads tells makes opened k text (answers.Fault fault) boards after = IsDecoding text (Err fault) × IsUnmoved opened k boards after
+Leads tells makes opened k text (answers.Reply reply) boards after =
+    (step : Step) × IsDecoding text (Ok step) × Replied tells makes opened k step reply boards after
+
+-- a text gets the answer of these bytes
+abbrev pub Answered : {K : Type 0} → (List ℕ → Bool → Type 0) → (K → Step → Reply → K → Type 0) → List (List ℕ) → K → List ℕ → List ℕ → List (List ℕ) → K → Type 0
+Answered tells makes opened k text bytes boards after =
+    (answer : Answer) × Leads tells makes opened k text answer boards after × (bytes ≡ answer_text answer)
+
+-- there was no memory to answer a text: the keeper made the step that the text says, or none was made
+abbrev pub Stopped : {K : Type 0} → (K → Step → Reply → K → Type 0) → List (List ℕ) → K → List ℕ → List (List ℕ) → K → Type 0
+Stopped makes opened k text boards after =
+    ((step : Step) × (reply : Reply) × IsDecoding text (Ok step) × Made makes opened k step reply boards after)
+    ⊎ IsUnmoved opened k boards after
+
+-- each of the boards is ended as abandoned, in this order, and no other step is made
+abbrev pub Ends : {K : Type 0} → (K → Step → Reply → K → Type 0) → K → List (List ℕ) → K → Type 0
+Ends makes k [] after = after ≡ k
+Ends {K} makes k (board ∷ boards) after = (mid : K) × (reply : Reply) × makes k (End board Abandoned) reply mid × Ends makes mid boards after

@@ -1,0 +1,57 @@
+-- What is taken of a source, and what an outlet is sent of it.
+use Rattle.std.specs.Prelude.{◌≡◌, ℕ, List, [], ◌∷◌, ◌++◌, Option, ⊤}
+use Rattle.relay_core.specs.declared.reply.Taken.{Taken}
+use Rattle.relay_core.specs.declared.reply.Taken.TheVariants as takes
+use Rattle.relay_core.specs.declared.reply.Reply.TheVariants.{Took}
+use Rattle.relay_messages.specs.declared.answer.Answer.TheVariants.{Reply}
+use Rattle.relay_messages.specs.Answers.{answer_text}
+use Rattle.relay_pushing.specs.declared.pushing.PushEnd.{PushEnd}
+use Rattle.relay_pushing.specs.declared.pushing.PushEnd.TheVariants.{Over, Cut, Failed}
+use Rattle.relay_pushing.specs.Sending.{GainsAll, IsCounted}
+
+-- takes with these answers, one after another, lead from s to t
+abbrev pub Takes : {S : Type 0} → (S → Taken → S → Type 0) → S → List Taken → S → Type 0
+Takes gives s [] t = t ≡ s
+Takes {S} gives s (x ∷ xs) t = (mid : S) × gives s x mid × Takes gives mid xs t
+
+-- the text of a take's answer
+abbrev pub text_of : Taken → List ℕ
+text_of taken = answer_text (Reply (Took taken))
+
+-- the texts of answers, in order, Nothing left out
+abbrev pub texts_of : List Taken → List (List ℕ)
+texts_of [] = []
+texts_of (takes.Nothing ∷ xs) = texts_of xs
+texts_of (takes.Move place m ∷ xs) = text_of (takes.Move place m) ∷ texts_of xs
+texts_of (takes.Over outcome ∷ xs) = text_of (takes.Over outcome) ∷ texts_of xs
+texts_of (takes.Cut ∷ xs) = text_of takes.Cut ∷ texts_of xs
+
+-- an answer after which there is more to come: a move, or nothing yet
+abbrev pub GoesOn : Taken → Type 0
+GoesOn takes.Nothing = ⊤
+GoesOn (takes.Move place m) = ⊤
+GoesOn (takes.Over outcome) = ⊥
+GoesOn takes.Cut = ⊥
+
+abbrev pub AllGoOn : List Taken → Type 0
+AllGoOn [] = ⊤
+AllGoOn (x ∷ xs) = GoesOn x × AllGoOn xs
+
+-- Takes with answers that go on, then one with the last answer, lead from s to t, and the texts of those sent came to the outlet.
+pub record Went {S : Type 0} (gives : S → Taken → S → Type 0) (s t : S) (old new : Option (List (List ℕ))) (before : List Taken) (last : Taken) (sent : List Taken) : Type 0 where
+  pub go_on : AllGoOn before
+  pub taken : Takes gives s (before ++ last ∷ []) t
+  pub gained : GainsAll old new (texts_of sent)
+
+-- Over or Cut is answered where that was the last answer and all of them were sent; Failed, where all but the last were.
+abbrev pub Pushed : {S : Type 0} → (S → Taken → S → Type 0) → S → S → Option (List (List ℕ)) → Option (List (List ℕ)) → PushEnd → Type 0
+Pushed gives s t old new (Over outcome) =
+    (before : List Taken) × Went gives s t old new before (takes.Over outcome) (before ++ takes.Over outcome ∷ [])
+Pushed gives s t old new Cut = (before : List Taken) × Went gives s t old new before takes.Cut (before ++ takes.Cut ∷ [])
+Pushed gives s t old new (Failed fault) = (before : List Taken) × (last : Taken) × Went gives s t old new before last before
+
+-- a device's fault is answered only where the count of failures rose or is full
+abbrev pub IsDeviceFaultCounted : ℕ → ℕ → PushEnd → Type 0
+IsDeviceFaultCounted old new (Over outcome) = ⊤
+IsDeviceFaultCounted old new Cut = ⊤
+IsDeviceFaultCounted old new (Failed fault) = IsCounted old new fault

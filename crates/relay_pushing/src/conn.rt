@@ -1,0 +1,136 @@
+//! A connection: which boards it opened, and what it may do.
+
+ghost use Rattle.std.specs.Prelude.{◌≡◌, [], IfOk, OnErr, IfSome, IfNone, string_bytes};
+ghost use Rattle.relay_pushing.specs.Connections.{Answered, Bars, Ends, IsUnmoved, Leads, MayMake, Replied, Stopped, is_among};
+
+use crate::keeper::Keeper;
+use c960_game::{Ending, Refusal};
+use relay_core::{BoardName, Reply, Step};
+use relay_messages::{Answer, decode, encode};
+use std::alloc::{AllocError, Global};
+use std::marker::Model;
+
+/// A connection. Contracts see the boards that it opened, in the order of opening.
+#[derive(Drop)]
+pub struct Conn {
+    alloc: Global,
+    opened: Vec<BoardName>,
+}
+
+impl Model for Conn {
+    ghost use Rattle.std.specs.Prelude.{ℕ, List};
+
+    ghost Value = { List (List ℕ) };
+
+    ghost view = { λ c. c.opened.items };
+}
+
+impl Conn {
+    /// A connection that has opened nothing.
+    pub fn new(alloc: Global) -> Conn
+        ensures { result ≡ [] }
+    {
+        Conn {
+            alloc,
+            opened: Vec::new(alloc),
+        }
+    }
+
+    /// Whether the connection opened the board.
+    fn owns(&self, board: BoardName) -> bool
+        ensures { result ≡ is_among board self.now }
+    {
+        self.opened.contains(&board)
+    }
+
+    /// Why the connection may not make the step, if it may not.
+    fn refusal<K: Keeper>(&self, step: &Step, keeper: &K) -> Option<Refusal>
+        ensures some { IfSome result (λ refusal. Bars (K.tells keeper.now) self.now step.now refusal) }
+        ensures none { IfNone result (MayMake self.now step.now) }
+    {
+        match *step {
+            Step::Open(_, _) => None,
+            Step::Submit(board, _) | Step::End(board, _) => {
+                if self.owns(board) {
+                    None
+                } else if keeper.knows(&board) {
+                    Some(Refusal::NotYourBoard)
+                } else {
+                    Some(Refusal::NoSuchBoard)
+                }
+            }
+            Step::Follow(_, _, _) => {
+                if self.opened.is_empty() {
+                    None
+                } else {
+                    Some(Refusal::WrongMode)
+                }
+            }
+            Step::Take(_) | Step::Leave(_) => Some(Refusal::WrongMode),
+        }
+    }
+
+    /// Replies to a step: makes it where the connection may. Room for an opened board is asked for before the step is made.
+    fn reply<K: Keeper>(&mut self, step: &Step, keeper: &mut K) -> Result<Reply, AllocError>
+        ensures ok { IfOk result (λ reply. Replied (K.tells keeper.old) K.makes self.old keeper.old step.now reply self.new keeper.new) }
+        ensures err { OnErr result (IsUnmoved self.old keeper.old self.new keeper.new) }
+    {
+        if let Some(refusal) = self.refusal(step, keeper) {
+            return Ok(Reply::Refused(refusal));
+        }
+        let Step::Open(board, _) = *step else {
+            return Ok(keeper.step(*step));
+        };
+        if self.opened.reserve(1).is_err() {
+            return Err(AllocError);
+        }
+        let reply = keeper.step(*step);
+        if !matches!(reply, Reply::Refused(_)) {
+            self.opened.push_reserved(board);
+        }
+        Ok(reply)
+    }
+
+    /// What a text is to be answered.
+    fn answer_to<K: Keeper>(&mut self, text: &[u8], keeper: &mut K) -> Result<Answer, AllocError>
+        ensures ok { IfOk result (λ answer. Leads (K.tells keeper.old) K.makes self.old keeper.old text.now answer self.new keeper.new) }
+        ensures err { OnErr result (IsUnmoved self.old keeper.old self.new keeper.new) }
+    {
+        match decode(self.alloc, text) {
+            Ok(step) => match self.reply(&step, keeper) {
+                Ok(reply) => Ok(Answer::Reply(reply)),
+                Err(fault) => Err(fault),
+            },
+            Err(fault) => Ok(Answer::Fault(fault)),
+        }
+    }
+
+    /// Answers one text: the fault of its decoding; the refusal where the connection may not make the step that it says; else
+    /// the reply to that step, which the keeper made.
+    ///
+    /// A connection may not take or leave, and not follow once it has opened a board (`WrongMode`); it may submit to and end
+    /// the boards that it opened, and no others (`NotYourBoard`, or `NoSuchBoard` where the keeper knows no such board).
+    ///
+    /// # Errors
+    ///
+    /// There was no memory. The keeper made the step or none was made, and the boards that were opened are known all the same.
+    #[tactic(auto, using(crate::proofs::Stops::stopped_after))]
+    pub fn answer<K: Keeper>(&mut self, text: &[u8], keeper: &mut K) -> Result<String, AllocError>
+        ensures ok { IfOk result (λ s. Answered (K.tells keeper.old) K.makes self.old keeper.old text.now (string_bytes s) self.new keeper.new) }
+        ensures err { OnErr result (Stopped K.makes self.old keeper.old text.now self.new keeper.new) }
+    {
+        match self.answer_to(text, keeper) {
+            Ok(answer) => encode(self.alloc, &answer),
+            Err(fault) => Err(fault),
+        }
+    }
+
+    /// Ends each board that the connection opened as abandoned, in the order of opening. A game that has ended stays as it ended.
+    pub fn finish<K: Keeper>(self, keeper: &mut K)
+        ensures { Ends K.makes keeper.old self keeper.new }
+    {
+        for board in self.opened.iter() {
+            let _ = keeper.step(Step::End(*board, Ending::Abandoned));
+        }
+    }
+}

@@ -1,0 +1,5 @@
+//! Worked cases of pushing and of connections.
+
+mod connections;
+mod fakes;
+mod pushing;

@@ -1,0 +1,96 @@
+//! The bell of a board, which threads sleep on.
+
+ghost use Rattle.std.specs.Prelude.{◌≢◌};
+
+use relay_pushing::Bell;
+use std::alloc::Global;
+use std::sync::atomic::{AtomicU64, Ordering};
+use std::sync::{Arc, Wait};
+use std::time::Duration;
+
+/// A count of rings, and how many threads sleep on it. Ringing and waking are two calls, so that the waking, which costs far
+/// more, can be put off.
+#[derive(Drop)]
+pub(crate) struct Chime {
+    rings: AtomicU64,
+    sleepers: AtomicU64,
+}
+
+impl Chime {
+    /// A chime that was never rung.
+    pub(crate) fn new() -> Chime {
+        Chime {
+            rings: AtomicU64::new(0),
+            sleepers: AtomicU64::new(0),
+        }
+    }
+
+    /// How often it was rung, wrapping.
+    pub(crate) fn count(&self) -> u64 {
+        self.rings.load(Ordering::SeqCst)
+    }
+
+    /// Rings it, and leaves asleep those who sleep on it.
+    pub(crate) fn ring_softly(&self) {
+        self.rings.fetch_add(1, Ordering::SeqCst);
+    }
+
+    /// Wakes all who sleep on it. A sleeper counts itself before the system compares the count of rings and puts it to sleep;
+    /// whoever rings does so before it looks for sleepers here. So nobody sleeps through a ring and the wake after it.
+    pub(crate) fn wake(&self) {
+        if self.sleepers.load(Ordering::SeqCst) != 0 {
+            self.rings.wake_all();
+        }
+    }
+
+    /// Rings it, and wakes all who sleep on it.
+    pub(crate) fn ring(&self) {
+        self.ring_softly();
+        self.wake();
+    }
+
+    /// Waits until the count is not `heard`, and gives it.
+    pub(crate) fn wait<R: Wait>(&self, rt: &R, heard: u64) -> u64
+        ensures { result ≢ heard }
+    {
+        for _ in rt.forever() {
+            let now = self.count();
+            if now != heard {
+                return now;
+            }
+            self.sleepers.fetch_add(1, Ordering::SeqCst);
+            self.rings.park(rt, (heard & 0xffff_ffff) as u32);
+            self.sleepers.fetch_sub(1, Ordering::SeqCst);
+        }
+        unreachable!()
+    }
+
+    /// Sleeps while the count is `heard`, for so long at most; perhaps less.
+    pub(crate) fn doze<R: Wait>(&self, rt: &R, heard: u64, most: Duration) {
+        self.sleepers.fetch_add(1, Ordering::SeqCst);
+        self.rings
+            .park_timeout(rt, (heard & 0xffff_ffff) as u32, most);
+        self.sleepers.fetch_sub(1, Ordering::SeqCst);
+    }
+}
+
+/// A board's chime, with the runtime by which its listener waits.
+#[derive(Drop)]
+pub(crate) struct BoardBell<'a, R> {
+    pub(crate) rt: &'a R,
+    pub(crate) chime: Arc<Chime, Global>,
+}
+
+impl<R: Wait> Bell for BoardBell<'_, R> {
+    fn count(&self) -> u64 {
+        self.chime.count()
+    }
+
+    fn ring(&self) {
+        self.chime.ring();
+    }
+
+    fn wait(&self, heard: u64) -> u64 {
+        self.chime.wait(self.rt, heard)
+    }
+}

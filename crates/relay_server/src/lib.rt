@@ -1,0 +1,24 @@
+//! Sessions of a relay over WebSocket (RFC 6455), a thread for each connection.
+#![tactic(auto)]
+
+mod chime;
+mod deadline;
+mod gates;
+mod head;
+mod line;
+mod outlet;
+mod registry;
+mod seat;
+mod serving;
+mod sessions;
+mod stream;
+mod talk;
+mod threads;
+mod wakes;
+
+pub use gates::OpenGate;
+pub use registry::Registry;
+pub use relay_pushing::{Bell, Conn, Gate, Keeper, Outlet, PushEnd, SendFault, Source, push_all};
+pub use serving::{ServeEnd, serve};
+pub use sessions::{SessionEnd, session};
+pub use stream::Stream;

@@ -1,0 +1,121 @@
+//! Serving: connections are accepted one by one, and each gets a thread.
+
+ghost use Rattle.std.specs.Prelude.{◌≡◌, ◌+◌};
+
+use crate::chime::Chime;
+use crate::registry::Registry;
+use crate::sessions::session;
+use crate::threads::{Running, join_all, join_ended};
+use relay_pushing::Gate;
+use std::alloc::Global;
+use std::net::{TcpListener, TcpStream};
+use std::sync::atomic::{AtomicBool, Ordering};
+use std::sync::{Arc, Wait};
+use std::thread::{Builder, Threads};
+use std::time::{Clock, Duration};
+
+/// What a server did.
+#[derive(Clone, Copy, PartialEq, Eq, Debug)]
+pub struct ServeEnd {
+    /// How many connections were served.
+    pub served: u32,
+    /// How many could not be accepted, or got no thread.
+    pub failed: u32,
+}
+
+/// How many bytes the stack of a session's thread has: JSON of the greatest nesting, 127, fits.
+const STACK_BYTES: usize = 256 * 1024;
+
+/// How many seconds a write may make no way before its session ends as failed.
+const MOST_SECONDS: u64 = 30;
+
+/// How many milliseconds are waited after a connection could not be accepted or got no thread: the next would likely fail at
+/// once, too.
+const PAUSE_MILLIS: u64 = 20;
+
+/// Accepts this many connections, numbers them from 1 in the order of accepting, gives each a thread, and waits until all
+/// sessions have ended.
+pub fn serve<R, G>(
+    rt: &R,
+    alloc: Global,
+    listener: &TcpListener,
+    registry: &Arc<Registry, Global>,
+    gate: &Arc<G, Global>,
+    connections: u32,
+) -> ServeEnd
+where
+    R: Threads + Wait + Clock + Clone + Send + Drop + 'static,
+    G: Gate + Send + Sync + Drop + 'static,
+    ensures { result.served + result.failed ≡ connections }
+{
+    let Ok(ended) = Arc::new(alloc, Chime::new()) else {
+        return ServeEnd {
+            served: 0,
+            failed: connections,
+        };
+    };
+    let mut running: Vec<Running> = Vec::new(alloc);
+    let mut accepted: u32 = 0;
+    let mut failed: u32 = 0;
+    for _done in 0..connections {
+        let heard = ended.count();
+        join_ended(rt, &mut running);
+        let started = match listener.accept() {
+            Ok((stream, _)) => {
+                accepted = accepted.saturating_add(1);
+                start(rt, alloc, stream, accepted, registry, gate, &ended)
+            }
+            Err(_) => None,
+        };
+        match started {
+            Some(one) => {
+                if let Err(full) = running.push(one) {
+                    let _ = full.value.handle.join(rt);
+                }
+            }
+            None => {
+                failed += 1;
+                ended.doze(rt, heard, Duration::from_millis(PAUSE_MILLIS));
+            }
+        }
+    }
+    join_all(rt, running);
+    ServeEnd {
+        served: connections - failed,
+        failed,
+    }
+}
+
+/// Starts the session of a connection on a thread of its own.
+fn start<R, G>(
+    rt: &R,
+    alloc: Global,
+    stream: TcpStream,
+    connection: u32,
+    registry: &Arc<Registry, Global>,
+    gate: &Arc<G, Global>,
+    ended: &Arc<Chime, Global>,
+) -> Option<Running>
+where
+    R: Threads + Wait + Clock + Clone + Send + Drop + 'static,
+    G: Gate + Send + Sync + Drop + 'static,
+{
+    let _ = stream.set_nodelay(true);
+    let _ = stream.set_write_timeout(Some(Duration::from_secs(MOST_SECONDS)));
+    let own = rt.clone().ok()?;
+    let registry = Arc::try_clone(registry).ok()?;
+    let gate = Arc::try_clone(gate).ok()?;
+    let ended = Arc::try_clone(ended).ok()?;
+    let has_ended = Arc::new(alloc, AtomicBool::new(false)).ok()?;
+    let flag = Arc::try_clone(&has_ended).ok()?;
+    let handle = Builder::new()
+        .stack_size(STACK_BYTES)
+        .spawn(rt, move || {
+            let end = session(&own, alloc, &registry, connection, stream, &*gate);
+            flag.store(true, Ordering::SeqCst);
+            ended.ring();
+            end
+        })
+        .ok()?;
+    Some(Running { handle, has_ended })
+}

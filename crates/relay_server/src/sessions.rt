@@ -1,0 +1,138 @@
+//! Sessions: one connection from its handshake to its end.
+
+use crate::chime::BoardBell;
+use crate::head::Head;
+use crate::line::Line;
+use crate::outlet::SocketOutlet;
+use crate::registry::Registry;
+use crate::seat::Seat;
+use crate::stream::Stream;
+use crate::talk::{Talk, TalkEnd};
+use relay_core::BoardName;
+use relay_pushing::{Conn, Gate, Outlet, PushEnd, push_all};
+use std::alloc::Global;
+use std::io::ErrorKind;
+use std::sync::Wait;
+use std::time::Clock;
+use tungstenite::{Error, HandshakeError, WebSocketConfig};
+
+/// How a session ended.
+#[derive(Clone, Copy, PartialEq, Eq, Debug)]
+pub enum SessionEnd {
+    /// The peer closed, or as many messages were read as may be.
+    Closed,
+    /// The device failed, or there was no memory.
+    Failed,
+    /// The game that it followed has ended.
+    Over,
+    /// It was closed as a follower whose queue was full.
+    Cut,
+    /// There was no handshake.
+    NoHandshake,
+}
+
+/// The close code after `Over`, and where as many messages were read as may be: a normal end (RFC 6455, section 7.4.1).
+const NORMAL: u16 = 1000;
+
+/// The close code after `Cut`: this server's own.
+const CUT_OFF: u16 = 4001;
+
+/// How many bytes one read of the stream asks for.
+const READ_BYTES: usize = 4096;
+
+/// One connection from its handshake to its end: it answers commands, and once it follows a board, pushes that board's moves.
+/// At its end each board that it opened and that has not ended is ended as abandoned, and its follower leaves.
+pub fn session<'a, R: Wait + Clock, S: Stream + Drop, G: Gate>(
+    rt: &'a R,
+    alloc: Global,
+    registry: &'a Registry,
+    connection: u32,
+    stream: S,
+    gate: &G,
+) -> SessionEnd {
+    let outlet = match shake_hands(rt, alloc, registry, stream) {
+        Ok(outlet) => outlet,
+        Err(end) => return end,
+    };
+    let mut talk = Talk {
+        alloc,
+        connection,
+        outlet,
+        conn: Conn::new(alloc),
+        seat: Seat::new(rt, registry, connection),
+        gate,
+        is_open: false,
+    };
+    let told = talk.run();
+    let Talk {
+        mut outlet,
+        conn,
+        mut seat,
+        ..
+    } = talk;
+    let end = match told {
+        TalkEnd::Closed => SessionEnd::Closed,
+        TalkEnd::Full => {
+            let _ = outlet.close(NORMAL);
+            SessionEnd::Closed
+        }
+        TalkEnd::Follows(board) => follow(rt, alloc, registry, &mut outlet, &mut seat, board),
+        TalkEnd::Failed => SessionEnd::Failed,
+    };
+    outlet.give_up();
+    conn.finish(&mut seat);
+    seat.leave();
+    if end != SessionEnd::Failed {
+        outlet.drain(rt);
+    }
+    end
+}
+
+/// Reads the request and answers it.
+fn shake_hands<C: Clock, S: Stream + Drop>(
+    clock: &C,
+    alloc: Global,
+    registry: &Registry,
+    mut stream: S,
+) -> Result<SocketOutlet<S>, SessionEnd> {
+    let head = match Head::read(clock, alloc, &mut stream) {
+        Ok(head) => head,
+        Err(error) if error.kind() == ErrorKind::OutOfMemory => return Err(SessionEnd::Failed),
+        Err(_) => return Err(SessionEnd::NoHandshake),
+    };
+    let line = Line::new(alloc, stream, head, registry.most_wakes());
+    match tungstenite::accept(alloc, line) {
+        Ok(mut socket) => {
+            socket.set_config(WebSocketConfig::default().read_buffer_size(READ_BYTES));
+            Ok(SocketOutlet::new(alloc, socket))
+        }
+        Err(HandshakeError::Failure(Error::OutOfMemory)) => Err(SessionEnd::Failed),
+        Err(_) => Err(SessionEnd::NoHandshake),
+    }
+}
+
+/// Pushes a board's moves to the connection, which is no longer read.
+fn follow<R: Wait, S: Stream + Drop>(
+    rt: &R,
+    alloc: Global,
+    registry: &Registry,
+    outlet: &mut SocketOutlet<S>,
+    seat: &mut Seat<'_, R>,
+    board: BoardName,
+) -> SessionEnd {
+    let Some(chime) = registry.chime(rt, &board) else {
+        return SessionEnd::Failed;
+    };
+    let bell = BoardBell { rt, chime };
+    match push_all(rt, alloc, outlet, seat, &bell) {
+        PushEnd::Over(_) => {
+            let _ = outlet.close(NORMAL);
+            SessionEnd::Over
+        }
+        PushEnd::Cut => {
+            let _ = outlet.close(CUT_OFF);
+            SessionEnd::Cut
+        }
+        PushEnd::Failed(_) => SessionEnd::Failed,
+    }
+}

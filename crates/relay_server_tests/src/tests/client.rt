@@ -1,0 +1,82 @@
+//! A client over a socket on loopback. A read that waits for more than twenty seconds fails, so each test ends by itself.
+
+use crate::tests::frames::{CLOSE, REQUEST, RESPONSE_BYTES, TEXT, frame};
+use c960_game::Limits;
+use relay_server::Registry;
+use std::alloc::{AllocError, Global};
+use std::io::{Read, Write};
+use std::net::{Net, SocketAddr, TcpStream};
+use std::sync::Arc;
+use std::test::Fail;
+use std::time::Duration;
+
+/// A shared registry with these limits on followers and queues.
+pub fn registry(
+    alloc: Global,
+    followers: u16,
+    capacity: u16,
+) -> Result<Arc<Registry, Global>, Fail> {
+    let Some(limits) = Limits::new(16, followers, capacity, 1024) else {
+        return Err(Fail::from(AllocError));
+    };
+    Ok(Arc::new(alloc, Registry::new(alloc, limits)?)?)
+}
+
+/// A connection whose handshake is done.
+#[derive(Drop)]
+pub struct Client {
+    alloc: Global,
+    stream: TcpStream,
+}
+
+impl Client {
+    /// Connects, and shakes hands.
+    pub fn connect<R: Net<Stream = TcpStream>>(
+        rt: &R,
+        alloc: Global,
+        addr: SocketAddr,
+    ) -> Result<Client, Fail> {
+        let mut stream = TcpStream::connect(rt, addr)?;
+        stream.set_read_timeout(Some(Duration::from_secs(20)))?;
+        stream.set_nodelay(true)?;
+        stream.write_all(REQUEST)?;
+        let mut head = [0; RESPONSE_BYTES];
+        stream.read_exact(&mut head)?;
+        Ok(Client { alloc, stream })
+    }
+
+    /// Sends a text.
+    pub fn say(&mut self, text: &str) -> Result<(), Fail> {
+        let bytes = frame(self.alloc, TEXT, text.as_bytes())?;
+        self.stream.write_all(bytes.as_slice())?;
+        Ok(())
+    }
+
+    /// Reads a frame of fewer than 126 bytes: its first byte, and its payload.
+    pub fn hear(&mut self) -> Result<(u8, Vec<u8>), Fail> {
+        let mut head = [0; 2];
+        self.stream.read_exact(&mut head)?;
+        let mut payload = Vec::new(self.alloc);
+        payload.resize(usize::from(head[1]), 0)?;
+        self.stream.read_exact(payload.as_mut_slice())?;
+        Ok((head[0], payload))
+    }
+
+    /// Whether the next frame is this text.
+    pub fn hears(&mut self, wanted: &str) -> Result<bool, Fail> {
+        let (first, payload) = self.hear()?;
+        Ok(first == TEXT && payload.as_slice() == wanted.as_bytes())
+    }
+
+    /// Whether this text is answered by that one.
+    pub fn asks(&mut self, text: &str, wanted: &str) -> Result<bool, Fail> {
+        self.say(text)?;
+        self.hears(wanted)
+    }
+
+    /// Whether the next frame is a close with this code.
+    pub fn hears_close(&mut self, code: u16) -> Result<bool, Fail> {
+        let (first, payload) = self.hear()?;
+        Ok(first == CLOSE && payload.as_slice() == code.to_be_bytes().as_slice())
+    }
+}
