@@ -1,0 +1,41 @@
+#!/bin/sh
+# Starts a relay, Redis, two nginx with nchan and the feed, all on loopback: ./start.sh, or ./start.sh BOARD.. for other boards than
+# b1 to b4. Ctrl-C ends them all. It needs, of Debian:
+#     apt-get install nginx-light libnginx-mod-nchan redis-server python3-websockets
+# and crates/relay960/out/relay960, which ./run.sh at the repository's top builds.
+#
+# Boards are opened at ws://127.0.0.1:9600; spectators watch at ws://127.0.0.1:9100/sub/BOARD and ws://127.0.0.1:9101/sub/BOARD.
+set -eu
+cd "$(dirname "$0")"
+[ $# -gt 0 ] || set -- b1 b2 b3 b4
+RELAY960="${RELAY960:-$(pwd)/../../crates/relay960/out/relay960}"
+RELAY_PORT="${RELAY_PORT:-9600}"
+run="${RUN:-$(mktemp -d)}"
+chmod 755 "$run"
+pids=""
+stop() {
+    trap - EXIT INT TERM
+    for pid in $pids; do kill "$pid" 2> /dev/null || true; done
+    wait
+    exit 0
+}
+trap stop EXIT INT TERM
+begin() {
+    name=$1
+    shift
+    "$@" > "$run/$name.log" 2>&1 &
+    pids="$! $pids"
+    echo $! > "$run/$name.pid"
+}
+begin redis redis-server "$PWD/redis.conf" --dir "$run"
+begin relay "$RELAY960" serve --port "$RELAY_PORT" --boards 64 --capacity 1024
+sleep 1
+begin nginx-a nginx -p "$run" -c "$PWD/nginx-a.conf"
+begin nginx-b nginx -p "$run" -c "$PWD/nginx-b.conf"
+sleep 1
+for name in redis relay nginx-a nginx-b; do
+    kill -0 "$(cat "$run/$name.pid")" 2> /dev/null || { echo "$name did not start:"; cat "$run/$name.log"; exit 1; }
+done
+begin feed ./feed.py --relay "ws://127.0.0.1:$RELAY_PORT" "$@"
+echo "relay at ws://127.0.0.1:$RELAY_PORT, channels at ws://127.0.0.1:9100/sub/ and ws://127.0.0.1:9101/sub/ for $*; logs in $run"
+wait

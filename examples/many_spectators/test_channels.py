@@ -1,0 +1,163 @@
+"""The test of the channels; test.sh starts it. Every subscriber must have each place of its board once, in order, then the outcome."""
+import asyncio
+import json
+import os
+import pathlib
+import random
+import signal
+import subprocess
+import sys
+import tempfile
+import time
+
+import websockets
+
+HERE = pathlib.Path(__file__).resolve().parent
+PROGRAM = os.environ["RELAY960"]
+BOARDS = ["t1", "t2", "t3", "t4"]
+SUBSCRIBERS = 1000
+LATE = 40
+PLIES = 120
+PORTS = (9100, 9101)
+RELAY_PORT = "9690"
+RELAY = f"ws://127.0.0.1:{RELAY_PORT}"
+
+
+def whole_game(start, chance):
+    """A game of legal moves by chance, until it ends or has so many plies, and whether it has ended by itself."""
+    player = subprocess.Popen([PROGRAM, "play", str(start)], stdin=subprocess.PIPE, stdout=subprocess.PIPE, text=True)
+    fen = subprocess.run([PROGRAM, "start", str(start)], capture_output=True, text=True, check=True).stdout.strip()
+    moves = []
+    while len(moves) < PLIES:
+        listed = subprocess.run([PROGRAM, "moves", fen], capture_output=True, text=True, check=True).stdout.splitlines()
+        if listed[1] != "going":
+            break
+        moves.append(chance.choice(listed[0].split()))
+        player.stdin.write(moves[-1] + "\n")
+        player.stdin.flush()
+        fen = player.stdout.readline().strip()
+    player.stdin.close()
+    player.wait()
+    player.stdout.close()
+    return moves
+
+
+class Subscriber:
+    """Reads a channel and keeps the place of each move, and the outcome."""
+
+    def __init__(self, board, port):
+        self.board = board
+        self.address = f"ws://127.0.0.1:{port}/sub/{board}"
+        self.places, self.moves, self.follows, self.outcomes = [], [], 0, []
+
+    async def run(self, ready):
+        async with websockets.connect(self.address, ping_interval=None, compression=None, open_timeout=60) as socket:
+            ready()
+            while not self.outcomes:
+                self.take(json.loads(await socket.recv()))
+
+    def take(self, text):
+        if text["reply"] == "move":
+            self.places.append(text["place"])
+            self.moves.append(text["move"])
+        elif text["reply"] == "following":
+            self.follows += 1
+        else:
+            self.outcomes.append(text["outcome"])
+
+    def right(self, game):
+        return (self.places == list(range(len(game))) and self.moves == game and self.follows == 1
+                and self.outcomes == ["agreed"])
+
+
+async def play(board, start, game, half):
+    """An operator: plays a board's game, waits in its middle, and ends it."""
+    async with websockets.connect(RELAY, ping_interval=None, compression=None) as socket:
+        async def ask(**command):
+            await socket.send(json.dumps(command))
+            answer = json.loads(await socket.recv())
+            assert answer["reply"] != "refused", answer
+        await ask(cmd="open", board=board, start=start)
+        for place, move in enumerate(game):
+            if place == len(game) // 2:
+                await half.wait()
+            await ask(cmd="submit", board=board, move=move)
+            await asyncio.sleep(0.01)
+        await ask(cmd="end", board=board, how="agreed")
+
+
+async def start_feed():
+    return await asyncio.create_subprocess_exec("./feed.py", "--relay", RELAY, *BOARDS, cwd=HERE, stdout=subprocess.DEVNULL)
+
+
+async def subscribe_all(subscribers):
+    """Starts the subscribers, a hundred at a time, and answers their tasks when all are connected."""
+    tasks, count = [], 0
+
+    def ready():
+        nonlocal count
+        count += 1
+    for index, subscriber in enumerate(subscribers):
+        tasks.append(asyncio.create_task(subscriber.run(ready)))
+        if index % 100 == 99:
+            await asyncio.sleep(0.05)
+    for _ in range(600):
+        if count == len(subscribers):
+            return tasks
+        await asyncio.sleep(0.1)
+    raise AssertionError(f"{count} of {len(subscribers)} subscribers were connected in a minute")
+
+
+async def disturb(run, half):
+    """Kills the feed while the games go on, goes on with the games without it, and starts it anew."""
+    await asyncio.sleep(0.3)
+    os.kill(int(pathlib.Path(run, "feed.pid").read_text()), signal.SIGKILL)
+    half.set()
+    await asyncio.sleep(0.3)
+    second = await start_feed()
+    await asyncio.sleep(0.4)
+    second.kill()
+    await second.wait()
+    await asyncio.sleep(0.1)
+    return await start_feed()
+
+
+async def main():
+    chance = random.Random(960)
+    starts = [chance.randrange(960) for _ in BOARDS]
+    games = {board: whole_game(start, chance) for board, start in zip(BOARDS, starts)}
+    with tempfile.TemporaryDirectory(ignore_cleanup_errors=True) as run:
+        everything = await asyncio.create_subprocess_exec(
+            "./start.sh", *BOARDS, cwd=HERE, env={**os.environ, "RUN": run, "RELAY_PORT": RELAY_PORT}, stdout=subprocess.PIPE)
+        line = await asyncio.wait_for(everything.stdout.readline(), 30)
+        assert line.startswith(b"relay at"), line
+        try:
+            return await tried(games, starts, run)
+        finally:
+            everything.terminate()
+            await everything.wait()
+
+
+async def tried(games, starts, run):
+    subscribers = [Subscriber(BOARDS[index % 4], PORTS[index // 4 % 2]) for index in range(SUBSCRIBERS)]
+    tasks = await subscribe_all(subscribers)
+    half = asyncio.Event()
+    began = time.monotonic()
+    operators = [asyncio.create_task(play(board, start, games[board], half)) for board, start in zip(BOARDS, starts)]
+    feed = await disturb(run, half)
+    await asyncio.wait_for(asyncio.gather(*operators), 120)
+    await asyncio.wait(tasks, timeout=60)
+    took = time.monotonic() - began
+    late = [Subscriber(BOARDS[index % 4], PORTS[index // 4 % 2]) for index in range(LATE)]
+    await asyncio.wait(await subscribe_all(late), timeout=30)
+    status = await asyncio.wait_for(feed.wait(), 10)
+    right = sum(it.right(games[it.board]) for it in subscribers)
+    came_late = sum(it.right(games[it.board]) for it in late)
+    moves = ", ".join(f"{len(games[it])}" for it in BOARDS)
+    passed = right == SUBSCRIBERS and came_late == LATE and status == 0
+    print(f"{'passed' if passed else 'failed'}: {right} of {SUBSCRIBERS} subscribers and {came_late} of {LATE} late ones had every place "
+          f"once and in order; games of {moves} moves in {took:.1f} s; the feed was killed twice")
+    return 0 if passed else 1
+
+
+sys.exit(asyncio.run(main()))

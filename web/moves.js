@@ -1,0 +1,129 @@
+"use strict";
+/*
+ * The list of a game's moves on the page, with their places, and a cursor in it: the position shown is that of the cursor.
+ * At the end the cursor follows the game; elsewhere it stays until it is sent back. `shown(index)` is called when it moves.
+ */
+const createMoves = (holder, { shown }) => {
+  const list = { plies: [], cursor: -1, live: true };
+
+  function button(ply, index) {
+    const it = document.createElement("button");
+    it.type = "button";
+    it.className = "move";
+    it.dataset.place = ply.place;
+    it.dataset.index = index;
+    const text = document.createElement("span");
+    text.textContent = Words.sheet(ply.deed, ply.check);
+    const place = document.createElement("span");
+    place.className = "place";
+    place.textContent = ply.place;
+    it.append(text, place);
+    it.title = `${ply.text}, place ${ply.place}`;
+    it.setAttribute("aria-label", `place ${ply.place}, ${Words.spoken(ply.deed, ply.check)}`);
+    it.addEventListener("click", () => go(index));
+    return it;
+  }
+
+  function note(ply) {
+    const it = document.createElement("li");
+    it.className = "gap";
+    it.textContent = ply.first === ply.place
+      ? `The move of place ${ply.first} was missed.`
+      : `The moves of places ${ply.first} to ${ply.place} were missed.`;
+    return it;
+  }
+
+  /** The number of the full move that a ply belongs to: that of the position before it. */
+  const numberOf = (ply) => ply.after.number - (ply.deed.colour === Position.BLACK ? 1 : 0);
+
+  function line(number) {
+    const it = document.createElement("li");
+    const head = document.createElement("span");
+    head.className = "number";
+    head.textContent = `${number}.`;
+    it.append(head);
+    return it;
+  }
+
+  function addPly(ply, index) {
+    if (ply.gap) {
+      holder.append(note(ply));
+      return;
+    }
+    const last = holder.lastElementChild;
+    const second = ply.deed.colour === Position.BLACK;
+    const joins = second && last && !last.classList.contains("gap") && last.children.length === 2;
+    const row = joins ? last : line(numberOf(ply));
+    if (!joins) {
+      if (second) {
+        const blank = document.createElement("span");
+        blank.className = "move blank";
+        blank.textContent = "…";
+        row.append(blank);
+      }
+      holder.append(row);
+    }
+    row.append(button(ply, index));
+  }
+
+  function mark() {
+    holder.querySelectorAll(".move.current").forEach((it) => {
+      it.classList.remove("current");
+      it.removeAttribute("aria-current");
+    });
+    const current = holder.querySelector(`[data-index="${list.cursor}"]`);
+    if (current) {
+      current.classList.add("current");
+      current.setAttribute("aria-current", "true");
+      const box = holder.getBoundingClientRect();
+      const at = current.getBoundingClientRect();
+      if (at.top < box.top || at.bottom > box.bottom) {
+        holder.scrollTop += at.top - box.top - box.height / 2;
+      }
+    }
+  }
+
+  /** A mating move has the sign of mate in the place of that of check. */
+  function markMate() {
+    const buttons = holder.querySelectorAll(".move[data-place]");
+    const text = buttons[buttons.length - 1].firstElementChild;
+    text.textContent = text.textContent.replace(/\+$/, "#");
+  }
+
+  /** Shows another list of moves, or the same one with more at its end; `mate` says that its last move mates. */
+  function update(plies, mate = false) {
+    const grown = plies.length >= list.plies.length && list.plies.every((it, index) => it === plies[index]);
+    const from = grown ? list.plies.length : 0;
+    if (!grown) {
+      holder.replaceChildren();
+      list.live = true;
+    }
+    plies.slice(from).forEach((ply, index) => addPly(ply, from + index));
+    list.plies = [...plies];
+    if (mate && plies.length > 0 && !plies[plies.length - 1].gap) {
+      markMate();
+    }
+    if (list.live) {
+      list.cursor = plies.length - 1;
+    }
+    mark();
+  }
+
+  /** Sends the cursor to a move; -1 is the first known position, the last move is the present. */
+  function go(index) {
+    list.cursor = Math.max(-1, Math.min(list.plies.length - 1, index));
+    list.live = list.cursor === list.plies.length - 1;
+    mark();
+    shown(list.cursor);
+  }
+
+  return {
+    update,
+    first: () => go(-1),
+    back: () => go(list.cursor - 1),
+    on: () => go(list.cursor + 1),
+    last: () => go(list.plies.length - 1),
+    cursor: () => list.cursor,
+    live: () => list.live,
+  };
+};

@@ -1,0 +1,194 @@
+"""Chromium without a window, driven over its remote port. No address but loopback resolves in it."""
+import asyncio
+import base64
+import json
+import os
+import re
+import tempfile
+import urllib.request
+
+import websockets
+
+FLAGS = [
+    "--headless=new", "--disable-gpu", "--no-first-run", "--no-default-browser-check", "--disable-background-networking",
+    "--disable-component-update", "--disable-sync", "--disable-background-timer-throttling", "--disable-renderer-backgrounding",
+    "--disable-backgrounding-occluded-windows", "--hide-scrollbars", "--remote-debugging-port=0",
+    "--host-resolver-rules=MAP * ~NOTFOUND, EXCLUDE 127.0.0.1, EXCLUDE localhost",
+]
+KEYS = {"Enter": 13, "Escape": 27, "ArrowLeft": 37, "ArrowUp": 38, "ArrowRight": 39, "ArrowDown": 40, "Home": 36, "End": 35, "Tab": 9}
+
+
+class Browser:
+    """A browser with a profile of its own, which goes with it."""
+
+    def __init__(self):
+        self.process = None
+        self.port = None
+        self.pages = []
+        self.folder = tempfile.TemporaryDirectory(ignore_cleanup_errors=True)
+
+    async def start(self, *more):
+        flags = [*FLAGS, f"--user-data-dir={self.folder.name}", *more] + (["--no-sandbox"] if os.geteuid() == 0 else [])
+        self.process = await asyncio.create_subprocess_exec(
+            "chromium", *flags, "about:blank", stdout=asyncio.subprocess.DEVNULL, stderr=asyncio.subprocess.PIPE)
+        found = None
+        while found is None:
+            line = await asyncio.wait_for(self.process.stderr.readline(), 60)
+            if not line:
+                raise RuntimeError("Chromium ended before it listened")
+            found = re.search(rb"DevTools listening on ws://127\.0\.0\.1:(\d+)/", line)
+        self.port = int(found[1])
+        self.drain = asyncio.create_task(self.process.stderr.read())
+        return self
+
+    async def open(self, address, size=(1280, 900)):
+        """A new page at an address, of that size."""
+        request = urllib.request.Request(f"http://127.0.0.1:{self.port}/json/new?about:blank", method="PUT")
+        made = json.loads(await asyncio.to_thread(lambda: urllib.request.urlopen(request, timeout=20).read()))
+        socket = await websockets.connect(made["webSocketDebuggerUrl"], max_size=None, ping_interval=None, compression=None)
+        page = Page(socket)
+        self.pages.append(page)
+        await page.call("Page.enable")
+        await page.call("Runtime.enable")
+        await page.resize(*size)
+        await page.go(address)
+        return page
+
+    async def close_all(self):
+        for page in self.pages:
+            await page.close()
+        self.pages.clear()
+
+    async def stop(self):
+        if self.process and self.process.returncode is None:
+            self.process.terminate()
+            await self.process.wait()
+        self.folder.cleanup()
+
+
+class Page:
+    """A page: its script, mouse, keys and pictures."""
+
+    def __init__(self, socket):
+        self.socket = socket
+        self.number = 0
+        self.answers = {}
+        self.loaded = asyncio.Event()
+        self.faults = []
+        self.reader = asyncio.create_task(self.read())
+
+    async def read(self):
+        try:
+            async for text in self.socket:
+                self.hear(json.loads(text))
+        except websockets.ConnectionClosed:
+            pass
+
+    def hear(self, message):
+        if "id" in message:
+            self.answers.pop(message["id"]).set_result(message)
+        elif message["method"] == "Page.loadEventFired":
+            self.loaded.set()
+        elif message["method"] == "Page.javascriptDialogOpening":
+            asyncio.ensure_future(self.call("Page.handleJavaScriptDialog", accept=True))
+        elif message["method"] == "Runtime.exceptionThrown":
+            details = message["params"]["exceptionDetails"]
+            self.faults.append(details.get("exception", {}).get("description", details["text"]))
+
+    async def call(self, method, **params):
+        self.number += 1
+        answer = asyncio.get_running_loop().create_future()
+        self.answers[self.number] = answer
+        await self.socket.send(json.dumps({"id": self.number, "method": method, "params": params}))
+        message = await asyncio.wait_for(answer, 30)
+        if "error" in message:
+            raise RuntimeError(f"{method}: {message['error']}")
+        return message["result"]
+
+    async def go(self, address):
+        self.loaded.clear()
+        await self.call("Page.navigate", url=address)
+        await asyncio.wait_for(self.loaded.wait(), 30)
+
+    async def run(self, script):
+        """The value of a script."""
+        result = await self.call("Runtime.evaluate", expression=script, returnByValue=True, awaitPromise=True)
+        if "exceptionDetails" in result:
+            raise RuntimeError(result["exceptionDetails"].get("exception", {}).get("description", "a script failed"))
+        return result["result"].get("value")
+
+    async def until(self, script, seconds=10):
+        """Waits until a script gives something true, and answers that."""
+        for _ in range(int(seconds * 50)):
+            value = await self.run(script)
+            if value:
+                return value
+            await asyncio.sleep(0.02)
+        raise AssertionError(f"not within {seconds} s: {script}; now: {await self.run(script)}")
+
+    async def middle(self, selector):
+        """The middle of an element, which is brought into view."""
+        script = f"""(() => {{ const it = document.querySelector({json.dumps(selector)});
+            const box = () => it.getBoundingClientRect();
+            if (box().top < 0 || box().bottom > innerHeight) it.scrollIntoView({{block: "center"}});
+            return [box().left + box().width / 2, box().top + box().height / 2]; }})()"""
+        return await self.run(script)
+
+    async def mouse(self, kind, x, y, held=True):
+        await self.call("Input.dispatchMouseEvent", type=kind, x=x, y=y, button="left" if held else "none",
+                        buttons=1 if kind != "mouseReleased" and held else 0, clickCount=1 if held else 0)
+
+    async def click(self, selector):
+        x, y = await self.middle(selector)
+        await self.mouse("mousePressed", x, y)
+        await self.mouse("mouseReleased", x, y)
+
+    async def drag(self, start, goal):
+        await self.call("Page.bringToFront")  # A page in the background sees the mouse move after seconds.
+        x, y = await self.middle(start)
+        right, down = await self.middle(goal)
+        await self.mouse("mousePressed", x, y)
+        for part in (0.3, 0.7, 1):
+            await self.mouse("mouseMoved", x + part * (right - x), y + part * (down - y))
+        await self.mouse("mouseReleased", right, down)
+
+    async def press(self, key):
+        code = KEYS.get(key, ord(key[0].upper()))
+        text = {"text": "\r"} if key == "Enter" else {"text": key} if len(key) == 1 else {}
+        await self.call("Input.dispatchKeyEvent", type="keyDown", key=key, windowsVirtualKeyCode=code, **text)
+        await self.call("Input.dispatchKeyEvent", type="keyUp", key=key, windowsVirtualKeyCode=code)
+
+    async def fill(self, selector, text):
+        """Types a text into a field in place of what stands there."""
+        await self.run(f"(() => {{ const it = document.querySelector({json.dumps(selector)}); it.focus(); it.select(); }})()")
+        await self.call("Input.insertText", text=text)
+
+    async def choose(self, selector, value):
+        await self.run(f"""(() => {{ const it = document.querySelector({json.dumps(selector)}); it.value = {json.dumps(value)};
+            it.dispatchEvent(new Event("change", {{bubbles: true}})); }})()""")
+
+    async def give_file(self, selector, path):
+        found = await self.call("Runtime.evaluate", expression=f"document.querySelector({json.dumps(selector)})")
+        await self.call("DOM.setFileInputFiles", files=[str(path)], objectId=found["result"]["objectId"])
+
+    async def resize(self, width, height, scale=1):
+        await self.call("Emulation.setDeviceMetricsOverride", width=width, height=height, deviceScaleFactor=scale, mobile=False)
+
+    async def scheme(self, name):
+        await self.call("Emulation.setEmulatedMedia", features=[{"name": "prefers-color-scheme", "value": name}])
+
+    async def picture(self, path, whole=False):
+        await self.call("Page.bringToFront")
+        taken = await self.call("Page.captureScreenshot", format="png", captureBeyondViewport=whole)
+        with open(path, "wb") as file:
+            file.write(base64.b64decode(taken["data"]))
+
+    async def close(self):
+        """Closes it. Its connections are gone when this returns."""
+        if self.socket.open:
+            await self.go("about:blank")
+            try:
+                await self.call("Page.close")
+            except (RuntimeError, websockets.ConnectionClosed, asyncio.TimeoutError):
+                pass
+            await self.socket.close()

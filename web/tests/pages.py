@@ -1,0 +1,625 @@
+"""The tests of the pages; test.sh starts them. Each is an async function whose name begins with try_."""
+import asyncio
+import json
+import pathlib
+import random
+import subprocess
+import sys
+import tempfile
+import time
+
+import websockets
+
+from browser import Browser
+from relay import Client, Player, Relay, Wire, fens, start_fen
+
+WEB = pathlib.Path(__file__).resolve().parent.parent
+RECORDER = WEB.parent / "examples" / "recorder" / "record.py"
+SEED = 960
+GAMES = 6
+PLIES = 60
+
+PLACEMENT = """(() => {
+  const rows = [...document.querySelectorAll(".square")].map((it) => {
+    const box = it.getBoundingClientRect();
+    const man = it.querySelector(".piece");
+    return {x: box.x, y: box.y, name: it.dataset.square, man: man ? man.dataset.piece : "1",
+            drawn: !man || (man.getBoundingClientRect().width > 8 && man.querySelectorAll("path").length > 1)};
+  });
+  const lines = new Map();
+  rows.forEach((it) => { const key = Math.round(it.y); lines.set(key, [...(lines.get(key) || []), it]); });
+  const ordered = [...lines.entries()].sort((a, b) => a[0] - b[0]).map(([, it]) => it.sort((a, b) => a.x - b.x));
+  return {names: ordered.flat().map((it) => it.name), men: ordered.map((it) => it.map((cell) => cell.man).join("")), drawn: rows.every((it) => it.drawn)};
+})()"""
+
+
+def tightened(rank):
+    """A rank's men with a run of vacant squares as its length."""
+    text = ""
+    for man in rank:
+        if man == "1" and text[-1:].isdigit():
+            text = text[:-1] + str(int(text[-1]) + 1)
+        else:
+            text += man
+    return text
+
+
+async def placement(page):
+    """The placement that a page shows, read off where its men stand on the screen, in the form of a FEN's first field."""
+    seen = await page.run(PLACEMENT)
+    assert seen["drawn"], "a man is not drawn"
+    names = [file + rank for rank in "87654321" for file in "abcdefgh"]
+    if seen["names"] == names:
+        ranks = seen["men"]
+    else:
+        assert seen["names"] == names[::-1], "the squares are out of order"
+        ranks = [it[::-1] for it in seen["men"][::-1]]
+    return "/".join(tightened(it) for it in ranks)
+
+
+def url(name, **given):
+    words = "&".join(f"{key}={value}" for key, value in given.items())
+    return f"{(WEB / name).as_uri()}?{words}"
+
+
+async def state(page):
+    return await page.run('document.querySelector("#state").dataset.state')
+
+
+async def until_state(page, name, seconds=15):
+    await page.until(f'document.querySelector("#state").dataset.state === "{name}"', seconds)
+
+
+async def text(page, selector):
+    return await page.run(f'document.querySelector("{selector}").textContent')
+
+
+async def until_moves(page, count, seconds=15):
+    await page.until(f'document.querySelectorAll(".move[data-place]").length === {count}', seconds)
+
+
+async def listed(page):
+    """The places and moves of the list, in its order."""
+    return await page.run('[...document.querySelectorAll(".move[data-place]")].map((it) => [Number(it.dataset.place), it.title.split(",")[0]])')
+
+
+async def open_table(browser, relay, board, start, address=None):
+    page = await browser.open(url("table.html", server=address or relay.address, board=board, start=start))
+    await page.click("#opening .main")
+    await until_state(page, "live")
+    return page
+
+
+async def watch(browser, relay, board, address=None, **more):
+    return await browser.open(url("watch.html", server=address or relay.address, board=board, **more))
+
+
+async def to_square(page, name):
+    """Goes to a square by the arrow keys, from the square that has the focus."""
+    at = await page.run('document.activeElement.dataset.square')
+    for _ in range(abs(ord(name[0]) - ord(at[0]))):
+        await page.press("ArrowRight" if name[0] > at[0] else "ArrowLeft")
+    for _ in range(abs(int(name[1]) - int(at[1]))):
+        await page.press("ArrowUp" if name[1] > at[1] else "ArrowDown")
+
+
+async def enter(page, move, way):
+    """Plays a move on a table's page by clicking, dragging, typing or keys."""
+    start, goal = f"[data-square={move[:2]}]", f"[data-square={move[2:4]}]"
+    if way == "type":
+        await page.fill("#move", move)
+        await page.press("Enter")
+        return
+    if way == "drag":
+        await page.drag(start, goal)
+    elif way == "click":
+        await page.click(start)
+        await page.click(goal)
+    else:
+        await page.run('document.querySelector(".square[tabindex=\\"0\\"]").focus()')
+        await to_square(page, move[:2])
+        await page.press("Enter")
+        await to_square(page, move[2:4])
+        await page.press("Enter")
+    if len(move) == 5:
+        await page.until('document.querySelector("#promotion").open')
+        await page.click(f"#choices [data-kind={move[4]}]")
+
+
+async def shows(page, count, fen, what):
+    await until_moves(page, count)
+    await page.until(f'document.querySelector("#fen").value === {json.dumps(fen)}')
+    assert await placement(page) == fen.split(" ")[0], (what, fen, await placement(page))
+
+
+async def say_end(page, selector):
+    await page.click(selector)
+    await page.until('document.querySelector("#sure").open')
+    await page.click("#sure .main")
+
+
+def weigh(moves, fen, chance):
+    """A move by chance, with a liking for pawn moves, and more for castling, promotions and captures en passant, which are rare."""
+    squares = board_of(fen)
+    target = fen.split(" ")[3]
+    rare = [it for it in moves if len(it) == 5 or squares.get(it[2:4], "").lower() == "r" and squares[it[:2]] in "kK"
+            and squares[it[2:4]].isupper() == squares[it[:2]].isupper() or it[2:4] == target and squares[it[:2]] in "pP"]
+    pawns = [it for it in moves if squares[it[:2]] in "pP"]
+    if rare and chance.random() < 0.8:
+        return chance.choice(rare)
+    return chance.choice(pawns if pawns and chance.random() < 0.4 else moves)
+
+
+def board_of(fen):
+    squares = {}
+    for rank, line in zip("87654321", fen.split(" ")[0].split("/")):
+        file = 0
+        for letter in line:
+            if letter.isdigit():
+                file += int(letter)
+            else:
+                squares["abcdefgh"[file] + rank] = letter
+                file += 1
+    return squares
+
+
+class Count:
+    plies = castlings = passing = promotions = 0
+
+
+async def one_game(browser, relay, number, chance):
+    """A game of a start by chance, played on a table's page and watched on another; both are compared after each move."""
+    start, board = chance.randrange(960), f"chance-{number}"
+    table = await open_table(browser, relay, board, start)
+    seer = await watch(browser, relay, board)
+    player = Player(start)
+    await until_state(seer, "live")
+    assert await placement(seer) == player.fen.split(" ")[0]
+    if number % 2:
+        await seer.click("#flip")
+    for ply in range(1, PLIES + 1):
+        moves = player.legal()
+        if not moves:
+            break
+        move = weigh(moves, player.fen, chance)
+        before = board_of(player.fen)
+        target = player.fen.split(" ")[3]
+        Count.castlings += before[move[:2]] in "kK" and before.get(move[2:4], "") == ("R" if before[move[:2]] == "K" else "r")
+        Count.passing += before[move[:2]] in "pP" and move[2:4] == target and move[0] != move[2]
+        Count.promotions += len(move) == 5
+        way = chance.choice(["click", "drag", "type", "keys"])
+        await enter(table, move, way)
+        fen = player.play(move)
+        try:
+            await shows(table, ply, fen, "table")
+        except AssertionError as fault:
+            raise AssertionError(f"{board} {start} ply {ply} {move} by {way}: {await text(table, '#said')}; {fault}") from fault
+        await shows(seer, ply, fen, "watch")
+        Count.plies += 1
+    if player.legal():
+        await say_end(table, "#ending [data-how=agreed]")
+        await until_state(table, "over")
+    await until_state(seer, "over")
+    assert [place for place, _ in await listed(seer)] == list(range(len(await listed(seer))))
+    assert await listed(seer) == await listed(table)
+    assert not table.faults and not seer.faults, (table.faults, seer.faults)
+    player.close()
+    await table.close()
+    await seer.close()
+
+
+async def try_games(browser):
+    """Games of starts by chance, watched from their first move."""
+    relay = await Relay().start()
+    chance = random.Random(SEED)
+    for number in range(GAMES):
+        await one_game(browser, relay, number, chance)
+    print(f"    {Count.plies} plies, {Count.castlings} castlings, {Count.passing} en passant, {Count.promotions} promotions")
+    assert min(Count.castlings, Count.passing, Count.promotions) > 0
+
+
+CASTLINGS = [
+    (7, ["f1g1"], ["f1", "g1"], "O-O", "castles, king f1 to g1, rook g1 to f1"),
+    (243, ["d1c1"], ["c1", "d1"], "O-O-O", "castles, king d1 to c1, rook c1 to d1"),
+    (865, ["g1h3", "e7e6", "e1f1"], ["e1", "f1", "g1"], "O-O", "castles, king e1 to g1, the rook stays on f1"),
+    (291, ["c1b3", "h7h6", "e1d1"], ["c1", "d1", "e1"], "O-O-O", "castles, king e1 to c1, the rook stays on d1"),
+    (100, ["f1e3", "a7a5", "g1h1"], ["f1", "g1", "h1"], "O-O", "castles, the king stays on g1, rook h1 to f1"),
+    (287, ["d1e3", "f7f5", "c1b1"], ["b1", "c1", "d1"], "O-O-O", "castles, the king stays on c1, rook b1 to d1"),
+]
+
+
+async def try_castling(browser):
+    """Castling where king and rook swap, where the rook stays, and where the king stays: all their squares are marked."""
+    relay = await Relay().start()
+    for index, (start, moves, marks, sheet, spoken) in enumerate(CASTLINGS):
+        table = await open_table(browser, relay, f"castling-{index}", start)
+        seer = await watch(browser, relay, f"castling-{index}")
+        await until_state(seer, "live")
+        for ply, (move, fen) in enumerate(zip(moves, fens(start, moves)), 1):
+            await enter(table, move, "drag" if index % 2 else "click")
+            await shows(table, ply, fen, "castling")
+            await shows(seer, ply, fen, "castling")
+        for page in (table, seer):
+            marked = await page.run('[...document.querySelectorAll(".square.last")].map((it) => it.dataset.square).sort()')
+            assert marked == marks, (marked, marks)
+            assert (await text(page, ".move.current span")) == sheet
+            assert spoken in await text(page, "#spoken"), await text(page, "#spoken")
+        await table.close()
+        await seer.close()
+
+
+async def try_mate(browser):
+    """A mate ends the game on both pages, check is marked, and the words are read aloud."""
+    relay = await Relay().start()
+    table = await open_table(browser, relay, "mate", 518)
+    seer = await watch(browser, relay, "mate")
+    await until_state(seer, "live")
+    for ply, move in enumerate(["f2f3", "e7e5", "g2g4", "d8h4"], 1):
+        await enter(table, move, "click")
+        await until_moves(table, ply)
+    for page in (table, seer):
+        await until_state(page, "over")
+        assert "Black wins by checkmate." in await text(page, "#outcome")
+        assert "0–1" in await text(page, "#outcome")
+        assert "Qd8-h4#" in await text(page, "#moves")
+        assert await page.run('document.querySelector(".square.check").dataset.square') == "e1"
+    await seer.until('document.querySelector("#spoken").textContent.includes("Black wins by checkmate.")')
+    assert await seer.run('document.querySelector("#spoken").getAttribute("aria-live")') == "polite"
+    await seer.press("Home")
+    assert await placement(seer) == "rnbqkbnr/pppppppp/8/8/8/8/PPPPPPPP/RNBQKBNR"
+    await seer.press("ArrowRight")
+    await seer.press("f")
+    assert await placement(seer) == "rnbqkbnr/pppppppp/8/8/8/5P2/PPPPP1PP/RNBQKBNR"
+    for page in (table, seer):
+        await page.close()
+
+
+async def try_refusals(browser):
+    """Each refusal that a table can meet is shown in words, and play goes on."""
+    relay = await Relay(boards=1, plies=9).start()
+    other = await Client.to(relay.address)
+    table = await open_table(browser, relay, "b1", 518)
+    await enter(table, "e2e5", "click")
+    await table.until('document.querySelector("#said").textContent.includes("not legal")')
+    await enter(table, "e2x", "type")
+    await table.until('document.querySelector("#said").textContent.includes("is no move")')
+    await say_end(table, "#ending [data-how=threefold]")
+    await table.until('document.querySelector("#said").textContent.includes("claim is refused")')
+    moves = ["g1f3", "g8f6", "f3g1", "f6g8", "g1f3", "g8f6", "f3g1", "f6g8", "e2e4"]
+    for ply, move in enumerate(moves, 1):
+        await enter(table, move, "type")
+        await until_moves(table, ply)
+    assert await table.run('document.querySelector("#said").hidden')
+    await enter(table, "e7e5", "type")
+    await table.until('document.querySelector("#said").textContent.includes("LogFull")')
+    await say_end(table, '#ending [data-side=black]')
+    await until_state(table, "over")
+    assert "Black resigned. White wins." in await text(table, "#outcome")
+    for board, word in (("b1", "BoardExists"), ("b2", "TooManyBoards")):
+        await table.fill("#name", board)
+        await table.click("#opening .main")
+        await table.until(f'document.querySelector("#said").textContent.includes("{word}")')
+        await until_state(table, "refused")
+    assert not table.faults, table.faults
+    await other.close()
+    await table.close()
+
+
+async def try_claim(browser):
+    """A claim of the threefold repetition by the side that has the move."""
+    relay = await Relay().start()
+    table = await open_table(browser, relay, "claim", 518)
+    for ply, move in enumerate(["g1f3", "g8f6", "f3g1", "f6g8"] * 2, 1):
+        await enter(table, move, "type")
+        await until_moves(table, ply)
+    await say_end(table, "#ending [data-how=threefold]")
+    await until_state(table, "over")
+    assert "third time" in await text(table, "#outcome")
+    await table.close()
+
+
+async def try_nowhere(browser):
+    """A board that does not exist is refused in words; the page asks again, and is live once it is opened."""
+    relay = await Relay().start()
+    seer = await watch(browser, relay, "later")
+    await until_state(seer, "refused")
+    assert "no board of this name" in await text(seer, "#state")
+    client = await Client.to(relay.address)
+    await client.open("later", 100)
+    await client.submit("later", "e2e4")
+    await until_moves(seer, 1)
+    assert await state(seer) == "live"
+    nobody = await browser.open(url("watch.html", server="nonsense", board="b"))
+    await until_state(nobody, "refused")
+    for page in (seer, nobody):
+        await page.close()
+    await client.close()
+
+
+async def try_middle(browser):
+    """A follow in the middle: from the present, from the first move, and where the first moves are no longer given."""
+    moves = ["e2e4", "e7e5", "g1f3", "b8c6", "f1b5", "a7a6", "b5c6"]
+    relay = await Relay(capacity=4).start()
+    client = await Client.to(relay.address)
+    await client.open("b1")
+    await client.submit("b1", *moves[:3])
+    first = await watch(browser, relay, "b1")
+    present = await watch(browser, relay, "b1", **{"from": "present"})
+    await until_moves(first, 3)
+    await until_state(present, "live")
+    assert await placement(present) == fens(518, moves[:3])[-1].split(" ")[0]
+    assert "Joined at place 3." in await text(present, "#notices")
+    for move in moves[3:]:
+        await client.submit("b1", move)
+    late = await watch(browser, relay, "b1")
+    await until_state(late, "live")
+    assert "no longer gives the first moves" in await text(late, "#notices")
+    await client.submit("b1", "d7c6")
+    final = fens(518, [*moves, "d7c6"])[-1]
+    for page, count in ((first, 8), (present, 5), (late, 1)):
+        await shows(page, count, final, "middle")
+        places = [place for place, _ in await listed(page)]
+        assert places == list(range(8 - count, 8)), places
+        await page.close()
+    await client.close()
+
+
+async def try_wire(browser):
+    """A spectator's lost connection: the page comes back from its next place, misses nothing and shows nothing twice."""
+    relay = await Relay().start()
+    wire = await Wire(relay.port).mend()
+    client = await Client.to(relay.address)
+    await client.open("b1", 0)
+    player, chance, moves = Player(0), random.Random(SEED + 1), []
+    for _ in range(30):
+        moves.append(weigh(player.legal(), player.fen, chance))
+        player.play(moves[-1])
+    seer = await watch(browser, relay, "b1", address=wire.address)
+    await client.submit("b1", *moves[:10])
+    await until_moves(seer, 10)
+    for cut in (10, 20):
+        await wire.cut()
+        await until_state(seer, "lost")
+        await client.submit("b1", *moves[cut:cut + 10])
+        await wire.mend()
+        await shows(seer, cut + 10, fens(0, moves[:cut + 10])[-1], "wire")
+        assert await state(seer) == "live"
+    assert await listed(seer) == [[place, move] for place, move in enumerate(moves)]
+    assert "missed" not in await text(seer, "#notices")
+    player.close()
+    await client.close()
+    await until_state(seer, "over")
+    assert "Ended without a result" in await text(seer, "#outcome")
+    assert await text(seer, "#anew") == "Watch b1-2"
+    await seer.close()
+    await wire.cut()
+
+
+async def try_behind(browser):
+    """A follower that falls behind is closed with 4001; the page says so, comes back, and says what it missed."""
+    relay = await Relay(capacity=1, plies=16384).start()
+    client = await Client.to(relay.address)
+    await client.open("b1")
+    seer = await watch(browser, relay, "b1")
+    await until_state(seer, "live")
+    await seer.run('window.states = []; new MutationObserver(() => states.push(document.querySelector("#state").dataset.state))'
+                   '.observe(document.querySelector("#state"), {attributes: true})')
+    moves = []
+    for _ in range(40):
+        burst = fresh_burst(len(moves))
+        if not burst:
+            break
+        await client.burst("b1", burst)
+        moves += burst
+        await asyncio.sleep(0.2)
+        if "behind" in await seer.run("states"):
+            break
+    assert "behind" in await seer.run("states"), "no follower fell behind"
+    await until_state(seer, "live")
+    await asyncio.sleep(0.3)
+    await client.submit("b1", *(last := fresh_burst(len(moves))[:1]))
+    moves += last
+    await seer.until(f'document.querySelector("#fen").value === {json.dumps(fens(518, moves)[-1])}')
+    assert "4001" in await text(seer, "#notices")
+    had = await listed(seer)
+    places = [place for place, _ in had]
+    assert places == sorted(set(places)), "a place is shown twice"
+    assert all(moves[place] == move for place, move in had)
+    assert await placement(seer) == fens(518, moves)[-1].split(" ")[0]
+    missing = sorted(set(range(len(moves))) - set(places))
+    assert not missing or "missed" in await text(seer, "#moves"), missing
+    print(f"    {len(moves)} moves, {len(missing)} of them missed and said to be")
+    await seer.close()
+    await client.close()
+
+
+def fresh_burst(done):
+    """The next moves of a long game in which no position stands five times: the rooks go round while the knights hop."""
+    return LONG[done:done + 60]
+
+
+def long_game():
+    hop = ["g1f3", "g8f6", "f3g1", "f6g8"]
+    moves = ["b1c3", "b8c6"]
+    for pawn in ("a2a3 a7a6", "b2b3 b7b6", "d2d3 d7d6", "e2e3 e7e6", "g2g3 g7g6", "h2h3 h7h6", "a3a4 a6a5", "d3d4 d6d5", "g3g4 g6g5"):
+        moves += pawn.split() + hop * 3
+    return moves
+
+
+LONG = long_game()
+
+
+async def try_crash(browser):
+    """The relay is killed and started anew: the table opens its game under a new name and play goes on; spectators come back."""
+    relay = await Relay().start()
+    start, moves = 387, ["e2e4", "e7e5", "f1g1", "f8g8", "d2d4", "e5d4"]
+    table = await open_table(browser, relay, "b1", start)
+    seer = await watch(browser, relay, "b1")
+    for ply, move in enumerate(moves, 1):
+        await enter(table, move, "type")
+        await until_moves(table, ply)
+    await until_moves(seer, 6)
+    await relay.kill()
+    await until_state(table, "lost")
+    await until_state(seer, "lost")
+    began = time.monotonic()
+    await relay.start()
+    await table.until('document.querySelector("#state").textContent === "Board b1-2 is open"')
+    await until_moves(table, 6)
+    print(f"    play went on {time.monotonic() - began:.1f} s after the relay was back")
+    assert await listed(table) == [[place, move] for place, move in enumerate(moves)]
+    await until_state(seer, "refused")
+    second = await watch(browser, relay, "b1-2")
+    await until_moves(second, 6)
+    await enter(table, "c2c3", "drag")
+    final = fens(start, [*moves, "c2c3"])[-1]
+    await shows(table, 7, final, "anew")
+    await shows(second, 7, final, "anew")
+    client = await Client.to(relay.address)
+    await client.open("b1", start)
+    await client.submit("b1", *moves, "c2c3")
+    await shows(seer, 7, final, "the same name in a new run")
+    assert await listed(seer) == [[place, move] for place, move in enumerate([*moves, "c2c3"])]
+    for page in (table, seer, second):
+        assert not page.faults, page.faults
+        await page.close()
+    await client.close()
+
+
+async def try_table_wire(browser):
+    """A table's lost connection while the relay goes on: its game ends as abandoned, and it opens a new board by itself."""
+    relay = await Relay().start()
+    wire = await Wire(relay.port).mend()
+    table = await open_table(browser, relay, "b1", 200, address=wire.address)
+    seer = await watch(browser, relay, "b1")
+    player, chance, moves = Player(200), random.Random(SEED + 2), []
+    for ply in range(1, 13):
+        moves.append(weigh(player.legal(), player.fen, chance))
+        player.play(moves[-1])
+        await enter(table, moves[-1], "type")
+        await until_moves(table, ply)
+    player.close()
+    await wire.cut()
+    await until_state(table, "lost")
+    await until_state(seer, "over")
+    assert "abandoned" in await text(seer, "#outcome")
+    await wire.mend()
+    await table.until('document.querySelector("#state").textContent === "Board b1-2 is open"')
+    await until_moves(table, 12)
+    await seer.click("#anew")
+    await until_moves(seer, 12)
+    assert await listed(seer) == [[place, move] for place, move in enumerate(moves)]
+    await table.close()
+    await seer.close()
+    await wire.cut()
+
+
+async def try_channel(browser):
+    """A channel: repeated places are dropped, a gap is said, and another game under the same name takes the place of the first."""
+    moves = ["e2e4", "e7e5", "g1f3", "b8c6", "f1b5", "a7a6"]
+    after = fens(518, moves)
+    said = asyncio.Queue()
+
+    async def channel(socket, path):
+        assert path == "/sub/b1", path
+        while (it := await said.get()) is not None:
+            await socket.send(json.dumps(it))
+
+    def following(joined):
+        return {"fen": after[joined - 1] if joined else start_fen(518), "joined": joined, "reply": "following"}
+
+    def told(first, last):
+        return [{"move": moves[place], "place": place, "reply": "move"} for place in range(first, last)]
+
+    async with websockets.serve(channel, "127.0.0.1", 0, compression=None, ping_interval=None) as server:
+        port = server.sockets[0].getsockname()[1]
+        seer = await browser.open(url("watch.html", channel=f"ws://127.0.0.1:{port}/sub", board="b1"))
+        for it in [following(0), *told(0, 2), following(0), *told(0, 3), *told(2, 4)]:
+            said.put_nowait(it)
+        await shows(seer, 4, after[3], "channel")
+        assert await listed(seer) == [[place, move] for place, move in enumerate(moves[:4])]
+        for it in [following(5), *told(5, 6), {"outcome": "agreed", "reply": "over"}]:
+            said.put_nowait(it)
+        await shows(seer, 5, after[5], "channel after a gap")
+        assert "The move of place 4 was missed." in await text(seer, "#moves")
+        await until_state(seer, "over")
+        said.put_nowait({"fen": start_fen(0), "joined": 0, "reply": "following"})
+        await shows(seer, 0, start_fen(0), "another game")
+        assert await state(seer) == "live"
+        assert not seer.faults, seer.faults
+        said.put_nowait(None)
+        await seer.close()
+
+
+async def try_records(browser):
+    """A game is opened anew from what the browser kept and from the recorder's file, whole and without its last move."""
+    relay = await Relay().start()
+    start, moves = 518, ["e2e4", "e7e5", "g1f3", "b8c6", "f1b5"]
+    with tempfile.TemporaryDirectory() as folder:
+        file = pathlib.Path(folder, "hall.record")
+        recorder = await asyncio.create_subprocess_exec("/usr/bin/python3", str(RECORDER), relay.address, "hall", str(file))
+        table = await open_table(browser, relay, "hall", start)
+        for ply, move in enumerate(moves, 1):
+            await enter(table, move, "type")
+            await until_moves(table, ply)
+        for _ in range(200):
+            if file.exists() and len(file.read_text().splitlines()) == 7:
+                break
+            await asyncio.sleep(0.05)
+        lines = [json.loads(it) for it in file.read_text().splitlines()]
+        assert lines[0] == {"board": "hall", "record": 1, "start": start}, lines
+        assert [it["move"] for it in lines[2:]] == moves, lines
+        await relay.kill()
+        recorder.terminate()
+        await recorder.wait()
+        await table.close()
+        await relay.start()
+        again = await browser.open(url("table.html", server=relay.address))
+        kept = await again.run('[...document.querySelector("#kept").options].find((it) => it.textContent.startsWith("hall, start 518, 5 moves")).value')
+        await again.choose("#kept", kept)
+        await again.click("#anew button[type=submit]")
+        await until_moves(again, 5)
+        assert await text(again, "#state") == "Board hall-2 is open"
+        await say_end(again, "#ending [data-how=abandoned]")
+        await until_state(again, "over")
+        await again.give_file("#file", file)
+        await again.until('document.querySelector("#count").value === "5" && document.querySelector("#new-name").value === "hall-2"')
+        await again.fill("#count", "4")
+        await again.click("#anew button[type=submit]")
+        await again.until('document.querySelector("#state").textContent === "Board hall-3 is open"')
+        await shows(again, 4, fens(start, moves[:4])[-1], "without the last move")
+        assert not again.faults, again.faults
+        await again.close()
+
+
+async def main():
+    words = sys.argv[1:]
+    pictures = words[1] if words[:1] == ["--pictures"] else None
+    tries = {name[4:]: it for name, it in globals().items() if name.startswith("try_")}
+    browser = await Browser().start()
+    failed = []
+    began = time.monotonic()
+    try:
+        if pictures:
+            from pictures import take_pictures
+            await take_pictures(browser, pathlib.Path(pictures))
+            return 0
+        for name in words or tries:
+            try:
+                await asyncio.wait_for(tries[name](browser), 900)
+                print(f"ok      {name}: {tries[name].__doc__}", flush=True)
+            except Exception as fault:
+                failed.append(name)
+                print(f"failed  {name}: {type(fault).__name__} {fault}", flush=True)
+            finally:
+                await browser.close_all()
+                await Relay.stop_all()
+    finally:
+        await browser.stop()
+    count = len(words or tries)
+    print(f"{count - len(failed)} of {count} passed in {time.monotonic() - began:.0f} s")
+    return 1 if failed else 0
+
+
+if __name__ == "__main__":
+    sys.exit(asyncio.run(main()))
