@@ -10,8 +10,6 @@ mod reader;
 mod rights;
 mod symbol;
 mod target;
-#[cfg(test)]
-mod tests;
 mod turn;
 mod writer;
 

@@ -9,8 +9,6 @@ mod code;
 mod fault;
 mod promotion;
 mod reader;
-#[cfg(test)]
-mod tests;
 mod writer;
 
 pub use bytes::MoveBytes;

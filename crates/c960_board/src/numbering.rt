@@ -108,6 +108,3 @@ pub fn number_of(rank: [Kind; 8]) -> Option<u16>
     }
     None
 }
-
-#[cfg(test)]
-mod tests;

@@ -110,6 +110,3 @@ fn is_name_byte(byte: u8) -> bool
 {
     matches!(byte, b'A'..=b'Z' | b'a'..=b'z' | b'0'..=b'9' | b'_' | b'-')
 }
-
-#[cfg(test)]
-mod tests;

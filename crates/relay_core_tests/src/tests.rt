@@ -4,6 +4,7 @@ mod boards;
 mod closing;
 mod endings;
 mod memory;
+mod names;
 mod places;
 mod plain;
 mod plies;

@@ -9,8 +9,6 @@ mod fault;
 mod fields;
 pub mod laws;
 mod reading;
-#[cfg(test)]
-mod tests;
 
 pub use answer::Answer;
 pub use encoding::encode;

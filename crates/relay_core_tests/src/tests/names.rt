@@ -1,6 +1,6 @@
 //! The worked cases of names.
 
-use crate::name::BoardName;
+use relay_core::BoardName;
 use std::alloc::AllocError;
 
 #[test]

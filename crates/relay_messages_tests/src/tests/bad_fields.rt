@@ -1,7 +1,6 @@
 //! Commands with a key missing, a key more, or a value of another form.
 
-use crate::fault::MessageFault;
-use crate::reading::decode;
+use relay_messages::{MessageFault, decode};
 
 #[test]
 fn a_key_missing_or_a_key_more_is_a_bad_field(rt: HostRuntime) {

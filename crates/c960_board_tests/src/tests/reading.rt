@@ -1,8 +1,6 @@
 //! Texts that are read, and texts that are refused.
 
-use crate::fen::reader::read_fen;
-use crate::piece::{Colour, Kind};
-use crate::square::Square;
+use c960_board::{Colour, Kind, Square, read_fen};
 use std::test::*;
 
 /// Texts of no position, each with the code of its first fault.

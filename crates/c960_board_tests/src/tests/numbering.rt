@@ -1,5 +1,7 @@
-use super::*;
-use crate::piece::Kind::{Bishop, King, Knight, Queen, Rook};
+//! Arrays and their start numbers.
+
+use c960_board::Kind::{Bishop, King, Knight, Queen, Rook};
+use c960_board::{arrangement, number_of};
 use std::test::Fail;
 
 #[test]

@@ -1,6 +1,6 @@
 //! The worked examples of the moves' codes and texts.
 
-use crate::moves::{Move, MoveFault, move_bytes, read_move};
+use c960_board::{Move, MoveFault, move_bytes, read_move};
 
 #[test]
 fn the_codes_and_texts_of_two_moves(rt: HostRuntime) {

@@ -1,9 +1,8 @@
 //! Numbers, names and texts up to their bounds, and beyond.
 
-use crate::fault::MessageFault;
-use crate::reading::decode;
 use crate::tests::values::board_of;
 use relay_core::Step;
+use relay_messages::{MessageFault, decode};
 use std::test::Fail;
 
 #[test]

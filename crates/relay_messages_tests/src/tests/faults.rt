@@ -1,8 +1,7 @@
 //! Texts that give no command, and which fault comes first.
 
-use crate::fault::MessageFault;
-use crate::reading::decode;
 use relay_core::Step;
+use relay_messages::{MessageFault, decode};
 
 /// What is answered to a text of 1,025 such bytes.
 fn answer_to_1025(rt: &HostRuntime, byte: u8) -> Result<Step, MessageFault> {

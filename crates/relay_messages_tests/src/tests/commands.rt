@@ -1,10 +1,10 @@
 //! Texts that give a command.
 
-use crate::reading::decode;
 use crate::tests::values::{board_of, move_of};
 use c960_board::Colour;
 use c960_game::Ending;
 use relay_core::Step;
+use relay_messages::decode;
 
 #[test]
 fn each_command_is_read(rt: HostRuntime) {

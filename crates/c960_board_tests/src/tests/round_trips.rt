@@ -1,9 +1,6 @@
 //! Texts that are read and written back.
 
-use crate::fen::fault::FenFault;
-use crate::fen::reader::read_fen;
-use crate::fen::writer::write_fen;
-use crate::position::Position;
+use c960_board::{FenFault, Position, read_fen, write_fen};
 
 /// Texts, each with the text that is written of its position.
 const READ_AND_WRITTEN: &str = "\

@@ -1,12 +1,10 @@
 //! The texts of answers.
 
-use crate::answer::Answer;
-use crate::encoding::encode;
-use crate::fault::MessageFault;
 use crate::tests::values::{START_518, move_of, position_of};
 use c960_board::Colour;
 use c960_game::{Outcome, Refusal};
 use relay_core::{Account, Reply, Taken};
+use relay_messages::{Answer, MessageFault, encode};
 use std::test::Fail;
 
 #[test]

@@ -1,11 +1,6 @@
 //! Texts of positions that are made of their parts.
 
-use crate::fen::writer::write_fen;
-use crate::parts::Parts;
-use crate::piece::{Colour, Kind, Piece};
-use crate::position::Position;
-use crate::rights::CastlingRights;
-use crate::square::Square;
+use c960_board::{CastlingRights, Colour, Kind, Parts, Piece, Position, Square, write_fen};
 use std::test::*;
 
 /// What a square of a drawing holds: a capital is White's, a point is an empty square.

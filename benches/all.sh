@@ -1,0 +1,44 @@
+#!/bin/sh
+# Measures what docs/BENCHMARKS.md tells of the rules, of games and of scripts, programs beside one another in each round.
+#   NEW=.. COUNT=.. [OLD=..] [OLD_COUNT=..] [RELAY=..] [ROUNDS=3] benches/all.sh FOLDER
+# NEW and OLD are programs relay960, COUNT and OLD_COUNT programs bench960, RELAY a program bench_relay. FOLDER holds the games and the lines, which are
+# made at the first run. It needs Debian's package stockfish. Each line printed is: what, which program, wall seconds, processor seconds.
+set -eu
+here=$(cd "$(dirname "$0")" && pwd)
+folder=$1
+mkdir -p "$folder"
+cd "$folder"
+[ -d games/chance ] || "$here/games.py" games 100000 >&2
+for followers in 0 1 64; do
+    [ -f "lines-$followers" ] || "$here/lines.py" "$followers" > "lines-$followers"
+done
+
+# timed WHAT WHICH COMMAND..
+timed() {
+    what=$1 which=$2
+    shift 2
+    /usr/bin/time -o took -f "$what|$which|%e|%U %S|%M kB" "$@"
+    cat took
+}
+for round in $(seq "${ROUNDS:-3}"); do
+    for kind in chance shuffle; do
+        for which in ${OLD:+OLD} NEW; do
+            eval "program=\$$which"
+            timed "play $kind" "$which" sh -c 'for game in "games/$1"/*; do "$0" play "${game##*.}" < "$game"; done > "answers-$1-$2"' "$program" "$kind" "$which"
+        done
+    done
+    for followers in 0 1 64; do
+        for which in ${OLD:+OLD} NEW; do
+            eval "program=\$$which"
+            timed "script $followers" "$which" sh -c '"$0" script --boards 1024 --plies 1250 < "lines-$1" > "answers-script-$1-$2"' "$program" "$followers" "$which"
+        done
+    done
+    timed "positions" COUNT "$COUNT"
+    [ -z "${OLD_COUNT-}" ] || timed "positions" OLD_COUNT "$OLD_COUNT"
+    for position in 'rnbqkbnr/pppppppp/8/8/8/8/PPPPPPPP/RNBQKBNR w HAha - 0 1|6' \
+        'r3k2r/p1ppqpb1/bn2pnp1/3PN3/1p2P3/2N2Q1p/PPPBBPPP/R3K2R w HAha - 0 1|5' 'n1n5/PPPk4/8/8/8/8/4Kppp/5N1N b - - 0 1|6'; do
+        timed "positions of ${position%% *}" Stockfish sh -c 'printf "setoption name UCI_Chess960 value true\nposition fen %s\ngo perft %s\nquit\n" "${0%|*}" "${0#*|}" | /usr/games/stockfish > answers-stockfish' "$position"
+    done
+    [ -z "${RELAY-}" ] || timed "relay" RELAY "$RELAY"
+done
+cat /proc/loadavg

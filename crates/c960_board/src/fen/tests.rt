@@ -1,5 +1,0 @@
-//! The worked examples of the texts.
-
-mod reading;
-mod round_trips;
-mod writing;
