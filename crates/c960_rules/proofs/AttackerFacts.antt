@@ -1,7 +1,7 @@
 -- The sets of attackers.
-use Rattle.std.proofs.Common.{◌≡◌, ◌≢◌, ℕ, ◌<◌, Bool, true, false, not, ◌&&◌, ◌||◌, List, Some, None, length, refl, ap, sym, ◌∙◌, arith}
+use Rattle.std.proofs.Common.{◌≡◌, ◌≢◌, ℕ, ◌<◌, Bool, true, false, not, ◌&&◌, ◌||◌, List, Some, None, length, refl, ap, sym, ◌∙◌, inl, inr, nat_lt, arith}
 use Rattle.std.specs.Prelude.{◌==◌, bit_and, bit_or}
-use Rattle.std.proofs.lemmas.Bool.{eq-eqb, ne_eqb}
+use Rattle.std.proofs.lemmas.Bool.{cases_eq, eq-eqb, ne_eqb}
 use Rattle.c960_board.specs.declared.piece.Colour.{Colour}
 use Rattle.c960_board.specs.declared.piece.Colour.TheVariants.{White, Black}
 use Rattle.c960_board.specs.declared.piece.Kind.{Kind}
@@ -10,7 +10,8 @@ use Rattle.c960_board.specs.declared.sets.Sets.{Sets}
 use Rattle.c960_board.specs.Pieces.{Cell, same_colour, same_kind, is_of}
 use Rattle.c960_board.specs.Position.{cell_at}
 use Rattle.c960_board.specs.Sets.{is_kind, set_of, sets_of, colour_set, is_in}
-use Rattle.c960_rules.specs.Lines.{between}
+use Rattle.c960_board.specs.Squares.{file_of, rank_of}
+use Rattle.c960_rules.specs.Lines.{distance, same_rank, same_file, same_diagonal, within, between}
 use Rattle.c960_rules.specs.Wheres.{where_set, is_free, is_knight_leap, is_king_step, is_pawn_hit, is_rook_line, is_bishop_line, is_leaper_on, is_slider_on, is_attacker_on, attacks_over, attacks_over_as}
 use Rattle.c960_rules.proofs.WhereFacts.{where_or, where_and, where_agree, set_where, in_where}
 
@@ -76,6 +77,60 @@ attackers_of : (o : Cell) (occupied : ℕ) (by : Colour) (s t : ℕ)
 attackers_of None occupied by s t = refl
 attackers_of (Some p) occupied by s t = kind_attacker p.colour by p.kind occupied s t
 
+-- what lies between two squares lies between them the other way round
+or-or : (a b : Bool) → (a || b) ≡ (b || a)
+or-or true true = refl
+or-or true false = refl
+or-or false true = refl
+or-or false false = refl
+
+same_back : (a b : ℕ) → (a == b) ≡ (b == a)
+same_back a b =
+    elim (cases_eq a b) [
+      | inl e ↦ rw e refl
+      | inr ne ↦ ne_eqb a b ne ∙ sym (ne_eqb b a (λ e. ne (sym e)))
+    ]
+
+way_back : (a b c d w v : Bool) → a ≡ c → b ≡ d → w ≡ v → (a && (b && w)) ≡ (d && (c && v))
+way_back true true c d w v e f g = rw (← e, ← f) g
+way_back true false c d w v e f g = rw (← e, ← f) refl
+way_back false b c d w v e f g = rw (← e) (sym (and-false d))
+
+within_back : (a b c : ℕ) → within a b c ≡ within c b a
+within_back a b c = or-or (nat_lt a b && nat_lt b c) (nat_lt c b && nat_lt b a)
+
+distance_back : (a b : ℕ) → distance a b ≡ distance b a
+distance_back a b = omega arith
+
+diagonal_back : (s t : ℕ) → same_diagonal s t ≡ same_diagonal t s
+diagonal_back s t =
+    let files = distance_back (file_of s) (file_of t) in
+    let ranks = distance_back (rank_of s) (rank_of t) in
+    rw (files, ranks) refl
+
+between_back : (s u t : ℕ) → between s u t ≡ between t u s
+between_back s u t =
+    let files = within_back (file_of s) (file_of u) (file_of t) in
+    let ranks = within_back (rank_of s) (rank_of u) (rank_of t) in
+    let on_rank = way_back (same_rank s u) (same_rank u t) (same_rank u s) (same_rank t u) _ _
+    (same_back (rank_of s) (rank_of u)) (same_back (rank_of u) (rank_of t)) files in
+    let on_file = way_back (same_file s u) (same_file u t) (same_file u s) (same_file t u) _ _
+    (same_back (file_of s) (file_of u)) (same_back (file_of u) (file_of t)) ranks in
+    let both : (within (file_of s) (file_of u) (file_of t) && within (rank_of s) (rank_of u) (rank_of t))
+    ≡ (within (file_of t) (file_of u) (file_of s) && within (rank_of t) (rank_of u) (rank_of s)) =
+    ap (λ (b : Bool). b && within (rank_of s) (rank_of u) (rank_of t)) files
+    ∙ ap (λ (b : Bool). within (file_of t) (file_of u) (file_of s) && b) ranks in
+    let on_diagonal = way_back (same_diagonal s u) (same_diagonal u t) (same_diagonal u s) (same_diagonal t u) _ _
+    (diagonal_back s u) (diagonal_back u t) both in
+    rw (on_rank, on_file, on_diagonal) refl
+
+-- so a way is free both ways
+free_back : (occupied s t : ℕ) → is_free occupied s t ≡ is_free occupied t s
+unfolding is_free
+free_back occupied s t =
+    ap (λ (set : ℕ). bit_and set occupied == 0)
+    (where_agree (λ u. between s u t) (λ u. between t u s) (λ u l. between_back s u t))
+
 -- a free way, from its test
 pub free_is : (occupied s t between_them : ℕ) → between_them ≡ where_set (λ u. between s u t)
     → bit_and between_them occupied ≡ 0 → is_free occupied s t ≡ true
@@ -97,12 +152,13 @@ all_attackers cells occupied by s t = attackers_of (cell_at cells s) occupied by
 -- joined with the leapers
 pub attackers_join : (cells : List Cell) (occupied : ℕ) (by : Colour) (t leapers sliders free : ℕ)
     → leapers ≡ where_set (λ s. is_leaper_on cells by s t) → sliders ≡ where_set (λ s. is_slider_on cells by s t)
-    → free ≡ where_set (λ s. is_in sliders s && is_free occupied s t)
+    → free ≡ where_set (λ s. is_in sliders s && is_free occupied t s)
     → bit_or leapers free ≡ where_set (λ s. is_attacker_on cells occupied by s t)
 attackers_join cells occupied by t leapers sliders free el es ef =
-    where_or (λ s. is_leaper_on cells by s t) (λ s. is_in sliders s && is_free occupied s t) leapers free el ef
-    ∙ where_agree (λ s. is_leaper_on cells by s t || (is_in sliders s && is_free occupied s t))
+    where_or (λ s. is_leaper_on cells by s t) (λ s. is_in sliders s && is_free occupied t s) leapers free el ef
+    ∙ where_agree (λ s. is_leaper_on cells by s t || (is_in sliders s && is_free occupied t s))
     (λ s. is_attacker_on cells occupied by s t)
     (λ s l.
     let on = in_where (λ u. is_slider_on cells by u t) sliders s es l in
-    rw on (all_attackers cells occupied by s t))
+    let back = free_back occupied t s in
+    rw (on, back) (all_attackers cells occupied by s t))

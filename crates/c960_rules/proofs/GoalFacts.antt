@@ -22,7 +22,7 @@ use Rattle.c960_rules.specs.Wheres.{where_set, is_way, is_slider, is_pawn_hit, i
 use Rattle.c960_rules.proofs.AttackAgree.{same_tests, attacks_agree}
 use Rattle.c960_rules.proofs.InnerRanks.{IsInner, pawn_inner}
 use Rattle.c960_rules.proofs.MoveTests.{reaches_tells, reaches_from}
-use Rattle.c960_rules.proofs.PieceFacts.{piece_on, is_holds}
+use Rattle.c960_rules.proofs.PieceFacts.{piece_on, is_holds, is_own}
 use Rattle.c960_rules.proofs.WayCandidates.{castle_rook}
 use Rattle.c960_rules.proofs.WhereFacts.{in_where, where_agree, where_and, where_or, where_not, where_nothing}
 use Rattle.c960_rules.proofs.AttackerFacts.{and-false, and-true}
@@ -197,13 +197,18 @@ and_swap true false true = refl
 and_swap true false false = refl
 and_swap false b c = refl
 
+-- a piece of the side is its own
+own_of : (p : Parts) (s : ℕ) (q : Piece) → piece_on p s ≡ Some q → q.colour ≡ p.turn → is_of p.turn (piece_on p s) ≡ true
+own_of p s q e side = is_own p.turn q.kind (piece_on p s) (e ∙ rw (← side) refl)
+
 -- a bishop, a rook or a queen
 pub sliders_go : (p : Parts) (s goals set occupied : ℕ) (q : Piece) → IsPosition p → piece_on p s ≡ Some q
-    → is_of p.turn (piece_on p s) ≡ true → holds p.turn Pawn (piece_on p s) ≡ false → is_slider q.kind ≡ true
+    → q.colour ≡ p.turn → holds p.turn Pawn (piece_on p s) ≡ false → is_slider q.kind ≡ true
     → occupied ≡ set_of is_occupied p.placement
     → goals ≡ where_set (λ u. is_way q.colour q.kind s u && not (is_of p.turn (piece_on p u)))
     → set ≡ where_set (λ u. is_in goals u && is_free occupied s u) → set ≡ where_set (λ u. goes_to p s u)
-sliders_go p s goals set occupied q valid e own officer slider eo eg es =
+sliders_go p s goals set occupied q valid e side officer slider eo eg es =
+    let own = own_of p s q e side in
     es ∙ where_agree (λ u. is_in goals u && is_free occupied s u) (λ u. goes_to p s u)
     (λ u l.
     let way = is_way q.colour q.kind s u in
@@ -217,10 +222,11 @@ sliders_go p s goals set occupied q valid e own officer slider eo eg es =
 
 -- a knight or a king
 pub leapers_go : (p : Parts) (s goals : ℕ) (q : Piece) → IsPosition p → piece_on p s ≡ Some q
-    → is_of p.turn (piece_on p s) ≡ true → holds p.turn Pawn (piece_on p s) ≡ false → is_slider q.kind ≡ false → q.colour ≡ p.turn
+    → q.colour ≡ p.turn → holds p.turn Pawn (piece_on p s) ≡ false → is_slider q.kind ≡ false
     → goals ≡ where_set (λ u. is_way q.colour q.kind s u && not (is_of p.turn (piece_on p u)))
     → goals ≡ where_set (λ u. goes_to p s u)
-leapers_go p s goals q valid e own officer leaper side eg =
+leapers_go p s goals q valid e side officer leaper eg =
+    let own = own_of p s q e side in
     let occupied = set_of is_occupied p.placement in
     let no_pawn : q.kind ≢ Pawn =
     λ f. both_ways (holds p.turn Pawn (piece_on p s)) officer (is_holds p.turn Pawn (piece_on p s) (e ∙ rw (← side, ← f) refl)) in
@@ -232,9 +238,11 @@ leapers_go p s goals q valid e own officer leaper side eg =
     ap (λ (b : Bool). b && not (is_of p.turn (piece_on p u))) (sym attack) ∙ sym (goes_officer p s u own officer))
 
 -- a pawn
-pub pawns_go : (p : Parts) (s result : ℕ) → is_of p.turn (piece_on p s) ≡ true → holds p.turn Pawn (piece_on p s) ≡ true
+pub pawns_go : (p : Parts) (s result : ℕ) → piece_on p s ≡ man p.turn Pawn
     → result ≡ where_set (λ u. pawn_goes p s u && not (is_of p.turn (piece_on p u))) → result ≡ where_set (λ u. goes_to p s u)
-pawns_go p s result own pawn e =
+pawns_go p s result there e =
+    let own = is_own p.turn Pawn (piece_on p s) there in
+    let pawn = is_holds p.turn Pawn (piece_on p s) there in
     e ∙ where_agree (λ u. pawn_goes p s u && not (is_of p.turn (piece_on p u))) (λ u. goes_to p s u)
     (λ u l. sym (goes_pawn p s u own pawn))
 

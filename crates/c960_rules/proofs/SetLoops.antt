@@ -12,7 +12,7 @@ use Rattle.c960_rules.specs.Lines.{squares}
 use Rattle.c960_rules.specs.Legal.{is_legal, legal_list}
 use Rattle.c960_rules.specs.Listing.{moves_between, moves_to_below, moves_from, moves_from_below, legal_between, legal_on, stretches_in}
 use Rattle.c960_board.specs.Sets.{is_in}
-use Rattle.c960_rules.proofs.WhereFacts.{IsWithout}
+use Rattle.c960_rules.specs.Wheres.{IsWithout}
 use Rattle.c960_rules.proofs.ListFacts.{all_are}
 
 -- sets that agree from a on have the same stretches

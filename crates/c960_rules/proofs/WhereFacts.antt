@@ -12,7 +12,7 @@ use Rattle.c960_board.specs.Pieces.{Cell}
 use Rattle.c960_board.specs.Position.{cell_at}
 use Rattle.c960_board.specs.Sets.{set_of, is_in}
 use Rattle.c960_rules.specs.Lines.{squares}
-use Rattle.c960_rules.specs.Wheres.{where_set}
+use Rattle.c960_rules.specs.Wheres.{where_set, IsWithout}
 
 -- a bit
 pub where_bit : (test : ℕ → Bool) (i : ℕ) → i < 64 → bit_at (where_set test) i ≡ cond (test i) 1 0
@@ -162,13 +162,6 @@ pub record IsFiltered (test : ℕ → Bool) (set left found : ℕ) : Type 0 wher
 pub filtered_none : (test : ℕ → Bool) (set : ℕ) → IsFiltered test set set 0
 filtered_none test set =
     record { bits = λ i l. bit_at-zero i ∙ none_bits (is_in set i) (test i); inside = λ i l h. h }
-
--- one square less is left: in all, what the loop's step knows
-pub record IsWithout (left k rest : ℕ) : Type 0 where
-  pub on_board : k < 64
-  pub was : bit_at left k ≡ 1
-  pub gone : bit_at rest k ≡ 0
-  pub others : (i : ℕ) → i < 64 → i ≢ k → bit_at rest i ≡ bit_at left i
 
 -- what is left after that was left before
 still_in : (set left k rest i : ℕ) → IsWithout left k rest → ((j : ℕ) → j < 64 → is_in left j ≡ true → is_in set j ≡ true)

@@ -1,5 +1,6 @@
 -- Sets of squares as numbers, by a test of each square: bit s is 1 where the square s passes.
-use Rattle.std.specs.Prelude.{ℕ, ◌≡◌, ◌+◌, ◌==◌, Bool, true, false, ◌&&◌, ◌||◌, not, List, Some, None, map, max, bit_and}
+use Rattle.std.specs.Prelude.{ℕ, ◌≡◌, ◌≢◌, ◌<◌, ◌+◌, ◌==◌, Bool, true, false, ◌&&◌, ◌||◌, not, List, Some, None, map, max, bit_and}
+use Rattle.std.specs.Int.{bit_at}
 use Rattle.std.specs.Simd.Lanes.{mask_l}
 use Rattle.c960_board.specs.declared.piece.Colour.{Colour}
 use Rattle.c960_board.specs.declared.piece.Kind.{Kind}
@@ -15,6 +16,13 @@ use Rattle.c960_rules.specs.Attacks.{is_forward}
 -- the squares that pass the test
 unfoldable pub where_set : (ℕ → Bool) → ℕ
 where_set test = mask_l (map test squares)
+
+-- a set without a square of it
+pub record IsWithout (set k rest : ℕ) : Type 0 where
+  pub on_board : k < 64
+  pub was : bit_at set k ≡ 1
+  pub gone : bit_at rest k ≡ 0
+  pub others : (i : ℕ) → i < 64 → i ≢ k → bit_at rest i ≡ bit_at set i
 
 -- a knight on s attacks t
 abbrev pub is_knight_leap : ℕ → ℕ → Bool

@@ -10,6 +10,7 @@ use crate::goals::candidates;
 use crate::lawful::Lawful;
 use crate::legal::is_legal_in;
 use crate::promotion::promotes;
+use crate::sides::squares_of;
 use c960_board::{Kind, Move, Position, Square};
 
 /// Whether the move of two squares and a promotion is legal.
@@ -70,7 +71,7 @@ pub fn any_legal(lawful: &Lawful) -> bool
 {
     let position = lawful.position();
     let turn = position.turn();
-    let mut left = position.sets().colour(turn);
+    let mut left = squares_of(&position, turn);
     while left != 0 {
         let from = lowest(left);
         left = without(left, from);

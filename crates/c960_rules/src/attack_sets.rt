@@ -12,6 +12,7 @@ use crate::bitset::{lowest, only, without};
 use crate::lookups::{
     bishop_lines, king_steps, knight_leaps, pawn_hits_on, rook_lines, squares_between,
 };
+use crate::sides::squares_of;
 use c960_board::{Colour, Kind, Piece, Position, Sets, Square};
 
 /// The pawns, knights and kings of the colour that attack the square.
@@ -20,7 +21,7 @@ fn leapers(position: &Position, by: Colour, square: Square) -> u64
     ensures { result ≡ where_set (λ s. is_leaper_on position.now.placement by s square) }
 {
     let sets = position.sets();
-    let side = sets.colour(by);
+    let side = squares_of(position, by);
     let knights = knight_leaps(square) & sets.knights;
     let kings = king_steps(square) & sets.kings;
     let pawns = pawn_hits_on(by, square) & sets.pawns;
@@ -33,30 +34,13 @@ fn sliders(position: &Position, by: Colour, square: Square) -> u64
     ensures { result ≡ where_set (λ s. is_slider_on position.now.placement by s square) }
 {
     let sets = position.sets();
-    let side = sets.colour(by);
+    let side = squares_of(position, by);
     let straight = rook_lines(square) & (sets.rooks | sets.queens);
     let diagonal = bishop_lines(square) & (sets.bishops | sets.queens);
     side & (straight | diagonal)
 }
 
-/// The squares of the set from which the way to the square is free.
-#[inline(always)]
-fn free_to(set: u64, square: Square, occupied: u64) -> u64
-    ensures { result ≡ where_set (λ s. is_in set s && is_free occupied s square) }
-{
-    let mut left = set;
-    let mut found: u64 = 0;
-    while left != 0 {
-        let from = lowest(left);
-        left = without(left, from);
-        if squares_between(from, square) & occupied == 0 {
-            found |= only(from);
-        }
-    }
-    found
-}
-
-/// The squares of the set to which the way from the square is free.
+/// The squares of the set between which and the square the way is free.
 #[inline(always)]
 pub(crate) fn free_from(set: u64, square: Square, occupied: u64) -> u64
     ensures { result ≡ where_set (λ s. is_in set s && is_free occupied square s) }
@@ -80,7 +64,7 @@ pub(crate) fn attackers_over(position: &Position, by: Colour, square: Square, oc
 {
     let leapers = leapers(position, by, square);
     let sliders = sliders(position, by, square);
-    leapers | free_to(sliders, square, occupied)
+    leapers | free_from(sliders, square, occupied)
 }
 
 /// The pieces of the colour that attack the square, as a set: bit s is 1 exactly where the square s holds one.

@@ -1,10 +1,10 @@
 //! Where the pieces of the side to move go, castling and the safety of the king left out: as sets of squares.
 
-ghost use Rattle.std.specs.Prelude.{◌≡◌, ◌≢◌, ◌==◌, ◌<◌, ℕ, Option, false};
+ghost use Rattle.std.specs.Prelude.{◌≡◌, ◌≢◌, ◌==◌, ◌<◌, ℕ, Option, Some, false, IsFalse};
 ghost use Rattle.c960_board.specs.declared.piece.Kind.{Kind};
 ghost use Rattle.c960_board.specs.declared.piece.Kind.TheVariants.{Pawn};
 ghost use Rattle.c960_board.specs.Moves.{Triple};
-ghost use Rattle.c960_board.specs.Pieces.{man};
+ghost use Rattle.c960_board.specs.Pieces.{holds, man};
 ghost use Rattle.c960_board.specs.Position.{cell_at};
 ghost use Rattle.c960_board.specs.Sets.{is_in};
 ghost use Rattle.c960_board.specs.Squares.{rank_of};
@@ -18,8 +18,8 @@ use crate::bitset::only;
 use crate::cells::{holds, is_of};
 use crate::lookups::{pawn_hits, ways};
 use crate::reaches::pawn_rank;
-use crate::sides::ahead;
-use c960_board::{Colour, Kind, Position, Sets, Square};
+use crate::sides::{ahead, squares_of};
+use c960_board::{Colour, Kind, Piece, Position, Sets, Square};
 
 /// The en passant target, as a set.
 #[inline(always)]
@@ -82,9 +82,9 @@ fn prey(position: &Position, from: Square) -> u64
     requires { cell_at position.now.placement from ≡ man position.now.turn Pawn }
     ensures { result ≡ where_set (λ t. takes position.now.placement position.now.turn position.now.target from t) }
 {
-    let sets = position.sets();
+    let _sets = position.sets();
     let turn = position.turn();
-    let theirs = sets.colour(turn.other());
+    let theirs = squares_of(position, turn.other());
     let target = target_set(position.target());
     pawn_hits(turn, from) & (theirs | target)
 }
@@ -109,6 +109,24 @@ fn is_slider(kind: Kind) -> bool
     }
 }
 
+/// The squares to which a piece of the side to move goes that is no pawn.
+#[inline(always)]
+fn officer_goals(position: &Position, from: Square, piece: Piece) -> u64
+    requires there { cell_at position.now.placement from ≡ Some piece }
+    requires own { piece.colour ≡ position.now.turn }
+    requires officer { IsFalse (holds position.now.turn Pawn (cell_at position.now.placement from)) }
+    ensures { result ≡ where_set (λ t. goes_to position.now from t) }
+{
+    let _sets = position.sets();
+    let turn = position.turn();
+    let own = squares_of(position, turn);
+    let goals = ways(piece, from) & !own;
+    if is_slider(piece.kind) {
+        return free_from(goals, from, position.occupied());
+    }
+    goals
+}
+
 /// The squares to which the piece on a square goes, if it is one of the side to move.
 #[inline(always)]
 pub(crate) fn goals(position: &Position, from: Square) -> u64
@@ -122,16 +140,10 @@ pub(crate) fn goals(position: &Position, from: Square) -> u64
     let Some(piece) = cell else {
         return 0;
     };
-    let sets = position.sets();
-    let side = sets.colour(turn);
     if holds(cell, turn, Kind::Pawn) {
-        return pawn_goals(position, from) & !side;
+        return pawn_goals(position, from) & !squares_of(position, turn);
     }
-    let goals = ways(piece, from) & !side;
-    if is_slider(piece.kind) {
-        return free_from(goals, from, position.occupied());
-    }
-    goals
+    officer_goals(position, from, piece)
 }
 
 /// The squares of own rooks, if the king stands on the square: every legal castling goes to one.
@@ -142,7 +154,7 @@ pub(crate) fn rooks_to_castle(position: &Position, from: Square) -> u64
     let sets = position.sets();
     let turn = position.turn();
     if holds(position.piece_at(from), turn, Kind::King) {
-        sets.colour(turn) & sets.rooks
+        squares_of(position, turn) & sets.rooks
     } else {
         0
     }

@@ -13,6 +13,7 @@ use crate::lawful::Lawful;
 use crate::legal::is_legal_in;
 use crate::promotion::promotes;
 use crate::safety::exposes_king;
+use crate::sides::squares_of;
 use c960_board::{Kind, Move, Position, Sets, Square};
 use std::alloc::{AllocError, Global};
 
@@ -182,8 +183,7 @@ pub fn legal_moves(alloc: Global, lawful: &Lawful) -> Result<Vec<Move>, AllocErr
     let position = lawful.position();
     let turn = position.turn();
     let mut moves = Vec::with_capacity(alloc, 64)?;
-    let own = position.sets().colour(turn);
-    let mut left = own;
+    let mut left = squares_of(&position, turn);
     while left != 0 {
         let from = lowest(left);
         left = without(left, from);

@@ -1,10 +1,13 @@
 //! The two sides.
 
 ghost use Rattle.std.specs.Prelude.{◌≡◌, ◌<◌, ◌≤◌};
+ghost use Rattle.c960_board.specs.Pieces.{is_of};
+ghost use Rattle.c960_board.specs.Position.{cell_at};
 ghost use Rattle.c960_board.specs.Squares.{home_rank, home_square, ahead};
+ghost use Rattle.c960_rules.specs.Wheres.{where_set};
 
 use crate::squares::square_of;
-use c960_board::{Colour, Square};
+use c960_board::{Colour, Position, Square};
 
 /// The rank on which a side's pieces stand at the start, from 0.
 pub(crate) fn home_rank(colour: Colour) -> u8
@@ -35,4 +38,12 @@ pub(crate) fn ahead(colour: Colour, square: Square) -> Square
         Colour::White => square_of(square.number() + 8),
         Colour::Black => square_of(square.number() - 8),
     }
+}
+
+/// The squares of a side's pieces, as a set.
+#[inline(always)]
+pub(crate) fn squares_of(position: &Position, colour: Colour) -> u64
+    ensures { result ≡ where_set (λ s. is_of colour (cell_at position.now.placement s)) }
+{
+    position.sets().colour(colour)
 }

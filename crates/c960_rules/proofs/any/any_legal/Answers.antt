@@ -5,25 +5,21 @@ use Rattle.c960_board.specs.declared.parts.Parts.{Parts}
 use Rattle.c960_board.specs.Moves.{Triple}
 use Rattle.c960_board.specs.Pieces.{is_of}
 use Rattle.c960_board.specs.Position.{cell_at}
-use Rattle.c960_board.specs.Sets.{colour_set}
 use Rattle.c960_rules.specs.Legal.{Legal}
 use Rattle.c960_rules.specs.Listing.{triple, HasMoveFrom}
+use Rattle.c960_rules.specs.Wheres.{where_set}
 use Rattle.c960_rules.proofs.AnyFacts.{no_move}
-use Rattle.c960_rules.proofs.AttackerFacts.{side_where}
 use Rattle.c960_rules.proofs.ListFacts.{goes_from_own}
 use Rattle.c960_rules.proofs.PieceFacts.{piece_on}
 use Rattle.c960_rules.proofs.SetLoops.{searched_more, searched_all}
-use Rattle.c960_rules.proofs.WhereFacts.{IsWithout, in_where}
+use Rattle.c960_rules.proofs.WhereFacts.{in_where}
 use Rattle.c960_rules.proofs.any.any_legal.Goals as goal
 
 pub loop-left-init : goal.loop-left-init
 loop-left-init c =
     let p = c.position-position.result in
-    let own = c.colour-left.result in
-    let side =
-    side_where p.turn p.placement own c.sets.ensures.valid.placement.full
-    (c.colour-left.ensures ∙ ap (λ (x : Colour). colour_set x c.sets.result) c.turn-turn.ensures
-    ∙ ap (colour_set p.turn) c.sets.ensures.value) in
+    let own = c.squares_of-left.result in
+    let side = c.squares_of-left.ensures ∙ ap (λ (d : Colour). where_set (λ s. is_of d (cell_at p.placement s))) c.turn-turn.ensures in
     λ s l e w.
     both_ways (is_of p.turn (piece_on p s)) (sym (in_where (λ u. is_of p.turn (cell_at p.placement u)) own s side l) ∙ e)
     (goes_from_own p (triple s w.to w.between.promotion) w.between.legal.goes)
@@ -32,14 +28,7 @@ pub loop-left-preserved : goal.loop-left-preserved
 loop-left-preserved c =
     let p = c.position-position.result in
     let k = c.lowest-from.result in
-    let w : IsWithout c.loop-left.left k c.without-left.result =
-    record {
-      on_board = c.lowest-from.ensures.bound;
-      was = c.lowest-from.ensures.inside;
-      gone = c.without-left.ensures.gone;
-      others = c.without-left.ensures.others;
-    } in
-    searched_more (HasMoveFrom p) c.loop-left.left k c.without-left.result w c.loop-left.invariant
+    searched_more (HasMoveFrom p) c.loop-left.left k c.without-left.result c.without-left.ensures.taken_out c.loop-left.invariant
     (λ h. both_ways c.has_move_from.result c.if-has_move_from.false (c.has_move_from.ensures.1 h))
 
 pub returns : goal.returns

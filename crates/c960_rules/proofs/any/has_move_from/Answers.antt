@@ -3,7 +3,6 @@ use Rattle.c960_rules.specs.Listing.{HasMoveBetween}
 use Rattle.c960_rules.proofs.AnyFacts.{no_move_from}
 use Rattle.c960_rules.proofs.SetLoops.{searched_more, searched_all}
 use Rattle.c960_rules.proofs.WayCandidates.{no_between}
-use Rattle.c960_rules.proofs.WhereFacts.{IsWithout}
 use Rattle.c960_rules.proofs.any.has_move_from.Goals as goal
 
 pub loop-left-init : goal.loop-left-init
@@ -14,14 +13,7 @@ pub loop-left-preserved : goal.loop-left-preserved
 loop-left-preserved c =
     let p = c.args.position.now in
     let k = c.lowest-to.result in
-    let w : IsWithout c.loop-left.left k c.without-left.result =
-    record {
-      on_board = c.lowest-to.ensures.bound;
-      was = c.lowest-to.ensures.inside;
-      gone = c.without-left.ensures.gone;
-      others = c.without-left.ensures.others;
-    } in
-    searched_more (HasMoveBetween p c.args.from) c.loop-left.left k c.without-left.result w c.loop-left.invariant
+    searched_more (HasMoveBetween p c.args.from) c.loop-left.left k c.without-left.result c.without-left.ensures.taken_out c.loop-left.invariant
     (λ h. both_ways c.has_move_between.result c.if-has_move_between.false (c.has_move_between.ensures.1 h))
 
 pub returns : goal.returns

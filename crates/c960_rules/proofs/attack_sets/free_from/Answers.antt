@@ -1,6 +1,6 @@
 use Rattle.std.proofs.Common.{rules}
 use Rattle.c960_rules.specs.Wheres.{is_free}
-use Rattle.c960_rules.proofs.WhereFacts.{filtered_none, filtered_in, filtered_out, filtered_all, IsWithout}
+use Rattle.c960_rules.proofs.WhereFacts.{filtered_none, filtered_in, filtered_out, filtered_all}
 use Rattle.c960_rules.proofs.AttackerFacts.{free_is, free_isnt}
 use Rattle.c960_rules.proofs.attack_sets.free_from.Goals as goal
 
@@ -10,15 +10,8 @@ loop-left-init c = filtered_none (λ s. is_free c.args.occupied c.args.square s)
 pub loop-left-preserved-then-squares_between-occupied-eq0 : goal.loop-left-preserved-then-squares_between-occupied-eq0
 loop-left-preserved-then-squares_between-occupied-eq0 c =
     let k = c.lowest-goal.result in
-    let w : IsWithout c.loop-left.left k c.without-left.result =
-    record {
-      on_board = c.lowest-goal.ensures.bound;
-      was = c.lowest-goal.ensures.inside;
-      gone = c.without-left.ensures.gone;
-      others = c.without-left.ensures.others;
-    } in
     filtered_in (λ s. is_free c.args.occupied c.args.square s) c.args.set c.loop-left.left c.loop-left.found k
-    c.without-left.result c.only-found.result c.loop-left.invariant w
+    c.without-left.result c.only-found.result c.loop-left.invariant c.without-left.ensures.taken_out
     (free_is c.args.occupied c.args.square k c.squares_between.result c.squares_between.ensures
     c.if-squares_between-occupied-eq0.true)
     c.only-found.ensures
@@ -26,15 +19,8 @@ loop-left-preserved-then-squares_between-occupied-eq0 c =
 pub loop-left-preserved : goal.loop-left-preserved
 loop-left-preserved c =
     let k = c.lowest-goal.result in
-    let w : IsWithout c.loop-left.left k c.without-left.result =
-    record {
-      on_board = c.lowest-goal.ensures.bound;
-      was = c.lowest-goal.ensures.inside;
-      gone = c.without-left.ensures.gone;
-      others = c.without-left.ensures.others;
-    } in
     filtered_out (λ s. is_free c.args.occupied c.args.square s) c.args.set c.loop-left.left c.loop-left.found k
-    c.without-left.result c.loop-left.invariant w
+    c.without-left.result c.loop-left.invariant c.without-left.ensures.taken_out
     (free_isnt c.args.occupied c.args.square k c.squares_between.result c.squares_between.ensures
     c.if-squares_between-occupied-eq0.false)
 

@@ -3,10 +3,10 @@ use Rattle.c960_board.specs.declared.piece.Kind.TheVariants.{Pawn, Knight, King}
 use Rattle.c960_board.specs.declared.sets.Sets.{Sets}
 use Rattle.c960_board.specs.Pieces.{is_of}
 use Rattle.c960_board.specs.Position.{cell_at}
-use Rattle.c960_board.specs.Sets.{is_kind, colour_set}
+use Rattle.c960_board.specs.Sets.{is_kind}
 use Rattle.c960_rules.specs.Wheres.{is_knight_leap, is_king_step, is_pawn_hit}
 use Rattle.c960_rules.proofs.WhereFacts.{where_and, where_or}
-use Rattle.c960_rules.proofs.AttackerFacts.{side_where, kind_where}
+use Rattle.c960_rules.proofs.AttackerFacts.{kind_where}
 use Rattle.c960_rules.proofs.attack_sets.leapers.Goals as goal
 
 pub returns : goal.returns
@@ -17,7 +17,7 @@ returns c =
     let full = c.sets-sets.ensures.valid.placement.full in
     let sets = c.sets-sets.ensures.value in
     let s = c.sets-sets.result in
-    let side = side_where by p c.colour-side.result full (c.colour-side.ensures ∙ ap (colour_set by) sets) in
+    let side = c.squares_of-side.ensures in
     let knights =
     where_and (λ s. is_knight_leap s t) (λ s. is_kind Knight (cell_at p s)) c.knight_leaps.result s.knights c.knight_leaps.ensures.to
     (kind_where Knight p s.knights full (ap (λ (x : Sets). x.knights) sets)) in

@@ -3,10 +3,10 @@ use Rattle.c960_board.specs.declared.piece.Kind.TheVariants.{Bishop, Rook, Queen
 use Rattle.c960_board.specs.declared.sets.Sets.{Sets}
 use Rattle.c960_board.specs.Pieces.{is_of}
 use Rattle.c960_board.specs.Position.{cell_at}
-use Rattle.c960_board.specs.Sets.{is_kind, colour_set}
+use Rattle.c960_board.specs.Sets.{is_kind}
 use Rattle.c960_rules.specs.Wheres.{is_rook_line, is_bishop_line}
 use Rattle.c960_rules.proofs.WhereFacts.{where_and, where_or}
-use Rattle.c960_rules.proofs.AttackerFacts.{side_where, kind_where}
+use Rattle.c960_rules.proofs.AttackerFacts.{kind_where}
 use Rattle.c960_rules.proofs.attack_sets.sliders.Goals as goal
 
 pub returns : goal.returns
@@ -17,7 +17,7 @@ returns c =
     let full = c.sets-sets.ensures.valid.placement.full in
     let sets = c.sets-sets.ensures.value in
     let s = c.sets-sets.result in
-    let side = side_where by p c.colour-side.result full (c.colour-side.ensures ∙ ap (colour_set by) sets) in
+    let side = c.squares_of-side.ensures in
     let bishops = kind_where Bishop p s.bishops full (ap (λ (x : Sets). x.bishops) sets) in
     let rooks = kind_where Rook p s.rooks full (ap (λ (x : Sets). x.rooks) sets) in
     let queens = kind_where Queen p s.queens full (ap (λ (x : Sets). x.queens) sets) in

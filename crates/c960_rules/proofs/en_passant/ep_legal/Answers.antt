@@ -5,7 +5,7 @@ use Rattle.c960_rules.specs.Legal.{LegalEnPassant}
 use Rattle.c960_rules.specs.Wheres.{is_taker}
 use Rattle.c960_rules.proofs.EnPassantFacts.{capture, has_target, no_target, legal_taker}
 use Rattle.c960_rules.proofs.SetLoops.{searched_more, searched_all}
-use Rattle.c960_rules.proofs.WhereFacts.{IsWithout, in_where}
+use Rattle.c960_rules.proofs.WhereFacts.{in_where}
 use Rattle.c960_rules.proofs.en_passant.ep_legal.Goals as goal
 
 pub returns-in_default-clause-some : goal.returns-in_default-clause-some
@@ -30,14 +30,7 @@ loop-left-preserved c =
     let p = c.args.lawful.now in
     let t = c.in-Some.target in
     let k = c.lowest-from.result in
-    let w : IsWithout c.loop-left.left k c.without-left.result =
-    record {
-      on_board = c.lowest-from.ensures.bound;
-      was = c.lowest-from.ensures.inside;
-      gone = c.without-left.ensures.gone;
-      others = c.without-left.ensures.others;
-    } in
-    searched_more (λ (s : ℕ). LegalEnPassant p (capture s t)) c.loop-left.left k c.without-left.result w c.loop-left.invariant
+    searched_more (λ (s : ℕ). LegalEnPassant p (capture s t)) c.loop-left.left k c.without-left.result c.without-left.ensures.taken_out c.loop-left.invariant
     (λ h. both_ways c.takes.result c.if-takes.false (c.takes.ensures.1 h))
 
 pub returns-clause-some : goal.returns-clause-some

@@ -4,8 +4,9 @@ use Rattle.c960_board.specs.declared.piece.Kind.TheVariants.{King, Rook}
 use Rattle.c960_board.specs.declared.sets.Sets.{Sets}
 use Rattle.c960_board.specs.Pieces.{is_of}
 use Rattle.c960_board.specs.Position.{cell_at}
-use Rattle.c960_board.specs.Sets.{is_kind, colour_set}
-use Rattle.c960_rules.proofs.AttackerFacts.{side_where, kind_where}
+use Rattle.c960_board.specs.Sets.{is_kind}
+use Rattle.c960_rules.specs.Wheres.{where_set}
+use Rattle.c960_rules.proofs.AttackerFacts.{kind_where}
 use Rattle.c960_rules.proofs.GoalFacts.{holds_test, no_castle, no_kings_castle}
 use Rattle.c960_rules.proofs.PieceFacts.{piece_on}
 use Rattle.c960_rules.proofs.WhereFacts.{where_and}
@@ -17,9 +18,7 @@ returns-then-holds c =
     let s = c.args.from in
     let valid = c.sets-sets.ensures.valid in
     let full = valid.placement.full in
-    let side =
-    side_where p.turn p.placement c.colour.result full
-    (c.colour.ensures ∙ ap (λ (d : Colour). colour_set d c.sets-sets.result) c.turn-turn.ensures ∙ ap (colour_set p.turn) c.sets-sets.ensures.value) in
+    let side = c.squares_of.ensures ∙ ap (λ (d : Colour). where_set (λ u. is_of d (cell_at p.placement u))) c.turn-turn.ensures in
     let rooks =
     where_and (λ u. is_of p.turn (cell_at p.placement u)) (λ u. is_kind Rook (cell_at p.placement u)) _ _ side
     (kind_where Rook p.placement c.sets-sets.result.rooks full (ap (λ (x : Sets). x.rooks) c.sets-sets.ensures.value)) in

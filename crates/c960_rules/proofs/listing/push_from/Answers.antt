@@ -3,7 +3,7 @@ use Rattle.std.proofs.lemmas.List.{append-nil}
 use Rattle.c960_board.specs.Moves.{Triple}
 use Rattle.c960_board.specs.Sets.{is_in}
 use Rattle.c960_rules.specs.Listing.{legal_between, legal_on}
-use Rattle.c960_rules.proofs.WhereFacts.{IsWithout, where_or, where_itself}
+use Rattle.c960_rules.proofs.WhereFacts.{where_or, where_itself}
 use Rattle.c960_rules.proofs.GoalFacts.{none_goes}
 use Rattle.c960_rules.proofs.WayCandidates.{none_between}
 use Rattle.c960_rules.proofs.SetLoops.{stretches_step, stretches_none, stretches_all, legal_on_is}
@@ -25,14 +25,7 @@ pub loop-left-preserved : goal.loop-left-preserved
 loop-left-preserved c =
     let p = c.args.position.now in
     let k = c.lowest-to.result in
-    let w : IsWithout c.loop-left.left k c.without-left.result =
-    record {
-      on_board = c.lowest-to.ensures.bound;
-      was = c.lowest-to.ensures.inside;
-      gone = c.without-left.ensures.gone;
-      others = c.without-left.ensures.others;
-    } in
-    stretches_step (legal_between p c.args.from) _ _ _ c.loop-left.left k c.without-left.result w c.lowest-to.ensures.least
+    stretches_step (legal_between p c.args.from) _ _ _ c.loop-left.left k c.without-left.result c.without-left.ensures.taken_out c.lowest-to.ensures.least
     c.loop-left.invariant c.in_ok-push_at.ensures
 
 pub returns : goal.returns

@@ -1,9 +1,0 @@
-use Rattle.c960_rules.specs.Wheres.{is_free}
-use Rattle.c960_rules.proofs.WhereFacts.{IsFiltered}
-use Rattle.c960_rules.proofs.attack_sets.free_to.Given as goal
-
-abbrev pub invariant-loop-left : goal.invariant-loop-left
-invariant-loop-left l = IsFiltered (λ s. is_free l.occupied s l.square) l.set l.left l.found
-
-abbrev pub decreases-loop-left : goal.decreases-loop-left
-decreases-loop-left l = l.left
