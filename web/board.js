@@ -10,6 +10,7 @@ const createBoard = (holder, { chosen = null } = {}) => {
   const grid = document.createElement("div");
   grid.className = "board";
   grid.setAttribute("role", chosen ? "grid" : "table");
+  grid.setAttribute("aria-label", "Board");
   holder.append(grid);
 
   const order = () => {

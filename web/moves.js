@@ -19,7 +19,7 @@ const createMoves = (holder, { shown }) => {
     place.textContent = ply.place;
     it.append(text, place);
     it.title = `${ply.text}, place ${ply.place}`;
-    it.setAttribute("aria-label", `place ${ply.place}, ${Words.spoken(ply.deed, ply.check)}`);
+    it.setAttribute("aria-label", words(ply));
     it.addEventListener("click", () => go(index));
     return it;
   }
@@ -32,6 +32,9 @@ const createMoves = (holder, { shown }) => {
       : `The moves of places ${ply.first} to ${ply.place} were missed.`;
     return it;
   }
+
+  /** A move of the list to be read aloud, with its place. */
+  const words = (ply) => (ply.gap ? `places ${ply.first} to ${ply.place} were missed` : `place ${ply.place}, ${Words.spoken(ply.deed, ply.check)}`);
 
   /** The number of the full move that a ply belongs to: that of the position before it. */
   const numberOf = (ply) => ply.after.number - (ply.deed.colour === Position.BLACK ? 1 : 0);
@@ -125,5 +128,6 @@ const createMoves = (holder, { shown }) => {
     last: () => go(list.plies.length - 1),
     cursor: () => list.cursor,
     live: () => list.live,
+    words: (index) => words(list.plies[index]),
   };
 };

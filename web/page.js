@@ -5,7 +5,7 @@ const createPage = ({ chosen = null } = {}) => {
   const at = (id) => document.getElementById(id);
   const board = createBoard(at("board"), { chosen });
   const page = { record: createRecord(), told: 0, timer: null, seen: 0, usable: () => false };
-  const moves = createMoves(at("moves"), { shown: () => draw(true) });
+  const moves = createMoves(at("moves"), { shown });
 
   /** The position under the cursor, and the move that led to it. */
   function current() {
@@ -89,6 +89,14 @@ const createPage = ({ chosen = null } = {}) => {
     if (words.length > 0) {
       at("spoken").textContent = words.join(" ");
     }
+  }
+
+  /** The cursor was moved: shows the position there, and says for a screen reader which it is. */
+  function shown(index) {
+    draw(true);
+    const ply = page.record.plies[index];
+    const words = ply ? moves.words(index) : "The first position";
+    at("spoken").textContent = `${words}${moves.live() ? ". This is the present." : "."}`;
   }
 
   /** Shows the record as it is now. Texts that come together are shown together. */

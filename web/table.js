@@ -77,7 +77,7 @@
   /** Sends the next move of a game that is opened anew, or says that the board is ready. */
   function goOn() {
     if (table.resend.length > 0) {
-      state("connecting", `Sending the moves again: ${table.resend.length} to go`);
+      state("connecting", "Sending the moves again");
       submit(table.resend[0]);
       return;
     }

@@ -3,14 +3,16 @@
 
     RELAY960=../../crates/relay960/out/relay960 ./measure.py        (Debian: apt-get install python3-websockets)
 
-Each line is one run: its boards, the followers of each, memory that is resident, threads and descriptors when all are connected, how
-long the last of a hundred moves on every board took to reach every follower, and the memory after that.
+Each line is one run, as a row of a table: the boards, the followers of each, `--capacity` and `--plies`; the memory that is resident when
+nothing is connected, when all are, and when a hundred moves were played on every board; threads and descriptors when all are connected;
+and how long it took until a move that was sent on every board at once had reached every follower, in the middle and at the most. The
+next move is sent when the one before has come everywhere, so nobody is cut. Words are passed on: `./measure.py 64x64` does this run alone.
 """
 import asyncio
 import json
 import os
 import resource
-import subprocess
+import statistics
 import sys
 import time
 
@@ -21,6 +23,8 @@ PORT = 9691
 ADDRESS = f"ws://127.0.0.1:{PORT}"
 HOP = ["g1h3", "g8h6", "h3g1", "h6g8"]
 OTHER_HOP = ["b1a3", "b8a6", "a3b1", "a6b8"]
+RUNS = [(1, 64, 1024, 1024), (16, 64, 64, 1024), (16, 64, 1024, 1024), (64, 0, 1024, 1024), (64, 0, 1024, 16384), (64, 16, 1024, 1024),
+        (64, 64, 64, 1024), (64, 64, 1024, 1024), (256, 16, 1024, 1024), (8, 1000, 1024, 1024)]
 
 
 def hundred():
@@ -32,74 +36,103 @@ def hundred():
 
 
 def status(pid):
-    """Resident memory in KiB, threads, and descriptors of a process."""
+    """Resident memory in MB, threads, and descriptors of a process."""
     with open(f"/proc/{pid}/status", encoding="ascii") as file:
         fields = dict(line.split(":", 1) for line in file)
-    return int(fields["VmRSS"].split()[0]), int(fields["Threads"]), len(os.listdir(f"/proc/{pid}/fd"))
+    return int(fields["VmRSS"].split()[0]) / 1024, int(fields["Threads"]), len(os.listdir(f"/proc/{pid}/fd"))
 
 
-async def ask(socket, **command):
+class Count:
+    """What the followers have got, together."""
+
+    def __init__(self):
+        self.value = 0
+        self.wanted = 0
+        self.there = asyncio.Event()
+
+    def add(self):
+        self.value += 1
+        if self.value == self.wanted:
+            self.there.set()
+
+    async def reach(self, wanted):
+        self.wanted = wanted
+        self.there.clear()
+        if self.value < wanted:
+            await asyncio.wait_for(self.there.wait(), 120)
+
+
+async def connect():
+    return await websockets.connect(ADDRESS, ping_interval=None, compression=None, open_timeout=60)
+
+
+async def ask(socket, wanted, **command):
     await socket.send(json.dumps(command))
-    return json.loads(await socket.recv())
+    answer = json.loads(await socket.recv())
+    assert answer["reply"] == wanted, answer
 
 
-async def follower(board, moves, ready):
-    """Follows a board for so many moves; answers when the last of them came."""
-    async with websockets.connect(ADDRESS, ping_interval=None, compression=None, open_timeout=60) as socket:
-        answer = await ask(socket, cmd="follow", board=board, spectator=0)
-        assert answer["reply"] == "following", answer
-        ready.append(board)
-        for _ in range(moves):
-            text = json.loads(await socket.recv())
-            assert text["reply"] == "move", text
-        return time.monotonic()
+async def follow(board, ready, got):
+    """Follows a board until the connection ends."""
+    socket = await connect()
+    await ask(socket, "following", cmd="follow", board=board, spectator=0)
+    ready.add()
+    try:
+        async for text in socket:
+            assert '"reply":"move"' in text, text
+            got.add()
+    except (asyncio.CancelledError, websockets.ConnectionClosed):
+        pass
 
 
-async def measure(boards, followers, *options):
-    server = await asyncio.create_subprocess_exec(
-        PROGRAM, "serve", "--port", str(PORT), "--boards", "256", "--followers", "1024", *options, stdout=subprocess.PIPE)
+async def play(operators, followers, got):
+    """Plays the hundred moves on every board; answers how long each took to reach everybody, in milliseconds."""
+    waits = []
+    for ply, move in enumerate(hundred(), 1):
+        sent = time.monotonic()
+        await asyncio.gather(*(ask(it, "played", cmd="submit", board=f"b{at}", move=move) for at, it in enumerate(operators)))
+        await got.reach(ply * followers)
+        waits.append(1000 * (time.monotonic() - sent))
+    return waits
+
+
+async def measure(boards, followers, capacity, plies):
+    limits = {"port": PORT, "boards": boards, "followers": max(1, followers), "capacity": capacity, "plies": plies}
+    words = [word for name, value in limits.items() for word in (f"--{name}", str(value))]
+    server = await asyncio.create_subprocess_exec(PROGRAM, "serve", *words, stdout=asyncio.subprocess.PIPE)
+    tasks = []
     try:
         await server.stdout.readline()
         began = status(server.pid)
-        operators, tasks, ready = [], [], []
+        operators = [await connect() for _ in range(boards)]
+        for board, operator in enumerate(operators):
+            await ask(operator, "opened", cmd="open", board=f"b{board}", start=518)
+        ready, got = Count(), Count()
         for board in range(boards):
-            operators.append(await websockets.connect(ADDRESS, ping_interval=None, compression=None))
-            answer = await ask(operators[-1], cmd="open", board=f"b{board}", start=518)
-            assert answer["reply"] == "opened", answer
-        moves = hundred()
-        for board in range(boards):
-            tasks += [asyncio.create_task(follower(f"b{board}", len(moves), ready)) for _ in range(followers)]
-            await asyncio.sleep(0.02)
-        for _ in range(600):
-            if len(ready) == len(tasks):
-                break
-            await asyncio.sleep(0.1)
-        assert len(ready) == len(tasks), len(ready)
+            for first in range(0, followers, 50):
+                tasks += [asyncio.create_task(follow(f"b{board}", ready, got)) for _ in range(min(50, followers - first))]
+                await ready.reach(len(tasks))
         connected = status(server.pid)
-        slowest = 0
-        sent = time.monotonic()
-        for move in moves:
-            answers = await asyncio.gather(*(ask(it, cmd="submit", board=f"b{at}", move=move) for at, it in enumerate(operators)))
-            assert all(it["reply"] == "played" for it in answers), (move, answers)
-            sent = time.monotonic()
-        if tasks:
-            slowest = max(await asyncio.gather(*tasks)) - sent
+        waits = await play(operators, len(tasks), got)
         played = status(server.pid)
-        print(f"{boards:4} boards, {followers:4} followers each, {' '.join(options) or 'default queues':32}"
-              f" empty {began[0] / 1024:6.1f} MB, connected {connected[0] / 1024:6.1f} MB, {connected[1]:5} threads, {connected[2]:5} descriptors,"
-              f" played {played[0] / 1024:6.1f} MB, last move {1000 * max(0, slowest):5.0f} ms", flush=True)
+        print(f"| {boards} | {followers} | {capacity:,} | {plies:,} | {began[0]:.1f} MB | {connected[0]:.1f} MB | {played[0]:.1f} MB | "
+              f"{connected[1]:,} | {connected[2]:,} | {statistics.median(waits):.0f} to {max(waits):.0f} ms |", flush=True)
     finally:
         server.kill()
         await server.wait()
+        for task in tasks:
+            task.cancel()
+        await asyncio.gather(*tasks, return_exceptions=True)
 
 
 async def main():
     most = resource.getrlimit(resource.RLIMIT_NOFILE)[1]
     resource.setrlimit(resource.RLIMIT_NOFILE, (min(most, 16384), most))
-    runs = [(1, 0), (16, 0), (256, 0), (1, 64), (16, 64), (64, 16), (4, 1000)]
-    for boards, followers in runs:
-        for options in (("--capacity", "64"), ("--capacity", "1024")):
-            await measure(boards, followers, *options)
+    print("| Boards | Followers each | `--capacity` | `--plies` | Nothing connected | All connected | After 100 moves | Threads | Descriptors"
+          " | A move to all |\n|---|---|---|---|---|---|---|---|---|---|")
+    for run in RUNS:
+        if not sys.argv[1:] or f"{run[0]}x{run[1]}" in sys.argv[1:]:
+            await measure(*run)
 
 
 if __name__ == "__main__":

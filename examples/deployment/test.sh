@@ -9,6 +9,8 @@ RELAY960="${RELAY960:-$(pwd)/../../crates/relay960/out/relay960}"
 [ -x "$RELAY960" ] || { echo "there is no $RELAY960: build it with ./run.sh < crates/relay960/stdin"; exit 1; }
 export RELAY960
 
+ports=../many_spectators/ports.py
+$ports free 9110 9379 9443 9600
 run=$(mktemp -d)
 chmod 755 "$run"
 pids=""
@@ -37,19 +39,18 @@ ln -s ../pages "$run/site/pages"
 openssl req -x509 -newkey ec -pkeyopt ec_paramgen_curve:prime256v1 -nodes -days 1 -subj /CN=localhost \
     -addext subjectAltName=DNS:localhost,IP:127.0.0.1 -keyout "$run/site/key.pem" -out "$run/site/certificate.pem" 2> /dev/null
 printf 'arbiter:%s\n' "$(openssl passwd -6 secret960)" > "$run/site/operators"
-nginx -p "$run/site" -c "$run/site/nginx.conf" -t -q
+nginx -p "$run/site" -c "$run/site/nginx.conf" -t -q 2> "$run/nginx.log" || { cat "$run/nginx.log"; exit 1; }
 echo "ok      nginx.conf"
 redis-server "$run/many_spectators/redis.conf" --dir "$run" > "$run/redis.log" 2>&1 &
 pids="$pids $!"
 "$RELAY960" serve --port 9600 --boards 64 --capacity 1024 > "$run/relay.log" 2>&1 &
 pids="$pids $!"
-sleep 1
+$ports wait 9379 9600
 nginx -p "$run/site" -c "$run/site/nginx.conf" > "$run/nginx.log" 2>&1 &
 pids="$pids $!"
 "$run/many_spectators/feed.py" hall > "$run/feed.log" 2>&1 &
 pids="$pids $!"
-sleep 1
-if /usr/bin/python3 test_site.py "$run/site/certificate.pem"; then
+if $ports wait 9110 9443 && /usr/bin/python3 test_site.py "$run/site/certificate.pem"; then
     echo "passed: units, manual page, nginx with TLS"
 else
     tail -n 5 "$run"/*.log

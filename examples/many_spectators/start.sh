@@ -10,6 +10,8 @@ cd "$(dirname "$0")"
 [ $# -gt 0 ] || set -- b1 b2 b3 b4
 RELAY960="${RELAY960:-$(pwd)/../../crates/relay960/out/relay960}"
 RELAY_PORT="${RELAY_PORT:-9600}"
+[ -x "$RELAY960" ] || { echo "there is no $RELAY960: build it with ./run.sh < crates/relay960/stdin"; exit 1; }
+./ports.py free 9100 9101 9110 9379 "$RELAY_PORT"
 run="${RUN:-$(mktemp -d)}"
 chmod 755 "$run"
 pids=""
@@ -27,15 +29,13 @@ begin() {
     pids="$! $pids"
     echo $! > "$run/$name.pid"
 }
+whole() { ./ports.py wait "$@" || { tail -n 5 "$run"/*.log; exit 1; }; }
 begin redis redis-server "$PWD/redis.conf" --dir "$run"
 begin relay "$RELAY960" serve --port "$RELAY_PORT" --boards 64 --capacity 1024
-sleep 1
+whole 9379 "$RELAY_PORT"
 begin nginx-a nginx -p "$run" -c "$PWD/nginx-a.conf"
 begin nginx-b nginx -p "$run" -c "$PWD/nginx-b.conf"
-sleep 1
-for name in redis relay nginx-a nginx-b; do
-    kill -0 "$(cat "$run/$name.pid")" 2> /dev/null || { echo "$name did not start:"; cat "$run/$name.log"; exit 1; }
-done
+whole 9100 9101 9110
 begin feed ./feed.py --relay "ws://127.0.0.1:$RELAY_PORT" "$@"
 echo "relay at ws://127.0.0.1:$RELAY_PORT, channels at ws://127.0.0.1:9100/sub/ and ws://127.0.0.1:9101/sub/ for $*; logs in $run"
 wait

@@ -108,17 +108,28 @@ async def subscribe_all(subscribers):
     raise AssertionError(f"{count} of {len(subscribers)} subscribers were connected in a minute")
 
 
-async def disturb(run, half):
-    """Kills the feed while the games go on, goes on with the games without it, and starts it anew."""
-    await asyncio.sleep(0.3)
+async def until(test, seconds=60):
+    """Waits until a test is true."""
+    for _ in range(200 * seconds):
+        if test():
+            return
+        await asyncio.sleep(0.005)
+    raise AssertionError(f"not within {seconds} s")
+
+
+async def disturb(run, subscribers, half):
+    """Kills the feed while the games go on, goes on with the games without it, starts it anew, and kills it once more as it publishes."""
+    def had():
+        return sum(len(it.places) for it in subscribers)
+    await until(lambda: had() > 10 * len(subscribers))
     os.kill(int(pathlib.Path(run, "feed.pid").read_text()), signal.SIGKILL)
     half.set()
     await asyncio.sleep(0.3)
+    before = had()
     second = await start_feed()
-    await asyncio.sleep(0.4)
+    await until(lambda: had() > before + len(subscribers))
     second.kill()
     await second.wait()
-    await asyncio.sleep(0.1)
     return await start_feed()
 
 
@@ -144,13 +155,13 @@ async def tried(games, starts, run):
     half = asyncio.Event()
     began = time.monotonic()
     operators = [asyncio.create_task(play(board, start, games[board], half)) for board, start in zip(BOARDS, starts)]
-    feed = await disturb(run, half)
+    feed = await disturb(run, subscribers, half)
     await asyncio.wait_for(asyncio.gather(*operators), 120)
     await asyncio.wait(tasks, timeout=60)
     took = time.monotonic() - began
     late = [Subscriber(BOARDS[index % 4], PORTS[index // 4 % 2]) for index in range(LATE)]
     await asyncio.wait(await subscribe_all(late), timeout=30)
-    status = await asyncio.wait_for(feed.wait(), 10)
+    status = await asyncio.wait_for(feed.wait(), 60)
     right = sum(it.right(games[it.board]) for it in subscribers)
     came_late = sum(it.right(games[it.board]) for it in late)
     moves = ", ".join(f"{len(games[it])}" for it in BOARDS)

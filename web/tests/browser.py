@@ -15,6 +15,7 @@ FLAGS = [
     "--disable-backgrounding-occluded-windows", "--hide-scrollbars", "--remote-debugging-port=0",
     "--host-resolver-rules=MAP * ~NOTFOUND, EXCLUDE 127.0.0.1, EXCLUDE localhost",
 ]
+PATIENCE = 30  # Seconds that a page is waited for: a machine that is busy with proofs needs some.
 KEYS = {"Enter": 13, "Escape": 27, "ArrowLeft": 37, "ArrowUp": 38, "ArrowRight": 39, "ArrowDown": 40, "Home": 36, "End": 35, "Tab": 9}
 
 
@@ -117,7 +118,7 @@ class Page:
             raise RuntimeError(result["exceptionDetails"].get("exception", {}).get("description", "a script failed"))
         return result["result"].get("value")
 
-    async def until(self, script, seconds=10):
+    async def until(self, script, seconds=PATIENCE):
         """Waits until a script gives something true, and answers that."""
         for _ in range(int(seconds * 50)):
             value = await self.run(script)
@@ -139,12 +140,13 @@ class Page:
                         buttons=1 if kind != "mouseReleased" and held else 0, clickCount=1 if held else 0)
 
     async def click(self, selector):
+        await self.call("Page.bringToFront")  # A page in the background gets the mouse late or not at all.
         x, y = await self.middle(selector)
         await self.mouse("mousePressed", x, y)
         await self.mouse("mouseReleased", x, y)
 
     async def drag(self, start, goal):
-        await self.call("Page.bringToFront")  # A page in the background sees the mouse move after seconds.
+        await self.call("Page.bringToFront")
         x, y = await self.middle(start)
         right, down = await self.middle(goal)
         await self.mouse("mousePressed", x, y)

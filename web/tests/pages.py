@@ -10,7 +10,7 @@ import time
 
 import websockets
 
-from browser import Browser
+from browser import PATIENCE, Browser
 from relay import Client, Player, Relay, Wire, fens, start_fen
 
 WEB = pathlib.Path(__file__).resolve().parent.parent
@@ -66,7 +66,7 @@ async def state(page):
     return await page.run('document.querySelector("#state").dataset.state')
 
 
-async def until_state(page, name, seconds=15):
+async def until_state(page, name, seconds=PATIENCE):
     await page.until(f'document.querySelector("#state").dataset.state === "{name}"', seconds)
 
 
@@ -74,7 +74,7 @@ async def text(page, selector):
     return await page.run(f'document.querySelector("{selector}").textContent')
 
 
-async def until_moves(page, count, seconds=15):
+async def until_moves(page, count, seconds=PATIENCE):
     await page.until(f'document.querySelectorAll(".move[data-place]").length === {count}', seconds)
 
 
@@ -267,11 +267,38 @@ async def try_mate(browser):
     assert await seer.run('document.querySelector("#spoken").getAttribute("aria-live")') == "polite"
     await seer.press("Home")
     assert await placement(seer) == "rnbqkbnr/pppppppp/8/8/8/8/PPPPPPPP/RNBQKBNR"
+    assert await text(seer, "#spoken") == "The first position."
     await seer.press("ArrowRight")
+    assert await text(seer, "#spoken") == "place 0, White: pawn f2 to f3."
     await seer.press("f")
     assert await placement(seer) == "rnbqkbnr/pppppppp/8/8/8/5P2/PPPPP1PP/RNBQKBNR"
     for page in (table, seer):
         await page.close()
+
+
+async def try_access(browser):
+    """Narrow or wide, nothing stands beside the window, and each control of both pages has a name for a screen reader."""
+    relay = await Relay().start()
+    table = await open_table(browser, relay, "b1", 518)
+    await enter(table, "e2e4", "type")
+    await until_moves(table, 1)
+    seer = await watch(browser, relay, "b1")
+    await until_moves(seer, 1)
+    fresh = await browser.open(url("table.html", server=relay.address))
+    for page in (table, seer, fresh):
+        for width in (320, 600, 1280):
+            await page.resize(width, 800)
+            over = await page.run('document.documentElement.scrollWidth - innerWidth')
+            assert over <= 0, (await text(page, "h1"), width, over)
+        await page.run('document.querySelector("details").open = true')
+        named = [it for it in (await page.call("Accessibility.getFullAXTree"))["nodes"] if it.get("role", {}).get("value") in NAMED]
+        nameless = [it["role"]["value"] for it in named if not it["ignored"] and not it["name"]["value"]]
+        assert len(named) > 70 and not nameless, (len(named), nameless)
+        assert not page.faults, page.faults
+        await page.close()
+
+
+NAMED = ["button", "textbox", "spinbutton", "combobox", "checkbox", "grid", "table", "gridcell", "cell", "region"]
 
 
 async def try_refusals(browser):
@@ -305,17 +332,62 @@ async def try_refusals(browser):
     await table.close()
 
 
-async def try_claim(browser):
-    """A claim of the threefold repetition by the side that has the move."""
+async def try_threefold(browser):
+    """A claim of the third time is granted to the side that has the move, and both pages say so."""
     relay = await Relay().start()
     table = await open_table(browser, relay, "claim", 518)
+    seer = await watch(browser, relay, "claim")
+    await until_state(seer, "live")
     for ply, move in enumerate(["g1f3", "g8f6", "f3g1", "f6g8"] * 2, 1):
         await enter(table, move, "type")
         await until_moves(table, ply)
     await say_end(table, "#ending [data-how=threefold]")
-    await until_state(table, "over")
-    assert "third time" in await text(table, "#outcome")
-    await table.close()
+    await until_claimed(table, seer, "third time")
+
+
+async def try_fifty(browser):
+    """A claim of fifty moves is refused after 99 plies without a capture or a pawn move, and granted after 100; both pages say so."""
+    relay = await Relay().start()
+    moves = quiet_game(518, 100, random.Random(SEED + 3))
+    table = await open_table(browser, relay, "claim", 518)
+    seer = await watch(browser, relay, "claim")
+    await until_state(seer, "live")
+    for ply, move in enumerate(moves[:99], 1):
+        await enter(table, move, "type")
+        await until_moves(table, ply)
+    await say_end(table, "#ending [data-how=fifty]")
+    await table.until('document.querySelector("#said").textContent.includes("claim is refused")')
+    assert await state(table) == "live"
+    await enter(table, moves[99], "type")
+    await until_moves(table, 100)
+    assert await table.run('document.querySelector("#said").hidden')
+    await say_end(table, "#ending [data-how=fifty]")
+    await until_claimed(table, seer, "fifty moves by each side")
+
+
+async def until_claimed(table, seer, words):
+    """Waits until both pages say that the game is drawn by a claim, in these words, and closes them."""
+    for page in (table, seer):
+        await until_state(page, "over")
+        await page.until('!document.querySelector("#outcome").hidden')
+        said = await text(page, "#outcome")
+        assert words in said and "claimed" in said and "½–½" in said, said
+        assert not page.faults, page.faults
+        await page.close()
+
+
+def quiet_game(start, plies, chance):
+    """A game by chance of knights and rooks that stay behind or just before their own pawns, so that nothing is taken or in check."""
+    player, moves = Player(start), []
+    try:
+        while len(moves) < plies:
+            squares = board_of(player.fen)
+            near = "123" if len(moves) % 2 == 0 else "678"
+            moves.append(chance.choice([it for it in player.legal() if squares[it[:2]] in "nNrR" and it[2:4] not in squares and it[3] in near]))
+            player.play(moves[-1])
+        return moves
+    finally:
+        player.close()
 
 
 async def try_nowhere(browser):
