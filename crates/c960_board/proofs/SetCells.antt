@@ -12,7 +12,7 @@ use Rattle.c960_board.specs.declared.parts.Parts.{Parts}
 use Rattle.c960_board.specs.declared.sets.Sets.{Sets}
 use Rattle.c960_board.specs.Pieces.{Cell, man, is_of}
 use Rattle.c960_board.specs.Position.{cell_at}
-use Rattle.c960_board.specs.Sets.{is_kind, set_of, sets_of, is_in, kind_by, cell_by, kind_in, cell_in, cells_of, parts_of}
+use Rattle.c960_board.specs.Sets.{is_kind, set_of, sets_of, is_in, kind_by, cell_by, cell_in, cells_of, parts_of}
 use Rattle.c960_board.proofs.SetFacts.{set_bit}
 
 one_in : (b : Bool) → (cond b 1 0 == 1) ≡ b

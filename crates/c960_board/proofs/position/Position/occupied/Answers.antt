@@ -1,4 +1,4 @@
-use Rattle.std.proofs.Common.{◌≢◌, None, ap, ◌∙◌}
+use Rattle.std.proofs.Common.{◌≢◌, None, ap}
 use Rattle.c960_board.specs.declared.piece.Colour.TheVariants.{White, Black}
 use Rattle.c960_board.specs.declared.sets.Sets.{Sets}
 use Rattle.c960_board.specs.Pieces.{Cell, is_of}
