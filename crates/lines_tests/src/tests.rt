@@ -2,6 +2,8 @@
 
 mod answerers;
 mod bounds;
+mod counting;
 mod engine;
+mod failures;
 mod moves;
 mod start;

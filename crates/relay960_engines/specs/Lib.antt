@@ -1,5 +1,6 @@
 pub mod Writing
 pub mod Faults
+pub mod Failures
 pub mod Start
 pub mod Moves
 pub mod Limits

@@ -5,6 +5,7 @@
 
 mod answerer;
 mod bounds;
+mod devices;
 mod fault;
 mod kept;
 mod limits;
@@ -20,6 +21,7 @@ mod writing;
 
 pub use answerer::Answerer;
 pub use bounds::Bounds;
+pub use devices::{ReadDevice, WriteDevice};
 pub use fault::RunFault;
 pub use limits::{ScriptLimits, default_limits};
 pub use lines::run_lines;

@@ -1,22 +1,23 @@
 //! The line engine: it reads lines, answers each and writes the answers, within bounds on lines and bytes.
 
 ghost use Rattle.std.specs.Prelude.{◌≡◌, ◌+◌, ◌≤◌, length, IfOk, IfErr, OnOk};
+ghost use Rattle.relay960_engines.specs.Failures.{reads_failed, writes_failed};
 ghost use Rattle.relay960_engines.specs.Lines.{Between, Until, last_line};
 ghost use Rattle.relay960_engines.specs.Runs.{Done, Stopped, Wrote};
 ghost use Rattle.relay960_engines.specs.inner.Taking.{StopsReading, TakenAll, Unwritten, Within};
 
 use crate::answerer::Answerer;
 use crate::bounds::Bounds;
+use crate::devices::{ReadDevice, WriteDevice};
 use crate::fault::RunFault;
 use crate::progress::{Progress, answer_line, take_chunk};
 use std::alloc::Global;
-use std::io::{Read, Write};
 
 /// How many bytes are asked for by one read.
 const CHUNK: usize = 4096;
 
 /// Takes all bytes of the reader. Each error of a read is the fault, and none is tried again.
-fn take_all<R: Read, A: Answerer, W: Write>(
+fn take_all<R: ReadDevice, A: Answerer, W: WriteDevice>(
     alloc: Global,
     reader: &mut R,
     answerer: &mut A,
@@ -30,10 +31,12 @@ fn take_all<R: Read, A: Answerer, W: Write>(
         (R.remaining reader.old) (R.remaining reader.new) (W.contents writer.old) (W.contents writer.new)) }
     ensures failed { IfErr result (λ fault. StopsReading A.gives answerer.old answerer.new progress.old bounds
         (R.remaining reader.old) (R.remaining reader.new) (W.contents writer.old) (W.contents writer.new) fault) }
+    ensures reads_counted { R.failures reader.new ≡ reads_failed result (R.failures reader.old) }
+    ensures writes_counted { W.failures writer.new ≡ writes_failed result (W.failures writer.old) }
 {
     let mut buffer = [0u8; CHUNK];
     loop {
-        match reader.read(&mut buffer) {
+        match reader.read_some(&mut buffer) {
             Err(_) => return Err(RunFault::Read),
             Ok(0) => return Ok(()),
             Ok(count) => take_chunk(alloc, answerer, writer, progress, bounds, &buffer[..count])?,
@@ -42,7 +45,7 @@ fn take_all<R: Read, A: Answerer, W: Write>(
 }
 
 /// Answers the last line, which has no line feed, where there is one, and gives the number of all lines.
-fn answer_last<A: Answerer, W: Write>(
+fn answer_last<A: Answerer, W: WriteDevice>(
     alloc: Global,
     answerer: &mut A,
     writer: &mut W,
@@ -56,6 +59,7 @@ fn answer_last<A: Answerer, W: Write>(
     ensures within { IfOk result (λ n. n ≤ bounds.lines) }
     ensures failed { IfErr result (λ fault. Unwritten A.gives answerer.old answerer.new (last_line progress.now.line)
         (W.contents writer.old) (W.contents writer.new) fault) }
+    ensures writes_counted { W.failures writer.new ≡ writes_failed result (W.failures writer.old) }
 {
     if progress.line.is_empty() {
         return Ok(progress.answered);
@@ -74,7 +78,7 @@ fn answer_last<A: Answerer, W: Write>(
 /// answers was written. `TooLong` where there is a byte behind the lines or behind the bytes that the bounds allow: the lines that end
 /// within both bounds were answered. `OutOfMemory` where there was no memory for the line or for an answer: the lines
 /// before were answered.
-pub fn run_lines<R: Read, A: Answerer, W: Write>(
+pub fn run_lines<R: ReadDevice, A: Answerer, W: WriteDevice>(
     alloc: Global,
     reader: &mut R,
     answerer: &mut A,
@@ -85,6 +89,8 @@ pub fn run_lines<R: Read, A: Answerer, W: Write>(
         (R.remaining reader.new) (W.contents writer.old) (W.contents writer.new) n) }
     ensures failed { IfErr result (λ fault. Stopped (Until A.gives answerer.old answerer.new fault) bounds
         (R.remaining reader.old) (R.remaining reader.new) (W.contents writer.old) (W.contents writer.new) fault) }
+    ensures reads_counted { R.failures reader.new ≡ reads_failed result (R.failures reader.old) }
+    ensures writes_counted { W.failures writer.new ≡ writes_failed result (W.failures writer.old) }
 {
     let Ok(mut progress) = Progress::new(alloc) else {
         return Err(RunFault::OutOfMemory);

@@ -2,16 +2,17 @@
 
 ghost use Rattle.std.specs.Prelude.{◌≡◌, ◌++◌, IfOk, IfErr, OnOk, OnErr};
 ghost use Rattle.std.specs.Io.KnownBytes.{Appends};
+ghost use Rattle.relay960_engines.specs.Failures.{writes_failed};
 ghost use Rattle.relay960_engines.specs.Moves.{Answered, Failed, FailedText, moves_lines, parted, state_name};
 ghost use Rattle.relay960_engines.specs.Writing.{AppendsPart, line};
 
+use crate::devices::WriteDevice;
 use crate::fault::RunFault;
 use crate::listing::write_moves;
 use crate::writing::{write_line, write_numbered};
 use c960_board::{Move, read_fen};
 use c960_rules::{Lawful, State, legal_moves, state};
 use std::alloc::Global;
-use std::io::Write;
 
 /// The name of the state.
 fn state_name(state: State) -> &'static str
@@ -26,19 +27,20 @@ fn state_name(state: State) -> &'static str
 
 /// Writes the line of the moves and that of the state.
 #[tactic(auto, using(crate::proofs::Prefixes::part_before, crate::proofs::Prefixes::on_err_behind))]
-fn write_lines<W: Write>(writer: &mut W, moves: &[Move], state: State) -> Result<(), RunFault>
+fn write_lines<W: WriteDevice>(writer: &mut W, moves: &[Move], state: State) -> Result<(), RunFault>
     ensures whole { OnOk result (Appends (W.contents writer.old) (W.contents writer.new)
         (line (parted moves.now) ++ line (state_name state))) }
     ensures part { OnErr result (AppendsPart (W.contents writer.old) (W.contents writer.new)
         (line (parted moves.now) ++ line (state_name state))) }
     ensures fault { IfErr result (λ fault. fault ≡ RunFault.Write) }
+    ensures writes_counted { W.failures writer.new ≡ writes_failed result (W.failures writer.old) }
 {
     write_moves(writer, moves)?;
     write_line(writer, state_name(state).as_bytes())
 }
 
 /// Writes the lines of a lawful position of that state. All memory is taken before the first write.
-fn write_lawful<W: Write>(
+fn write_lawful<W: WriteDevice>(
     alloc: Global,
     lawful: &Lawful,
     state: State,
@@ -48,6 +50,7 @@ fn write_lawful<W: Write>(
         (moves_lines lawful.now state)) }
     ensures part { IfErr result (λ fault. FailedText (moves_lines lawful.now state) fault (W.contents writer.old)
         (W.contents writer.new)) }
+    ensures writes_counted { W.failures writer.new ≡ writes_failed result (W.failures writer.old) }
 {
     match legal_moves(alloc, lawful) {
         Ok(moves) => write_lines(writer, moves.as_slice(), state),
@@ -63,9 +66,14 @@ fn write_lawful<W: Write>(
 ///
 /// `Write` where the writer failed: a prefix of the answer was written. `OutOfMemory` where there was no memory for the
 /// list of a lawful position's moves: nothing was written.
-pub fn moves_run<W: Write>(alloc: Global, fen: &[u8], writer: &mut W) -> Result<bool, RunFault>
+pub fn moves_run<W: WriteDevice>(
+    alloc: Global,
+    fen: &[u8],
+    writer: &mut W,
+) -> Result<bool, RunFault>
     ensures whole { IfOk result (λ good. Answered fen.now good (W.contents writer.old) (W.contents writer.new)) }
     ensures part { IfErr result (λ fault. Failed fen.now fault (W.contents writer.old) (W.contents writer.new)) }
+    ensures writes_counted { W.failures writer.new ≡ writes_failed result (W.failures writer.old) }
 {
     let position = match read_fen(fen) {
         Ok(position) => position,

@@ -2,9 +2,11 @@
 
 ghost use Rattle.std.specs.Prelude.{◌≡◌, IfOk, IfErr};
 ghost use Rattle.c960_game.specs.Record.{play_answer};
+ghost use Rattle.relay960_engines.specs.Failures.{reads_failed, writes_failed};
 ghost use Rattle.relay960_engines.specs.Play.{PlayStopped, Played, game_played, played_lines};
 
 use crate::answerer::Answerer;
+use crate::devices::{ReadDevice, WriteDevice};
 use crate::fault::RunFault;
 use crate::limits::ScriptLimits;
 use crate::lines::run_lines;
@@ -13,7 +15,6 @@ use crate::start::refuse;
 use c960_board::{Move, read_move};
 use c960_game::{Game, Refusal};
 use std::alloc::{AllocError, Global};
-use std::io::{Read, Write};
 
 /// How many plies a game of the program may have.
 const MOST_PLIES: u16 = 16384;
@@ -71,7 +72,7 @@ impl Answerer for Player {
 /// before were answered. `Write` where a write failed: a prefix of the answers was written, or of the refusal. `TooLong`
 /// where there is a byte behind the lines or bytes that the limits allow: the lines that end within both were answered.
 /// `OutOfMemory` where there was no memory for the game or for an answer: the lines before were answered.
-pub fn play_run<R: Read, W: Write>(
+pub fn play_run<R: ReadDevice, W: WriteDevice>(
     alloc: Global,
     number: u16,
     reader: &mut R,
@@ -82,6 +83,8 @@ pub fn play_run<R: Read, W: Write>(
         (R.remaining reader.new) (W.contents writer.old) (W.contents writer.new) count) }
     ensures failed { IfErr result (λ fault. PlayStopped number limits.bounds (R.remaining reader.old)
         (R.remaining reader.new) (W.contents writer.old) (W.contents writer.new) fault) }
+    ensures reads_counted { R.failures reader.new ≡ reads_failed result (R.failures reader.old) }
+    ensures writes_counted { W.failures writer.new ≡ writes_failed result (W.failures writer.old) }
 {
     let game = match Game::open(alloc, number, MOST_PLIES) {
         Ok(game) => game,

@@ -1,17 +1,18 @@
 //! How the bytes of a stream are taken, one after another: each line is answered as soon as its line feed is seen.
 
 ghost use Rattle.std.specs.Prelude.{◌≡◌, ◌∷◌, [], IfOk, IfErr, OnOk};
+ghost use Rattle.relay960_engines.specs.Failures.{writes_failed};
 ghost use Rattle.relay960_engines.specs.Lines.{Between};
 ghost use Rattle.relay960_engines.specs.Runs.{Wrote};
 ghost use Rattle.relay960_engines.specs.inner.Taking.{StopsIn, Taken, Unwritten, Within};
 
 use crate::answerer::Answerer;
 use crate::bounds::Bounds;
+use crate::devices::WriteDevice;
 use crate::fault::RunFault;
 use crate::kept::KeptLine;
 use crate::writing::write_whole;
 use std::alloc::{AllocError, Global};
-use std::io::Write;
 
 /// How far a run has come.
 #[derive(Drop)]
@@ -44,7 +45,7 @@ impl Progress {
 }
 
 /// Writes the answer to a line, by one call of `write_whole`.
-pub fn answer_line<A: Answerer, W: Write>(
+pub fn answer_line<A: Answerer, W: WriteDevice>(
     alloc: Global,
     answerer: &mut A,
     writer: &mut W,
@@ -54,6 +55,7 @@ pub fn answer_line<A: Answerer, W: Write>(
         (W.contents writer.old) (W.contents writer.new)) }
     ensures failed { IfErr result (λ fault. Unwritten A.gives answerer.old answerer.new (line.now ∷ [])
         (W.contents writer.old) (W.contents writer.new) fault) }
+    ensures writes_counted { W.failures writer.new ≡ writes_failed result (W.failures writer.old) }
 {
     match answerer.answer(alloc, line) {
         Ok(answer) => write_whole(writer, answer.as_slice()),
@@ -63,7 +65,7 @@ pub fn answer_line<A: Answerer, W: Write>(
 
 /// Takes one byte, where both bounds allow it: a line feed ends the line, which is answered, and any other byte belongs
 /// to it.
-fn take_byte<A: Answerer, W: Write>(
+fn take_byte<A: Answerer, W: WriteDevice>(
     alloc: Global,
     answerer: &mut A,
     writer: &mut W,
@@ -77,6 +79,7 @@ fn take_byte<A: Answerer, W: Write>(
         (W.contents writer.old) (W.contents writer.new)) }
     ensures failed { IfErr result (λ fault. StopsIn A.gives answerer.old answerer.new progress.old bounds
         (byte ∷ []) (W.contents writer.old) (W.contents writer.new) fault) }
+    ensures writes_counted { W.failures writer.new ≡ writes_failed result (W.failures writer.old) }
 {
     if progress.answered >= bounds.lines || progress.taken >= bounds.bytes {
         return Err(RunFault::TooLong);
@@ -93,7 +96,7 @@ fn take_byte<A: Answerer, W: Write>(
 }
 
 /// Takes the bytes one after another, as far as both bounds allow it.
-pub fn take_chunk<A: Answerer, W: Write>(
+pub fn take_chunk<A: Answerer, W: WriteDevice>(
     alloc: Global,
     answerer: &mut A,
     writer: &mut W,
@@ -107,6 +110,7 @@ pub fn take_chunk<A: Answerer, W: Write>(
         (W.contents writer.old) (W.contents writer.new)) }
     ensures failed { IfErr result (λ fault. StopsIn A.gives answerer.old answerer.new progress.old bounds
         chunk.now (W.contents writer.old) (W.contents writer.new) fault) }
+    ensures writes_counted { W.failures writer.new ≡ writes_failed result (W.failures writer.old) }
 {
     for byte in chunk {
         take_byte(alloc, answerer, writer, progress, bounds, *byte)?;

@@ -2,17 +2,18 @@
 
 ghost use Rattle.std.specs.Prelude.{◌≡◌, IfOk, IfErr};
 ghost use Rattle.relay_messages.specs.Answers.{answer_text};
+ghost use Rattle.relay960_engines.specs.Failures.{reads_failed, writes_failed};
 ghost use Rattle.relay960_engines.specs.Script.{Ran, ScriptStopped};
 ghost use Rattle.relay960_engines.specs.Writing.{line};
 
 use crate::answerer::Answerer;
+use crate::devices::{ReadDevice, WriteDevice};
 use crate::fault::RunFault;
 use crate::limits::ScriptLimits;
 use crate::lines::run_lines;
 use relay_core::Relay;
 use relay_messages::{Answer, decode, encode};
 use std::alloc::{AllocError, Global};
-use std::io::{Read, Write};
 
 /// The answerer of a script.
 #[derive(Drop)]
@@ -56,7 +57,7 @@ fn line_of(alloc: Global, answer: &Answer) -> Result<Vec<u8>, AllocError>
 /// answers was written. `TooLong` where there is a byte behind the lines or bytes that the limits allow: the lines that end
 /// within both were answered. `OutOfMemory` where there was no memory for the relay or for the text of an answer: the lines
 /// before were answered.
-pub fn script_run<R: Read, W: Write>(
+pub fn script_run<R: ReadDevice, W: WriteDevice>(
     alloc: Global,
     reader: &mut R,
     writer: &mut W,
@@ -66,6 +67,8 @@ pub fn script_run<R: Read, W: Write>(
         (R.remaining reader.new) (W.contents writer.old) (W.contents writer.new) count) }
     ensures failed { IfErr result (λ fault. ScriptStopped limits.limits limits.bounds (R.remaining reader.old)
         (R.remaining reader.new) (W.contents writer.old) (W.contents writer.new) fault) }
+    ensures reads_counted { R.failures reader.new ≡ reads_failed result (R.failures reader.old) }
+    ensures writes_counted { W.failures writer.new ≡ writes_failed result (W.failures writer.old) }
 {
     let Ok(relay) = Relay::new(alloc, limits.limits()) else {
         return Err(RunFault::OutOfMemory);

@@ -11,5 +11,5 @@ returns-in_err-write_whole-clause-part g c =
 
 pub returns-clause-part : goal.returns-clause-part
 returns-clause-part g c =
-    on_err_behind _ _ (g.W.Write.contents c.write_whole.new.writer) _ (move_text c.args.first.now)
+    on_err_behind _ _ (g.W.WriteDevice.contents c.write_whole.new.writer) _ (move_text c.args.first.now)
     (flat_map spaced c.args.others.now) (search rules) c.write_spaced.ensures.part

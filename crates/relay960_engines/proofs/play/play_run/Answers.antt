@@ -1,10 +1,15 @@
-use Rattle.std.proofs.Common.{rules}
+use Rattle.std.proofs.Common.{rules, refl}
 use Rattle.relay960_engines.proofs.PlayRunFacts.{played, play_stopped, starved_before}
 use Rattle.relay960_engines.proofs.play.play_run.Goals as goal
 
 pub returns-in-Err : goal.returns-in-Err
 returns-in-Err g c =
-    record { done = tt; failed = starved_before c.args.number c.args.limits.bounds _ _ (search rules) }
+    record {
+      done = tt;
+      failed = starved_before c.args.number c.args.limits.bounds _ _ (search rules);
+      reads_counted = refl;
+      writes_counted = refl;
+    }
 
 pub returns-clause-done : goal.returns-clause-done
 returns-clause-done g c =

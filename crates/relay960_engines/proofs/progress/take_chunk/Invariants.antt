@@ -1,11 +1,12 @@
-use Rattle.std.proofs.Common.{take}
+use Rattle.std.proofs.Common.{◌≡◌, take}
 use Rattle.relay960_engines.specs.inner.Taking.{Taken, Within}
 use Rattle.relay960_engines.proofs.progress.take_chunk.Given as goal
 
--- the bytes before this one are taken, and nothing else
+-- the bytes before this one are taken, and nothing else, and no write has failed
 abbrev pub invariant-loop-byte : goal.invariant-loop-byte
 invariant-loop-byte g l = record {
   within : Within l.bounds l.progress;
   took : Taken g.A.Answerer.gives l.fn.answerer l.answerer l.fn.progress l.progress (take l.byte-index l.chunk)
-      (g.W.Write.contents l.fn.writer) (g.W.Write.contents l.writer);
+      (g.W.WriteDevice.contents l.fn.writer) (g.W.WriteDevice.contents l.writer);
+  counted : g.W.WriteDevice.failures l.writer ≡ g.W.WriteDevice.failures l.fn.writer;
 }
