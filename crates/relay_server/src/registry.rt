@@ -3,6 +3,7 @@
 use crate::chime::Chime;
 use crate::wakes::Rung;
 use c960_game::Limits;
+use circular_buffer::HeapCircularBuffer;
 use indexmap::IndexMap;
 use relay_core::{BoardName, Relay, Reply, Spectator, Step, Taken};
 use std::alloc::{AllocError, Global};
@@ -66,6 +67,27 @@ impl Shared {
         }
     }
 
+    /// Takes what is next for a spectator.
+    fn take(&mut self, who: Spectator) -> Taken {
+        match self.relay.step(Step::Take(who)) {
+            Reply::Took(taken) => taken,
+            // One who follows nothing is owed nothing.
+            _ => Taken::Cut,
+        }
+    }
+
+    /// Takes the moves that wait for a spectator, as many as there is room for. What is answered behind the last of them is not
+    /// kept, since the next take finds it again.
+    fn take_ahead(&mut self, who: Spectator, ahead: &mut HeapCircularBuffer<Taken>) {
+        for _ in ahead.len()..ahead.capacity() {
+            let taken = self.take(who);
+            if !matches!(taken, Taken::Move(_, _)) {
+                return;
+            }
+            let _ = ahead.try_push_back(taken);
+        }
+    }
+
     /// Gives a board that was opened its chime. There is one, and room for it, for each board that may be opened.
     fn hang_chime(&mut self, board: BoardName) {
         if let Some(chime) = self.spare.pop() {
@@ -119,12 +141,22 @@ impl Registry {
 
     /// Takes what is next for a spectator.
     pub(crate) fn take<R: Wait>(&self, rt: &R, who: Spectator) -> Taken {
-        let (reply, _) = self.step(rt, &Step::Take(who));
-        match reply {
-            Reply::Took(taken) => taken,
-            // One who follows nothing is owed nothing.
-            _ => Taken::Cut,
+        self.shared.lock(rt).take(who)
+    }
+
+    /// Takes what is next for a spectator, and under the same lock the moves behind it, as many as there is room for.
+    pub(crate) fn take_ahead<R: Wait>(
+        &self,
+        rt: &R,
+        who: Spectator,
+        ahead: &mut HeapCircularBuffer<Taken>,
+    ) -> Taken {
+        let mut shared = self.shared.lock(rt);
+        let taken = shared.take(who);
+        if matches!(taken, Taken::Move(_, _)) {
+            shared.take_ahead(who, ahead);
         }
+        taken
     }
 
     /// The chime of a board.

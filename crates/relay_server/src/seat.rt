@@ -2,29 +2,44 @@
 
 use crate::registry::Registry;
 use crate::wakes::Rung;
+use circular_buffer::HeapCircularBuffer;
 use relay_core::{BoardName, Reply, Spectator, Step, Taken};
 use relay_pushing::{Keeper, Source};
+use std::alloc::Global;
 use std::sync::Wait;
+
+/// How many moves are taken ahead of their sending at most: that many go under one lock.
+const MOST_AHEAD: usize = 64;
 
 /// A connection's seat at the registry. Its spectator has the connection's number, whatever number a command names.
 #[derive(Drop)]
 pub(crate) struct Seat<'a, R> {
     rt: &'a R,
+    alloc: Global,
     registry: &'a Registry,
     connection: Spectator,
     followed: Option<BoardName>,
     rung: Option<Rung>,
+    /// The moves that were taken and are still to be given.
+    ahead: Option<HeapCircularBuffer<Taken>>,
 }
 
 impl<'a, R: Wait> Seat<'a, R> {
     /// The seat of a connection that follows nothing.
-    pub(crate) fn new(rt: &'a R, registry: &'a Registry, connection: Spectator) -> Seat<'a, R> {
+    pub(crate) fn new(
+        rt: &'a R,
+        alloc: Global,
+        registry: &'a Registry,
+        connection: Spectator,
+    ) -> Seat<'a, R> {
         Seat {
             rt,
+            alloc,
             registry,
             connection,
             followed: None,
             rung: None,
+            ahead: None,
         }
     }
 
@@ -57,11 +72,13 @@ impl<'a, R: Wait> Seat<'a, R> {
         reply
     }
 
-    /// Follows a board as the connection's own spectator, and notes that it does.
+    /// Follows a board as the connection's own spectator, and notes that it does. Where there is no memory for moves ahead, they are
+    /// taken one at a time.
     fn follow(&mut self, board: BoardName, from: Option<u16>) -> Reply {
         let reply = self.make(&Step::Follow(self.connection, board, from));
         if matches!(&reply, Reply::Following { .. }) {
             self.followed = Some(board);
+            self.ahead = HeapCircularBuffer::with_capacity(self.alloc, MOST_AHEAD).ok();
         }
         reply
     }
@@ -100,6 +117,12 @@ impl<R: Wait> Source for Seat<'_, R> {
     ghost gives = { λ _ _ _. Unit {0} };
 
     fn take(&mut self) -> Taken {
-        self.registry.take(self.rt, self.connection)
+        let Some(ahead) = &mut self.ahead else {
+            return self.registry.take(self.rt, self.connection);
+        };
+        match ahead.pop_front() {
+            Some(taken) => taken,
+            None => self.registry.take_ahead(self.rt, self.connection, ahead),
+        }
     }
 }

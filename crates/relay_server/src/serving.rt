@@ -29,6 +29,10 @@ const STACK_BYTES: usize = 256 * 1024;
 /// How many seconds a write may make no way before its session ends as failed.
 const MOST_SECONDS: u64 = 30;
 
+/// How many connections are accepted from one look for threads that have ended to the next. Joining one whose last act is still
+/// under way would hold up the next connection, and each look goes over all threads.
+const BETWEEN_JOINS: u32 = 64;
+
 /// How many milliseconds are waited after a connection could not be accepted or got no thread: the next would likely fail at
 /// once, too.
 const PAUSE_MILLIS: u64 = 20;
@@ -57,9 +61,11 @@ where
     let mut running: Vec<Running> = Vec::new(alloc);
     let mut accepted: u32 = 0;
     let mut failed: u32 = 0;
-    for _done in 0..connections {
+    for done in 0..connections {
         let heard = ended.count();
-        join_ended(rt, &mut running);
+        if done % BETWEEN_JOINS == 0 {
+            join_ended(rt, &mut running);
+        }
         let started = match listener.accept() {
             Ok((stream, _)) => {
                 accepted = accepted.saturating_add(1);
@@ -76,6 +82,7 @@ where
             None => {
                 failed += 1;
                 ended.doze(rt, heard, Duration::from_millis(PAUSE_MILLIS));
+                join_ended(rt, &mut running);
             }
         }
     }

@@ -59,7 +59,7 @@ pub fn session<'a, R: Wait + Clock, S: Stream + Drop, G: Gate>(
         connection,
         outlet,
         conn: Conn::new(alloc),
-        seat: Seat::new(rt, registry, connection),
+        seat: Seat::new(rt, alloc, registry, connection),
         gate,
         is_open: false,
     };
