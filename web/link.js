@@ -1,6 +1,7 @@
 "use strict";
 /*
- * A connection over WebSocket, and the waits between tries to come back: 0.5 s, doubled up to 10 s, at most 60 of them in a row.
+ * A connection over WebSocket, and the waits between tries to come back: 0.5 s, doubled up to 10 s, at most 360 of them in a row,
+ * which is an hour.
  */
 const Link = (() => {
   const FELL_BEHIND = 4001;
@@ -39,7 +40,7 @@ const Link = (() => {
 
   /** Waits that grow, and end after a while. */
   function waits() {
-    const TRIES = 60;
+    const TRIES = 360;
     let tried = 0;
     let timer = null;
     return {

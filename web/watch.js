@@ -7,7 +7,7 @@
   const page = createPage();
   const { at, state, notice } = page;
   const ASK_AGAIN = 2;
-  const ASKS = 300;
+  const ASKS = 5400; // Three hours: a spectator may open the page long before the round.
   const LATER = ["NoSuchBoard", "TooManyFollowers", "OutOfMemory"];
   const watch = { wish: null, link: null, waits: Link.waits(), asked: null, asks: 0, timer: null, closing: null, said: null };
 

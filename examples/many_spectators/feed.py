@@ -55,6 +55,8 @@ class Channel:
         """Reads what the channel has had."""
         self.forget()
         status, answer = await asyncio.to_thread(self.request, "GET")
+        if status not in (200, 404):
+            raise http.client.HTTPException(f"the channel answered {status}")
         count = json.loads(answer)["messages"] if status == 200 else 0
         if count > 0:
             async with websockets.connect(f"ws://{self.server}/kept/{self.board}", compression=None) as socket:

@@ -513,8 +513,9 @@ def fresh_burst(done):
 def long_game():
     hop = ["g1f3", "g8f6", "f3g1", "f6g8"]
     moves = ["b1c3", "b8c6"]
-    for pawn in ("a2a3 a7a6", "b2b3 b7b6", "d2d3 d7d6", "e2e3 e7e6", "g2g3 g7g6", "h2h3 h7h6", "a3a4 a6a5", "d3d4 d6d5", "g3g4 g6g5"):
-        moves += pawn.split() + hop * 3
+    for pawns in ("a2a3 a7a6", "b2b3 b7b6", "d2d3 d7d6", "e2e3 e7e6", "g2g3 g7g6", "h2h3 h7h6", "a3a4 a6a5", "d3d4 d6d5", "g3g4 g6g5",
+                  "h3h4 h6h5", "b3b4 b6b5", "e3e4 e6e5"):
+        moves += pawns.split() + hop * 3
     return moves
 
 

@@ -26,7 +26,7 @@ async def take_pictures(browser, folder):
     for page, name in ((seer, "watch"), (table, "table")):
         await page.run(fields)
         await page.run("document.activeElement.blur()")
-        await page.resize(1240, 860)
+        await page.resize(1240, 900)
         await asyncio.sleep(0.3)
         await page.picture(folder / f"{name}.png")
     await seer.scheme("dark")
