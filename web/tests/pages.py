@@ -655,6 +655,7 @@ async def try_records(browser):
         assert await text(again, "#state") == "Board hall-2 is open"
         await say_end(again, "#ending [data-how=abandoned]")
         await until_state(again, "over")
+        await again.fill("#count", "0")
         await again.give_file("#file", file)
         await again.until('document.querySelector("#count").value === "5" && document.querySelector("#new-name").value === "hall-2"')
         await again.fill("#count", "4")
