@@ -1,0 +1,104 @@
+#!/usr/bin/env python3
+"""Refuses each allocation of the built server in turn, and looks at what is left.
+
+    benches/refusals.py [MOST]        the allocations 1 to MOST (600) of the program, its start included
+
+The server has room for one board and one follower. In each run an owner opens the board, plays a move and closes; then three guests, one
+after another, follow from the first place. Where the owner was answered in full, at least two guests get the move, the end as abandoned
+and the close 1000; else all three find the same: the board with the move, the board alone, or none. A server that cannot start says
+`fault 12 OutOfMemory` and ends with status 4; every other run ends with all four connections accounted for. The last line counts what
+met the refusal, and the status is 1 where a run was otherwise.
+"""
+import collections
+import os
+import pathlib
+import socket
+import struct
+import subprocess
+import sys
+import tempfile
+
+HERE = pathlib.Path(__file__).resolve().parent
+PROGRAM = HERE.parent / "crates/relay960/out/relay960"
+REQUEST = (
+    b"GET / HTTP/1.1\r\nHost: a\r\nConnection: upgrade\r\nUpgrade: websocket\r\nSec-WebSocket-Version: 13\r\n"
+    b"Sec-WebSocket-Key: dGhlIHNhbXBsZSBub25jZQ==\r\n\r\n"
+)
+OWNER = [b'{"cmd":"open","board":"b1","start":518}', b'{"cmd":"submit","board":"b1","move":"e2e4"}']
+GUEST = [b'{"cmd":"follow","board":"b1","spectator":9,"from":0}']
+OWNED = [b'{"reply":"opened"}', b'{"outcome":null,"place":0,"reply":"played"}', b"close 1000"]
+FOLLOWING = b'{"fen":"rnbqkbnr/pppppppp/8/8/8/8/PPPPPPPP/RNBQKBNR w HAha - 0 1","joined":0,"reply":"following"}'
+END = [b'{"outcome":"abandoned","reply":"over"}', b"close 1000"]
+FOLLOWED = [FOLLOWING, b'{"move":"e2e4","place":0,"reply":"move"}', *END]
+NO_BOARD = [b'{"code":1,"name":"NoSuchBoard","reply":"refused"}', b"close 1000"]
+
+
+def frame(first, payload):
+    """A frame with a mask of zeros."""
+    return bytes([first, 0x80 | len(payload)]) + bytes(4) + payload
+
+
+def talk(port, texts):
+    """What a connection is told that sends these texts and a close."""
+    told, data = [], b""
+    with socket.create_connection(("127.0.0.1", port), timeout=10) as peer:
+        try:
+            peer.sendall(REQUEST + b"".join(frame(0x81, it) for it in texts) + frame(0x88, struct.pack(">H", 1000)))
+            while more := peer.recv(65536):
+                data += more
+        except (ConnectionResetError, BrokenPipeError):
+            pass
+    rest = data.partition(b"\r\n\r\n")[2]
+    while len(rest) >= 2:
+        payload = rest[2 : 2 + rest[1]]
+        told.append(b"close %d" % struct.unpack(">H", payload[:2]) if rest[0] == 0x88 else payload)
+        rest = rest[2 + rest[1] :]
+    return told
+
+
+def free_port():
+    with socket.create_server(("127.0.0.1", 0)) as probe:
+        return probe.getsockname()[1]
+
+
+def met(refused, allocator):
+    """What met the refusal of this allocation: the start, serving, the owner, a guest or nothing; None where something is wrong."""
+    port = free_port()
+    words = [PROGRAM, "serve", "--port", str(port), "--connections", "4", "--boards", "1", "--followers", "1", "--capacity", "2"]
+    env = {**os.environ, "LD_PRELOAD": allocator, "REFUSED": str(refused)}
+    with subprocess.Popen(words, env=env, stdout=subprocess.PIPE, stderr=subprocess.PIPE) as server:
+        if not server.stdout.readline():
+            said = server.stderr.read()
+            return "start" if server.wait() == 4 and said.endswith(b"fault 12 OutOfMemory\n") else None
+        try:
+            owner, guests = talk(port, OWNER), [talk(port, GUEST) for _ in range(3)]
+        except ConnectionRefusedError:
+            return "serving" if server.stderr.read() == b"served 0, failed 4\n" else None
+        said = server.stderr.read().decode()
+    if said not in ("served 4, failed 0\n", "served 3, failed 1\n"):
+        return None
+    if owner == OWNED:
+        return {3: "nothing", 2: "guest"}.get(guests.count(FOLLOWED))
+    alike = guests.count(guests[0]) == 3 and guests[0] in (FOLLOWED, [FOLLOWING, *END], NO_BOARD)
+    return "owner" if alike else None
+
+
+def main():
+    most = int(sys.argv[1]) if len(sys.argv) > 1 else 600
+    counts, last = collections.Counter(), 0
+    with tempfile.TemporaryDirectory() as room:
+        allocator = f"{room}/refuse.so"
+        subprocess.run(["cc", "-O2", "-shared", "-fPIC", "-o", allocator, str(HERE / "refuse.c")], check=True)
+        for refused in range(1, most + 1):
+            who = met(refused, allocator)
+            counts[who] += 1
+            if who is None:
+                print(f"allocation {refused}: not as it should be")
+            if who != "nothing":
+                last = refused
+    print(", ".join(f"{who}: {count}" for who, count in counts.items()), f"(the last that was met: {last} of {most})")
+    return 1 if counts[None] else 0
+
+
+if __name__ == "__main__":
+    sys.exit(main())
