@@ -1,35 +1,33 @@
 -- The sets after an ordinary move.
-use Rattle.std.proofs.Common.{◌≡◌, ◌≢◌, ℕ, ◌*◌, ◌%◌, ◌^◌, ◌<◌, ◌≤◌, Bool, true, false, not, ◌&&◌, ◌||◌, List, Option, Some, None, length, map, get_or, refl, ap, sym, ◌∙◌, ◌⊎◌, inl, inr, arith, zero-add, w64, IsTrue}
-use Rattle.std.specs.Prelude.{◌==◌, bit_and, bit_or, is_none, ◌↔◌}
+use Rattle.std.proofs.Common.{◌≡◌, ◌≢◌, ℕ, ◌*◌, ◌%◌, ◌^◌, ◌<◌, Bool, true, false, not, ◌&&◌, ◌||◌, Option, Some, None, length, refl, ap, sym, ◌∙◌, ◌⊎◌, inl, inr, arith, zero-add, w64, IsTrue}
+use Rattle.std.specs.Prelude.{◌==◌, bit_and, bit_or, ◌↔◌}
 use Rattle.std.specs.Int.{bit_not}
 use mir.Val.{bool_byte}
-use Rattle.std.proofs.lemmas.Bool.{cases_eq, eq-eqb, ne_eqb, eqb-true, eqb-false, both_ways, not-true, not_from_false}
+use Rattle.std.proofs.lemmas.Bool.{cases_eq, ne_eqb, eqb-true, eqb-false, both_ways, not-true, not_from_false}
 use Rattle.std.proofs.lemmas.List.FromFn.{get_or-map-range_with_len, length-map-range_with_len}
 use Rattle.c960_board.specs.declared.piece.Colour.{Colour}
 use Rattle.c960_board.specs.declared.piece.Colour.TheVariants.{White, Black}
 use Rattle.c960_board.specs.declared.piece.Kind.{Kind}
 use Rattle.c960_board.specs.declared.piece.Kind.TheVariants.{Pawn, Knight, Bishop, Rook, Queen, King}
-use Rattle.c960_board.specs.declared.piece.Piece.{Piece}
 use Rattle.c960_board.specs.declared.parts.Parts.{Parts}
 use Rattle.c960_board.specs.Moves.{Triple, IsMove, is_promotion}
-use Rattle.c960_board.specs.Squares.{ahead}
 use Rattle.c960_board.specs.Pieces.{Cell, man, other, same_colour, is_of, holds}
 use Rattle.c960_board.specs.Position.{cell_at, IsPosition}
-use Rattle.c960_board.specs.Sets.{is_occupied, set_of}
-use Rattle.c960_rules.specs.Lines.{squares}
-use Rattle.c960_rules.specs.After.{landed, is_en_passant, cell_moved, cell_after, placement_after}
+use Rattle.c960_board.specs.Sets.{is_kind, is_occupied, set_of, sets_of}
+use Rattle.c960_rules.specs.After.{landed, cell_moved, cell_after, placement_after}
 use Rattle.c960_rules.specs.Attacks.{AttackedBy, attacks}
 use Rattle.c960_rules.specs.Reaches.{Reaches}
 use Rattle.c960_rules.proofs.Reached.{passed_pawn}
+use Rattle.c960_rules.specs.Carried.{taken_off, put_on}
 use Rattle.c960_rules.specs.Check.{InCheck}
 use Rattle.c960_rules.specs.Safety.{is_passed_on, is_occupied_after, is_gone}
 use Rattle.c960_rules.specs.Wheres.{where_set, is_attacker_on, attacks_over}
-use Rattle.c960_rules.proofs.PieceFacts.{piece_on, goes_to_own, no_man, one_colour, one_kind, own_is, holds_is, is_holds, is_own, not_other}
-use Rattle.c960_rules.proofs.CountFacts.{IsOnly, only_one}
+use Rattle.c960_rules.proofs.PieceFacts.{piece_on, goes_to_own, no_man, one_colour, one_kind, is_holds, is_own, not_other}
+use Rattle.c960_rules.proofs.CountFacts.{only_one}
 use Rattle.c960_rules.proofs.CellFacts.{moved_cases, landing}
 use Rattle.c960_rules.proofs.WhereFacts.{where_none, where_nothing, where_only, where_or, where_and, where_not, where_agree, set_where}
 use Rattle.c960_rules.proofs.AttackerFacts.{and-false, and-true, or-false}
-use Rattle.c960_rules.proofs.AttackAgree.{attackers_are, some_attacked, none_attacked}
+use Rattle.c960_rules.proofs.AttackAgree.{some_attacked, none_attacked}
 
 pub or-true : (a : Bool) → (a || true) ≡ true
 or-true true = refl
@@ -281,7 +279,7 @@ landing_set false byte k l e =
     let none : byte * 2 ^ k % 2 ^ 64 ≡ 0 = rw e (let z : 0 * 2 ^ k ≡ 0 = omega arith in rw z) in
     none ∙ sym (where_nothing (λ u. false) (λ i h. refl))
 
-pub set_after_is : (test : Cell → Bool) (p : Parts) (m : Triple) (set changed byte : ℕ) → test None ≡ false
+set_after_is : (test : Cell → Bool) (p : Parts) (m : Triple) (set changed byte : ℕ) → test None ≡ false
     → is_of p.turn (piece_on p m.from) ≡ true → goes_to_own p m ≡ false → length p.placement ≡ 64 → m.to < 64
     → set ≡ set_of test p.placement → changed ≡ where_set (λ u. (u == m.from) || is_gone p m u)
     → byte ≡ bool_byte (test (landed (piece_on p m.from) m.promotion))
@@ -297,11 +295,17 @@ set_after_is test p m set changed byte none own free full l es ec eb =
     (λ u h. sym (ap test (cell_is p m own free u h) ∙ placed_by test (u == m.to) (u == m.from) (is_passed_on p m u) land (piece_on p u) none))
     ∙ sym (set_where test (placement_after p m) (length_after p m own free))
 
-pub field_is : (test : Cell → Bool) (p : Parts) (m : Triple) (cells : List Cell) (set changed result k : ℕ) (b : Bool) (o : Cell) → test None ≡ false
-    → is_of p.turn (piece_on p m.from) ≡ true → goes_to_own p m ≡ false → length p.placement ≡ 64 → m.to < 64
-    → set ≡ set_of test p.placement → changed ≡ where_set (λ u. (u == m.from) || is_gone p m u)
-    → result ≡ bit_or (bit_and set (bit_not w64 changed)) (bool_byte b * 2 ^ k % 2 ^ 64) → k ≡ m.to
-    → b ≡ test o → o ≡ landed (piece_on p m.from) m.promotion → cells ≡ placement_after p m → result ≡ set_of test cells
-field_is test p m cells set changed result k b o none own free full l es ec er ek eb eo cs =
-    rw (er, ek, cs)
-    (set_after_is test p m set changed (bool_byte b) none own free full l es ec (ap bool_byte (eb ∙ ap test eo)))
+-- all sets after an ordinary move
+pub moved_sets : (p : Parts) (m : Triple) (changed : ℕ) → is_of p.turn (piece_on p m.from) ≡ true → goes_to_own p m ≡ false
+    → length p.placement ≡ 64 → m.to < 64 → changed ≡ where_set (λ u. (u == m.from) || is_gone p m u)
+    → put_on (landed (piece_on p m.from) m.promotion) m.to (taken_off changed (sets_of p.placement)) ≡ sets_of (placement_after p m)
+moved_sets p m changed own free full l ec =
+    let white = set_after_is (is_of White) p m _ changed _ refl own free full l refl ec refl in
+    let black = set_after_is (is_of Black) p m _ changed _ refl own free full l refl ec refl in
+    let pawns = set_after_is (is_kind Pawn) p m _ changed _ refl own free full l refl ec refl in
+    let knights = set_after_is (is_kind Knight) p m _ changed _ refl own free full l refl ec refl in
+    let bishops = set_after_is (is_kind Bishop) p m _ changed _ refl own free full l refl ec refl in
+    let rooks = set_after_is (is_kind Rook) p m _ changed _ refl own free full l refl ec refl in
+    let queens = set_after_is (is_kind Queen) p m _ changed _ refl own free full l refl ec refl in
+    let kings = set_after_is (is_kind King) p m _ changed _ refl own free full l refl ec refl in
+    rw (white, black, pawns, knights, bishops, rooks, queens, kings) refl

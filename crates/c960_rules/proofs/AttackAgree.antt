@@ -9,14 +9,13 @@ use Rattle.c960_board.specs.declared.piece.Kind.{Kind}
 use Rattle.c960_board.specs.declared.piece.Kind.TheVariants.{Pawn, Knight, Bishop, Rook, Queen, King}
 use Rattle.c960_board.specs.Pieces.{Cell, is_of}
 use Rattle.c960_board.specs.Position.{cell_at}
-use Rattle.c960_board.specs.Sets.{is_occupied, set_of, is_in}
-use Rattle.c960_rules.specs.Lines.{squares, same_rank, same_file, same_diagonal, on_line, between}
+use Rattle.c960_board.specs.Sets.{is_occupied, set_of}
+use Rattle.c960_rules.specs.Lines.{squares, same_rank, same_file, same_diagonal, between}
 use Rattle.c960_rules.specs.Attacks.{Attacks, AttackedBy, is_open_at, clear, attacks_as, attacks_with, attacks, attacked_by}
-use Rattle.c960_rules.specs.Wheres.{where_set, is_free, is_rook_line, is_bishop_line, is_attacker_on, attacks_over, attacks_over_as}
+use Rattle.c960_rules.specs.Wheres.{where_set, is_free, is_attacker_on, attacks_over, attacks_over_as}
 use Rattle.c960_rules.proofs.AllSquares.{every_square, every_square_from, found_square, some_square}
-use Rattle.c960_rules.proofs.BoolFacts.{so_parts, then_so}
 use Rattle.c960_rules.proofs.AttackTests.{attacks_tells, attacks_from, attacked_by_tells, attacked_by_from}
-use Rattle.c960_rules.proofs.WhereFacts.{where_and, where_agree, where_none, where_nothing, set_where, in_where, bit_of}
+use Rattle.c960_rules.proofs.WhereFacts.{where_and, where_agree, where_none, where_nothing, set_where, in_where}
 
 -- two tests that pass together are one
 pub same_tests : (a b : Bool) → (a ≡ true → b ≡ true) → (b ≡ true → a ≡ true) → a ≡ b

@@ -1,19 +1,18 @@
 -- The sets of attackers.
-use Rattle.std.proofs.Common.{◌≡◌, ◌≢◌, ℕ, ◌<◌, Bool, true, false, not, ◌&&◌, ◌||◌, List, Some, None, length, refl, ap, sym, ◌∙◌, inl, inr, nat_lt, arith}
+use Rattle.std.proofs.Common.{◌≡◌, ◌≢◌, ℕ, Bool, true, false, ◌&&◌, ◌||◌, List, Some, None, length, refl, ap, sym, ◌∙◌, inl, inr, nat_lt, arith}
 use Rattle.std.specs.Prelude.{◌==◌, bit_and, bit_or}
 use Rattle.std.proofs.lemmas.Bool.{cases_eq, eq-eqb, ne_eqb}
 use Rattle.c960_board.specs.declared.piece.Colour.{Colour}
 use Rattle.c960_board.specs.declared.piece.Colour.TheVariants.{White, Black}
 use Rattle.c960_board.specs.declared.piece.Kind.{Kind}
 use Rattle.c960_board.specs.declared.piece.Kind.TheVariants.{Pawn, Knight, Bishop, Rook, Queen, King}
-use Rattle.c960_board.specs.declared.sets.Sets.{Sets}
 use Rattle.c960_board.specs.Pieces.{Cell, same_colour, same_kind, is_of}
 use Rattle.c960_board.specs.Position.{cell_at}
 use Rattle.c960_board.specs.Sets.{is_kind, set_of, sets_of, colour_set, is_in}
 use Rattle.c960_board.specs.Squares.{file_of, rank_of}
 use Rattle.c960_rules.specs.Lines.{distance, same_rank, same_file, same_diagonal, within, between}
 use Rattle.c960_rules.specs.Wheres.{where_set, is_free, is_knight_leap, is_king_step, is_pawn_hit, is_rook_line, is_bishop_line, is_leaper_on, is_slider_on, is_attacker_on, attacks_over, attacks_over_as}
-use Rattle.c960_rules.proofs.WhereFacts.{where_or, where_and, where_agree, set_where, in_where}
+use Rattle.c960_rules.proofs.WhereFacts.{where_or, where_agree, set_where, in_where}
 
 -- the set of a side
 pub side_where : (c : Colour) (cells : List Cell) (a : ℕ) → length cells ≡ 64 → a ≡ colour_set c (sets_of cells)

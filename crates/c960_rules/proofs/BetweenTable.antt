@@ -3,7 +3,7 @@ use Rattle.std.proofs.Common.{◌≡◌, ℕ, ◌+◌, ◌*◌, ◌/◌, ◌%◌
 use Rattle.std.proofs.lemmas.List.FromFn.{get_or-map-range_with_len}
 use Rattle.std.specs.List.{range_with_len}
 use Rattle.c960_rules.specs.declared.between.TheConstants.{BETWEEN}
-use Rattle.c960_rules.specs.Lines.{squares, between}
+use Rattle.c960_rules.specs.Lines.{between}
 use Rattle.c960_rules.specs.Wheres.{where_set}
 
 pub between_table : BETWEEN ≡ map (λ n. where_set (λ u. between (n / 64) u (n % 64))) (range_with_len 0 4096)

@@ -1,22 +1,22 @@
 -- The sets after castling.
-use Rattle.std.proofs.Common.{◌≡◌, ◌≢◌, ℕ, ◌*◌, ◌%◌, ◌^◌, ◌<◌, Bool, true, false, not, ◌&&◌, ◌||◌, List, Some, None, length, refl, ap, sym, ◌∙◌, ◌⊎◌, inl, inr, zero-add, IsTrue, arith, w64}
+use Rattle.std.proofs.Common.{◌≡◌, ◌≢◌, ℕ, ◌*◌, ◌%◌, ◌^◌, ◌<◌, Bool, true, false, not, ◌&&◌, ◌||◌, None, length, refl, ap, sym, ◌∙◌, ◌⊎◌, inl, inr, zero-add, IsTrue, arith, w64}
 use Rattle.std.specs.Prelude.{◌==◌, ◌↔◌, bit_and, bit_or}
 use Rattle.std.specs.Int.{bit_not}
 use mir.Val.{bool_byte}
-use Rattle.std.proofs.lemmas.Bool.{cases_eq, eq-eqb, ne_eqb, eqb-true, eqb-false, not-true, not_from_false, or_left, or_right}
+use Rattle.std.proofs.lemmas.Bool.{cases_eq, eq-eqb, ne_eqb, eqb-false, not-true, not_from_false}
 use Rattle.std.proofs.lemmas.List.FromFn.{get_or-map-range_with_len, length-map-range_with_len}
 use Rattle.c960_board.specs.declared.piece.Colour.{Colour}
 use Rattle.c960_board.specs.declared.piece.Colour.TheVariants.{White, Black}
-use Rattle.c960_board.specs.declared.piece.Kind.TheVariants.{Rook, King}
+use Rattle.c960_board.specs.declared.piece.Kind.TheVariants.{Pawn, Knight, Bishop, Rook, Queen, King}
 use Rattle.c960_board.specs.declared.parts.Parts.{Parts}
 use Rattle.c960_board.specs.Moves.{Triple}
 use Rattle.c960_board.specs.Squares.{home_square}
-use Rattle.c960_board.specs.Pieces.{Cell, man, other, is_of, holds}
+use Rattle.c960_board.specs.Pieces.{Cell, other, is_of, holds}
 use Rattle.c960_board.specs.Position.{cell_at, IsPosition}
-use Rattle.c960_board.specs.Sets.{is_occupied, set_of}
+use Rattle.c960_board.specs.Sets.{is_kind, is_occupied, set_of, sets_of}
 use Rattle.c960_rules.specs.After.{cell_after, placement_after}
-use Rattle.c960_rules.specs.Attacks.{AttackedBy, attacks}
-use Rattle.c960_rules.specs.Castles.{Castles, is_g_side, king_file, rook_file, king_goal, rook_goal}
+use Rattle.c960_rules.specs.Carried.{taken_off, put_on}
+use Rattle.c960_rules.specs.Castles.{is_g_side, king_file, rook_file, king_goal, rook_goal}
 use Rattle.c960_rules.specs.Check.{InCheck}
 use Rattle.c960_rules.specs.Safety.{is_occupied_castled}
 use Rattle.c960_rules.specs.Wheres.{where_set, is_attacker_on, attacks_over}
@@ -208,22 +208,36 @@ module _ (p : Parts) (m : Triple) (r : IsCastling p m) where
             rw (off, off_too, at, at_too, holds) (simp (and-false, and-true, or-false))
       ]
 
-  pub castled_field : (test : Cell → Bool) (set gone result king rook : ℕ) (a b : Bool) (x y : Cell) → test None ≡ false
-      → length p.placement ≡ 64 → set ≡ set_of test p.placement → gone ≡ where_set (λ u. (u == m.from) || (u == m.to))
-      → result ≡ bit_or (bit_or (bit_and set (bit_not w64 gone)) (bool_byte a * 2 ^ king % 2 ^ 64)) (bool_byte b * 2 ^ rook % 2 ^ 64)
-      → king ≡ king_goal p.turn m → rook ≡ rook_goal p.turn m → a ≡ test x → x ≡ piece_on p m.from → b ≡ test y
-      → y ≡ piece_on p m.to → result ≡ set_of test (placement_after p m)
-  castled_field test set gone result king rook a b x y none full es eg er ek eo ea ex eb ey =
+  castled_field : (test : Cell → Bool) (gone : ℕ) → test None ≡ false → length p.placement ≡ 64
+      → gone ≡ where_set (λ u. (u == m.from) || (u == m.to))
+      → bit_or (bit_or (bit_and (set_of test p.placement) (bit_not w64 gone)) (bool_byte (test (piece_on p m.from)) * 2 ^ king_goal p.turn m % 2 ^ 64))
+      (bool_byte (test (piece_on p m.to)) * 2 ^ rook_goal p.turn m % 2 ^ 64)
+      ≡ set_of test (placement_after p m)
+  castled_field test gone none full eg =
       let left = λ (u : ℕ). test (piece_on p u) && not ((u == m.from) || (u == m.to)) in
       let kings = λ (u : ℕ). test (piece_on p m.from) && (u == king_goal p.turn m) in
       let rooks = λ (u : ℕ). test (piece_on p m.to) && (u == rook_goal p.turn m) in
       let one =
-      where_and (λ u. test (piece_on p u)) (λ u. not ((u == m.from) || (u == m.to))) set _ (es ∙ set_where test p.placement full)
+      where_and (λ u. test (piece_on p u)) (λ u. not ((u == m.from) || (u == m.to))) _ _ (set_where test p.placement full)
       (where_not (λ u. (u == m.from) || (u == m.to)) gone eg) in
-      let two = landing_set (test (piece_on p m.from)) (bool_byte a) (king_goal p.turn m) (king_goal_in p.turn m) (ap bool_byte (ea ∙ ap test ex)) in
-      let three = landing_set (test (piece_on p m.to)) (bool_byte b) (rook_goal p.turn m) (rook_goal_in p.turn m) (ap bool_byte (eb ∙ ap test ey)) in
-      rw (er, ek, eo)
-      (where_or (λ u. left u || kings u) rooks _ _ (where_or left kings _ _ one two) three
+      let two = landing_set (test (piece_on p m.from)) _ (king_goal p.turn m) (king_goal_in p.turn m) refl in
+      let three = landing_set (test (piece_on p m.to)) _ (rook_goal p.turn m) (rook_goal_in p.turn m) refl in
+      where_or (λ u. left u || kings u) rooks _ _ (where_or left kings _ _ one two) three
       ∙ where_agree (λ u. (left u || kings u) || rooks u) (λ u. test (cell_at (placement_after p m) u))
       (λ u l. castled_at test none u ∙ ap test (sym (castled_cell u l)))
-      ∙ sym (set_where test (placement_after p m) castled_length))
+      ∙ sym (set_where test (placement_after p m) castled_length)
+
+  -- all sets after castling
+  pub castled_sets : (gone : ℕ) → length p.placement ≡ 64 → gone ≡ where_set (λ u. (u == m.from) || (u == m.to))
+      → put_on (piece_on p m.to) (rook_goal p.turn m) (put_on (piece_on p m.from) (king_goal p.turn m) (taken_off gone (sets_of p.placement)))
+      ≡ sets_of (placement_after p m)
+  castled_sets gone full eg =
+      let white = castled_field (is_of White) gone refl full eg in
+      let black = castled_field (is_of Black) gone refl full eg in
+      let pawns = castled_field (is_kind Pawn) gone refl full eg in
+      let knights = castled_field (is_kind Knight) gone refl full eg in
+      let bishops = castled_field (is_kind Bishop) gone refl full eg in
+      let rooks = castled_field (is_kind Rook) gone refl full eg in
+      let queens = castled_field (is_kind Queen) gone refl full eg in
+      let kings = castled_field (is_kind King) gone refl full eg in
+      rw (white, black, pawns, knights, bishops, rooks, queens, kings) refl

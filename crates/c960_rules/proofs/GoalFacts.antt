@@ -1,17 +1,16 @@
 -- Where pieces go, as tests of the goal.
-use Rattle.std.proofs.Common.{◌≡◌, ◌≢◌, ℕ, ◌+◌, ◌<◌, ◌≤◌, Bool, true, false, not, ◌&&◌, ◌||◌, List, Option, Some, None, length, refl, ap, sym, ◌∙◌, inl, inr, arith, IsTrue}
+use Rattle.std.proofs.Common.{◌≡◌, ◌≢◌, ℕ, ◌+◌, ◌<◌, Bool, true, false, not, ◌&&◌, ◌||◌, Option, Some, None, refl, ap, sym, ◌∙◌, arith}
 use Rattle.std.specs.Prelude.{◌==◌, is_none}
-use Rattle.std.proofs.lemmas.Bool.{and_parts, and_from, both_ways, eqb-true, eq-eqb, false_from_ne_true, or_parts, not_from_false}
+use Rattle.std.proofs.lemmas.Bool.{and_parts, and_from, both_ways, eqb-true, eq-eqb, or_parts}
 use Rattle.c960_board.specs.declared.piece.Colour.{Colour}
 use Rattle.c960_board.specs.declared.piece.Colour.TheVariants.{White, Black}
 use Rattle.c960_board.specs.declared.piece.Kind.{Kind}
 use Rattle.c960_board.specs.declared.piece.Kind.TheVariants.{Pawn, Knight, Bishop, Rook, Queen, King}
 use Rattle.c960_board.specs.declared.piece.Piece.{Piece}
 use Rattle.c960_board.specs.declared.parts.Parts.{Parts}
-use Rattle.c960_board.specs.Moves.{Triple, is_promotion}
 use Rattle.c960_board.specs.Squares.{file_of, rank_of, ahead}
 use Rattle.c960_board.specs.Pieces.{Cell, man, other, is_of, holds}
-use Rattle.c960_board.specs.Position.{cell_at, IsPosition}
+use Rattle.c960_board.specs.Position.{IsPosition}
 use Rattle.c960_board.specs.Sets.{is_kind, is_occupied, set_of, is_in}
 use Rattle.c960_rules.specs.Lines.{same_file}
 use Rattle.c960_rules.specs.Attacks.{attacks, is_forward}
@@ -24,7 +23,7 @@ use Rattle.c960_rules.proofs.InnerRanks.{IsInner, pawn_inner}
 use Rattle.c960_rules.proofs.MoveTests.{reaches_tells, reaches_from}
 use Rattle.c960_rules.proofs.PieceFacts.{piece_on, is_holds, is_own}
 use Rattle.c960_rules.proofs.WayCandidates.{castle_rook}
-use Rattle.c960_rules.proofs.WhereFacts.{in_where, where_agree, where_and, where_or, where_not, where_nothing}
+use Rattle.c960_rules.proofs.WhereFacts.{in_where, where_agree}
 use Rattle.c960_rules.proofs.AttackerFacts.{and-false, and-true}
 
 -- ---- Pawns.

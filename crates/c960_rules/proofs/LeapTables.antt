@@ -1,5 +1,5 @@
 -- The tables against the relations between squares: checked by computing over all squares.
-use Rattle.std.proofs.Common.{◌≡◌, ℕ, ◌<◌, List, map, get_or, refl, ap, sym, ◌∙◌, zero-add}
+use Rattle.std.proofs.Common.{◌≡◌, ℕ, ◌<◌, List, map, get_or, refl, ap, ◌∙◌, zero-add}
 use Rattle.std.proofs.lemmas.List.FromFn.{get_or-map-range_with_len}
 use Rattle.c960_rules.specs.declared.tables.TheConstants.{KNIGHT, KING, ROOK_LINES, BISHOP_LINES, WHITE_PAWN, BLACK_PAWN}
 use Rattle.c960_board.specs.declared.piece.Colour.TheVariants.{White, Black}

@@ -6,17 +6,16 @@ use Rattle.std.proofs.lemmas.Bool.{both_ways, false_from_ne_true, and_parts, and
 use Rattle.std.proofs.lemmas.List.Elements.{filter-append}
 use Rattle.std.proofs.lemmas.List.{append-nil}
 use Rattle.std.proofs.lemmas.Grind.{flat_map-append}
-use Rattle.c960_board.specs.declared.piece.Colour.{Colour}
 use Rattle.c960_board.specs.declared.piece.Kind.{Kind}
 use Rattle.c960_board.specs.declared.piece.Kind.TheVariants.{Pawn, Knight, Bishop, Rook, Queen, King}
 use Rattle.c960_board.specs.declared.parts.Parts.{Parts}
 use Rattle.c960_board.specs.Squares.{rank_of}
-use Rattle.c960_board.specs.Pieces.{Cell, is_of, holds}
+use Rattle.c960_board.specs.Pieces.{is_of, holds}
 use Rattle.c960_board.specs.Moves.{Triple, IsMove}
 use Rattle.c960_rules.specs.Reaches.{Reaches, last_rank, reaches}
 use Rattle.c960_rules.specs.Castles.{Castles, castles}
-use Rattle.c960_rules.specs.Legal.{Legal, is_legal, legal_list, all_moves, promotions}
-use Rattle.c960_rules.specs.Listing.{promotes, triple, moves_between, moves_to_below, moves_from, moves_from_below, legal_one, legal_promotions, legal_between, legal_to_below, legal_on, legal_from_below}
+use Rattle.c960_rules.specs.Legal.{Legal, is_legal, all_moves, promotions}
+use Rattle.c960_rules.specs.Listing.{promotes, triple, moves_between, moves_to_below, moves_from, moves_from_below, legal_one, legal_promotions, legal_between, legal_to_below, legal_on}
 use Rattle.c960_rules.proofs.BoolFacts.{so_parts}
 use Rattle.c960_rules.proofs.PieceFacts.{piece_on, is_own, is_holds, holds_is, one_kind}
 use Rattle.c960_rules.proofs.MoveTests.{leaves_check, reaches_tells, castles_tells, legal_tells, legal_from}

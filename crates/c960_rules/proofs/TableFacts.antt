@@ -1,14 +1,10 @@
 -- Lists filled place by place.
-use Rattle.std.proofs.Common.{◌≡◌, ℕ, ◌+◌, ◌<◌, List, Bool, None, false, length, get_or, arith, ◌∙◌, inl, inr}
-use Rattle.std.specs.Prelude.{slice_set}
-use Rattle.std.proofs.lemmas.Bool.{cases_eq}
-use Rattle.std.proofs.lemmas.List.{get_or-set_same, get_or-set_other}
+use Rattle.std.proofs.Common.{◌≡◌, ℕ, ◌<◌, List, Bool, false, length, get_or}
 use Rattle.std.proofs.lemmas.List.FromFn.{fill_by_all}
 use Rattle.c960_board.specs.declared.piece.Colour.{Colour}
 use Rattle.c960_board.specs.declared.parts.Parts.{Parts}
-use Rattle.c960_board.specs.Pieces.{Cell}
 use Rattle.c960_board.specs.Moves.{Triple}
-use Rattle.c960_rules.specs.After.{cell_after, placement_after, keeps_right, rights_after}
+use Rattle.c960_rules.specs.After.{keeps_right, rights_after}
 
 -- rights that say of each file whether it keeps its right are the rights after a move
 pub are_rights_after : (p : Parts) (m : Triple) (c : Colour) (files : List Bool) → length files ≡ 8

@@ -7,7 +7,7 @@ use Rattle.c960_board.specs.declared.piece.Kind.TheVariants.{Rook}
 use Rattle.c960_board.specs.declared.piece.Piece.{Piece}
 use Rattle.c960_board.specs.declared.parts.Parts.{Parts}
 use Rattle.c960_board.specs.Moves.{Triple}
-use Rattle.c960_board.specs.Squares.{file_of, home_square}
+use Rattle.c960_board.specs.Squares.{file_of}
 use Rattle.c960_board.specs.Pieces.{Cell, man, is_of}
 use Rattle.c960_board.specs.Position.{IsPosition}
 use Rattle.c960_board.specs.Sets.{is_kind}

@@ -10,3 +10,4 @@ pub mod Progress
 pub mod Listing
 pub mod Wheres
 pub mod Safety
+pub mod Carried

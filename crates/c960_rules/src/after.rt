@@ -1,12 +1,12 @@
 //! The position after a move (FIDE Laws, Articles 3.1, 3.7 and 3.8.2; Guidelines II.3).
 
-ghost use Rattle.std.specs.Prelude.{◌≡◌, ◌<◌, ◌*◌, ◌^◌, ◌%◌, IsFalse, bit_and, bit_or};
-ghost use Rattle.std.specs.Int.{bit_not, w64};
+ghost use Rattle.std.specs.Prelude.{◌≡◌, ◌<◌, ◌*◌, ◌^◌, ◌%◌, IsFalse, bit_or};
 ghost use mir.Val.{bool_byte};
 ghost use Rattle.c960_board.specs.Pieces.{is_of};
 ghost use Rattle.c960_board.specs.Position.{cell_at};
 ghost use Rattle.c960_board.specs.Sets.{sets_of};
 ghost use Rattle.c960_rules.specs.After.{placement_after, keeps_right, rights_after, target_after, half_moves_after, number_after, after};
+ghost use Rattle.c960_rules.specs.Carried.{taken_off, put_on};
 ghost use Rattle.c960_rules.specs.Castles.{Castles};
 ghost use Rattle.c960_rules.specs.Check.{IsLawful};
 ghost use Rattle.c960_rules.specs.Legal.{Legal};
@@ -17,7 +17,7 @@ use crate::cells::{holds, is_of};
 use crate::placement::landed;
 use crate::safety::passed;
 use crate::sides::{ahead, home_square};
-use c960_board::{CastlingRights, Colour, Kind, Move, Position, Sets, Square};
+use c960_board::{CastlingRights, Colour, Kind, Move, Piece, Position, Sets, Square};
 
 /// Whether the right of that file outlives the move.
 #[tactic(auto, unfolding(crate::specs::After::keeps_right))]
@@ -85,21 +85,46 @@ fn number_after(colour: Colour, number: u16) -> u16
     }
 }
 
-/// A set of squares after an ordinary move: what changed is taken out, and the goal put in where what lands belongs.
+/// A set of squares with one more, if it belongs there.
 #[inline(always)]
-fn set_after(set: u64, changed: u64, belongs: bool, to: Square) -> u64
-    ensures { result ≡ bit_or (bit_and set (bit_not w64 changed)) (bool_byte belongs * 2 ^ to % 2 ^ 64) }
+fn with(set: u64, belongs: bool, square: Square) -> u64
+    ensures { result ≡ bit_or set (bool_byte belongs * 2 ^ square % 2 ^ 64) }
 {
-    (set & !changed) | (u64::from(belongs) << to.number())
+    set | (u64::from(belongs) << square.number())
 }
 
-/// A set of squares after castling: king and rook are taken out, and put in on their goals where they belong.
+/// The sets without what stands on these squares.
 #[inline(always)]
-fn set_castled(set: u64, gone: u64, is_king: bool, king: Square, is_rook: bool, rook: Square) -> u64
-    ensures { result ≡ bit_or (bit_or (bit_and set (bit_not w64 gone)) (bool_byte is_king * 2 ^ king % 2 ^ 64))
-        (bool_byte is_rook * 2 ^ rook % 2 ^ 64) }
+fn taken_off(sets: &Sets, gone: u64) -> Sets
+    ensures { result ≡ taken_off gone sets.now }
 {
-    (set & !gone) | (u64::from(is_king) << king.number()) | (u64::from(is_rook) << rook.number())
+    Sets {
+        white: sets.white & !gone,
+        black: sets.black & !gone,
+        pawns: sets.pawns & !gone,
+        knights: sets.knights & !gone,
+        bishops: sets.bishops & !gone,
+        rooks: sets.rooks & !gone,
+        queens: sets.queens & !gone,
+        kings: sets.kings & !gone,
+    }
+}
+
+/// The sets with what the cell holds on a square.
+#[inline(always)]
+fn put_on(sets: &Sets, cell: Option<Piece>, square: Square) -> Sets
+    ensures { result ≡ put_on cell square sets.now }
+{
+    Sets {
+        white: with(sets.white, Sets::is_of(cell, Colour::White), square),
+        black: with(sets.black, Sets::is_of(cell, Colour::Black), square),
+        pawns: with(sets.pawns, Sets::is_kind(cell, Kind::Pawn), square),
+        knights: with(sets.knights, Sets::is_kind(cell, Kind::Knight), square),
+        bishops: with(sets.bishops, Sets::is_kind(cell, Kind::Bishop), square),
+        rooks: with(sets.rooks, Sets::is_kind(cell, Kind::Rook), square),
+        queens: with(sets.queens, Sets::is_kind(cell, Kind::Queen), square),
+        kings: with(sets.kings, Sets::is_kind(cell, Kind::King), square),
+    }
 }
 
 /// The sets of the placement after castling.
@@ -114,72 +139,9 @@ fn sets_castled(position: &Position, m: &Move) -> Sets
     let king = position.piece_at(m.from);
     let rook = position.piece_at(m.to);
     let gone = only(m.from) | only(m.to);
-    Sets {
-        white: set_castled(
-            sets.white,
-            gone,
-            Sets::is_of(king, Colour::White),
-            goal,
-            Sets::is_of(rook, Colour::White),
-            place,
-        ),
-        black: set_castled(
-            sets.black,
-            gone,
-            Sets::is_of(king, Colour::Black),
-            goal,
-            Sets::is_of(rook, Colour::Black),
-            place,
-        ),
-        pawns: set_castled(
-            sets.pawns,
-            gone,
-            Sets::is_kind(king, Kind::Pawn),
-            goal,
-            Sets::is_kind(rook, Kind::Pawn),
-            place,
-        ),
-        knights: set_castled(
-            sets.knights,
-            gone,
-            Sets::is_kind(king, Kind::Knight),
-            goal,
-            Sets::is_kind(rook, Kind::Knight),
-            place,
-        ),
-        bishops: set_castled(
-            sets.bishops,
-            gone,
-            Sets::is_kind(king, Kind::Bishop),
-            goal,
-            Sets::is_kind(rook, Kind::Bishop),
-            place,
-        ),
-        rooks: set_castled(
-            sets.rooks,
-            gone,
-            Sets::is_kind(king, Kind::Rook),
-            goal,
-            Sets::is_kind(rook, Kind::Rook),
-            place,
-        ),
-        queens: set_castled(
-            sets.queens,
-            gone,
-            Sets::is_kind(king, Kind::Queen),
-            goal,
-            Sets::is_kind(rook, Kind::Queen),
-            place,
-        ),
-        kings: set_castled(
-            sets.kings,
-            gone,
-            Sets::is_kind(king, Kind::King),
-            goal,
-            Sets::is_kind(rook, Kind::King),
-            place,
-        ),
-    }
+    let left = taken_off(&sets, gone);
+    let with_king = put_on(&left, king, goal);
+    put_on(&with_king, rook, place)
 }
 
 /// The sets of the placement after an ordinary move.
@@ -191,31 +153,8 @@ fn sets_moved(position: &Position, m: &Move) -> Sets
     let sets = position.sets();
     let piece = landed(position.piece_at(m.from), m.promotion);
     let changed = only(m.from) | (only(m.to) | passed(position, m));
-    Sets {
-        white: set_after(sets.white, changed, Sets::is_of(piece, Colour::White), m.to),
-        black: set_after(sets.black, changed, Sets::is_of(piece, Colour::Black), m.to),
-        pawns: set_after(sets.pawns, changed, Sets::is_kind(piece, Kind::Pawn), m.to),
-        knights: set_after(
-            sets.knights,
-            changed,
-            Sets::is_kind(piece, Kind::Knight),
-            m.to,
-        ),
-        bishops: set_after(
-            sets.bishops,
-            changed,
-            Sets::is_kind(piece, Kind::Bishop),
-            m.to,
-        ),
-        rooks: set_after(sets.rooks, changed, Sets::is_kind(piece, Kind::Rook), m.to),
-        queens: set_after(
-            sets.queens,
-            changed,
-            Sets::is_kind(piece, Kind::Queen),
-            m.to,
-        ),
-        kings: set_after(sets.kings, changed, Sets::is_kind(piece, Kind::King), m.to),
-    }
+    let left = taken_off(&sets, changed);
+    put_on(&left, piece, m.to)
 }
 
 /// The sets of the placement after a legal move: a move onto a piece of the mover's own side is castling.

@@ -1,4 +1,4 @@
-use Rattle.std.proofs.Common.{◌&&◌, ◌||◌, ap, ◌∙◌}
+use Rattle.std.proofs.Common.{◌&&◌, ◌||◌, ap}
 use Rattle.c960_board.specs.declared.piece.Kind.TheVariants.{Pawn, Knight, King}
 use Rattle.c960_board.specs.declared.sets.Sets.{Sets}
 use Rattle.c960_board.specs.Pieces.{is_of}

@@ -1,4 +1,4 @@
-use Rattle.std.proofs.Common.{ap, ◌∙◌, subst, sym}
+use Rattle.std.proofs.Common.{subst, sym}
 use Rattle.c960_board.specs.declared.piece.Colour.{Colour}
 use Rattle.c960_rules.specs.Attacks.{AttackedBy}
 use Rattle.c960_rules.proofs.AfterSets.{king_attacked}

@@ -1,7 +1,7 @@
-use Rattle.std.proofs.Common.{ℕ, ap, ◌∙◌}
+use Rattle.std.proofs.Common.{ap, ◌∙◌}
 use Rattle.c960_board.specs.declared.piece.Colour.{Colour}
 use Rattle.c960_board.specs.declared.piece.Kind.TheVariants.{Pawn}
-use Rattle.c960_board.specs.Pieces.{Cell, holds}
+use Rattle.c960_board.specs.Pieces.{holds}
 use Rattle.c960_board.specs.Position.{cell_at}
 use Rattle.c960_board.specs.Sets.{set_of}
 use Rattle.c960_rules.specs.Wheres.{where_set, is_pawn_hit}

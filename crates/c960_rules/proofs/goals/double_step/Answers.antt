@@ -1,15 +1,12 @@
-use Rattle.std.proofs.Common.{◌≡◌, ◌≤◌, ◌<◌, ℕ, ap, sym, not, true, false, ◌∙◌, ◌&&◌, arith}
+use Rattle.std.proofs.Common.{ℕ, ap, sym, not, ◌∙◌, ◌&&◌, arith}
 use Rattle.std.specs.Prelude.{◌==◌}
-use Rattle.std.proofs.lemmas.Bool.{eqb-true}
 use Rattle.c960_board.specs.declared.piece.Colour.{Colour}
-use Rattle.c960_board.specs.declared.piece.Colour.TheVariants.{White, Black}
 use Rattle.c960_board.specs.Position.{cell_at}
 use Rattle.c960_board.specs.Sets.{is_occupied, is_in}
 use Rattle.c960_board.specs.Squares.{rank_of, ahead}
 use Rattle.c960_rules.specs.Reaches.{pawn_rank, steps_twice}
 use Rattle.c960_rules.specs.Wheres.{where_set}
 use Rattle.c960_rules.proofs.GoalFacts.{pawn_in, first_ahead, twice_elsewhere, twice_barred, twice_is}
-use Rattle.c960_rules.proofs.InnerRanks.{IsInner}
 use Rattle.c960_rules.proofs.WhereFacts.{in_where, where_agree, where_and, where_not, where_nothing, set_where}
 use Rattle.c960_rules.proofs.goals.double_step.Goals as goal
 

@@ -1,7 +1,7 @@
-use Rattle.std.proofs.Common.{◌≡◌, ℕ, Bool, true, false, not, ◌&&◌, Some, None, sym, ◌∙◌, ap}
+use Rattle.std.proofs.Common.{◌≡◌, true, false, not, Some, sym, ◌∙◌, ap}
 use Rattle.c960_board.specs.declared.piece.Colour.{Colour}
 use Rattle.c960_board.specs.declared.piece.Kind.TheVariants.{Pawn}
-use Rattle.c960_board.specs.Pieces.{man, is_of, holds}
+use Rattle.c960_board.specs.Pieces.{is_of}
 use Rattle.c960_board.specs.Position.{cell_at}
 use Rattle.c960_rules.specs.Listing.{pawn_goes, goes_to}
 use Rattle.c960_rules.specs.Wheres.{where_set}

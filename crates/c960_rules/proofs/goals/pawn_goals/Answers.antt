@@ -1,4 +1,4 @@
-use Rattle.std.proofs.Common.{ℕ, ◌∙◌, ◌||◌, refl}
+use Rattle.std.proofs.Common.{◌||◌}
 use Rattle.c960_rules.specs.Reaches.{steps, steps_twice, takes}
 use Rattle.c960_rules.specs.Listing.{pawn_goes}
 use Rattle.c960_rules.proofs.WhereFacts.{where_or}

@@ -1,4 +1,4 @@
-use Rattle.std.proofs.Common.{ℕ, sym, ◌∙◌, refl, false}
+use Rattle.std.proofs.Common.{sym, ◌∙◌, refl, false}
 use Rattle.std.specs.Prelude.{◌==◌}
 use Rattle.std.proofs.lemmas.Bool.{eqb-true, eq-eqb}
 use Rattle.c960_rules.proofs.AttackAgree.{same_tests}

@@ -1,4 +1,4 @@
-use Rattle.std.proofs.Common.{◌≡◌, ℕ, ap, ◌∙◌, refl}
+use Rattle.std.proofs.Common.{refl}
 use Rattle.c960_rules.specs.declared.between.TheConstants.{BETWEEN}
 use Rattle.c960_rules.specs.Lines.{between}
 use Rattle.c960_rules.specs.Wheres.{where_set}
