@@ -1,5 +1,5 @@
 -- Each kind of step is allowed by the table's rule, and tells what its play says.
-use Rattle.std.proofs.Common.{◌≡◌, ℕ, ◌+◌, ◌-◌, ◌*◌, ◌/◌, ◌%◌, ◌^◌, ◌<◌, ◌≤◌, true, List, [], ◌∷◌, ◌++◌, length, get_or, replicate, Some, None, sym, refl, ap, ◌∙◌, subst, arith, eqb}
+use Rattle.std.proofs.Common.{◌≡◌, ℕ, ◌+◌, ◌-◌, ◌*◌, ◌/◌, ◌%◌, ◌^◌, ◌<◌, ◌≤◌, true, List, [], ◌∷◌, ◌++◌, length, get_or, replicate, Some, None, sym, refl, ap, ◌∙◌, subst, arith, cond, eqb, eq-eqb}
 use mathlib.Core.Option.{none, some}
 use lib.ListN.{get_elem?}
 use prog.Atomic.{either}
@@ -21,19 +21,19 @@ use Rattle.live_steps.specs.declared.note.Note.TheVariants.{Vacant, Open as Open
 use Rattle.live_steps.specs.declared.view.Part.{Part}
 use Rattle.live_steps.specs.declared.view.View.{View}
 use Rattle.live_steps.specs.Words.{cursor_at, move_word_at, header_word, status_word, cursor_of, outcome_number, outcome_numbered}
-use Rattle.live_steps.specs.Views.{next_of, starting, followed, kept_part, given_part, storing, published, finished, each_part, sees, finds, gains, only_at, noted, cutting, left_at, taking_in, spent}
-use Rattle.live_steps.specs.Shows.{Table, Shows}
+use Rattle.live_steps.specs.Views.{next_of, starting, followed, kept_part, given_part, storing, published, finished, each_part, sees, finds, gains, learns, only_at, carrying, noted, cutting, left_at, taking_in, spent}
+use Rattle.live_steps.specs.Shows.{Table, ShowsPart, Shows}
 use Rattle.live_steps.specs.Rule.{Kept, IsEvent}
 use Rattle.live_steps.specs.Plays.{Seat, follows, stores, publishes, finishes, looks, reads, takes, checks, cuts, leaves}
 use Rattle.live_steps.specs.Kinds.{after}
-use Rattle.live_steps.proofs.Checking.{loads_a_cursor, note_follows, closes_a_cursor, missed}
+use Rattle.live_steps.proofs.Checking.{loads_a_cursor, learned_ok, note_follows, closes_a_cursor, missed}
 use Rattle.live_steps.proofs.Codes.{code_same, logged_is_move, outcome_back}
-use Rattle.live_steps.proofs.Handing.{splits_off, joins_parts}
+use Rattle.live_steps.proofs.Handing.{splits_off, splits_off_nothing, joins_parts}
 use Rattle.live_steps.proofs.Leaving.{swaps_out}
 use Rattle.live_steps.proofs.Looking.{status_says, loads_the_status, loads_a_move}
 use Rattle.live_steps.proofs.Opening.{makes_the_table}
 use Rattle.live_steps.proofs.Publishing.{stores_an_open_cursor, stores_a_move, stores_the_length, stores_the_outcome}
-use Rattle.live_steps.proofs.SoundViews.{told}
+use Rattle.live_steps.proofs.SoundViews.{sound_part, told}
 use Rattle.live_steps.proofs.Taking.{adds_one}
 use Rattle.std.proofs.lemmas.Option.{same_Some}
 
@@ -65,6 +65,9 @@ allows_following z slots id m k p inside owns note low close small s q _ seat _ 
 -- 3
 pub allows_splitting : (z : BoardSetup) (id : ℕ) (v : View) → Splits (Kept z) id v (kept_part v) (given_part v)
 allows_splitting z id v s q seat = kept_silent z s _ q (splits_off z q.now s id v q.shows seat)
+
+pub allows_sparing : (z : BoardSetup) (id : ℕ) (v : View) → Splits (Kept z) id v v (carrying v.setup [])
+allows_sparing z id v s q seat = kept_silent z s _ q (splits_off_nothing z q.now s id v q.shows seat)
 
 -- 4
 pub allows_storing : (z : BoardSetup) (slots id : ℕ) (m : Seat) (x : Triple) → m.0.owns ≡ true → IsMove x → length m.0.log < z.limits.plies
@@ -217,7 +220,18 @@ allows_leaving z slots id m i p mine s q _ seat _ =
     let word : ℕ = p.place + 2 in
     let w = left_at word (get_or s.words word 0) m.0 in
     let kept = kept_event z s (after s word 0 id m w) q (Leave p.place) (swaps_out z q.now s id m q.shows seat i p mine) in
-    (w, keeps, tt, kept, (told z s word 0 id m w seat kept, refl))
+    let n : ℕ = get_or s.words word 0 in (
+      w,
+      keeps,
+      tt,
+      kept,
+      (
+        told z s word 0 id m w seat kept,
+        refl,
+        λ j x d is. sound_part z q.now s q.shows (learns n x)
+            (subst (ShowsPart z q.now) (λ k. cond (eq-eqb (x.place + 2) word is k) (learns n x) x) (learned_ok z q.now s q.shows word x (q.shows.parts id m.0 seat j x d))),
+      ),
+    )
 
 -- 12
 pub allows_joining : (z : BoardSetup) (id : ℕ) (v : View) (other : ℕ) (w : View) → Joins (Kept z) id v other w (taking_in v w) spent

@@ -60,7 +60,7 @@ noted_ok z a s r k v inside b =
           (notes_put a.followers k v.notes (note_after (get_or v.notes k Vacant) n) b.notes true-note);
     }
 
-learned_ok : (z : BoardSetup) (a : SharedBoard) (s : Table) (r : Shows z a s) (word : ℕ) (p : Part) → ShowsPart z a p → ShowsPart z a (only_at word (learns (get_or s.words word 0)) p)
+pub learned_ok : (z : BoardSetup) (a : SharedBoard) (s : Table) (r : Shows z a s) (word : ℕ) (p : Part) → ShowsPart z a p → ShowsPart z a (only_at word (learns (get_or s.words word 0)) p)
 learned_ok z a s r word p h =
     let n : ℕ = get_or s.words word 0 in
     pick (ShowsPart z a) (eqb (p.place + 2) word) (learns n p) p

@@ -5,9 +5,9 @@ use lib.ListN.{get_elem?}
 use Rattle.atomic_table.proofs.Lists.{at_set, at_snoc}
 use Rattle.live_steps.specs.declared.view.Part.{Part}
 use Rattle.live_steps.specs.declared.view.View.{View}
-use Rattle.live_steps.specs.Views.{first_of, others, kept_part, given_part, taking_in, spent}
+use Rattle.live_steps.specs.Views.{first_of, others, kept_part, given_part, carrying, taking_in, spent}
 use Rattle.live_steps.specs.Shows.{total, is_at, ShowsPart}
-use Rattle.live_steps.specs.Kinds.{SplitsOff, JoinsParts}
+use Rattle.live_steps.specs.Kinds.{SplitsOff, SplitsOffNothing, JoinsParts}
 use Rattle.live_steps.proofs.Steps.{Fits, fits, fits_set, viewed, with_parts, off}
 use Rattle.live_steps.proofs.Totals.{total-append, total-set}
 
@@ -38,6 +38,17 @@ splits_off z a s id v r seat =
     viewed z a s r (set s.views id l ++ n ∷ []) every
     (λ k h. let f : View → ℕ = λ u. total (is_at k) u.parts in
     omega (arith, total-append f (set s.views id l) (n ∷ []), total-set f s.views id v l seat, cut_total (is_at k) v.parts, r.one_part k h))
+
+pub splits_off_nothing : SplitsOffNothing
+splits_off_nothing z a s id v r seat =
+    let n = carrying v.setup [] in
+    let all = fits_set z a s.words s.views id v (λ j u _ e. fits z a s r j u e) (r.board id v seat, r.parts id v seat) in
+    let fresh : (j : ℕ) → Fits z a s.words j n = λ j. ((λ o. absurd (off o)), λ i p e. absurd (some-ne-none p (sym e))) in
+    let every : (j : ℕ) (u : View) → get_elem? (set s.views id v ++ n ∷ []) j ≡ some u → Fits z a s.words j u = λ j u e.
+    ⊎_elim (λ x. all j u x) (λ (x : n ≡ u). subst (Fits z a s.words j) x (fresh j)) (at_snoc (set s.views id v) n u j e) in
+    viewed z a s r (set s.views id v ++ n ∷ []) every
+    (λ k h. let f : View → ℕ = λ u. total (is_at k) u.parts in
+    omega (arith, total-append f (set s.views id v) (n ∷ []), total-set f s.views id v v seat, r.one_part k h))
 
 -- ---- 12.
 

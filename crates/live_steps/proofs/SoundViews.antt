@@ -22,7 +22,7 @@ use Rattle.live_steps.proofs.Notes.{follower}
 use Rattle.live_steps.proofs.Parts.{same_part}
 use Rattle.live_steps.proofs.Steps.{opt_cases}
 
-sound_part : (z : BoardSetup) (a : SharedBoard) (s : Table) → Shows z a s → (p : Part) → ShowsPart z a p → IsSoundPart p
+pub sound_part : (z : BoardSetup) (a : SharedBoard) (s : Table) → Shows z a s → (p : Part) → ShowsPart z a p → IsSoundPart p
 sound_part z a s r p h =
     let here = (r.shared.places p.place _ h.has).1 in
     let followers = ap (λ (t : BoardSetup). t.limits.followers) h.setup_is in

@@ -20,7 +20,7 @@ use Rattle.live_steps.specs.declared.note.Note.TheVariants.{Vacant, Open as Open
 use Rattle.live_steps.specs.declared.view.Part.{Part}
 use Rattle.live_steps.specs.declared.view.View.{View}
 use Rattle.live_steps.specs.Words.{cursor_at, move_word_at, header_word, status_word, cursor_of}
-use Rattle.live_steps.specs.Views.{next_of, starting, followed, kept_part, given_part, storing, published, finished, each_part, sees, finds, gains, only_at, noted, cutting, left_at, taking_in, spent}
+use Rattle.live_steps.specs.Views.{next_of, starting, followed, kept_part, given_part, storing, published, finished, each_part, sees, finds, gains, only_at, noted, cutting, left_at, carrying, taking_in, spent}
 use Rattle.live_steps.specs.Shows.{Table, Shows}
 use Rattle.live_steps.specs.Rule.{IsEvent, IsSilent}
 use Rattle.live_steps.specs.Plays.{Seat}
@@ -60,6 +60,12 @@ abbrev pub SplitsOff : Type 0
 SplitsOff =
     (z : BoardSetup) (a : SharedBoard) (s : Table) (id : ℕ) (v : View) → Shows z a s → get_elem? s.views id ≡ some v
     → IsSilent z a record { words = s.words; homes = s.homes; views = slice_set s.views id (kept_part v) ++ given_part v ∷ [] }
+
+-- 3. Or it makes a seat that carries nothing: silent.
+abbrev pub SplitsOffNothing : Type 0
+SplitsOffNothing =
+    (z : BoardSetup) (a : SharedBoard) (s : Table) (id : ℕ) (v : View) → Shows z a s → get_elem? s.views id ≡ some v
+    → IsSilent z a record { words = s.words; homes = s.homes; views = slice_set s.views id v ++ carrying v.setup [] ∷ [] }
 
 -- 4. The board stores a move in the word at the length: silent.
 abbrev pub StoresAMove : Type 0

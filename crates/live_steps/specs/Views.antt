@@ -93,6 +93,13 @@ carrying z ps = record { owns = false; setup = z; log = []; outcome = None; stor
 abbrev pub given_part : View → View
 given_part v = carrying v.setup (first_of v.parts)
 
+-- 3: or the board as it is, and a seat that carries nothing
+abbrev pub same : View → View
+same v = v
+
+abbrev pub bare : View → View
+bare v = carrying v.setup []
+
 -- 4: a move is stored, and not yet published
 abbrev pub storing : Triple → View → View
 storing m v = board v v.log v.outcome (Some m) v.notes v.checks v.closings v.parts

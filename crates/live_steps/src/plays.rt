@@ -1,6 +1,6 @@
 //! What each kind of step tells who steps. The numbers are those of the table of kinds in docs/LIVE.md.
 
-ghost use Rattle.live_steps.specs.Views.{given_part, kept_part, spent, taking_in};
+ghost use Rattle.live_steps.specs.Views.{bare, given_part, kept_part, same, spent, taking_in};
 ghost use Rattle.live_steps.specs.Plays.{checks, cuts, finishes, follows, leaves, looks, publishes, reads, stores, takes};
 
 use crate::view::View;
@@ -26,6 +26,15 @@ impl Join<View> for Hand {
     ghost both = { taking_in };
 
     ghost spent = { spent };
+}
+
+/// 3: a seat is made that carries nothing.
+pub struct Spare;
+
+impl Split<View> for Spare {
+    ghost left = { same };
+
+    ghost right = { bare };
 }
 
 /// 4: the move is stored at the length.

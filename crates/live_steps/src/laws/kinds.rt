@@ -1,6 +1,6 @@
 //! The kinds of atomic step, one law each: every step of the kind keeps what the table shows, and is its event.
 
-ghost use Rattle.live_steps.specs.Kinds.{AddsOne, ClosesACursor, JoinsParts, LoadsACursor, LoadsAMove, LoadsTheStatus, MakesTheTable, SplitsOff, StoresAMove, StoresAnOpenCursor, StoresTheLength, StoresTheOutcome, SwapsOut};
+ghost use Rattle.live_steps.specs.Kinds.{AddsOne, ClosesACursor, JoinsParts, LoadsACursor, LoadsAMove, LoadsTheStatus, MakesTheTable, SplitsOff, SplitsOffNothing, StoresAMove, StoresAnOpenCursor, StoresTheLength, StoresTheOutcome, SwapsOut};
 
 /// 1: the table is made, which is the event open.
 pub fn making_the_table_is_open()
@@ -12,9 +12,10 @@ pub fn storing_an_open_cursor_is_follow()
     ensures { StoresAnOpenCursor }
 {}
 
-/// 3: the board hands out a part, which is silent.
+/// 3: the board hands out a part, or makes a seat that carries none, which is silent.
 pub fn splitting_off_is_silent()
-    ensures { SplitsOff }
+    ensures part { SplitsOff }
+    ensures nothing { SplitsOffNothing }
 {}
 
 /// 4: the board stores a move, which is silent.
