@@ -30,15 +30,15 @@ for round in $(seq "${ROUNDS:-3}"); do
     for followers in 0 1 64; do
         for which in ${OLD:+OLD} NEW; do
             eval "program=\$$which"
-            timed "script $followers" "$which" sh -c '"$0" script --boards 1024 --plies 1250 < "lines-$1" > "answers-script-$1-$2"' "$program" "$followers" "$which"
+            timed "script $followers" "$which" sh -c '"$0" script --boards 256 --followers 1024 --plies 16384 < "lines-$1" > "answers-script-$1-$2"' "$program" "$followers" "$which"
         done
     done
-    timed "positions" COUNT "$COUNT"
-    [ -z "${OLD_COUNT-}" ] || timed "positions" OLD_COUNT "$OLD_COUNT"
+    timed "positions" COUNT sh -c '"$0" deep > answers-count' "$COUNT"
+    [ -z "${OLD_COUNT-}" ] || timed "positions" OLD_COUNT sh -c '"$0" deep > answers-old-count' "$OLD_COUNT"
     for position in 'rnbqkbnr/pppppppp/8/8/8/8/PPPPPPPP/RNBQKBNR w HAha - 0 1|6' \
         'r3k2r/p1ppqpb1/bn2pnp1/3PN3/1p2P3/2N2Q1p/PPPBBPPP/R3K2R w HAha - 0 1|5' 'n1n5/PPPk4/8/8/8/8/4Kppp/5N1N b - - 0 1|6'; do
         timed "positions of ${position%% *}" Stockfish sh -c 'printf "setoption name UCI_Chess960 value true\nposition fen %s\ngo perft %s\nquit\n" "${0%|*}" "${0#*|}" | /usr/games/stockfish > answers-stockfish' "$position"
     done
-    [ -z "${RELAY-}" ] || timed "relay" RELAY "$RELAY"
+    [ -z "${RELAY-}" ] || timed "relay" RELAY sh -c '"$0" < "$1/../crates/bench_relay/stdin" > answers-relay' "$RELAY" "$here"
 done
 cat /proc/loadavg

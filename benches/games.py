@@ -111,4 +111,5 @@ def main(folder, plies):
         print(f"{kind}: {games} games, {written} plies")
 
 
-main(sys.argv[1], int(sys.argv[2]))
+if __name__ == "__main__":
+    main(sys.argv[1], int(sys.argv[2]))

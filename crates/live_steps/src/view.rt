@@ -40,7 +40,7 @@ pub struct View {
     pub stored: Option<Move>,
     /// What the board notes of each cursor place.
     pub notes: LinkedList<Note>,
-    /// How often it has loaded each cursor.
+    /// How often it has loaded each cursor. An exchange that failed counts as a load, one that closed a follower does not.
     pub checks: LinkedList<u64>,
     /// The cursor places that it closed, in order.
     pub closings: LinkedList<u64>,

@@ -1,16 +1,11 @@
 -- Lemmas on lines that were answered one after another.
-use Rattle.std.proofs.Common.{◌≡◌, ℕ, ◌+◌, List, [], ◌∷◌, ◌++◌, length, take, map, refl, sym, ap, ◌∙◌, subst}
+use Rattle.std.proofs.Common.{ℕ, ◌+◌, List, [], ◌∷◌, ◌++◌, length, take, map, refl, sym, ap, ◌∙◌, subst}
 use Rattle.std.proofs.Common.{append_assoc, append-nil}
-use Rattle.std.proofs.Common.{Result, Ok, Err, OnOk, OnErr, IfErr}
 use Rattle.std.proofs.Math.Seq.{take-append-add}
-use Rattle.std.proofs.KnownBytes.{Appends-trans, Appends-nil, Appends-kept}
-use Rattle.std.specs.Io.KnownBytes.{Appends, Keeps}
-use Rattle.relay960_engines.specs.declared.fault.RunFault.{RunFault}
-use Rattle.relay960_engines.specs.declared.fault.RunFault.TheVariants.{Read, Write, TooLong, OutOfMemory, BadStart}
-use Rattle.relay960_engines.specs.Writing.{AppendsPart}
+use Rattle.std.proofs.KnownBytes.{Appends-trans, Appends-nil}
+use Rattle.std.specs.Io.KnownBytes.{Appends}
 use Rattle.relay960_engines.specs.Lines.{Giving, Answers, Between}
 use Rattle.relay960_engines.specs.Runs.{Known, Wrote, WrotePart}
-use Rattle.relay960_engines.specs.inner.Taking.{Unwritten}
 
 -- some lines and more behind them
 pub Answers-append : {S : Type 0} (gives : Giving S) (s t u : S) (ls ms : List (List ℕ)) (xs ys : List ℕ)
@@ -71,11 +66,6 @@ Wrote-part gives s t u ls ms a b c first second =
       );
     }
 
-pub Wrote-kept : {S : Type 0} (gives : Giving S) (s t : S) (ls : List (List ℕ)) (a b c : Known)
-    → Wrote (Between gives s t) ls a b → Keeps b c → Wrote (Between gives s t) ls a c
-Wrote-kept gives s t ls a b c wrote kept =
-    record { answers = wrote.answers; given = wrote.given; written = Appends-kept a b c wrote.answers wrote.written kept }
-
 -- the same of lines that are answered as their first 1,025 bytes are
 pub Wrote-whole : {S : Type 0} (gives : Giving S) (s t : S) (ls : List (List ℕ)) (a b : Known)
     → IsCut gives
@@ -94,22 +84,3 @@ WrotePart-whole gives s t ls a b cut wrote = record {
   given = Answers-whole gives s t ls wrote.answers cut wrote.given;
   written = wrote.written;
 }
-
--- ---- The writing of one answer.
-
-pub wrote_answer : {S T : Type 0} (gives : Giving S) (s t : S) (l xs : List ℕ) (a b : Known) (ran : Result T RunFault)
-    → gives s l xs t → OnOk ran (Appends a b xs) → OnOk ran (Wrote (Between gives s t) (l ∷ []) a b)
-wrote_answer gives s t l xs a b (Ok done) one written =
-    record { answers = xs; given = Answers-one gives s t l xs one; written = written }
-wrote_answer gives s t l xs a b (Err fault) one written = tt
-
-pub failed_answer : {S T : Type 0} (gives : Giving S) (s t : S) (l xs : List ℕ) (a b : Known) (ran : Result T RunFault)
-    → gives s l xs t → OnErr ran (AppendsPart a b xs) → IfErr ran (λ fault. fault ≡ Write)
-    → IfErr ran (λ fault. Unwritten gives s t (l ∷ []) a b fault)
-failed_answer gives s t l xs a b (Ok done) one part is = tt
-failed_answer gives s t l xs a b (Err Write) one part is =
-    record { answers = xs; given = Answers-one gives s t l xs one; written = part }
-failed_answer gives s t l xs a b (Err Read) one part is = cc
-failed_answer gives s t l xs a b (Err TooLong) one part is = cc
-failed_answer gives s t l xs a b (Err OutOfMemory) one part is = cc
-failed_answer gives s t l xs a b (Err BadStart) one part is = cc

@@ -3,6 +3,7 @@ pub mod Items
 pub mod AnswerFacts
 pub mod LineFacts
 pub mod AnsweredFacts
+pub mod SendingFacts
 pub mod TakingFacts
 pub mod StopFacts
 pub mod RunFacts

@@ -105,6 +105,11 @@ pub last_line-none : (line : List ℕ) → length line ≡ 0 → last_line line 
 last_line-none [] none = refl
 last_line-none (b ∷ bs) none = absurd (omega arith)
 
+-- any other is one
+pub last_line-whole : (line : List ℕ) → (length line == 0) ≡ false → last_line line ≡ line ∷ []
+last_line-whole [] more = cc
+last_line-whole (b ∷ bs) more = refl
+
 -- ---- The lines of bytes and of more behind them.
 
 whole_lines-append : (begun xs ys : List ℕ)

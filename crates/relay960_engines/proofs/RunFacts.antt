@@ -10,11 +10,13 @@ use Rattle.relay960_engines.specs.declared.fault.RunFault.TheVariants.{Read, Wri
 use Rattle.relay960_engines.specs.declared.progress.Progress.{Progress}
 use Rattle.relay960_engines.specs.Lines.{Giving, Answers, Until, whole_lines, last_piece, last_line, lines_of, Between}
 use Rattle.relay960_engines.specs.Runs.{Known, Wrote, WrotePart, Done, Stopped, IsPast}
+use Rattle.relay960_engines.specs.inner.Sending.{settled, Sent}
 use Rattle.relay960_engines.specs.inner.Taking.{kept_lines, kept_piece, Within, IsWithin, LastFits, TakenAll, Unwritten, StopsReading}
 use Rattle.relay960_engines.proofs.LineFacts.{kept_lines-take, kept_piece-take, last_line-take}
 use Rattle.relay960_engines.proofs.TakingFacts.{last_fits}
 use Rattle.relay960_engines.proofs.StopFacts.{nothing_read}
-use Rattle.relay960_engines.proofs.AnsweredFacts.{IsCut, Wrote-trans, Wrote-part, Wrote-kept, Wrote-whole, WrotePart-whole}
+use Rattle.relay960_engines.proofs.AnsweredFacts.{IsCut, Wrote-trans, Wrote-part, Wrote-whole, WrotePart-whole}
+use Rattle.relay960_engines.proofs.SendingFacts.{Sent-kept, Sent-wrote, SentPart-wrote}
 
 -- ---- The lines of a run.
 
@@ -41,11 +43,12 @@ kept_number line bytes new = ap length (kept_whole line bytes new) ∙ length-ma
 
 module _ {S : Type 0} (gives : Giving S) (cut : IsCut gives) (s : S) (p : Progress) (bounds : Bounds)
     (old_input new_input a : Known) (line : p.line ≡ []) (answered : p.answered ≡ 0) (taken : p.taken ≡ 0) where
-  whole : (t : S) (b : Known) (seen : List ℕ) → Wrote (Between gives s t) (kept_lines p.line seen) a b
+  whole : (t : S) (b : Known) (seen : List ℕ) → Sent (Between gives s t) (kept_lines p.line seen) (settled a) (settled b)
       → Wrote (Between gives s t) (whole_lines [] seen) a b
-  whole t b seen wrote =
+  whole t b seen sent =
       Wrote-whole gives s t (whole_lines [] seen) a b cut
-      (subst (λ ls. Wrote (Between gives s t) ls a b) (kept_whole p.line seen line) wrote)
+      (subst (λ ls. Wrote (Between gives s t) ls a b) (kept_whole p.line seen line)
+      (Sent-wrote gives s t (kept_lines p.line seen) a b sent))
 
   -- the lines of bytes that leave room for the last of them
   all_fit : (seen : List ℕ) → LastFits bounds p seen → length (lines_of seen) ≤ bounds.lines
@@ -64,7 +67,7 @@ module _ {S : Type 0} (gives : Giving S) (cut : IsCut gives) (s : S) (p : Progre
   few_bytes seen within = omega (arith, within.bytes_within)
 
   -- the same where the state is not told
-  wrote_somewhere : (mid : S) (b : Known) (seen : List ℕ) → Wrote (Between gives s mid) (kept_lines p.line seen) a b
+  wrote_somewhere : (mid : S) (b : Known) (seen : List ℕ) → Sent (Between gives s mid) (kept_lines p.line seen) (settled a) (settled b)
       → Wrote (λ ls text. (m : S) × Answers gives s ls text m) (whole_lines [] seen) a b
   wrote_somewhere mid b seen wrote =
       let all = whole mid b seen wrote in
@@ -94,7 +97,8 @@ module _ {S : Type 0} (gives : Giving S) (cut : IsCut gives) (s : S) (p : Progre
       wrote = inl (
         few_lines within.seen within.within,
         WrotePart-whole gives s t (whole_lines [] within.seen) a b cut
-            (subst (λ ls. WrotePart (Between gives s t) ls a b) (kept_whole p.line within.seen line) within.stop),
+            (subst (λ ls. WrotePart (Between gives s t) ls a b) (kept_whole p.line within.seen line)
+            (SentPart-wrote gives s t (kept_lines p.line within.seen) a b within.stop)),
       );
     }
     | inr at_read ↦ let other : Write ≡ Read = at_read.0 in cc
@@ -151,6 +155,9 @@ module _ {S : Type 0} (gives : Giving S) (cut : IsCut gives) (s : S) (p : Progre
         sym (length-append (kept_lines p.line took.input) (last_line q.line)) ∙ ap length all_lines
         ∙ length-map (lines_of took.input) (take 1025)
 
+    taken_wrote : Wrote (Between gives s t) (kept_lines p.line took.input) a b
+    taken_wrote = Sent-wrote gives s t (kept_lines p.line took.input) a b took.took.sent
+
     pub done : Within bounds q → (ran : Result ℕ RunFault) → OnOk ran (Wrote (Between gives t u) (last_line q.line) b c)
         → IfOk ran (λ n. n ≡ q.answered + length (last_line q.line)) → IfOk ran (λ n. n ≤ bounds.lines)
         → IfOk ran (λ n. Done (Between gives s u) bounds old_input new_input a c n)
@@ -161,7 +168,7 @@ module _ {S : Type 0} (gives : Giving S) (cut : IsCut gives) (s : S) (p : Progre
           read = took.read;
           at_end = took.at_end;
           wrote = Wrote-whole gives s u (lines_of took.input) a c cut (subst (λ ls. Wrote (Between gives s u) ls a c) all_lines
-              (Wrote-trans gives s t u (kept_lines p.line took.input) (last_line q.line) a b c took.took.wrote wrote));
+              (Wrote-trans gives s t u (kept_lines p.line took.input) (last_line q.line) a b c taken_wrote wrote));
           count = omega (arith, count, took.took.count, answered, all_number);
           lines_within = few;
           bytes_within = omega (arith, within.taken_within, took.took.total, taken);
@@ -174,7 +181,7 @@ module _ {S : Type 0} (gives : Giving S) (cut : IsCut gives) (s : S) (p : Progre
     short within = omega (arith, within.taken_within, took.took.total)
 
     -- the answer to the last line was not written whole
-    pub stopped_last : Within bounds q → (ran : Result ℕ RunFault) → IfErr ran (λ fault. Unwritten gives t u (last_line q.line) b c fault)
+    pub stopped_last : Within bounds q → (ran : Result ℕ RunFault) → IfErr ran (λ fault. Unwritten gives t u (last_line q.line) (settled b) (settled c) fault)
         → IfErr ran (λ fault. Stopped (Until gives s u fault) bounds old_input new_input a c fault)
     stopped_last within (Ok n) part = tt
     stopped_last within (Err Write) part = record {
@@ -189,7 +196,8 @@ module _ {S : Type 0} (gives : Giving S) (cut : IsCut gives) (s : S) (p : Progre
         omega (arith, last_within within, took.took.count, answered, all_number),
         WrotePart-whole gives s u (lines_of took.input) a c cut
             (subst (λ ls. WrotePart (Between gives s u) ls a c) all_lines
-            (Wrote-part gives s t u (kept_lines p.line took.input) (last_line q.line) a b c took.took.wrote part)),
+            (Wrote-part gives s t u (kept_lines p.line took.input) (last_line q.line) a b c taken_wrote
+            (SentPart-wrote gives t u (last_line q.line) b c part))),
       );
     }
     stopped_last within (Err OutOfMemory) kept = record {
@@ -199,7 +207,8 @@ module _ {S : Type 0} (gives : Giving S) (cut : IsCut gives) (s : S) (p : Progre
       read = subst (Consumes old_input new_input) (sym (append-nil took.input)) took.read;
       lines_within = omega (arith, within.answered_within, took.took.count, kept_number p.line took.input line);
       bytes_within = short within;
-      wrote = wrote_somewhere t c took.input (Wrote-kept gives s t (kept_lines p.line took.input) a b c took.took.wrote kept);
+      wrote = wrote_somewhere t c took.input
+          (Sent-kept gives s t (kept_lines p.line took.input) (settled a) (settled b) (settled c) took.took.sent kept);
     }
     stopped_last within (Err Read) none = absurd none
     stopped_last within (Err TooLong) none = absurd none

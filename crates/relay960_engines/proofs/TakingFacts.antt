@@ -1,25 +1,28 @@
 -- Lemmas on bytes that were taken, and on a run that stopped within them.
 use Rattle.std.proofs.Common.{◌≡◌, ℕ, ◌+◌, ◌<◌, ◌≤◌, ◌⊎◌, ◌==◌, List, [], ◌∷◌, ◌++◌, length, take, drop, get_or, false}
-use Rattle.std.proofs.Common.{refl, sym, ap, ◌∙◌, subst, inl, inr, arith, append_assoc, length-append, take-append-drop}
+use Rattle.std.proofs.Common.{refl, sym, ap, ◌∙◌, subst, inl, inr, arith, append-nil, append_assoc, length-append, take-append-drop}
+use Rattle.std.proofs.Common.{Result, Ok, Err, OnOk, OnErr, IfErr}
 use Rattle.std.proofs.lemmas.List.{take_more}
 use Rattle.std.proofs.KnownBytes.{Consumes-trans}
-use Rattle.std.specs.Io.KnownBytes.{Consumes}
+use Rattle.std.specs.Io.KnownBytes.{Appends, Consumes}
 use Rattle.relay960_engines.specs.declared.bounds.Bounds.{Bounds}
 use Rattle.relay960_engines.specs.declared.fault.RunFault.{RunFault}
 use Rattle.relay960_engines.specs.declared.fault.RunFault.TheVariants.{Read, Write, TooLong, OutOfMemory, BadStart}
 use Rattle.relay960_engines.specs.declared.progress.Progress.{Progress}
 use Rattle.relay960_engines.specs.Lines.{Giving, Between, last_line}
-use Rattle.relay960_engines.specs.Runs.{Known, Wrote, WrotePart, one_read}
+use Rattle.relay960_engines.specs.Runs.{Known, one_read}
+use Rattle.relay960_engines.specs.Writing.{AppendsPart}
+use Rattle.relay960_engines.specs.inner.Sending.{Outlet, settled, Sends, Sent, SentPart}
 use Rattle.relay960_engines.specs.inner.Taking.{kept_with, kept_lines, kept_piece, Within, Taken, Unwritten, IsWithin, IsAtBound, StopsBy, StopsIn, StopsReading}
 use Rattle.relay960_engines.proofs.LineFacts.{kept_lines-append, kept_piece-append, kept_lines-end, kept_piece-end, kept_lines-more, kept_piece-more}
-use Rattle.relay960_engines.proofs.AnsweredFacts.{Wrote-nil, Wrote-trans, Wrote-part, Wrote-kept}
+use Rattle.relay960_engines.proofs.SendingFacts.{Sent-nil, Sent-none, Sent-none_part, Sent-trans, Sent-part, Sent-settled, Sent-unsettled}
 
 -- ---- Bytes that were taken.
 
-pub Taken-nil : {S : Type 0} (gives : Giving S) (s : S) (p : Progress) (a : Known) → Taken gives s s p p [] a a
+pub Taken-nil : {S : Type 0} (gives : Giving S) (s : S) (p : Progress) (a : Outlet) → Taken gives s s p p [] a a
 unfolding kept_lines kept_piece
 Taken-nil gives s p a =
-    record { wrote = Wrote-nil gives s a; piece = refl; count = omega arith; total = omega arith }
+    record { sent = Sent-nil gives s a; piece = refl; count = omega arith; total = omega arith }
 
 -- the lines of more bytes, where this piece was left
 lines_behind : (line piece xs ys : List ℕ) → piece ≡ kept_piece line xs
@@ -32,7 +35,7 @@ number_behind : (line piece xs ys : List ℕ) → piece ≡ kept_piece line xs
 number_behind line piece xs ys same =
     sym (length-append (kept_lines line xs) (kept_lines piece ys)) ∙ ap length (lines_behind line piece xs ys same)
 
-pub Taken-trans : {S : Type 0} (gives : Giving S) (s t u : S) (p q r : Progress) (xs ys : List ℕ) (a b c : Known)
+pub Taken-trans : {S : Type 0} (gives : Giving S) (s t u : S) (p q r : Progress) (xs ys : List ℕ) (a b c : Outlet)
     → Taken gives s t p q xs a b → Taken gives t u q r ys b c → Taken gives s u p r (xs ++ ys) a c
 Taken-trans gives s t u p q r xs ys a b c first second =
     let lines : kept_lines p.line xs ++ kept_lines q.line ys ≡ kept_lines p.line (xs ++ ys) =
@@ -40,34 +43,34 @@ Taken-trans gives s t u p q r xs ys a b c first second =
     let number : length (kept_lines p.line xs) + length (kept_lines q.line ys) ≡ length (kept_lines p.line (xs ++ ys)) =
     number_behind p.line q.line xs ys first.piece in
     record {
-      wrote = subst (λ ls. Wrote (Between gives s u) ls a c) lines
-          (Wrote-trans gives s t u (kept_lines p.line xs) (kept_lines q.line ys) a b c first.wrote second.wrote);
+      sent = subst (λ ls. Sent (Between gives s u) ls a c) lines
+          (Sent-trans gives s t u (kept_lines p.line xs) (kept_lines q.line ys) a b c first.sent second.sent);
       piece = second.piece ∙ ap (λ l. kept_piece l ys) first.piece ∙ sym (kept_piece-append p.line xs ys);
       count = omega (arith, first.count, second.count, number);
       total = omega (arith, first.total, second.total, length-append xs ys);
     }
 
 -- a line feed, and the answer to its line
-pub taken_end : {S : Type 0} (gives : Giving S) (s t : S) (p q : Progress) (b : ℕ) (old new : Known) → b ≡ 10
-    → Wrote (Between gives s t) (p.line ∷ []) old new → q.line ≡ [] → q.answered ≡ p.answered + 1 → q.taken ≡ p.taken + 1
+pub taken_end : {S : Type 0} (gives : Giving S) (s t : S) (p q : Progress) (b : ℕ) (old new : Outlet) → b ≡ 10
+    → Sent (Between gives s t) (p.line ∷ []) old new → q.line ≡ [] → q.answered ≡ p.answered + 1 → q.taken ≡ p.taken + 1
     → Taken gives s t p q (b ∷ []) old new
 taken_end gives s t p q b old new is_end wrote none count total =
     let lines : kept_lines p.line (b ∷ []) ≡ p.line ∷ [] = kept_lines-end p.line b is_end in
     record {
-      wrote = subst (λ ls. Wrote (Between gives s t) ls old new) (sym lines) wrote;
+      sent = subst (λ ls. Sent (Between gives s t) ls old new) (sym lines) wrote;
       piece = none ∙ sym (kept_piece-end p.line b is_end);
       count = count ∙ ap (λ ls. p.answered + length ls) (sym lines);
       total = total;
     }
 
 -- a byte of a line
-pub taken_more : {S : Type 0} (gives : Giving S) (s : S) (p q : Progress) (b : ℕ) (a : Known) → (b == 10) ≡ false
+pub taken_more : {S : Type 0} (gives : Giving S) (s : S) (p q : Progress) (b : ℕ) (a : Outlet) → (b == 10) ≡ false
     → q.line ≡ kept_with p.line b → q.answered ≡ p.answered → q.taken ≡ p.taken + 1
     → Taken gives s s p q (b ∷ []) a a
 taken_more gives s p q b a more line same total =
     let lines : kept_lines p.line (b ∷ []) ≡ [] = kept_lines-more p.line b more in
     record {
-      wrote = subst (λ ls. Wrote (Between gives s s) ls a a) (sym lines) (Wrote-nil gives s a);
+      sent = subst (λ ls. Sent (Between gives s s) ls a a) (sym lines) (Sent-nil gives s a);
       piece = line ∙ sym (kept_piece-more p.line b more);
       count = omega (arith, same, ap length lines);
       total = total;
@@ -94,7 +97,7 @@ within_at_line bounds p b is_end few short =
     record { lines_within = omega (arith, one, few); bytes_within = omega (arith, short) }
 
 -- behind bytes that were taken, the counts go on
-pub within_behind : {S : Type 0} (gives : Giving S) (s t : S) (p q : Progress) (bounds : Bounds) (xs seen : List ℕ) (a b : Known)
+pub within_behind : {S : Type 0} (gives : Giving S) (s t : S) (p q : Progress) (bounds : Bounds) (xs seen : List ℕ) (a b : Outlet)
     → Taken gives s t p q xs a b → IsWithin bounds q seen → IsWithin bounds p (xs ++ seen)
 within_behind gives s t p q bounds xs seen a b first within =
     let number : length (kept_lines p.line xs) + length (kept_lines q.line seen) ≡ length (kept_lines p.line (xs ++ seen)) =
@@ -104,7 +107,7 @@ within_behind gives s t p q bounds xs seen a b first within =
       bytes_within = omega (arith, first.total, length-append xs seen, within.bytes_within);
     }
 
-bound_behind : {S : Type 0} (gives : Giving S) (s t : S) (p q : Progress) (bounds : Bounds) (xs seen : List ℕ) (a b : Known)
+bound_behind : {S : Type 0} (gives : Giving S) (s t : S) (p q : Progress) (bounds : Bounds) (xs seen : List ℕ) (a b : Outlet)
     → Taken gives s t p q xs a b → IsAtBound bounds q seen → IsAtBound bounds p (xs ++ seen)
 bound_behind gives s t p q bounds xs seen a b first (inl h) =
     let number : length (kept_lines p.line xs) + length (kept_lines q.line seen) ≡ length (kept_lines p.line (xs ++ seen)) =
@@ -113,21 +116,35 @@ bound_behind gives s t p q bounds xs seen a b first (inl h) =
 bound_behind gives s t p q bounds xs seen a b first (inr h) =
     inr (omega (arith, first.total, length-append xs seen, h))
 
--- a bound stands before the bytes
-pub stops_at_bound : {S : Type 0} (gives : Giving S) (s : S) (p : Progress) (bounds : Bounds) (b : ℕ) (bs : List ℕ) (a : Known)
-    → Within bounds p → (bounds.lines ≤ p.answered) ⊎ (bounds.bytes ≤ p.taken)
-    → StopsIn gives s s p bounds (b ∷ bs) a a TooLong
+-- a bound stands before the bytes, and what was due was written
+pub stops_at_bound : {S : Type 0} (gives : Giving S) (s : S) (p : Progress) (bounds : Bounds) (b : ℕ) (bs : List ℕ) (old new : Outlet)
+    → Within bounds p → (bounds.lines ≤ p.answered) ⊎ (bounds.bytes ≤ p.taken) → Sends old new []
+    → StopsIn gives s s p bounds (b ∷ bs) old new TooLong
 unfolding kept_lines
-stops_at_bound gives s p bounds b bs a within reached = record {
+stops_at_bound gives s p bounds b bs old new within reached sends = record {
   seen = [];
   unseen = b ∷ bs;
   split = refl;
   within = within_before bounds p within;
-  stop = (omega arith, Wrote-nil gives s a, bound_before bounds p reached);
+  stop = (omega arith, Sent-none gives s old new sends, bound_before bounds p reached);
 }
 
+-- the same, and it was not written whole
+pub stops_unsent : {S : Type 0} (gives : Giving S) (s : S) (p : Progress) (bounds : Bounds) (bs : List ℕ) (old new : Outlet)
+    (e : RunFault) → Within bounds p → e ≡ Write → AppendsPart old.held new.held old.due → StopsIn gives s s p bounds bs old new e
+unfolding kept_lines
+stops_unsent gives s p bounds bs old new e within is part =
+    subst (λ f. StopsIn gives s s p bounds bs old new f) (sym is)
+    (record {
+      seen = [];
+      unseen = bs;
+      split = refl;
+      within = within_before bounds p within;
+      stop = Sent-none_part gives s old new part;
+    })
+
 -- the answer to a line was not written whole
-pub stops_at_line : {S : Type 0} (gives : Giving S) (s t : S) (p : Progress) (bounds : Bounds) (b : ℕ) (old new : Known)
+pub stops_at_line : {S : Type 0} (gives : Giving S) (s t : S) (p : Progress) (bounds : Bounds) (b : ℕ) (old new : Outlet)
     (fault : RunFault) → b ≡ 10 → Within bounds p → p.answered < bounds.lines → p.taken < bounds.bytes
     → Unwritten gives s t (p.line ∷ []) old new fault → StopsIn gives s t p bounds (b ∷ []) old new fault
 unfolding kept_lines
@@ -136,34 +153,34 @@ stops_at_line gives s t p bounds b old new Write is_end within few short part = 
   unseen = [];
   split = refl;
   within = within_at_line bounds p b is_end few short;
-  stop = subst (λ ls. WrotePart (Between gives s t) ls old new) (sym (kept_lines-end p.line b is_end)) part;
+  stop = subst (λ ls. SentPart (Between gives s t) ls old new) (sym (kept_lines-end p.line b is_end)) part;
 }
 stops_at_line gives s t p bounds b old new OutOfMemory is_end within few short kept = record {
   seen = [];
   unseen = b ∷ [];
   split = refl;
   within = within_before bounds p within;
-  stop = (s, Wrote-kept gives s s [] old old new (Wrote-nil gives s old) kept);
+  stop = (s, Sent-none gives s old new kept);
 }
 stops_at_line gives s t p bounds b old new Read is_end within few short none = absurd none
 stops_at_line gives s t p bounds b old new TooLong is_end within few short none = absurd none
 stops_at_line gives s t p bounds b old new BadStart is_end within few short none = absurd none
 
 stop_behind : {S : Type 0} (gives : Giving S) (s t u : S) (p q : Progress) (bounds : Bounds) (xs seen unseen : List ℕ)
-    (a b c : Known) (fault : RunFault) → Taken gives s t p q xs a b
+    (a b c : Outlet) (fault : RunFault) → Taken gives s t p q xs a b
     → StopsBy gives t u q bounds seen unseen b c fault → StopsBy gives s u p bounds (xs ++ seen) unseen a c fault
 stop_behind gives s t u p q bounds xs seen unseen a b c Write first part =
-    subst (λ ls. WrotePart (Between gives s u) ls a c) (lines_behind p.line q.line xs seen first.piece)
-    (Wrote-part gives s t u (kept_lines p.line xs) (kept_lines q.line seen) a b c first.wrote part)
+    subst (λ ls. SentPart (Between gives s u) ls a c) (lines_behind p.line q.line xs seen first.piece)
+    (Sent-part gives s t u (kept_lines p.line xs) (kept_lines q.line seen) a b c first.sent part)
 stop_behind {S} gives s t u p q bounds xs seen unseen a b c OutOfMemory first (mid, wrote) = (
   mid,
-  subst (λ ls. Wrote (Between gives s mid) ls a c) (lines_behind p.line q.line xs seen first.piece)
-      (Wrote-trans gives s t mid (kept_lines p.line xs) (kept_lines q.line seen) a b c first.wrote wrote),
+  subst (λ ls. Sent (Between gives s mid) ls a c) (lines_behind p.line q.line xs seen first.piece)
+      (Sent-trans gives s t mid (kept_lines p.line xs) (kept_lines q.line seen) a b c first.sent wrote),
 )
 stop_behind gives s t u p q bounds xs seen unseen a b c TooLong first (more, wrote, bound) = (
   more,
-  subst (λ ls. Wrote (Between gives s u) ls a c) (lines_behind p.line q.line xs seen first.piece)
-      (Wrote-trans gives s t u (kept_lines p.line xs) (kept_lines q.line seen) a b c first.wrote wrote),
+  subst (λ ls. Sent (Between gives s u) ls a c) (lines_behind p.line q.line xs seen first.piece)
+      (Sent-trans gives s t u (kept_lines p.line xs) (kept_lines q.line seen) a b c first.sent wrote),
   bound_behind gives s t p q bounds xs seen a b first bound,
 )
 stop_behind gives s t u p q bounds xs seen unseen a b c Read first none = absurd none
@@ -171,7 +188,7 @@ stop_behind gives s t u p q bounds xs seen unseen a b c BadStart first none = ab
 
 -- bytes were taken before
 pub stops_behind : {S : Type 0} (gives : Giving S) (s t u : S) (p q : Progress) (bounds : Bounds) (xs ys : List ℕ)
-    (a b c : Known) (fault : RunFault) → Taken gives s t p q xs a b → StopsIn gives t u q bounds ys b c fault
+    (a b c : Outlet) (fault : RunFault) → Taken gives s t p q xs a b → StopsIn gives t u q bounds ys b c fault
     → StopsIn gives s u p bounds (xs ++ ys) a c fault
 stops_behind gives s t u p q bounds xs ys a b c fault first stops = record {
   seen = xs ++ stops.seen;
@@ -182,7 +199,7 @@ stops_behind gives s t u p q bounds xs ys a b c fault first stops = record {
 }
 
 stop_before : {S : Type 0} (gives : Giving S) (s t : S) (p : Progress) (bounds : Bounds) (seen unseen ys : List ℕ)
-    (a b : Known) (fault : RunFault) → StopsBy gives s t p bounds seen unseen a b fault
+    (a b : Outlet) (fault : RunFault) → StopsBy gives s t p bounds seen unseen a b fault
     → StopsBy gives s t p bounds seen (unseen ++ ys) a b fault
 stop_before gives s t p bounds seen unseen ys a b Write stop = stop
 stop_before gives s t p bounds seen unseen ys a b OutOfMemory stop = stop
@@ -193,7 +210,7 @@ stop_before gives s t p bounds seen unseen ys a b BadStart none = absurd none
 
 -- bytes behind were not looked at
 pub stops_before : {S : Type 0} (gives : Giving S) (s t : S) (p : Progress) (bounds : Bounds) (xs ys : List ℕ)
-    (a b : Known) (fault : RunFault) → StopsIn gives s t p bounds xs a b fault
+    (a b : Outlet) (fault : RunFault) → StopsIn gives s t p bounds xs a b fault
     → StopsIn gives s t p bounds (xs ++ ys) a b fault
 stops_before gives s t p bounds xs ys a b fault stops = record {
   seen = stops.seen;
@@ -206,17 +223,61 @@ stops_before gives s t p bounds xs ys a b fault stops = record {
 -- a stop within the bytes of a further read
 pub stops_reading : {S : Type 0} (gives : Giving S) (s t u : S) (p q : Progress) (bounds : Bounds) (xs ys : List ℕ)
     (old_input mid_input new_input a b c : Known) (fault : RunFault) → length ys ≤ one_read
-    → Consumes old_input mid_input xs → Consumes mid_input new_input ys → Taken gives s t p q xs a b
-    → StopsIn gives t u q bounds ys b c fault → StopsReading gives s u p bounds old_input new_input a c fault
+    → Consumes old_input mid_input xs → Consumes mid_input new_input ys → Taken gives s t p q xs (settled a) (settled b)
+    → StopsIn gives t u q bounds ys (settled b) (settled c) fault → StopsReading gives s u p bounds old_input new_input a c fault
 unfolding stops_behind
 stops_reading gives s t u p q bounds xs ys old_input mid_input new_input a b c fault one before read first stops = record {
   input = xs ++ ys;
   read = Consumes-trans old_input mid_input new_input xs ys before read;
   stop = inl (
-    stops_behind gives s t u p q bounds xs ys a b c fault first stops,
+    stops_behind gives s t u p q bounds xs ys (settled a) (settled b) (settled c) fault first stops,
     omega (arith, one, ap length stops.split, length-append stops.seen stops.unseen),
   );
 }
+
+-- the counts behind bytes that were taken
+within_taken : {S : Type 0} (gives : Giving S) (s t : S) (p q : Progress) (bounds : Bounds) (xs : List ℕ) (a b : Outlet)
+    → Taken gives s t p q xs a b → Within bounds q → IsWithin bounds p xs
+within_taken gives s t p q bounds xs a b took within = record {
+  lines_within = omega (arith, took.count, within.answered_within);
+  bytes_within = omega (arith, took.total, within.taken_within);
+}
+
+-- what is due behind the bytes is written
+pub Taken-settled : {S : Type 0} (gives : Giving S) (s t : S) (p q : Progress) (xs : List ℕ) (a b : Outlet) (c : Known)
+    → Taken gives s t p q xs a b → Appends b.held c b.due → Taken gives s t p q xs a (settled c)
+Taken-settled gives s t p q xs a b c took whole = record {
+  sent = Sent-settled gives s t (kept_lines p.line xs) a b c took.sent whole;
+  piece = took.piece;
+  count = took.count;
+  total = took.total;
+}
+
+-- a part of it is
+pub stops_at_end : {S : Type 0} (gives : Giving S) (s t : S) (p q : Progress) (bounds : Bounds) (xs : List ℕ) (a b : Outlet) (c : Known)
+    → Taken gives s t p q xs a b → Within bounds q → AppendsPart b.held c b.due → StopsIn gives s t p bounds xs a (settled c) Write
+stops_at_end gives s t p q bounds xs a b c took within part = record {
+  seen = xs;
+  unseen = [];
+  split = sym (append-nil xs);
+  within = within_taken gives s t p q bounds xs a b took within;
+  stop = Sent-unsettled gives s t (kept_lines p.line xs) a b c took.sent part;
+}
+
+-- the writing of what is due behind the bytes
+pub taken_sent : {S T : Type 0} (gives : Giving S) (s t : S) (p q : Progress) (xs : List ℕ) (a b : Outlet) (c : Known)
+    (ran : Result T RunFault) → Taken gives s t p q xs a b → OnOk ran (Appends b.held c b.due)
+    → OnOk ran (Taken gives s t p q xs a (settled c))
+taken_sent gives s t p q xs a b c (Ok done) took whole = Taken-settled gives s t p q xs a b c took whole
+taken_sent gives s t p q xs a b c (Err fault) took whole = tt
+
+pub stops_sent : {S T : Type 0} (gives : Giving S) (s t : S) (p q : Progress) (bounds : Bounds) (xs : List ℕ) (a b : Outlet) (c : Known)
+    (ran : Result T RunFault) → Taken gives s t p q xs a b → Within bounds q → OnErr ran (AppendsPart b.held c b.due)
+    → IfErr ran (λ fault. fault ≡ Write) → IfErr ran (λ fault. StopsIn gives s t p bounds xs a (settled c) fault)
+stops_sent gives s t p q bounds xs a b c (Ok done) took within part is = tt
+stops_sent gives s t p q bounds xs a b c (Err fault) took within part is =
+    subst (λ f. StopsIn gives s t p bounds xs a (settled c) f) (sym is)
+    (stops_at_end gives s t p q bounds xs a b c took within part)
 
 -- a last line has room
 pub last_fits : (line : List ℕ) (answered lines : ℕ) → answered ≤ lines → (0 < length line → answered < lines)
@@ -226,31 +287,29 @@ last_fits (b ∷ bs) answered lines few room = omega (arith, room (omega arith))
 
 -- a read that failed behind the bytes
 pub stops_at_read : {S : Type 0} (gives : Giving S) (s t : S) (p q : Progress) (bounds : Bounds) (xs : List ℕ)
-    (old_input new_input a b : Known) → Consumes old_input new_input xs → Within bounds q → Taken gives s t p q xs a b
+    (old_input new_input a b : Known) → Consumes old_input new_input xs → Within bounds q
+    → Taken gives s t p q xs (settled a) (settled b)
     → StopsReading gives s t p bounds old_input new_input a b Read
 stops_at_read gives s t p q bounds xs old_input new_input a b read within took = record {
   input = xs;
   read = read;
   stop = inr (
     refl,
-    record {
-      lines_within = omega (arith, took.count, within.answered_within);
-      bytes_within = omega (arith, took.total, within.taken_within);
-    },
+    within_taken gives s t p q bounds xs (settled a) (settled b) took within,
     omega (
       arith,
       took.count,
       last_fits q.line q.answered bounds.lines within.answered_within within.room,
       ap (λ l. length (last_line l)) took.piece,
     ),
-    took.wrote,
+    took.sent,
   );
 }
 
 -- ---- Byte by byte.
 
 -- one byte more of a chunk
-pub taken_byte : {S : Type 0} (gives : Giving S) (s t u : S) (p q r : Progress) (chunk : List ℕ) (i x : ℕ) (a b c : Known)
+pub taken_byte : {S : Type 0} (gives : Giving S) (s t u : S) (p q r : Progress) (chunk : List ℕ) (i x : ℕ) (a b c : Outlet)
     → i < length chunk → x ≡ get_or chunk i 0 → Taken gives s t p q (take i chunk) a b
     → Taken gives t u q r (x ∷ []) b c → Taken gives s u p r (take (i + 1) chunk) a c
 taken_byte gives s t u p q r chunk i x a b c below same first second =
@@ -261,7 +320,7 @@ taken_byte gives s t u p q r chunk i x a b c below same first second =
 
 -- a stop at a byte of a chunk
 pub stops_at_byte : {S : Type 0} (gives : Giving S) (s t u : S) (p q : Progress) (bounds : Bounds) (chunk : List ℕ) (i x : ℕ)
-    (a b c : Known) (fault : RunFault) → i < length chunk → x ≡ get_or chunk i 0
+    (a b c : Outlet) (fault : RunFault) → i < length chunk → x ≡ get_or chunk i 0
     → Taken gives s t p q (take i chunk) a b → StopsIn gives t u q bounds (x ∷ []) b c fault
     → StopsIn gives s u p bounds chunk a c fault
 stops_at_byte gives s t u p q bounds chunk i x a b c fault below same first stops =

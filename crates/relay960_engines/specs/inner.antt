@@ -1,4 +1,5 @@
 -- Definitions that serve the code alone: no promise of an engine names them.
+pub mod Sending
 pub mod Taking
 pub mod PlayCut
 pub mod ScriptSteps

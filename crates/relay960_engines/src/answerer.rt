@@ -1,6 +1,6 @@
 //! What answers the lines of a run.
 
-ghost use Rattle.std.specs.Prelude.{ℕ, List, take, IfOk};
+ghost use Rattle.std.specs.Prelude.{ℕ, List, take, IfOk, OnErr};
 
 use std::alloc::{AllocError, Global};
 
@@ -14,9 +14,10 @@ pub trait Answerer {
     ///
     /// # Errors
     ///
-    /// There was no memory for the answer.
+    /// There was no memory for the bytes of an answer: the state is the one behind it all the same.
     fn answer(&mut self, alloc: Global, line: &[u8]) -> Result<Vec<u8>, AllocError>
-        ensures { IfOk result (λ text. gives self.old line.now text.items self.new) };
+        ensures given { IfOk result (λ text. gives self.old line.now text.items self.new) }
+        ensures unspelt { OnErr result ((text : List ℕ) × gives self.old line.now text self.new) };
 
     /// A line is answered as its first 1,025 bytes are.
     ghost cut: { (s : Self) (l bytes : List ℕ) (t : Self) → gives s (take 1025 l) bytes t → gives s l bytes t };

@@ -6,6 +6,7 @@
 mod answerer;
 mod bounds;
 mod devices;
+mod due;
 mod fault;
 mod kept;
 mod limits;

@@ -4,11 +4,13 @@ ghost use Rattle.std.specs.Prelude.{◌≡◌, ◌+◌, ◌≤◌, length, IfOk,
 ghost use Rattle.relay960_engines.specs.Failures.{reads_failed, writes_failed};
 ghost use Rattle.relay960_engines.specs.Lines.{Between, Until, last_line};
 ghost use Rattle.relay960_engines.specs.Runs.{Done, Stopped, Wrote};
+ghost use Rattle.relay960_engines.specs.inner.Sending.{settled};
 ghost use Rattle.relay960_engines.specs.inner.Taking.{StopsReading, TakenAll, Unwritten, Within};
 
 use crate::answerer::Answerer;
 use crate::bounds::Bounds;
 use crate::devices::{ReadDevice, WriteDevice};
+use crate::due::Due;
 use crate::fault::RunFault;
 use crate::progress::{Progress, answer_line, take_chunk};
 use std::alloc::Global;
@@ -35,11 +37,15 @@ fn take_all<R: ReadDevice, A: Answerer, W: WriteDevice>(
     ensures writes_counted { W.failures writer.new ≡ writes_failed result (W.failures writer.old) }
 {
     let mut buffer = [0u8; CHUNK];
+    let mut due = Due::new();
     loop {
         match reader.read_some(&mut buffer) {
             Err(_) => return Err(RunFault::Read),
             Ok(0) => return Ok(()),
-            Ok(count) => take_chunk(alloc, answerer, writer, progress, bounds, &buffer[..count])?,
+            Ok(count) => {
+                let chunk = &buffer[..count];
+                take_chunk(alloc, answerer, &mut due, writer, progress, bounds, chunk)?;
+            }
         }
     }
 }
@@ -58,13 +64,15 @@ fn answer_last<A: Answerer, W: WriteDevice>(
     ensures count { IfOk result (λ n. n ≡ progress.now.answered + length (last_line progress.now.line)) }
     ensures within { IfOk result (λ n. n ≤ bounds.lines) }
     ensures failed { IfErr result (λ fault. Unwritten A.gives answerer.old answerer.new (last_line progress.now.line)
-        (W.contents writer.old) (W.contents writer.new) fault) }
+        (settled (W.contents writer.old)) (settled (W.contents writer.new)) fault) }
     ensures writes_counted { W.failures writer.new ≡ writes_failed result (W.failures writer.old) }
 {
     if progress.line.is_empty() {
         return Ok(progress.answered);
     }
-    answer_line(alloc, answerer, writer, progress.line.as_slice())?;
+    let mut due = Due::new();
+    answer_line(alloc, answerer, &mut due, writer, progress.line.as_slice())?;
+    due.send(writer)?;
     Ok(progress.answered + 1)
 }
 

@@ -62,7 +62,7 @@ impl Answerer for Player {
     }
 }
 
-/// Plays a live game from start `number`: it reads a move a line and writes, as soon as the line has ended, the position
+/// Plays a live game from start `number`: it reads a move a line and writes, at the latest before it reads on, the position
 /// after the move in Shredder-FEN, and where the move ends the game a line with the outcome; or the line of the refusal
 /// or of the text's fault, after which the game goes on. It gives the number of lines.
 ///

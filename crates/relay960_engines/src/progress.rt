@@ -1,17 +1,18 @@
-//! How the bytes of a stream are taken, one after another: each line is answered as soon as its line feed is seen.
+//! How the bytes of a stream are taken, one after another: each line is answered as soon as its line feed is seen, and the answers to
+//! the lines of one read go out together.
 
 ghost use Rattle.std.specs.Prelude.{◌≡◌, ◌∷◌, [], IfOk, IfErr, OnOk};
 ghost use Rattle.relay960_engines.specs.Failures.{writes_failed};
 ghost use Rattle.relay960_engines.specs.Lines.{Between};
-ghost use Rattle.relay960_engines.specs.Runs.{Wrote};
+ghost use Rattle.relay960_engines.specs.inner.Sending.{Sent, outlet, settled};
 ghost use Rattle.relay960_engines.specs.inner.Taking.{StopsIn, Taken, Unwritten, Within};
 
 use crate::answerer::Answerer;
 use crate::bounds::Bounds;
 use crate::devices::WriteDevice;
+use crate::due::Due;
 use crate::fault::RunFault;
 use crate::kept::KeptLine;
-use crate::writing::write_whole;
 use std::alloc::{AllocError, Global};
 
 /// How far a run has come.
@@ -44,30 +45,35 @@ impl Progress {
     }
 }
 
-/// Writes the answer to a line, by one call of `write_whole`.
+/// Adds the answer to a line behind what is due. Where there is no memory for it, what was due is written.
 pub fn answer_line<A: Answerer, W: WriteDevice>(
     alloc: Global,
     answerer: &mut A,
+    due: &mut Due,
     writer: &mut W,
     line: &[u8],
 ) -> Result<(), RunFault>
-    ensures wrote { OnOk result (Wrote (Between A.gives answerer.old answerer.new) (line.now ∷ [])
-        (W.contents writer.old) (W.contents writer.new)) }
+    ensures sent { OnOk result (Sent (Between A.gives answerer.old answerer.new) (line.now ∷ [])
+        (outlet (W.contents writer.old) due.old) (outlet (W.contents writer.new) due.new)) }
     ensures failed { IfErr result (λ fault. Unwritten A.gives answerer.old answerer.new (line.now ∷ [])
-        (W.contents writer.old) (W.contents writer.new) fault) }
+        (outlet (W.contents writer.old) due.old) (settled (W.contents writer.new)) fault) }
     ensures writes_counted { W.failures writer.new ≡ writes_failed result (W.failures writer.old) }
 {
     match answerer.answer(alloc, line) {
-        Ok(answer) => write_whole(writer, answer.as_slice()),
-        Err(_) => Err(RunFault::OutOfMemory),
+        Ok(answer) => due.add(writer, answer.as_slice()),
+        Err(_) => {
+            due.send(writer)?;
+            Err(RunFault::OutOfMemory)
+        }
     }
 }
 
 /// Takes one byte, where both bounds allow it: a line feed ends the line, which is answered, and any other byte belongs
-/// to it.
+/// to it. Before any fault what was due is written.
 fn take_byte<A: Answerer, W: WriteDevice>(
     alloc: Global,
     answerer: &mut A,
+    due: &mut Due,
     writer: &mut W,
     progress: &mut Progress,
     bounds: Bounds,
@@ -76,12 +82,13 @@ fn take_byte<A: Answerer, W: WriteDevice>(
     requires { Within bounds progress.old }
     ensures within { OnOk result (Within bounds progress.new) }
     ensures took { OnOk result (Taken A.gives answerer.old answerer.new progress.old progress.new (byte ∷ [])
-        (W.contents writer.old) (W.contents writer.new)) }
+        (outlet (W.contents writer.old) due.old) (outlet (W.contents writer.new) due.new)) }
     ensures failed { IfErr result (λ fault. StopsIn A.gives answerer.old answerer.new progress.old bounds
-        (byte ∷ []) (W.contents writer.old) (W.contents writer.new) fault) }
+        (byte ∷ []) (outlet (W.contents writer.old) due.old) (settled (W.contents writer.new)) fault) }
     ensures writes_counted { W.failures writer.new ≡ writes_failed result (W.failures writer.old) }
 {
     if progress.answered >= bounds.lines || progress.taken >= bounds.bytes {
+        due.send(writer)?;
         return Err(RunFault::TooLong);
     }
     progress.taken += 1;
@@ -89,16 +96,17 @@ fn take_byte<A: Answerer, W: WriteDevice>(
         progress.line.push(byte);
         return Ok(());
     }
-    answer_line(alloc, answerer, writer, progress.line.as_slice())?;
+    answer_line(alloc, answerer, due, writer, progress.line.as_slice())?;
     progress.line.clear();
     progress.answered += 1;
     Ok(())
 }
 
-/// Takes the bytes one after another, as far as both bounds allow it.
-pub fn take_chunk<A: Answerer, W: WriteDevice>(
+/// Takes the bytes one after another, as far as both bounds allow it. Before any fault what was due is written.
+fn take_bytes<A: Answerer, W: WriteDevice>(
     alloc: Global,
     answerer: &mut A,
+    due: &mut Due,
     writer: &mut W,
     progress: &mut Progress,
     bounds: Bounds,
@@ -107,13 +115,36 @@ pub fn take_chunk<A: Answerer, W: WriteDevice>(
     requires { Within bounds progress.old }
     ensures within { OnOk result (Within bounds progress.new) }
     ensures took { OnOk result (Taken A.gives answerer.old answerer.new progress.old progress.new chunk.now
-        (W.contents writer.old) (W.contents writer.new)) }
+        (outlet (W.contents writer.old) due.old) (outlet (W.contents writer.new) due.new)) }
     ensures failed { IfErr result (λ fault. StopsIn A.gives answerer.old answerer.new progress.old bounds
-        chunk.now (W.contents writer.old) (W.contents writer.new) fault) }
+        chunk.now (outlet (W.contents writer.old) due.old) (settled (W.contents writer.new)) fault) }
     ensures writes_counted { W.failures writer.new ≡ writes_failed result (W.failures writer.old) }
 {
     for byte in chunk {
-        take_byte(alloc, answerer, writer, progress, bounds, *byte)?;
+        take_byte(alloc, answerer, due, writer, progress, bounds, *byte)?;
     }
     Ok(())
+}
+
+/// Takes the bytes of one read, as far as both bounds allow it, and writes the answers to their lines together.
+pub fn take_chunk<A: Answerer, W: WriteDevice>(
+    alloc: Global,
+    answerer: &mut A,
+    due: &mut Due,
+    writer: &mut W,
+    progress: &mut Progress,
+    bounds: Bounds,
+    chunk: &[u8],
+) -> Result<(), RunFault>
+    requires { Within bounds progress.old }
+    ensures within { OnOk result (Within bounds progress.new) }
+    ensures none { OnOk result (due.new ≡ []) }
+    ensures took { OnOk result (Taken A.gives answerer.old answerer.new progress.old progress.new chunk.now
+        (outlet (W.contents writer.old) due.old) (settled (W.contents writer.new))) }
+    ensures failed { IfErr result (λ fault. StopsIn A.gives answerer.old answerer.new progress.old bounds
+        chunk.now (outlet (W.contents writer.old) due.old) (settled (W.contents writer.new)) fault) }
+    ensures writes_counted { W.failures writer.new ≡ writes_failed result (W.failures writer.old) }
+{
+    take_bytes(alloc, answerer, due, writer, progress, bounds, chunk)?;
+    due.send(writer)
 }

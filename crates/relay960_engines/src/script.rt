@@ -47,7 +47,7 @@ fn line_of(alloc: Global, answer: &Answer) -> Result<Vec<u8>, AllocError>
     Ok(text.into_bytes())
 }
 
-/// Runs a script over a relay that has no board yet: it reads a command a line and writes, as soon as the line has ended, its
+/// Runs a script over a relay that has no board yet: it reads a command a line and writes, at the latest before it reads on, its
 /// answer. It gives the number of lines. Where a line could not be read for want of memory, or an Open or a Follow was
 /// refused for it, the answer says so, and the run goes on.
 ///

@@ -129,7 +129,34 @@ fn at_a_failed_write_a_prefix_of_the_answers_is_written(rt: HostRuntime) -> Resu
 }
 
 #[test]
-fn each_answer_is_one_write(rt: HostRuntime) -> Result<(), Fail> {
+fn the_answers_to_the_lines_of_one_read_are_one_write(rt: HostRuntime) -> Result<(), Fail> {
+    let alloc = rt.alloc();
+    let cases = [
+        (0, Err(RunFault::Write), ""),
+        (1, Err(RunFault::Write), "2\n0\n"),
+        (2, Ok(3), "2\n0\n3\n"),
+    ];
+    for (writes, ran, output) in cases {
+        let mut reader = b"ab\n\nefg".as_slice();
+        let taken = Vec::new(alloc);
+        let mut device = Breaking { taken, writes };
+        let mut lengths = Lengths { answers: MANY };
+        assert_eq!(rt;
+            run_lines(alloc, &mut reader, &mut lengths, &mut device, WIDE),
+            ran,
+            "{writes} writes"
+        );
+        assert_eq!(rt;
+            device.taken.as_slice(),
+            output.as_bytes(),
+            "{writes} writes"
+        );
+    }
+    Ok(())
+}
+
+#[test]
+fn each_answer_over_a_reader_of_single_bytes_is_one_write(rt: HostRuntime) -> Result<(), Fail> {
     let alloc = rt.alloc();
     let cases = [
         (0, Err(RunFault::Write), ""),
@@ -138,7 +165,7 @@ fn each_answer_is_one_write(rt: HostRuntime) -> Result<(), Fail> {
         (3, Ok(3), "2\n0\n3\n"),
     ];
     for (writes, ran, output) in cases {
-        let mut reader = b"ab\n\nefg".as_slice();
+        let mut reader = Dribble { rest: b"ab\n\nefg" };
         let taken = Vec::new(alloc);
         let mut device = Breaking { taken, writes };
         let mut lengths = Lengths { answers: MANY };
@@ -161,7 +188,7 @@ fn a_write_that_fails_once_is_not_tried_again(rt: HostRuntime) -> Result<(), Fai
     let alloc = rt.alloc();
     for full in [Full::NoByte, Full::Error] {
         for (good, output) in [(0, ""), (1, "2\n"), (2, "2\n0\n")] {
-            let mut reader = b"ab\n\nefg".as_slice();
+            let mut reader = Dribble { rest: b"ab\n\nefg" };
             let mut device = Recovering {
                 taken: Vec::new(alloc),
                 good,

@@ -114,7 +114,7 @@ fn at_a_full_device_a_prefix_of_the_answers_is_written(rt: HostRuntime) -> Resul
 fn at_a_failed_write_the_answers_before_are_written(rt: HostRuntime) -> Result<(), Fail> {
     let alloc = rt.alloc();
     for writes in 0..5u8 {
-        let mut reader = MATE;
+        let mut reader = Dribble { rest: MATE };
         let taken = Vec::new(alloc);
         let mut device = Breaking {
             taken,

@@ -1,12 +1,13 @@
 -- What the bytes of a stream do to a run that keeps the first 1,025 bytes of a line.
 use Rattle.std.specs.Prelude.{ℕ, ◌≡◌, ◌+◌, ◌<◌, ◌≤◌, ◌⊎◌, ◌==◌, nat_lt, List, [], ◌∷◌, ◌++◌, length, cond}
-use Rattle.std.specs.Io.KnownBytes.{Keeps, Consumes, IsAtEnd}
+use Rattle.std.specs.Io.KnownBytes.{Consumes, IsAtEnd}
 use Rattle.relay960_engines.specs.declared.bounds.Bounds.{Bounds}
 use Rattle.relay960_engines.specs.declared.fault.RunFault.{RunFault}
 use Rattle.relay960_engines.specs.declared.fault.RunFault.TheVariants.{Read, Write, TooLong, OutOfMemory, BadStart}
 use Rattle.relay960_engines.specs.declared.progress.Progress.{Progress}
 use Rattle.relay960_engines.specs.Lines.{Giving, Between, last_line}
-use Rattle.relay960_engines.specs.Runs.{Known, Wrote, WrotePart, one_read}
+use Rattle.relay960_engines.specs.Runs.{Known, one_read}
+use Rattle.relay960_engines.specs.inner.Sending.{Outlet, settled, Sends, Sent, SentPart}
 
 -- ---- Lines of which the first 1,025 bytes are kept.
 
@@ -32,19 +33,19 @@ pub record Within (bounds : Bounds) (p : Progress) : Type 0 where
   pub taken_within : p.taken ≤ bounds.bytes
   pub room : 0 < length p.line → p.answered < bounds.lines
 
--- the bytes were taken: their lines were answered, the answers were written, and the progress went from p to q
-pub record Taken {S : Type 0} (gives : Giving S) (s t : S) (p q : Progress) (input : List ℕ) (old new : Known) : Type 0 where
-  pub wrote : Wrote (Between gives s t) (kept_lines p.line input) old new
+-- the bytes were taken: their lines were answered, the answers are written or due, and the progress went from p to q
+pub record Taken {S : Type 0} (gives : Giving S) (s t : S) (p q : Progress) (input : List ℕ) (old new : Outlet) : Type 0 where
+  pub sent : Sent (Between gives s t) (kept_lines p.line input) old new
   pub piece : q.line ≡ kept_piece p.line input
   pub count : q.answered ≡ p.answered + length (kept_lines p.line input)
   pub total : q.taken ≡ p.taken + length input
 
--- all bytes that the reader gave were taken
+-- all bytes that the reader gave were taken, and nothing is due
 pub record TakenAll {S : Type 0} (gives : Giving S) (s t : S) (p q : Progress) (old_input new_input old new : Known) : Type 0 where
   pub input : List ℕ
   pub read : Consumes old_input new_input input
   pub at_end : IsAtEnd new_input
-  pub took : Taken gives s t p q input old new
+  pub took : Taken gives s t p q input (settled old) (settled new)
 
 -- ---- Bytes at which a run stopped.
 
@@ -57,25 +58,25 @@ pub record IsWithin (bounds : Bounds) (p : Progress) (seen : List ℕ) : Type 0 
 abbrev pub IsAtBound : Bounds → Progress → List ℕ → Type 0
 IsAtBound bounds p seen = (bounds.lines ≤ p.answered + length (kept_lines p.line seen)) ⊎ (bounds.bytes ≤ p.taken + length seen)
 
--- the lines' answers were not written whole, since a write failed or there was no memory
-abbrev pub Unwritten : {S : Type 0} → Giving S → S → S → List (List ℕ) → Known → Known → RunFault → Type 0
-Unwritten gives s t lines old new Write = WrotePart (Between gives s t) lines old new
-Unwritten gives s t lines old new OutOfMemory = Keeps old new
+-- what was due and the lines' answers were not written whole, since a write failed; or there was no memory, and what was due was
+abbrev pub Unwritten : {S : Type 0} → Giving S → S → S → List (List ℕ) → Outlet → Outlet → RunFault → Type 0
+Unwritten gives s t lines old new Write = SentPart (Between gives s t) lines old new
+Unwritten gives s t lines old new OutOfMemory = Sends old new []
 Unwritten gives s t lines old new Read = ⊥
 Unwritten gives s t lines old new TooLong = ⊥
 Unwritten gives s t lines old new BadStart = ⊥
 
 -- what a run that stops with a fault did with the bytes that it saw
-abbrev pub StopsBy : {S : Type 0} → Giving S → S → S → Progress → Bounds → List ℕ → List ℕ → Known → Known → RunFault → Type 0
-StopsBy gives s t p bounds seen unseen old new Write = WrotePart (Between gives s t) (kept_lines p.line seen) old new
+abbrev pub StopsBy : {S : Type 0} → Giving S → S → S → Progress → Bounds → List ℕ → List ℕ → Outlet → Outlet → RunFault → Type 0
+StopsBy gives s t p bounds seen unseen old new Write = SentPart (Between gives s t) (kept_lines p.line seen) old new
 StopsBy gives s t p bounds seen unseen old new TooLong =
-    (0 < length unseen) × Wrote (Between gives s t) (kept_lines p.line seen) old new × IsAtBound bounds p seen
-StopsBy {S} gives s t p bounds seen unseen old new OutOfMemory = (mid : S) × Wrote (Between gives s mid) (kept_lines p.line seen) old new
+    (0 < length unseen) × Sent (Between gives s t) (kept_lines p.line seen) old new × IsAtBound bounds p seen
+StopsBy {S} gives s t p bounds seen unseen old new OutOfMemory = (mid : S) × Sent (Between gives s mid) (kept_lines p.line seen) old new
 StopsBy gives s t p bounds seen unseen old new Read = ⊥
 StopsBy gives s t p bounds seen unseen old new BadStart = ⊥
 
 -- from progress p, a run stopped with a fault within the bytes, and no bound was passed
-pub record StopsIn {S : Type 0} (gives : Giving S) (s t : S) (p : Progress) (bounds : Bounds) (input : List ℕ) (old new : Known) (fault : RunFault) : Type 0 where
+pub record StopsIn {S : Type 0} (gives : Giving S) (s t : S) (p : Progress) (bounds : Bounds) (input : List ℕ) (old new : Outlet) (fault : RunFault) : Type 0 where
   pub seen : List ℕ
   pub unseen : List ℕ
   pub split : input ≡ seen ++ unseen
@@ -91,5 +92,6 @@ LastFits bounds p seen =
 pub record StopsReading {S : Type 0} (gives : Giving S) (s t : S) (p : Progress) (bounds : Bounds) (old_input new_input old new : Known) (fault : RunFault) : Type 0 where
   pub input : List ℕ
   pub read : Consumes old_input new_input input
-  pub stop : ((stops : StopsIn gives s t p bounds input old new fault) × (length stops.unseen ≤ one_read))
-      ⊎ ((fault ≡ Read) × IsWithin bounds p input × LastFits bounds p input × Wrote (Between gives s t) (kept_lines p.line input) old new)
+  pub stop : ((stops : StopsIn gives s t p bounds input (settled old) (settled new) fault) × (length stops.unseen ≤ one_read))
+      ⊎ ((fault ≡ Read) × IsWithin bounds p input × LastFits bounds p input
+      × Sent (Between gives s t) (kept_lines p.line input) (settled old) (settled new))

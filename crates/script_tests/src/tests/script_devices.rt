@@ -108,7 +108,9 @@ fn at_a_failed_write_the_answers_before_are_written(rt: HostRuntime) -> Result<(
     let mut output = Vec::new(alloc);
     let mut writes = 0;
     for (_, answer) in &MATE {
-        let mut reader = script.as_slice();
+        let mut reader = Dribble {
+            rest: script.as_slice(),
+        };
         let taken = Vec::new(alloc);
         let mut device = Breaking { taken, writes };
         let ran = script_run(alloc, &mut reader, &mut device, greatest());

@@ -11,6 +11,7 @@ loop-count-init g c =
       read = Consumes-nil _;
       within = c.requires;
       one = search rules;
+      none = search rules;
       took = Taken-nil _ _ _ _;
       reads = refl;
       writes = refl;
@@ -25,7 +26,9 @@ loop-count-preserved g c =
       read = Consumes-trans _ _ _ before.input chunk before.read c.in-Ok.ensures.bytes.0;
       within = c.in_ok-take_chunk-in-Ok.ensures.within;
       one = omega (arith, c.read_some.auto.buf, before.one);
-      took = Taken-trans _ _ _ _ _ _ _ before.input chunk _ _ _ before.took c.in_ok-take_chunk-in-Ok.ensures.took;
+      none = c.in_ok-take_chunk-in-Ok.ensures.none;
+      took = Taken-trans _ _ _ _ _ _ _ before.input chunk _ _ _ before.took
+          (rw before.none at c.in_ok-take_chunk-in-Ok.ensures.took);
       reads = c.in-Ok.ensures.counted ∙ before.reads;
       writes = c.in_ok-take_chunk-in-Ok.ensures.writes_counted ∙ before.writes;
     }
@@ -40,4 +43,4 @@ returns-in_err-take_chunk-in-Ok-clause-failed g c =
     passed_on _ _ _ c.from_residual.ensures.1 (stops_reading _ _ _ _ _ _ _ c.loop-count.invariant.input
     (take c.in-Ok.count c.read_some.new.buf) _ _ _ _ _ _ _
     (omega (arith, c.in-Ok.ensures.bound.0, c.in-Ok.ensures.bound.1, c.read_some.auto.buf, c.loop-count.invariant.one)) c.loop-count.invariant.read c.in-Ok.ensures.bytes.0
-    c.loop-count.invariant.took c.in_err-take_chunk-in-Ok.ensures.failed)
+    c.loop-count.invariant.took (rw c.loop-count.invariant.none at c.in_err-take_chunk-in-Ok.ensures.failed))

@@ -1,12 +1,13 @@
 use Rattle.std.proofs.Common.{◌≡◌, take}
+use Rattle.relay960_engines.specs.inner.Sending.{outlet}
 use Rattle.relay960_engines.specs.inner.Taking.{Taken, Within}
-use Rattle.relay960_engines.proofs.progress.take_chunk.Given as goal
+use Rattle.relay960_engines.proofs.progress.take_bytes.Given as goal
 
 -- the bytes before this one are taken, and nothing else, and no write has failed
 abbrev pub invariant-loop-byte : goal.invariant-loop-byte
 invariant-loop-byte g l = record {
   within : Within l.bounds l.progress;
   took : Taken g.A.Answerer.gives l.fn.answerer l.answerer l.fn.progress l.progress (take l.byte-index l.chunk)
-      (g.W.WriteDevice.contents l.fn.writer) (g.W.WriteDevice.contents l.writer);
+      (outlet (g.W.WriteDevice.contents l.fn.writer) l.fn.due) (outlet (g.W.WriteDevice.contents l.writer) l.due);
   counted : g.W.WriteDevice.failures l.writer ≡ g.W.WriteDevice.failures l.fn.writer;
 }

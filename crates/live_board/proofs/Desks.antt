@@ -1,0 +1,79 @@
+-- What makes a seat a desk's, and notes.
+use Rattle.std.proofs.Common.{◌≡◌, ℕ, ◌+◌, ◌-◌, ◌/◌, ◌%◌, ◌<◌, zero, suc, List, [], ◌∷◌, set, get_or, length, replicate, true, sym, refl, ap, ◌∙◌, cond, eqb, eqb-true, arith}
+use Rattle.atomic_table.specs.Seated.{TableId}
+use Rattle.atomic_table.specs.declared.shared.Seat.{Seat}
+use Rattle.atomic_table.proofs.Lists.{at_index}
+use mathlib.Core.Option.{some, some-ne-none}
+use lib.ListN.{get_elem?}
+use Rattle.live_machine.specs.Limits.{AreBoardLimits}
+use Rattle.live_steps.specs.declared.setup.BoardSetup.{BoardSetup}
+use Rattle.live_steps.specs.declared.note.Note.{Note}
+use Rattle.live_steps.specs.declared.note.Note.TheVariants.{Vacant, Open, Closed}
+use Rattle.live_steps.specs.declared.view.View.{View}
+use Rattle.live_steps.specs.Words.{header_word, joined_noted, note_after, word_count}
+use Rattle.live_steps.specs.Views.{starting}
+use Rattle.live_steps.specs.Sound.{IsSound}
+use Rattle.live_steps.proofs.Allowed.{table_made}
+use Rattle.live_steps.proofs.Parts.{pick}
+use Rattle.live_steps.proofs.SoundViews.{sound}
+use Rattle.live_board.specs.Seats.{IsDesk}
+
+pub desk_of : {id : TableId} {key : BoardSetup} {seat : Seat (Unit {0}) View} {setup : BoardSetup} {len : ℕ} {notes : List Note} (v : View) → seat.me.0 ≡ v → seat.table_id ≡ id → id.words ≡ word_count setup.limits → key ≡ setup
+    → v.owns ≡ true → v.setup ≡ setup → len ≡ length v.log → notes ≡ v.notes → seat.me.1 ≡ [] → IsSound seat.me.0
+    → IsDesk id key seat setup len notes
+desk_of v is table words key owns setup-is len-is notes-are none-held sound = record {
+  table = table;
+  words = words;
+  key_is = key;
+  owns = ap (λ (u : View). u.owns) is ∙ owns;
+  setup_is = ap (λ (u : View). u.setup) is ∙ setup-is;
+  len_is = len-is ∙ ap (λ (u : View). length u.log) (sym is);
+  notes_are = notes-are ∙ ap (λ (u : View). u.notes) (sym is);
+  none_held = none-held;
+  sound = sound;
+}
+
+-- the first view of a board is sound
+pub starting_sound : (z : BoardSetup) → z.start < 960 → AreBoardLimits z.limits → IsSound (starting z)
+starting_sound z numbered limits =
+    let made = table_made z numbered limits (header_word z.start z.limits.capacity ∷ replicate (z.limits.followers + z.limits.plies + 1) 0) refl in
+    sound z made.now _ made.shows 0 (starting z) refl
+
+pub at_within : (l : List Note) (k : ℕ) (n : Note) → get_elem? l k ≡ some n → k < length l
+at_within [] k n e = absurd (some-ne-none n (sym e))
+at_within (x ∷ xs) zero n e = omega arith
+at_within (x ∷ xs) (suc k) n e = omega (arith, at_within xs k n e)
+
+pub same_open : (i j x y : ℕ) → Open i x ≡ Open j y → x ≡ y
+same_open i j x y e = cc
+
+pub vacant_open : (j b : ℕ) → Vacant ≡ Open j b → ⊥
+vacant_open j b e = cc
+
+pub closed_open : (c j b : ℕ) → Closed c ≡ Open j b → ⊥
+closed_open c j b e = cc
+
+-- the word of a cursor that is noted open
+pub open_back : (n : Note) (r j b : ℕ) → note_after n r ≡ Open j b → r ≡ b + 4294967296
+open_back n r j b = pick (λ (x : Note). x ≡ Open j b → r ≡ b + 4294967296) (eqb r 0) Vacant (cond (eqb (r / 4294967296) 1) (Open (joined_noted n) (r % 4294967296)) (Closed (r / 4294967296 - 2)))
+    (λ _ e. absurd (vacant_open j b e))
+    (λ _. pick (λ (x : Note). x ≡ Open j b → r ≡ b + 4294967296) (eqb (r / 4294967296) 1) (Open (joined_noted n) (r % 4294967296)) (Closed (r / 4294967296 - 2))
+    (λ q e. let x = eqb-true (r / 4294967296) 1 q in let y = same_open (joined_noted n) j (r % 4294967296) b e in omega arith)
+    (λ _ e. absurd (closed_open (r / 4294967296 - 2) j b e)))
+
+-- the note that a step at the cursor k sets
+pub set_at : (l : List Note) (k : ℕ) (n m : Note) → n ≡ m → set l k n ≡ set l (k + 2 - 2) m
+set_at l k n m e = let here : k ≡ k + 2 - 2 = omega arith in λ i. set l (here i) (e i)
+
+-- the note that a load sets, where x was noted
+pub noted_is : (l : List Note) (k r : ℕ) (x : Note) → get_or l k Vacant ≡ x → set l k (note_after x r) ≡ set l (k + 2 - 2) (note_after (get_or l (k + 2 - 2) Vacant) r)
+noted_is l k r x is = let here : k ≡ k + 2 - 2 = omega arith in λ i. set l (here i) (note_after ((sym is ∙ ap (λ (j : ℕ). get_or l j Vacant) here) i) r)
+
+-- the note that a desk has read
+pub noted_there : {id : TableId} {key : BoardSetup} {seat : Seat (Unit {0}) View} {setup : BoardSetup} {len : ℕ} {notes : List Note} → IsDesk id key seat setup len notes → (k : ℕ) (n : Note) (v : View) → seat.me.0 ≡ v → k < v.setup.limits.followers
+    → n ≡ get_or notes k n → get_elem? v.notes k ≡ some n
+noted_there {notes = notes} i k n v is inside found =
+    let b = i.sound.board i.owns in
+    let low : k < length notes = omega (arith, inside, b.noted, ap length i.notes_are, ap (λ (u : View). u.setup.limits.followers) is) in
+    ap (λ (u : View). get_elem? u.notes k) (sym is)
+    ∙ ap (λ (l : List Note). get_elem? l k) (sym i.notes_are) ∙ at_index notes k n low found

@@ -1,0 +1,7 @@
+mod Steps
+mod Desks
+mod Followers
+mod Hands
+mod Tries
+mod Games
+mod Meetings

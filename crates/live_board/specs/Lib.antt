@@ -1,0 +1,6 @@
+pub mod Seats
+pub mod Desk
+pub mod Takes
+pub mod Board
+pub mod Accounts
+pub mod Meeting

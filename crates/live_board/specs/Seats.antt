@@ -1,0 +1,61 @@
+-- What contracts see of a board and of a follower, and what ties the fields of each to the view of its seat.
+use Rattle.std.specs.Prelude.{◌≡◌, ℕ, List, [], ◌∷◌, length, Option, None, true}
+use Rattle.atomic_table.specs.Seated.{TableId}
+use Rattle.atomic_table.specs.declared.shared.Seat.{Seat}
+use Rattle.c960_game.specs.declared.outcome.Outcome.{Outcome}
+use Rattle.live_steps.specs.declared.setup.BoardSetup.{BoardSetup}
+use Rattle.live_steps.specs.declared.note.Note.{Note}
+use Rattle.live_steps.specs.declared.view.Part.{Part}
+use Rattle.live_steps.specs.declared.view.View.{View}
+use Rattle.live_steps.specs.Words.{word_count}
+use Rattle.live_steps.specs.Views.{carrying, part}
+use Rattle.live_steps.specs.Sound.{IsSoundPart, IsSound}
+
+-- a table, and what a seat at it knows: a board's, or one of a follower that left
+pub record BoardSeat : Type 0 where
+  pub table : TableId
+  pub knows : View
+
+-- a follower's table, and what it knows: its part
+pub record FollowerSeat : Type 0 where
+  pub table : TableId
+  pub part : Part
+
+abbrev nobody : BoardSetup → Part
+nobody z = part z 0 0 [] 0 None 0 None None
+
+abbrev first_part : Part → List Part → Part
+first_part d [] = d
+first_part d (p ∷ ps) = p
+
+-- the part that a follower's view is
+abbrev pub part_of : View → Part
+part_of v = first_part (nobody v.setup) v.parts
+
+-- of a board: the table's identity and key, the seat, and the fields beside it
+pub record IsDesk (id : TableId) (key : BoardSetup) (seat : Seat (Unit {0}) View) (setup : BoardSetup) (len : ℕ) (notes : List Note) : Type 0 where
+  pub table : seat.table_id ≡ id
+  pub words : id.words ≡ word_count setup.limits
+  pub key_is : key ≡ setup
+  pub owns : seat.me.0.owns ≡ true
+  pub setup_is : seat.me.0.setup ≡ setup
+  pub len_is : len ≡ length seat.me.0.log
+  pub notes_are : notes ≡ seat.me.0.notes
+  pub none_held : seat.me.1 ≡ []
+  pub sound : IsSound seat.me.0
+
+-- of a follower: likewise
+pub record IsFollower (id : TableId) (key : BoardSetup) (seat : Seat (Unit {0}) View) (setup : BoardSetup) (place joined taken seen : ℕ) (outcome : Option Outcome) (closing : Option ℕ) : Type 0 where
+  pub table : seat.table_id ≡ id
+  pub words : id.words ≡ word_count setup.limits
+  pub key_is : key ≡ setup
+  pub one : seat.me.0 ≡ carrying setup (part_of seat.me.0 ∷ [])
+  pub none_held : seat.me.1 ≡ []
+  pub setup_is : (part_of seat.me.0).setup ≡ setup
+  pub place_is : place ≡ (part_of seat.me.0).place
+  pub joined_is : joined ≡ (part_of seat.me.0).joined
+  pub taken_is : taken ≡ length (part_of seat.me.0).taken
+  pub seen_is : seen ≡ (part_of seat.me.0).seen
+  pub outcome_is : outcome ≡ (part_of seat.me.0).outcome
+  pub closing_is : closing ≡ (part_of seat.me.0).closing
+  pub sound : IsSoundPart (part_of seat.me.0)

@@ -1,0 +1,172 @@
+//! A live board: a game, and its log on a table that its followers read.
+
+ghost use Rattle.std.specs.Prelude.{◌≡◌, ◌↔◌, ℕ, ◌+◌, ◌<◌, ◌≤◌, ◌⊎◌, [], ◌∷◌, ◌++◌, length, Some, None, Err, IfOk, IfErr, OnErr, OnOk, MatchOption};
+ghost use mathlib.Core.Option.{some};
+ghost use lib.ListN.{get_elem?};
+ghost use Rattle.c960_game.specs.Ending.{named_outcome};
+ghost use Rattle.c960_game.specs.Ends.{own_outcome};
+ghost use Rattle.c960_game.specs.Positions.{last_position, position_at};
+ghost use Rattle.c960_game.specs.Record.{end_answer, play_answer};
+ghost use Rattle.relay_core.specs.Inner.Boards.{with_place};
+ghost use Rattle.live_steps.specs.Sound.{IsSound};
+ghost use Rattle.live_steps.specs.Views.{finished, newcomer, starting};
+ghost use Rattle.live_board.specs.Accounts.{account_of};
+ghost use Rattle.live_board.specs.Board.{from_place, game_of, IsNotYet, IsTooFarBack, setup_of};
+ghost use Rattle.live_board.specs.Desk.{Joined, LoadedBelow, NoneVacant, Searched, Submitted};
+ghost use Rattle.live_board.specs.Meeting.{Met};
+
+use crate::desk::Desk;
+use crate::follower::Follower;
+use c960_board::{Move, Position};
+use c960_game::{Ending, Game, Limits, Outcome, Refusal};
+use live_machine::BoardLimits;
+use live_steps::BoardSetup;
+use relay_core::Account;
+use std::alloc::Global;
+use std::marker::Model;
+
+/// A game that one thread plays while its followers take in the moves. To a contract it is its table and what its seat there knows.
+#[derive(Drop)]
+pub struct Board {
+    desk: Desk,
+    game: Game,
+}
+
+impl Model for Board {
+    ghost use Rattle.live_board.specs.Seats.{BoardSeat};
+    ghost use Rattle.live_board.specs.Board.{IsBoard};
+
+    ghost Value = { BoardSeat };
+
+    ghost view = { λ b. b.desk };
+
+    ghost invariant = { λ b. IsBoard b.desk b.game };
+}
+
+impl Board {
+    /// A board with the game of a numbered start. All memory of the board is reserved here, but what `follow` may need.
+    /// Refused: `BadStart` exactly from 960 on, and `OutOfMemory`.
+    pub fn open(alloc: Global, start: u16, limits: Limits) -> Result<Board, Refusal>
+        ensures bad_start { (result ≡ Err Refusal.BadStart) ↔ (960 ≤ start) }
+        ensures refusals { IfErr result (λ r. (r ≡ Refusal.BadStart) ⊎ (r ≡ Refusal.OutOfMemory)) }
+        ensures knows { IfOk result (λ b. b.knows ≡ starting (setup_of start limits)) }
+        ensures sound { IfOk result (λ b. IsSound b.knows) }
+    {
+        let game = Game::open(alloc, start, limits.plies())?;
+        let setup = BoardSetup {
+            start: u64::from(start),
+            limits: BoardLimits::of(&limits),
+        };
+        let Ok(desk) = Desk::new(alloc, setup) else {
+            return Err(Refusal::OutOfMemory);
+        };
+        Ok(Board { desk, game })
+    }
+
+    /// How many moves were made.
+    pub fn len(&self) -> u16
+        ensures { result ≡ length self.now.knows.log }
+    {
+        self.game.len()
+    }
+
+    /// The present position.
+    pub fn position(&self) -> Position
+        ensures { result ≡ last_position self.now.knows.setup.start self.now.knows.log }
+    {
+        self.game.position()
+    }
+
+    /// The position after that many moves: None exactly where fewer were made.
+    pub fn position_at(&self, place: u16) -> Option<Position>
+        ensures { result ≡ position_at self.now.knows.setup.start self.now.knows.log place }
+    {
+        self.game.position_at(place)
+    }
+
+    /// The outcome, once the game is over.
+    pub fn outcome(&self) -> Option<Outcome>
+        ensures { result ≡ self.now.knows.outcome }
+    {
+        self.game.outcome()
+    }
+
+    /// Makes a move: its place in the log, and the outcome where it ends the game. Refused as by `Game::play`, and then nothing has
+    /// changed. Each follower that is open and a capacity behind is closed first.
+    pub fn submit(&mut self, m: Move) -> Result<(u16, Option<Outcome>), Refusal>
+        ensures answer { result ≡ with_place (length self.old.knows.log) (play_answer (game_of self.old.knows) m) }
+        ensures refused { OnErr result (self.new ≡ self.old) }
+        ensures table { self.new.table ≡ self.old.table }
+        ensures knows { OnOk result (Submitted m self.old.knows self.new.knows) }
+        ensures log { OnOk result (self.new.knows.log ≡ self.old.knows.log ++ m ∷ []) }
+        ensures outcome { OnOk result (self.new.knows.outcome ≡ own_outcome self.old.knows.setup.start (self.old.knows.log ++ m ∷ [])) }
+        ensures sound { IsSound self.new.knows }
+    {
+        let place = self.game.len();
+        let outcome = self.game.play(m)?;
+        self.desk.close_full();
+        self.desk.publish(m, outcome);
+        Ok((place, outcome))
+    }
+
+    /// Ends the game. Refused as by `Game::end`, and then nothing has changed.
+    pub fn end(&mut self, ending: Ending) -> Result<Outcome, Refusal>
+        ensures answer { result ≡ end_answer (game_of self.old.knows) ending }
+        ensures refused { OnErr result (self.new ≡ self.old) }
+        ensures table { self.new.table ≡ self.old.table }
+        ensures knows { OnOk result (self.new.knows ≡ finished (Some (named_outcome ending)) self.old.knows) }
+        ensures sound { IsSound self.new.knows }
+    {
+        let outcome = self.game.end(ending)?;
+        self.desk.finish(&ending, outcome);
+        Ok(outcome)
+    }
+
+    /// A follower that takes from the place `from` of the log, or from the log's present length. Refused, in this order: `NotYet`
+    /// where the log has not reached the place; `TooFarBack` where the log goes more than a capacity beyond it; `TooManyFollowers`
+    /// only where each cursor was loaded in this call and none is noted vacant; `OutOfMemory`. A refused call makes no step but
+    /// loads of cursors.
+    pub fn follow(&mut self, from: Option<u16>) -> Result<Follower, Refusal>
+        ensures table { self.new.table ≡ self.old.table }
+        ensures not_yet { (result ≡ Err Refusal.NotYet) ↔ IsNotYet self.old.knows (from_place self.old.knows from) }
+        ensures too_far_back { (result ≡ Err Refusal.TooFarBack) ↔ IsTooFarBack self.old.knows (from_place self.old.knows from) }
+        ensures refusals { IfErr result (λ r. (r ≡ Refusal.NotYet) ⊎ (r ≡ Refusal.TooFarBack) ⊎ (r ≡ Refusal.TooManyFollowers) ⊎ (r ≡ Refusal.OutOfMemory)) }
+        ensures too_many { (result ≡ Err Refusal.TooManyFollowers) → LoadedBelow self.old.knows.setup.limits.followers self.old.knows self.new.knows × NoneVacant self.new.knows }
+        ensures refused { OnErr result (Searched self.old.knows self.new.knows) }
+        ensures follower { IfOk result (λ f. (f.table ≡ self.old.table) × (f.part ≡ newcomer f.part.place (from_place self.old.knows from) self.old.knows)) }
+        ensures knows { IfOk result (λ f. Joined f.part.place (from_place self.old.knows from) self.old.knows self.new.knows) }
+        ensures log { self.new.knows.log ≡ self.old.knows.log }
+        ensures outcome { self.new.knows.outcome ≡ self.old.knows.outcome }
+        ensures closings { self.new.knows.closings ≡ self.old.knows.closings }
+        ensures sound { IsSound self.new.knows }
+    {
+        let len = self.game.len();
+        let place = from.unwrap_or(len);
+        if len < place {
+            return Err(Refusal::NotYet);
+        }
+        if u64::from(len - place) > self.desk.capacity() {
+            return Err(Refusal::TooFarBack);
+        }
+        let outcome = self.game.outcome();
+        let Some(cursor) = self.desk.find_vacant() else {
+            return Err(Refusal::TooManyFollowers);
+        };
+        self.desk
+            .sit(cursor, u64::from(place), outcome)
+            .ok_or(Refusal::OutOfMemory)
+    }
+}
+
+/// The board and one of its followers compare what they know: the follower sees the board's length and outcome, and its closing if it
+/// was closed. The account is what it would be told if it left now.
+pub fn meet(board: &mut Board, follower: &mut Follower) -> Account
+    requires { follower.old.table ≡ board.old.table }
+    ensures table { (board.new.table ≡ board.old.table) × (follower.new.table ≡ follower.old.table) }
+    ensures met { Met board.old.knows follower.old.part board.new.knows follower.new.part }
+    ensures account { result ≡ account_of follower.new.part }
+    ensures sound { IsSound board.new.knows }
+{
+    board.desk.meet(follower);
+    follower.account()
+}

@@ -1,0 +1,43 @@
+//! What a cursor's word says.
+
+ghost use Rattle.std.specs.Prelude.{◌≡◌};
+ghost use Rattle.live_steps.specs.Words.{closing_in, joined_noted, note_after};
+
+use live_steps::Note;
+
+/// What a cursor's word holds beside the next place is counted in these.
+const MARK: u64 = 4_294_967_296;
+
+/// The joining place that is noted, 0 where none is.
+fn joined_noted(note: Note) -> u64
+    ensures { result ≡ joined_noted note }
+{
+    match note {
+        Note::Open(joined, _) => joined,
+        _ => 0,
+    }
+}
+
+/// What the note of a cursor becomes where the cursor says this.
+pub fn note_after(note: Note, word: u64) -> Note
+    ensures { result ≡ note_after note word }
+{
+    if word == 0 {
+        Note::Vacant
+    } else if word / MARK == 1 {
+        Note::Open(joined_noted(note), word % MARK)
+    } else {
+        Note::Closed((word / MARK).saturating_sub(2))
+    }
+}
+
+/// The closing that a cursor says.
+pub fn closing_in(word: u64) -> Option<u64>
+    ensures { result ≡ closing_in word }
+{
+    if 1 < word / MARK {
+        Some(word / MARK - 2)
+    } else {
+        None
+    }
+}

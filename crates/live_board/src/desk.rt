@@ -1,0 +1,296 @@
+//! A board's side of its table: the seat, and what the board keeps of the seat's view. It knows no rules of chess; the game stands
+//! beside it, so that while a move is being stored the game may be one move ahead of the view.
+
+ghost use Rattle.std.specs.Prelude.{◌≡◌, ℕ, ◌+◌, ◌<◌, ◌≤◌, ◌++◌, ◌∷◌, [], length, Some, None, IfOk, IfErr, IfSome, MatchOption};
+ghost use mathlib.Core.Option.{some};
+ghost use lib.ListN.{get_elem?};
+ghost use Rattle.c960_rules.specs.Legal.{Legal};
+ghost use Rattle.c960_game.specs.Ending.{named_outcome};
+ghost use Rattle.c960_game.specs.Ends.{own_outcome};
+ghost use Rattle.c960_game.specs.Ground.{Ground};
+ghost use Rattle.c960_game.specs.Positions.{last_position};
+ghost use Rattle.live_machine.specs.Limits.{AreBoardLimits};
+ghost use Rattle.live_steps.specs.declared.note.Note.TheVariants.{Vacant};
+ghost use Rattle.live_steps.specs.Sound.{IsSound, IsSoundPart};
+ghost use Rattle.live_steps.specs.Views.{finished, followed, kept_part, newcomer, published, starting, storing};
+ghost use Rattle.live_board.specs.Desk.{Checked, CheckedBelow, Exchanged, FreeBelow, IsNotedFull, LoadedBelow, NoneVacant, Searched, Tried, TriedBelow, Unmoved};
+ghost use Rattle.live_board.specs.Meeting.{Met};
+
+use crate::cursor::{closing_in, note_after};
+use crate::follower::{Follower, outcome_in};
+use atomic_table::{Seat, Table};
+use c960_board::Move;
+use c960_game::{Ending, Outcome};
+use live_steps::plays::{Check, Cut, Finish, Follow, Hand, Look, Publish, Spare, Store};
+use live_steps::words::{closed_cursor, header, open_cursor, status};
+use live_steps::{BoardSetup, LiveRule, Note, View};
+use std::alloc::{AllocError, Global};
+use std::marker::Model;
+use std::mem::swap;
+use std::sync::Arc;
+
+/// The words of a live board.
+pub type LiveTable = Table<(), View, BoardSetup, LiveRule, Global>;
+
+/// To a contract it is its table and the view of its seat.
+#[derive(Drop)]
+pub struct Desk {
+    pub(crate) table: Arc<LiveTable, Global>,
+    pub(crate) seat: Seat<(), View>,
+    pub(crate) setup: BoardSetup,
+    pub(crate) len: u64,
+    pub(crate) notes: Vec<Note>,
+}
+
+impl Model for Desk {
+    ghost use Rattle.std.specs.Arc.{arc_value};
+    ghost use Rattle.live_board.specs.Seats.{BoardSeat, IsDesk};
+
+    ghost Value = { BoardSeat };
+
+    ghost view = { λ d. record { table = d.seat.table_id; knows = d.seat.me.0 } };
+
+    ghost invariant = { λ d. IsDesk (arc_value d.table).shared.table_id (arc_value d.table).shared.key d.seat d.setup d.len d.notes.items };
+}
+
+impl Desk {
+    /// The table of a new board, with its words and the board's seat.
+    pub fn new(alloc: Global, setup: BoardSetup) -> Result<Desk, AllocError>
+        requires start { setup.start < 960 }
+        requires limits { AreBoardLimits setup.limits }
+        ensures knows { IfOk result (λ d. d.knows ≡ starting setup) }
+        ensures sound { IfOk result (λ d. IsSound d.knows) }
+    {
+        let mut words = Vec::new(alloc);
+        words.push(header(setup.start, setup.limits.capacity))?;
+        for _ in 0..setup.limits.followers + setup.limits.plies + 1 {
+            words.push(0)?;
+        }
+        let mut notes = Vec::new(alloc);
+        for _ in 0..setup.limits.followers {
+            notes.push(Note::Vacant)?;
+        }
+        let (table, seat) = Table::of_words(alloc, words.as_slice(), &setup)?;
+        let table = Arc::new(alloc, table)?;
+        Ok(Desk {
+            table,
+            seat,
+            setup,
+            len: 0,
+            notes,
+        })
+    }
+
+    /// Stores a legal move, and then the length with the outcome that the game has by itself.
+    pub fn publish(&mut self, m: Move, outcome: Option<Outcome>)
+        requires going { self.old.knows.outcome ≡ None }
+        requires within { length self.old.knows.log < self.old.knows.setup.limits.plies }
+        requires legal { Legal (last_position self.old.knows.setup.start self.old.knows.log) m }
+        requires outcome { outcome ≡ own_outcome self.old.knows.setup.start (self.old.knows.log ++ m ∷ []) }
+        requires free { FreeBelow self.old.knows.setup.limits.followers self.old.knows }
+        ensures table { self.new.table ≡ self.old.table }
+        ensures knows { self.new.knows ≡ published m (storing m self.old.knows) }
+        ensures sound { IsSound self.new.knows }
+    {
+        let word = (self.setup.limits.followers + 2 + self.len) as usize;
+        let status = status(self.len + 1, outcome);
+        let code = m.code();
+        let shared = &self.table.shared;
+        shared.store::<Store>(&mut self.seat, word, code);
+        shared.store::<Publish>(&mut self.seat, 1, status);
+        self.len += 1;
+    }
+
+    /// Stores the outcome of an ending.
+    pub fn finish(&mut self, ending: &Ending, outcome: Outcome)
+        requires going { self.old.knows.outcome ≡ None }
+        requires grounded { Ground self.old.knows.setup.start self.old.knows.log ending.now }
+        requires outcome { outcome ≡ named_outcome ending.now }
+        ensures table { self.new.table ≡ self.old.table }
+        ensures knows { self.new.knows ≡ finished (Some (named_outcome ending.now)) self.old.knows }
+        ensures sound { IsSound self.new.knows }
+    {
+        let status = status(self.len, Some(outcome));
+        let shared = &self.table.shared;
+        shared.store::<Finish>(&mut self.seat, 1, status);
+    }
+}
+
+impl Desk {
+    /// Loads the cursor at the place, and notes what it says.
+    pub fn check(&mut self, place: u64)
+        requires { place < self.old.knows.setup.limits.followers }
+        ensures table { self.new.table ≡ self.old.table }
+        ensures knows { Checked self.old.knows place self.new.knows }
+        ensures before { IsSound self.old.knows }
+        ensures sound { IsSound self.new.knows }
+    {
+        let shared = &self.table.shared;
+        let word = shared.load::<Check>(&mut self.seat, place as usize + 2);
+        let note = self.notes[place as usize];
+        self.notes[place as usize] = note_after(note, word);
+    }
+
+    /// Closes the follower at the place, whose cursor was open at `next` when it was last loaded, if it still is.
+    fn exchange(&mut self, place: u64, next: u64)
+        requires inside { place < self.old.knows.setup.limits.followers }
+        requires full { IsNotedFull self.old.knows place next }
+        ensures table { self.new.table ≡ self.old.table }
+        ensures knows { Exchanged self.old.knows place next self.new.knows }
+        ensures sound { IsSound self.new.knows }
+    {
+        let len = self.len;
+        let open = open_cursor(next);
+        let closed = closed_cursor(next, len);
+        let shared = &self.table.shared;
+        let word = shared.compare_exchange::<Cut>(&mut self.seat, place as usize + 2, open, closed);
+        let note = if word == open {
+            Note::Closed(len)
+        } else {
+            note_after(self.notes[place as usize], word)
+        };
+        self.notes[place as usize] = note;
+    }
+
+    /// Loads the cursor at the place, and closes the follower there if it is full.
+    fn close_at(&mut self, place: u64)
+        requires { place < self.old.knows.setup.limits.followers }
+        ensures table { self.new.table ≡ self.old.table }
+        ensures knows { Tried self.old.knows place self.new.knows }
+        ensures before { IsSound self.old.knows }
+        ensures sound { IsSound self.new.knows }
+    {
+        self.check(place);
+        if let Note::Open(_, next) = self.notes[place as usize] {
+            if next + self.setup.limits.capacity == self.len {
+                self.exchange(place, next);
+            }
+        }
+    }
+
+    /// Closes each full follower, in the order of their places.
+    pub fn close_full(&mut self)
+        ensures table { self.new.table ≡ self.old.table }
+        ensures knows { TriedBelow self.old.knows.setup.limits.followers self.old.knows self.new.knows }
+        ensures free { FreeBelow self.new.knows.setup.limits.followers self.new.knows }
+        ensures setup { self.new.knows.setup ≡ self.old.knows.setup }
+        ensures log { self.new.knows.log ≡ self.old.knows.log }
+        ensures outcome { self.new.knows.outcome ≡ self.old.knows.outcome }
+        ensures sound { IsSound self.new.knows }
+    {
+        for place in 0..self.setup.limits.followers {
+            self.close_at(place);
+        }
+    }
+}
+
+impl Desk {
+    /// How many moves a follower's queue holds.
+    pub fn capacity(&self) -> u64
+        ensures { result ≡ self.now.knows.setup.limits.capacity }
+    {
+        self.setup.limits.capacity
+    }
+
+    /// The first place that is noted vacant.
+    fn vacant(&self) -> Option<u64>
+        ensures place { MatchOption result (NoneVacant self.now.knows) (λ k. (k < self.now.knows.setup.limits.followers) × (get_elem? self.now.knows.notes k ≡ some Vacant)) }
+        ensures sound { IsSound self.now.knows }
+    {
+        for place in 0..self.notes.len() {
+            if let Note::Vacant = self.notes[place] {
+                return Some(place as u64);
+            }
+        }
+        None
+    }
+
+    /// Loads each cursor once, in the order of their places, and notes what they say.
+    fn check_all(&mut self)
+        ensures table { self.new.table ≡ self.old.table }
+        ensures knows { CheckedBelow self.old.knows.setup.limits.followers self.old.knows self.new.knows }
+        ensures loaded { LoadedBelow self.old.knows.setup.limits.followers self.old.knows self.new.knows }
+        ensures kept { Unmoved self.old.knows self.new.knows }
+        ensures before { IsSound self.old.knows }
+        ensures sound { IsSound self.new.knows }
+    {
+        for place in 0..self.setup.limits.followers {
+            self.check(place);
+        }
+    }
+
+    /// A place that is noted vacant: none only where each cursor was loaded now and then none is noted vacant.
+    pub fn find_vacant(&mut self) -> Option<u64>
+        ensures table { self.new.table ≡ self.old.table }
+        ensures knows { Searched self.old.knows self.new.knows }
+        ensures kept { Unmoved self.old.knows self.new.knows }
+        ensures place { MatchOption result (LoadedBelow self.old.knows.setup.limits.followers self.old.knows self.new.knows × NoneVacant self.new.knows)
+            (λ k. (k < self.new.knows.setup.limits.followers) × (get_elem? self.new.knows.notes k ≡ some Vacant)) }
+        ensures before { IsSound self.old.knows }
+        ensures sound { IsSound self.new.knows }
+    {
+        if let Some(place) = self.vacant() {
+            return Some(place);
+        }
+        self.check_all();
+        self.vacant()
+    }
+
+    /// A follower joins at a vacant cursor place, and takes from the place `from` of the log. None where the table has too many
+    /// owners; then nothing has changed.
+    pub fn sit(&mut self, place: u64, from: u64, outcome: Option<Outcome>) -> Option<Follower>
+        requires inside { place < self.old.knows.setup.limits.followers }
+        requires vacant { get_elem? self.old.knows.notes place ≡ some Vacant }
+        requires from { (from ≤ length self.old.knows.log) × (length self.old.knows.log ≤ from + self.old.knows.setup.limits.capacity) }
+        requires outcome { outcome ≡ self.old.knows.outcome }
+        ensures table { self.new.table ≡ self.old.table }
+        ensures answer { MatchOption result (self.new ≡ self.old)
+            (λ f. (self.new.knows ≡ kept_part (followed place from self.old.knows)) × (f.table ≡ self.old.table) × (f.part ≡ newcomer place from self.old.knows)) }
+        ensures sound { IsSound self.new.knows }
+    {
+        let Ok(table) = Arc::try_clone(&self.table) else {
+            return None;
+        };
+        let seen = self.len;
+        let cursor = open_cursor(from);
+        let shared = &self.table.shared;
+        shared.store::<Follow>(&mut self.seat, place as usize + 2, cursor);
+        let seat = shared.split_seat::<Hand>(&mut self.seat);
+        self.notes[place as usize] = Note::Open(from, from);
+        Some(Follower {
+            table,
+            seat,
+            setup: self.setup,
+            place,
+            joined: from,
+            taken: 0,
+            seen,
+            outcome,
+            closing: None,
+        })
+    }
+
+    /// The follower's part joins the board's, sees the status and its cursor, and goes on in a seat of its own.
+    pub fn meet(&mut self, follower: &mut Follower)
+        requires { follower.old.table ≡ self.old.table }
+        ensures table { (self.new.table ≡ self.old.table) × (follower.new.table ≡ follower.old.table) }
+        ensures met { Met self.old.knows follower.old.part self.new.knows follower.new.part }
+        ensures sound { IsSound self.new.knows }
+        ensures sound_part { IsSoundPart follower.new.part }
+    {
+        let place = follower.place as usize;
+        let shared = &self.table.shared;
+        let mut seat = shared.split_seat::<Spare>(&mut self.seat);
+        swap(&mut seat, &mut follower.seat);
+        shared.join_seat::<Hand>(&mut self.seat, seat);
+        let status = shared.load::<Look>(&mut self.seat, 1);
+        let cursor = shared.load::<Check>(&mut self.seat, place + 2);
+        let out = shared.split_seat::<Hand>(&mut self.seat);
+        follower.seat = out;
+        follower.seen = status % 65536;
+        follower.outcome = outcome_in(status);
+        follower.closing = closing_in(cursor);
+        let note = self.notes[place];
+        self.notes[place] = note_after(note, cursor);
+    }
+}

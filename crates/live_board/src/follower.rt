@@ -1,0 +1,189 @@
+//! Who takes a board's moves.
+
+ghost use Rattle.std.specs.Prelude.{◌≡◌, ◌≢◌, ℕ, ◌+◌, ◌<◌, ◌≤◌, [], ◌∷◌, length, Some, None, unwrap_or, is_some};
+ghost use Rattle.live_steps.specs.Sound.{IsSoundPart};
+ghost use Rattle.live_steps.specs.Views.{gains, holding, learns, next_of, sees};
+ghost use Rattle.live_steps.specs.Words.{length_in, outcome_in};
+ghost use Rattle.live_board.specs.Accounts.{account_of};
+ghost use Rattle.live_board.specs.Takes.{Stays, Took};
+
+use crate::cursor::closing_in;
+use crate::desk::LiveTable;
+use crate::gone::Gone;
+use atomic_table::Seat;
+use c960_board::Move;
+use c960_game::Outcome;
+use live_steps::plays::{Leave, Look, Read, Take};
+use live_steps::{BoardSetup, View};
+use relay_core::{Account, Taken};
+use std::alloc::Global;
+use std::marker::Model;
+use std::sync::Arc;
+
+/// Who takes the moves of one board, from the place of its log at which it joined, each once and in their order. It may move into
+/// another thread. To a contract it is its table and its part of what the seats there know. One that is dropped without `leave`
+/// keeps its place on the board taken.
+#[derive(Drop)]
+pub struct Follower {
+    pub(crate) table: Arc<LiveTable, Global>,
+    pub(crate) seat: Seat<(), View>,
+    pub(crate) setup: BoardSetup,
+    pub(crate) place: u64,
+    pub(crate) joined: u64,
+    pub(crate) taken: u64,
+    pub(crate) seen: u64,
+    pub(crate) outcome: Option<Outcome>,
+    pub(crate) closing: Option<u64>,
+}
+
+impl Model for Follower {
+    ghost use Rattle.std.specs.Arc.{arc_value};
+    ghost use Rattle.live_board.specs.Seats.{FollowerSeat, IsFollower, part_of};
+
+    ghost Value = { FollowerSeat };
+
+    ghost view = { λ f. record { table = f.seat.table_id; part = part_of f.seat.me.0 } };
+
+    ghost invariant = { λ f. IsFollower (arc_value f.table).shared.table_id (arc_value f.table).shared.key f.seat f.setup f.place f.joined f.taken f.seen f.outcome f.closing };
+}
+
+/// The outcome that a status says.
+pub(crate) fn outcome_in(status: u64) -> Option<Outcome>
+    ensures { result ≡ outcome_in status }
+{
+    Outcome::of_code(status / 65536)
+}
+
+/// What a follower that joined there and has taken so many moves has had, where it was closed at that length if it was, and has
+/// seen the log at that length.
+pub(crate) fn account(joined: u64, taken: u64, seen: u64, closing: Option<u64>) -> Account
+    requires joined { joined < 65536 }
+    requires taken { taken < 65536 }
+    requires seen { seen < 65536 }
+    requires closing { (c : ℕ) → closing ≡ Some c → c < 65536 }
+    ensures joined { result.joined ≡ joined }
+    ensures taken { result.taken ≡ taken }
+    ensures limit { result.limit ≡ unwrap_or closing seen }
+    ensures cut { result.cut ≡ is_some closing }
+{
+    Account {
+        joined: joined as u16,
+        taken: taken as u16,
+        limit: closing.unwrap_or(seen) as u16,
+        cut: closing.is_some(),
+    }
+}
+
+impl Follower {
+    /// The place of the log at which it joined.
+    pub fn joined(&self) -> u16
+        ensures { result ≡ self.now.part.joined }
+    {
+        self.joined as u16
+    }
+
+    /// How many moves it has taken.
+    pub fn taken(&self) -> u16
+        ensures { result ≡ length self.now.part.taken }
+    {
+        self.taken as u16
+    }
+
+    /// What it has had so far, by what it knows.
+    pub(crate) fn account(&self) -> Account
+        ensures { result ≡ account_of self.now.part }
+    {
+        account(self.joined, self.taken, self.seen, self.closing)
+    }
+
+    /// The place of the move that it takes next.
+    fn next(&self) -> u64
+        ensures value { result ≡ next_of self.now.part }
+        ensures sound { IsSoundPart self.now.part }
+    {
+        self.joined + self.taken
+    }
+
+    /// Loads the status.
+    fn look(&mut self)
+        ensures table { self.new.table ≡ self.old.table }
+        ensures part { (status : ℕ) × (self.new.part ≡ sees status self.old.part) × (self.old.part.seen ≤ length_in status) × ((c : ℕ) → self.old.part.closing ≡ Some c → c ≤ length_in status) }
+        ensures sound { IsSoundPart self.new.part }
+    {
+        let shared = &self.table.shared;
+        let status = shared.load::<Look>(&mut self.seat, 1);
+        self.seen = status % 65536;
+        self.outcome = outcome_in(status);
+    }
+
+    /// Takes the next move, which lies below the length seen.
+    fn gain(&mut self) -> Move
+        requires near { next_of self.old.part < self.old.part.seen }
+        requires unclosed { (c : ℕ) → self.old.part.closing ≡ Some c → next_of self.old.part < c }
+        ensures table { self.new.table ≡ self.old.table }
+        ensures part { (cursor : ℕ) × (self.new.part ≡ gains cursor (holding (Some result) self.old.part)) }
+        ensures sound { IsSoundPart self.new.part }
+    {
+        let word = (self.setup.limits.followers + 2 + (self.joined + self.taken)) as usize;
+        let shared = &self.table.shared;
+        let code = shared.load::<Read>(&mut self.seat, word);
+        let Some(m) = Move::of_code(code) else {
+            unreachable!()
+        };
+        let cursor = shared.fetch_add::<Take>(&mut self.seat, self.place as usize + 2, 1);
+        self.taken += 1;
+        self.closing = closing_in(cursor);
+        m
+    }
+
+    /// Takes the next move of the board; or tells that there is none yet, that the game is over, or that the follower was closed.
+    ///
+    /// `Cut` where it knows of its closing and stands there. Else it loads the status, once: where the next place lies below the
+    /// length that it sees, it takes the move; else it answers `Over` or `Nothing` by that status.
+    pub fn take(&mut self) -> Taken
+        ensures stays { Stays self.old self.new }
+        ensures took { Took self.old self.new result }
+        ensures sound { IsSoundPart self.new.part }
+    {
+        let next = self.next();
+        if self.closing == Some(next) {
+            return Taken::Cut;
+        }
+        self.look();
+        if next < self.seen {
+            let m = self.gain();
+            return Taken::Move(next as u16, m);
+        }
+        match self.outcome {
+            Some(outcome) => Taken::Over(outcome),
+            None => Taken::Nothing,
+        }
+    }
+
+    /// Gives its place on the board back: loads the status, then swaps its cursor for a vacant one. The account has its closing, as
+    /// the swap shows it, or else the length that it loaded.
+    pub fn leave(self) -> (Account, Gone)
+        ensures table { result.1.table ≡ self.table }
+        ensures none { result.1.knows.parts ≡ [] }
+        ensures gone { (status cursor : ℕ) × (result.1.knows.gone ≡ learns cursor (sees status self.part) ∷ []) × (result.0 ≡ account_of (learns cursor (sees status self.part))) }
+    {
+        let mut follower = self;
+        follower.look();
+        let Follower {
+            table,
+            mut seat,
+            setup: _,
+            place,
+            joined,
+            taken,
+            seen,
+            outcome: _,
+            closing: _,
+        } = follower;
+        let cursor = table.shared.swap::<Leave>(&mut seat, place as usize + 2, 0);
+        (
+            account(joined, taken, seen, closing_in(cursor)),
+            Gone { seat },
+        )
+    }
+}

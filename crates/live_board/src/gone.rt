@@ -1,0 +1,19 @@
+//! What is left of a follower that left.
+
+use atomic_table::Seat;
+use live_steps::View;
+use std::marker::Model;
+
+/// The seat of a follower that left, kept for its view alone. It has no calls.
+#[derive(Drop)]
+pub struct Gone {
+    pub(crate) seat: Seat<(), View>,
+}
+
+impl Model for Gone {
+    ghost use Rattle.live_board.specs.Seats.{BoardSeat};
+
+    ghost Value = { BoardSeat };
+
+    ghost view = { λ g. record { table = g.seat.table_id; knows = g.seat.me.0 } };
+}

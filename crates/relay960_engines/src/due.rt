@@ -1,0 +1,74 @@
+//! The answers that are due to a writer: those of one read go out together.
+
+ghost use Rattle.std.specs.Prelude.{◌≡◌, ◌++◌, [], OnOk, OnErr, IfErr};
+ghost use Rattle.std.specs.Io.KnownBytes.{Appends};
+ghost use Rattle.relay960_engines.specs.Failures.{writes_failed};
+ghost use Rattle.relay960_engines.specs.Writing.{AppendsPart};
+ghost use Rattle.relay960_engines.specs.inner.Sending.{Sends, outlet};
+
+use crate::devices::WriteDevice;
+use crate::fault::RunFault;
+use crate::writing::write_whole;
+use arrayvec::ArrayVec;
+use std::marker::Model;
+
+/// For how many bytes there is room.
+const ROOM: usize = 8192;
+
+/// The bytes that are due: they answer lines that were read, and are not written yet. They take no memory. Contracts see the list of
+/// the bytes.
+#[derive(Drop)]
+pub struct Due {
+    bytes: ArrayVec<u8, ROOM>,
+}
+
+impl Model for Due {
+    ghost use Rattle.std.specs.Prelude.{ℕ, List};
+
+    ghost Value = { List ℕ };
+
+    ghost view = { λ due. due.bytes.items };
+}
+
+impl Due {
+    /// Nothing is due.
+    pub fn new() -> Due
+        ensures { result ≡ [] }
+    {
+        Due {
+            bytes: ArrayVec::new(),
+        }
+    }
+
+    /// Writes all that is due.
+    pub fn send<W: WriteDevice>(&mut self, writer: &mut W) -> Result<(), RunFault>
+        ensures none { OnOk result (self.new ≡ []) }
+        ensures whole { OnOk result (Appends (W.contents writer.old) (W.contents writer.new) self.old) }
+        ensures part { OnErr result (AppendsPart (W.contents writer.old) (W.contents writer.new) self.old) }
+        ensures fault { IfErr result (λ fault. fault ≡ RunFault.Write) }
+        ensures writes_counted { W.failures writer.new ≡ writes_failed result (W.failures writer.old) }
+    {
+        write_whole(writer, self.bytes.as_slice())?;
+        self.bytes.clear();
+        Ok(())
+    }
+
+    /// Adds a text behind what is due. Where there is no room for it, what was due is written first, and then a text that has more
+    /// bytes than there is ever room for.
+    pub fn add<W: WriteDevice>(&mut self, writer: &mut W, text: &[u8]) -> Result<(), RunFault>
+        ensures sent { OnOk result (Sends (outlet (W.contents writer.old) self.old)
+            (outlet (W.contents writer.new) self.new) text.now) }
+        ensures part { OnErr result (AppendsPart (W.contents writer.old) (W.contents writer.new) (self.old ++ text.now)) }
+        ensures fault { IfErr result (λ fault. fault ≡ RunFault.Write) }
+        ensures writes_counted { W.failures writer.new ≡ writes_failed result (W.failures writer.old) }
+    {
+        if self.bytes.try_extend_from_slice(text).is_ok() {
+            return Ok(());
+        }
+        self.send(writer)?;
+        if self.bytes.try_extend_from_slice(text).is_ok() {
+            return Ok(());
+        }
+        write_whole(writer, text)
+    }
+}
