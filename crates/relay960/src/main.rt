@@ -2,8 +2,6 @@
 #![tactic(auto)]
 
 mod program;
-#[cfg(test)]
-mod tests;
 mod words;
 
 use program::{Course, course_of, status_of_error, status_without_memory};

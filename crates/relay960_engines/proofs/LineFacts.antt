@@ -4,7 +4,7 @@ use Rattle.std.proofs.Common.{Bool, true, false, cond, refl, sym, ap, ◌∙◌,
 use Rattle.std.proofs.lemmas.Bool.{ltb-true, ltb-false}
 use Rattle.std.proofs.lemmas.List.{take-append-le, length-take, length-append}
 use Rattle.relay960_engines.specs.Lines.{whole_lines, last_piece, last_line, lines_of}
-use Rattle.relay960_engines.specs.inner.Taking.{kept_with, kept_lines, kept_piece}
+use Rattle.relay960_engines.specs.Inner.Taking.{kept_with, kept_lines, kept_piece}
 
 -- the lines of some bytes and of more behind them
 pub kept_lines-append : (line xs ys : List ℕ)

@@ -10,8 +10,8 @@ use Rattle.relay960_engines.specs.declared.fault.RunFault.TheVariants.{Read, Wri
 use Rattle.relay960_engines.specs.declared.progress.Progress.{Progress}
 use Rattle.relay960_engines.specs.Lines.{Giving, Answers, Until, whole_lines, last_piece, last_line, lines_of, Between}
 use Rattle.relay960_engines.specs.Runs.{Known, Wrote, WrotePart, Done, Stopped, IsPast}
-use Rattle.relay960_engines.specs.inner.Sending.{settled, Sent}
-use Rattle.relay960_engines.specs.inner.Taking.{kept_lines, kept_piece, Within, IsWithin, LastFits, TakenAll, Unwritten, StopsReading}
+use Rattle.relay960_engines.specs.Inner.Sending.{settled, Sent}
+use Rattle.relay960_engines.specs.Inner.Taking.{kept_lines, kept_piece, Within, IsWithin, LastFits, TakenAll, Unwritten, StopsReading}
 use Rattle.relay960_engines.proofs.LineFacts.{kept_lines-take, kept_piece-take, last_line-take}
 use Rattle.relay960_engines.proofs.TakingFacts.{last_fits}
 use Rattle.relay960_engines.proofs.StopFacts.{nothing_read}

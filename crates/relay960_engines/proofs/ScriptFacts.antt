@@ -19,7 +19,7 @@ use Rattle.relay_messages.specs.Answers.{answer_text}
 use Rattle.relay_messages.specs.Decoding.{IsDecoding, decoded}
 use Rattle.relay960_engines.specs.Lines.{Giving, Answers}
 use Rattle.relay960_engines.specs.Script.{answer_to, history_after, answers_to, answer_lines, AnswersLine, AnswersLines, is_want, ScriptAnswers}
-use Rattle.relay960_engines.specs.inner.ScriptSteps.{DeskGives, LeadsTo}
+use Rattle.relay960_engines.specs.Inner.ScriptSteps.{DeskGives, LeadsTo}
 use Rattle.relay960_engines.specs.Writing.{line}
 
 -- ---- Answers that tell of no want of memory are the ones that the lines ask for.

@@ -8,8 +8,8 @@ use Rattle.relay960_engines.specs.declared.fault.RunFault.TheVariants.{Write}
 use Rattle.relay960_engines.specs.Lines.{Giving, Answers, Between}
 use Rattle.relay960_engines.specs.Runs.{Known, Wrote, WrotePart}
 use Rattle.relay960_engines.specs.Writing.{AppendsPart}
-use Rattle.relay960_engines.specs.inner.Sending.{Outlet, outlet, settled, Sends, Sent, SentPart}
-use Rattle.relay960_engines.specs.inner.Taking.{Unwritten}
+use Rattle.relay960_engines.specs.Inner.Sending.{Outlet, outlet, settled, Sends, Sent, SentPart}
+use Rattle.relay960_engines.specs.Inner.Taking.{Unwritten}
 use Rattle.relay960_engines.proofs.AnsweredFacts.{Answers-append, Answers-one}
 use Rattle.relay960_engines.proofs.Prefixes.{part_before, part_behind}
 

@@ -12,8 +12,8 @@ use Rattle.relay960_engines.specs.declared.progress.Progress.{Progress}
 use Rattle.relay960_engines.specs.Lines.{Giving, Between, last_line}
 use Rattle.relay960_engines.specs.Runs.{Known, one_read}
 use Rattle.relay960_engines.specs.Writing.{AppendsPart}
-use Rattle.relay960_engines.specs.inner.Sending.{Outlet, settled, Sends, Sent, SentPart}
-use Rattle.relay960_engines.specs.inner.Taking.{kept_with, kept_lines, kept_piece, Within, Taken, Unwritten, IsWithin, IsAtBound, StopsBy, StopsIn, StopsReading}
+use Rattle.relay960_engines.specs.Inner.Sending.{Outlet, settled, Sends, Sent, SentPart}
+use Rattle.relay960_engines.specs.Inner.Taking.{kept_with, kept_lines, kept_piece, Within, Taken, Unwritten, IsWithin, IsAtBound, StopsBy, StopsIn, StopsReading}
 use Rattle.relay960_engines.proofs.LineFacts.{kept_lines-append, kept_piece-append, kept_lines-end, kept_piece-end, kept_lines-more, kept_piece-more}
 use Rattle.relay960_engines.proofs.SendingFacts.{Sent-nil, Sent-none, Sent-none_part, Sent-trans, Sent-part, Sent-settled, Sent-unsettled}
 

@@ -8,4 +8,4 @@ pub mod Lines
 pub mod Runs
 pub mod Play
 pub mod Script
-pub mod inner
+pub mod Inner

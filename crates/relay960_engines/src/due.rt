@@ -4,7 +4,7 @@ ghost use Rattle.std.specs.Prelude.{◌≡◌, ◌++◌, [], OnOk, OnErr, IfErr}
 ghost use Rattle.std.specs.Io.KnownBytes.{Appends};
 ghost use Rattle.relay960_engines.specs.Failures.{writes_failed};
 ghost use Rattle.relay960_engines.specs.Writing.{AppendsPart};
-ghost use Rattle.relay960_engines.specs.inner.Sending.{Sends, outlet};
+ghost use Rattle.relay960_engines.specs.Inner.Sending.{Sends, outlet};
 
 use crate::devices::WriteDevice;
 use crate::fault::RunFault;

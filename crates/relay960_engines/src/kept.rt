@@ -1,7 +1,7 @@
 //! The line that is being read, of which the first bytes alone are kept.
 
 ghost use Rattle.std.specs.Prelude.{◌≡◌, ◌==◌, [], length, IfOk};
-ghost use Rattle.relay960_engines.specs.inner.Taking.{kept_with};
+ghost use Rattle.relay960_engines.specs.Inner.Taking.{kept_with};
 
 use std::alloc::{AllocError, Global};
 use std::marker::Model;

@@ -4,8 +4,8 @@ ghost use Rattle.std.specs.Prelude.{◌≡◌, ◌+◌, ◌≤◌, length, IfOk,
 ghost use Rattle.relay960_engines.specs.Failures.{reads_failed, writes_failed};
 ghost use Rattle.relay960_engines.specs.Lines.{Between, Until, last_line};
 ghost use Rattle.relay960_engines.specs.Runs.{Done, Stopped, Wrote};
-ghost use Rattle.relay960_engines.specs.inner.Sending.{settled};
-ghost use Rattle.relay960_engines.specs.inner.Taking.{StopsReading, TakenAll, Unwritten, Within};
+ghost use Rattle.relay960_engines.specs.Inner.Sending.{settled};
+ghost use Rattle.relay960_engines.specs.Inner.Taking.{StopsReading, TakenAll, Unwritten, Within};
 
 use crate::answerer::Answerer;
 use crate::bounds::Bounds;

@@ -47,7 +47,7 @@ impl Player {
 impl Answerer for Player {
     ghost use Rattle.std.specs.Prelude.{◌≡◌};
     ghost use Rattle.relay960_engines.specs.Play.{game_after, line_answer};
-    ghost use Rattle.relay960_engines.specs.inner.PlayCut.{answer_cut, game_cut};
+    ghost use Rattle.relay960_engines.specs.Inner.PlayCut.{answer_cut, game_cut};
 
     ghost gives = { λ s l bytes t. (bytes ≡ line_answer s.game l) × (t.game ≡ game_after s.game l) };
 

@@ -4,8 +4,8 @@
 ghost use Rattle.std.specs.Prelude.{◌≡◌, ◌∷◌, [], IfOk, IfErr, OnOk};
 ghost use Rattle.relay960_engines.specs.Failures.{writes_failed};
 ghost use Rattle.relay960_engines.specs.Lines.{Between};
-ghost use Rattle.relay960_engines.specs.inner.Sending.{Sent, outlet, settled};
-ghost use Rattle.relay960_engines.specs.inner.Taking.{StopsIn, Taken, Unwritten, Within};
+ghost use Rattle.relay960_engines.specs.Inner.Sending.{Sent, outlet, settled};
+ghost use Rattle.relay960_engines.specs.Inner.Taking.{StopsIn, Taken, Unwritten, Within};
 
 use crate::answerer::Answerer;
 use crate::bounds::Bounds;

@@ -23,7 +23,7 @@ pub struct Desk {
 }
 
 impl Answerer for Desk {
-    ghost use Rattle.relay960_engines.specs.inner.ScriptSteps.{DeskGives, answers_cut};
+    ghost use Rattle.relay960_engines.specs.Inner.ScriptSteps.{DeskGives, answers_cut};
 
     ghost gives = { λ s l bytes t. DeskGives s.relay l bytes t.relay };
 

@@ -4,8 +4,6 @@
 mod fault;
 mod service;
 mod status;
-#[cfg(test)]
-mod tests;
 
 pub use fault::ServeFault;
 pub use service::{Service, serve_run};

@@ -9,5 +9,4 @@ mod places;
 mod plain;
 mod plies;
 mod random;
-mod seats;
 mod table;

@@ -1,7 +1,6 @@
 //! Worked cases of commands and answers.
 
 mod answers;
-mod bad_fields;
 mod bounds;
 mod commands;
 mod faults;

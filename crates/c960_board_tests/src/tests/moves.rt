@@ -6,8 +6,8 @@ use c960_board::{Move, MoveFault, move_bytes, read_move};
 fn the_codes_and_texts_of_two_moves(rt: HostRuntime) {
     for (text, code) in [(b"e2e4".as_slice(), 1804), (b"a7a8q".as_slice(), 20016)] {
         let chess_move = read_move(text).expect(&rt, "a move's text");
-        assert_eq!(rt; chess_move.code(), code, "{text:?}");
-        assert_eq!(rt; move_bytes(chess_move).as_slice(), text);
+        assert!(rt; chess_move.code() == code, "{text:?}");
+        assert!(rt; move_bytes(chess_move).as_slice() == text);
     }
 }
 
@@ -15,16 +15,16 @@ fn the_codes_and_texts_of_two_moves(rt: HostRuntime) {
 fn every_move_comes_back_from_its_code_and_its_text(rt: HostRuntime) {
     for code in 0..20480 {
         let chess_move = Move::of_code(code).expect(&rt, "a move's code");
-        assert_eq!(rt; chess_move.code(), code);
+        assert!(rt; chess_move.code() == code);
         let text = move_bytes(chess_move);
-        assert_eq!(rt; read_move(text.as_slice()), Ok(chess_move), "code {code}");
+        assert!(rt; read_move(text.as_slice()) == Ok(chess_move), "code {code}");
     }
 }
 
 #[test]
 fn no_move_has_a_code_from_20480_on(rt: HostRuntime) {
     for code in [20480, u64::MAX] {
-        assert_eq!(rt; Move::of_code(code), None, "code {code}");
+        assert!(rt; Move::of_code(code) == None, "code {code}");
     }
 }
 
@@ -43,7 +43,7 @@ fn the_first_fault_of_each_text(rt: HostRuntime) {
         (b"e7e8p".as_slice(), MoveFault::Promotion),
         (b"e7e8Q".as_slice(), MoveFault::Promotion),
     ] {
-        assert_eq!(rt; read_move(text), Err(fault), "{text:?}");
+        assert!(rt; read_move(text) == Err(fault), "{text:?}");
     }
 }
 
@@ -54,7 +54,7 @@ fn the_codes_and_names_of_the_faults(rt: HostRuntime) {
         (MoveFault::Square, 2, "Square"),
         (MoveFault::Promotion, 3, "Promotion"),
     ] {
-        assert_eq!(rt; fault.code(), code, "{name}");
-        assert_eq!(rt; fault.name(), name);
+        assert!(rt; fault.code() == code, "{name}");
+        assert!(rt; fault.name() == name);
     }
 }

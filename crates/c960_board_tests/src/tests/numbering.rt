@@ -8,7 +8,7 @@ use std::test::Fail;
 fn each_number_comes_back_from_its_array(rt: HostRuntime) -> Result<(), Fail> {
     for number in 0..960 {
         let rank = arrangement(number).ok_or("no array")?;
-        assert_eq!(rt; number_of(rank), Some(number), "at {number}");
+        assert!(rt; number_of(rank) == Some(number), "at {number}");
     }
     Ok(())
 }
@@ -30,18 +30,18 @@ fn arrays_have_their_published_numbers(rt: HostRuntime) {
             [Rook, King, Rook, Knight, Knight, Queen, Bishop, Bishop],
         ),
     ] {
-        assert_eq!(rt; arrangement(number), Some(rank), "at {number}");
-        assert_eq!(rt; number_of(rank), Some(number), "at {number}");
+        assert!(rt; arrangement(number) == Some(rank), "at {number}");
+        assert!(rt; number_of(rank) == Some(number), "at {number}");
     }
 }
 
 #[test]
 fn there_is_no_array_960(rt: HostRuntime) {
-    assert_eq!(rt; arrangement(960), None);
+    assert!(rt; arrangement(960) == None);
 }
 
 #[test]
 fn bishops_on_one_colour_have_no_number(rt: HostRuntime) {
     let rank = [Rook, Knight, Bishop, Queen, King, Knight, Bishop, Rook];
-    assert_eq!(rt; number_of(rank), None);
+    assert!(rt; number_of(rank) == None);
 }

@@ -16,7 +16,7 @@ rnbqkbnr/pppp1ppp/nnnn1nnn/nnnnpnnn/NNNNNNNN/NNNNNNNN/PPPPPPPP/RNBQKBNR w HAha e
 
 #[test]
 fn texts_are_written_back(rt: HostRuntime) {
-    assert_eq!(rt; READ_AND_WRITTEN.lines().count(), 8);
+    assert!(rt; READ_AND_WRITTEN.lines().count() == 8);
     for row in READ_AND_WRITTEN.lines() {
         let Some((text, written)) = row.split_once('|') else {
             panic!(rt; "no row: {row}");
@@ -24,9 +24,8 @@ fn texts_are_written_back(rt: HostRuntime) {
         let Ok(position) = read_fen(text.as_bytes()) else {
             panic!(rt; "refused: {text}");
         };
-        assert_eq!(rt;
-            write_fen(&position).as_slice(),
-            written.as_bytes(),
+        assert!(rt;
+            write_fen(&position).as_slice() == written.as_bytes(),
             "at {text}"
         );
     }
@@ -64,9 +63,8 @@ fn the_starts_of_three_numbers(rt: HostRuntime) {
         let Some(start) = Position::start(number) else {
             panic!(rt; "no start {number}");
         };
-        assert_eq!(rt;
-            write_fen(&start).as_slice(),
-            text.as_bytes(),
+        assert!(rt;
+            write_fen(&start).as_slice() == text.as_bytes(),
             "at {number}"
         );
     }
@@ -82,7 +80,7 @@ fn the_codes_and_names_of_the_faults(rt: HostRuntime) {
         (FenFault::EnPassant, 5, "EnPassant"),
         (FenFault::Counters, 6, "Counters"),
     ] {
-        assert_eq!(rt; fault.code(), code, "{name}");
-        assert_eq!(rt; fault.name(), name);
+        assert!(rt; fault.code() == code, "{name}");
+        assert!(rt; fault.name() == name);
     }
 }

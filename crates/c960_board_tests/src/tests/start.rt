@@ -10,8 +10,8 @@ fn white_begins_number_518_with_the_king_on_e1(rt: HostRuntime) -> Result<(), Fa
         colour: Colour::White,
         kind: Kind::King,
     };
-    assert_eq!(rt; parts.placement[4], Some(king));
-    assert_eq!(rt; parts.turn, Colour::White);
+    assert!(rt; parts.placement[4] == Some(king));
+    assert!(rt; parts.turn == Colour::White);
     Ok(())
 }
 

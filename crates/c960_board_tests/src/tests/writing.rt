@@ -68,7 +68,7 @@ fn text_with_a_right(rt: HostRuntime) -> Result<(), Fail> {
     });
     let text = write_fen(&position.ok_or("no position")?);
     let whole = b"4k3/8/8/8/8/8/8/1RK5 w B - 0 1";
-    assert_eq!(rt; text.as_slice(), whole.as_slice());
+    assert!(rt; text.as_slice() == whole.as_slice());
     Ok(())
 }
 
@@ -94,8 +94,8 @@ fn longest_text(rt: HostRuntime) -> Result<(), Fail> {
     let text = write_fen(&position.ok_or("no position")?);
     let whole =
         b"rnbqkbnr/pppp1ppp/nnnn1nnn/nnnnpnnn/NNNNNNNN/NNNNNNNN/PPPPPPPP/RNBQKBNR w HAha e6 65535 65535";
-    assert_eq!(rt; text.len(), 93);
-    assert_eq!(rt; text.as_slice(), whole.as_slice());
+    assert!(rt; text.len() == 93);
+    assert!(rt; text.as_slice() == whole.as_slice());
     Ok(())
 }
 
@@ -121,6 +121,6 @@ fn text_with_no_rights(rt: HostRuntime) -> Result<(), Fail> {
     let text = write_fen(&position.ok_or("no position")?);
     let whole = b"8/2k2p2/8/7q/b3P3/8/8/1R4K1 b - e3 0 40";
     assert!(rt; !text.is_empty());
-    assert_eq!(rt; text.as_slice(), whole.as_slice());
+    assert!(rt; text.as_slice() == whole.as_slice());
     Ok(())
 }

@@ -22,12 +22,12 @@ const OUTCOMES: [Outcome; 11] = [
 fn each_number_from_1_to_11_is_of_an_outcome(rt: HostRuntime) {
     let mut code = 1;
     for outcome in OUTCOMES {
-        assert_eq!(rt; outcome.code(), code);
-        assert_eq!(rt; Outcome::of_code(code), Some(outcome), "number {code}");
+        assert!(rt; outcome.code() == code);
+        assert!(rt; Outcome::of_code(code) == Some(outcome), "number {code}");
         assert!(rt; code < 12);
         code += 1;
     }
     for other in [0, 12, 13, 65536, u64::MAX] {
-        assert_eq!(rt; Outcome::of_code(other), None, "number {other}");
+        assert!(rt; Outcome::of_code(other) == None, "number {other}");
     }
 }

@@ -19,14 +19,14 @@ fn the_third_appearance_may_be_claimed_by_the_side_on_move(rt: HostRuntime) -> R
         &game,
         "rnbqkbnr/pppppppp/8/8/4P3/8/PPPP1PPP/RNBQKBNR b HAha e3 0 1",
     );
-    assert_eq!(rt; game.appearances(), 1);
+    assert!(rt; game.appearances() == 1);
     play_on(&rt, &mut game, KNIGHTS_OUT_AND_HOME);
-    assert_eq!(rt; game.appearances(), 2);
+    assert!(rt; game.appearances() == 2);
     let black = Ending::ClaimThreefold(Colour::Black);
     assert_ending_refused(&rt, &mut game, black, Refusal::ClaimRefused);
     play_on(&rt, &mut game, KNIGHTS_OUT_AND_HOME);
-    assert_eq!(rt; game.len(), 9);
-    assert_eq!(rt; game.appearances(), 3);
+    assert!(rt; game.len() == 9);
+    assert!(rt; game.appearances() == 3);
     let white = Ending::ClaimThreefold(Colour::White);
     assert_ending_refused(&rt, &mut game, white, Refusal::ClaimRefused);
     end(&rt, &mut game, black, Outcome::Threefold);
@@ -58,7 +58,7 @@ fn fifty_moves_of_each_side_may_be_claimed_by_the_side_on_move(
         play_on(&rt, &mut game, turn);
     }
     play_on(&rt, &mut game, "g1f3");
-    assert_eq!(rt; game.len(), 99);
+    assert!(rt; game.len() == 99);
     let black = Ending::ClaimFifty(Colour::Black);
     assert_ending_refused(&rt, &mut game, black, Refusal::ClaimRefused);
     play_on(&rt, &mut game, "g8f6");

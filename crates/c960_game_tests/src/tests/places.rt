@@ -12,9 +12,8 @@ fn assert_text_at(rt: &impl Abort, game: &Game, place: u16, text: &str) {
     let Some(position) = game.position_at(place) else {
         panic!(rt; "no position at {place}");
     };
-    assert_eq!(rt;
-        write_fen(&position).as_slice(),
-        text.as_bytes(),
+    assert!(rt;
+        write_fen(&position).as_slice() == text.as_bytes(),
         "at {place}"
     );
 }
@@ -62,21 +61,20 @@ fn each_place_has_the_position_seen_there(rt: HostRuntime) -> Result<(), Fail> {
     seen.push(game.position())?;
     for line in BEFORE_MATE {
         for text in line.split(' ') {
-            assert_eq!(rt; game.play(move_of(&rt, text)), Ok(None), "at {text}");
-            assert_eq!(rt;
-                game.position_at(game.len()),
-                Some(game.position()),
+            assert!(rt; game.play(move_of(&rt, text)) == Ok(None), "at {text}");
+            assert!(rt;
+                game.position_at(game.len()) == Some(game.position()),
                 "at {text}"
             );
             seen.push(game.position())?;
         }
     }
-    assert_eq!(rt; game.len(), 153);
+    assert!(rt; game.len() == 153);
     play_last(&rt, &mut game, "d8h4", Outcome::Checkmate(Colour::Black));
     seen.push(game.position())?;
     let mut place = 0;
     for position in seen.iter() {
-        assert_eq!(rt; game.position_at(place), Some(*position), "at {place}");
+        assert!(rt; game.position_at(place) == Some(*position), "at {place}");
         assert!(rt; place < 155);
         place += 1;
     }
@@ -84,7 +82,7 @@ fn each_place_has_the_position_seen_there(rt: HostRuntime) -> Result<(), Fail> {
         assert_text_at(&rt, &game, place, text);
     }
     for past in [155, 156, 192, 16384, 65535] {
-        assert_eq!(rt; game.position_at(past), None, "at {past}");
+        assert!(rt; game.position_at(past) == None, "at {past}");
     }
     Ok(())
 }
@@ -96,17 +94,16 @@ fn a_full_log_of_sixty_four_moves_has_its_positions(rt: HostRuntime) -> Result<(
         for line in BEFORE_MATE {
             for text in line.split(' ') {
                 if game.len() < plies {
-                    assert_eq!(rt; game.play(move_of(&rt, text)), Ok(None), "at {text}");
+                    assert!(rt; game.play(move_of(&rt, text)) == Ok(None), "at {text}");
                 }
             }
         }
-        assert_eq!(rt; game.len(), plies);
-        assert_eq!(rt;
-            game.position_at(plies),
-            Some(game.position()),
+        assert!(rt; game.len() == plies);
+        assert!(rt;
+            game.position_at(plies) == Some(game.position()),
             "at {plies}"
         );
-        assert_eq!(rt; game.position_at(plies + 1), None, "behind {plies}");
+        assert!(rt; game.position_at(plies + 1) == None, "behind {plies}");
     }
     Ok(())
 }
@@ -114,12 +111,12 @@ fn a_full_log_of_sixty_four_moves_has_its_positions(rt: HostRuntime) -> Result<(
 #[test]
 fn a_game_without_a_move_has_its_start_alone(rt: HostRuntime) -> Result<(), Fail> {
     let game = standard(&rt, rt.alloc(), 1)?;
-    assert_eq!(rt; game.position_at(0), Some(game.position()));
-    assert_eq!(rt; game.position_at(1), None);
+    assert!(rt; game.position_at(0) == Some(game.position()));
+    assert!(rt; game.position_at(1) == None);
     let mut one = standard(&rt, rt.alloc(), 1)?;
     play_lines(&rt, &mut one, &["e2e4"]);
-    assert_eq!(rt; one.position_at(0), Some(game.position()));
-    assert_eq!(rt; one.position_at(1), Some(one.position()));
-    assert_eq!(rt; one.position_at(2), None);
+    assert!(rt; one.position_at(0) == Some(game.position()));
+    assert!(rt; one.position_at(1) == Some(one.position()));
+    assert!(rt; one.position_at(2) == None);
     Ok(())
 }

@@ -27,8 +27,8 @@ pub fn move_of(rt: &impl Abort, text: &str) -> Move {
 pub fn play_on(rt: &impl Abort, game: &mut Game, moves: &str) {
     for text in moves.split(' ') {
         let answer = game.play(move_of(rt, text));
-        assert_eq!(rt; answer, Ok(None), "at {text}");
-        assert_eq!(rt; game.outcome(), None, "after {text}");
+        assert!(rt; answer == Ok(None), "at {text}");
+        assert!(rt; game.outcome() == None, "after {text}");
     }
 }
 
@@ -41,23 +41,22 @@ pub fn play_lines(rt: &impl Abort, game: &mut Game, lines: &[&str]) {
 
 /// Makes a move that ends the game.
 pub fn play_last(rt: &impl Abort, game: &mut Game, text: &str, outcome: Outcome) {
-    assert_eq!(rt;
-        game.play(move_of(rt, text)),
-        Ok(Some(outcome)),
+    assert!(rt;
+        game.play(move_of(rt, text)) == Ok(Some(outcome)),
         "at {text}"
     );
-    assert_eq!(rt; game.outcome(), Some(outcome), "after {text}");
+    assert!(rt; game.outcome() == Some(outcome), "after {text}");
 }
 
 /// Ends the game.
 pub fn end(rt: &impl Abort, game: &mut Game, ending: Ending, outcome: Outcome) {
     let before = snapshot_of(game);
-    assert_eq!(rt; game.end(ending), Ok(outcome));
+    assert!(rt; game.end(ending) == Ok(outcome));
     let after = Snapshot {
         outcome: Some(outcome),
         ..before
     };
-    assert_eq!(rt; snapshot_of(game), after);
+    assert!(rt; snapshot_of(game) == after);
 }
 
 /// What all see of a game.
@@ -81,22 +80,21 @@ fn snapshot_of(game: &Game) -> Snapshot {
 /// Asserts that the move is refused so and changes nothing.
 pub fn assert_move_refused(rt: &impl Abort, game: &mut Game, text: &str, refusal: Refusal) {
     let before = snapshot_of(game);
-    assert_eq!(rt; game.play(move_of(rt, text)), Err(refusal), "at {text}");
-    assert_eq!(rt; snapshot_of(game), before, "after {text}");
+    assert!(rt; game.play(move_of(rt, text)) == Err(refusal), "at {text}");
+    assert!(rt; snapshot_of(game) == before, "after {text}");
 }
 
 /// Asserts that the ending is refused so and changes nothing.
 pub fn assert_ending_refused(rt: &impl Abort, game: &mut Game, ending: Ending, refusal: Refusal) {
     let before = snapshot_of(game);
-    assert_eq!(rt; game.end(ending), Err(refusal));
-    assert_eq!(rt; snapshot_of(game), before);
+    assert!(rt; game.end(ending) == Err(refusal));
+    assert!(rt; snapshot_of(game) == before);
 }
 
 /// Asserts that the present position is written as that text.
 pub fn assert_text(rt: &impl Abort, game: &Game, text: &str) {
-    assert_eq!(rt;
-        write_fen(&game.position()).as_slice(),
-        text.as_bytes(),
+    assert!(rt;
+        write_fen(&game.position()).as_slice() == text.as_bytes(),
         "not {text}"
     );
 }
@@ -105,11 +103,14 @@ pub fn assert_text(rt: &impl Abort, game: &Game, text: &str) {
 pub fn assert_log(rt: &impl Abort, game: &Game, moves: &str) {
     let mut place = 0;
     for text in moves.split(' ').filter(|text| !text.is_empty()) {
-        assert_eq!(rt; game.move_at(place), Some(move_of(rt, text)), "at {place}");
+        assert!(rt;
+            game.move_at(place) == Some(move_of(rt, text)),
+            "at {place}"
+        );
         assert!(rt; place < 16384);
         place += 1;
     }
-    assert_eq!(rt; game.len(), place);
-    assert_eq!(rt; game.move_at(place), None);
-    assert_eq!(rt; game.move_at(65535), None);
+    assert!(rt; game.len() == place);
+    assert!(rt; game.move_at(place) == None);
+    assert!(rt; game.move_at(65535) == None);
 }

@@ -8,7 +8,7 @@ use std::test::Fail;
 #[test]
 fn king_and_rook_of_start_387_change_places(rt: HostRuntime) -> Result<(), Fail> {
     let before = start(&rt, 387);
-    assert_eq!(rt; legal_moves(rt.alloc(), &before)?.len(), 21);
+    assert!(rt; legal_moves(rt.alloc(), &before)?.len() == 21);
     assert_text(
         &rt,
         &after(&rt, &before, "f1g1"),

@@ -21,7 +21,7 @@ fn assert_counts(rt: &impl Abort, alloc: Global, text: &str, counts: &[u64]) -> 
     let position = position_of(rt, text);
     for (expected, plies) in counts.iter().zip(1..) {
         let found = count(rt, alloc, &position, plies)?;
-        assert_eq!(rt; found, *expected, "{plies} plies from {text}");
+        assert!(rt; found == *expected, "{plies} plies from {text}");
     }
     Ok(())
 }
@@ -88,7 +88,7 @@ fn a_position_with_promotions(rt: HostRuntime) -> Result<(), Fail> {
 fn a_position_with_no_move(rt: HostRuntime) -> Result<(), Fail> {
     let text = "7k/5Q2/6K1/8/8/8/8/8 b - - 0 1";
     assert_counts(&rt, rt.alloc(), text, &[0, 0, 0, 0])?;
-    assert_eq!(rt; count(&rt, rt.alloc(), &position_of(&rt, text), 0)?, 1);
+    assert!(rt; count(&rt, rt.alloc(), &position_of(&rt, text), 0)? == 1);
     Ok(())
 }
 

@@ -18,6 +18,6 @@ pub fn assert_list(
     for text in moves.split(' ').filter(|text| !text.is_empty()) {
         expected.push(move_of(rt, text))?;
     }
-    assert_eq!(rt; listed.as_slice(), expected.as_slice(), "not {moves}");
+    assert!(rt; listed.as_slice() == expected.as_slice(), "not {moves}");
     Ok(())
 }

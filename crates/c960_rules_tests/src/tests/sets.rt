@@ -17,9 +17,9 @@ fn the_sets_of_the_standard_start(rt: HostRuntime) -> Result<(), Fail> {
         kind: Kind::Pawn,
     };
     let f3 = Square::new(21).ok_or("no square")?;
-    assert_eq!(rt; position.occupied(), 18446462598732906495);
-    assert_eq!(rt; position.pieces(pawn), 65280);
-    assert_eq!(rt; attackers(&position, Colour::White, f3), 20544);
+    assert!(rt; position.occupied() == 18446462598732906495);
+    assert!(rt; position.pieces(pawn) == 65280);
+    assert!(rt; attackers(&position, Colour::White, f3) == 20544);
     Ok(())
 }
 
@@ -32,18 +32,18 @@ fn assert_attackers(
     square: Square,
 ) {
     let found = plain::attackers(&parts.placement, by, square.number());
-    assert_eq!(rt; attackers(position, by, square), found);
-    assert_eq!(rt; attacked(position, by, square), found != 0);
+    assert!(rt; attackers(position, by, square) == found);
+    assert!(rt; attacked(position, by, square) == found != 0);
 }
 
 /// Asserts that a square is in the sets of what it holds.
 fn assert_sets(rt: &impl Abort, position: &Position, parts: &Parts, square: Square) {
     let number = square.number();
     let cell = position.piece_at(square);
-    assert_eq!(rt; cell, parts.placement[number as usize]);
-    assert_eq!(rt; (position.occupied() >> number) & 1 == 1, cell.is_some());
+    assert!(rt; cell == parts.placement[number as usize]);
+    assert!(rt; (position.occupied() >> number) & 1 == 1 == cell.is_some());
     if let Some(piece) = cell {
-        assert_eq!(rt; (position.pieces(piece) >> number) & 1, 1);
+        assert!(rt; (position.pieces(piece) >> number) & 1 == 1);
     }
 }
 
@@ -61,10 +61,7 @@ fn assert_squares(rt: &impl Abort, position: &Position, parts: &Parts) {
 
 /// Asserts that a side's check is that of a scan.
 fn assert_check(rt: &impl Abort, position: &Position, parts: &Parts, colour: Colour) {
-    assert_eq!(rt;
-        in_check(position, colour),
-        plain::in_check(&parts.placement, colour)
-    );
+    assert!(rt; in_check(position, colour) == plain::in_check(&parts.placement, colour));
 }
 
 /// Asserts that a legal move leads to the placement of a scan.
@@ -72,10 +69,7 @@ fn assert_after(rt: &impl Abort, lawful: &Lawful, parts: &Parts, m: Move) {
     let Some(next) = played(rt, lawful, m) else {
         panic!(rt; "a listed move is not legal");
     };
-    assert_eq!(rt;
-        next.position().parts().placement,
-        plain::placement_after(parts, &m)
-    );
+    assert!(rt; next.position().parts().placement == plain::placement_after(parts, &m));
 }
 
 /// The target, where one of the moves takes on it en passant.
@@ -97,9 +91,9 @@ fn assert_list(
 ) -> Result<(), Fail> {
     let parts = lawful.position().parts();
     let found = plain::legal_moves(alloc, &parts)?;
-    assert_eq!(rt; moves, found.as_slice());
-    assert_eq!(rt; any_legal(lawful), !found.is_empty());
-    assert_eq!(rt; ep_legal(lawful), target_of(&parts, found.as_slice()));
+    assert!(rt; moves == found.as_slice());
+    assert!(rt; any_legal(lawful) == !found.is_empty());
+    assert!(rt; ep_legal(lawful) == target_of(&parts, found.as_slice()));
     for m in found.iter() {
         assert_after(rt, lawful, &parts, *m);
     }

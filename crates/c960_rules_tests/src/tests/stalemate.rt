@@ -8,9 +8,9 @@ use std::test::Fail;
 #[test]
 fn a_king_without_a_move_and_not_in_check_is_stalemated(rt: HostRuntime) -> Result<(), Fail> {
     let position = position_of(&rt, "7k/5Q2/6K1/8/8/8/8/8 b - - 0 1");
-    assert_eq!(rt; legal_moves(rt.alloc(), &position)?.len(), 0);
+    assert!(rt; legal_moves(rt.alloc(), &position)?.len() == 0);
     assert!(rt; !any_legal(&position));
     assert!(rt; !in_check(&position.position(), Colour::Black));
-    assert_eq!(rt; state(&position), State::Stalemate);
+    assert!(rt; state(&position) == State::Stalemate);
     Ok(())
 }

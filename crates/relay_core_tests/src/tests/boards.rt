@@ -68,30 +68,3 @@ fn refusal_order_at_the_limits(rt: HostRuntime) -> Result<(), Fail> {
     ];
     assert_case(&rt, rt.alloc(), (1, 1, 64, 1024), &rows)
 }
-
-#[test]
-fn a_board_that_was_not_opened_is_no_board(rt: HostRuntime) -> Result<(), Fail> {
-    let none = Refused(Refusal::NoSuchBoard);
-    let rows = [
-        (Submit("b1", "e2e4"), none),
-        (End("b1", Ending::Abandoned), none),
-        (Follow(1, "b1"), none),
-        (Open("b1", 960), Refused(Refusal::BadStart)),
-        (Open("b1", 65535), Refused(Refusal::BadStart)),
-        (Submit("b1", "e2e4"), none),
-        (Open("b1", 959), Opened),
-        (Open("b1", 959), Refused(Refusal::BoardExists)),
-        (
-            Follow(1, "b1"),
-            Following(
-                0,
-                "rkrnnqbb/pppppppp/8/8/8/8/PPPPPPPP/RKRNNQBB w CAca - 0 1",
-            ),
-        ),
-        (Open("B1", 518), Opened),
-        (Open("b", 518), Opened),
-        (Submit("B1", "e2e4"), Played(0)),
-        (Take(1), Nothing),
-    ];
-    assert_case(&rt, rt.alloc(), with_capacity(64), &rows)
-}

@@ -66,16 +66,16 @@ fn assert_answer(
     let first = relay.step(*step);
     let vain = in_vain(step);
     if first != WANT || vain.is_none() {
-        assert_eq!(rt; first, *reply);
+        assert!(rt; first == *reply);
         return;
     }
     refused.note();
     if let Some((asked, told)) = vain {
         let after = relay.step(asked);
-        assert_eq!(rt; after, told, "after a refusal");
+        assert!(rt; after == told, "after a refusal");
     }
     let again = relay.step(*step);
-    assert_eq!(rt; again, *reply, "made again");
+    assert!(rt; again == *reply, "made again");
 }
 
 /// The replies of a run, made again where it was refused: then no step was made, as the replies show.
@@ -223,10 +223,10 @@ fn a_refused_run_makes_no_step(rt: HostRuntime) {
         Reply::Refused(Refusal::Illegal),
     ];
     let replies = run(&rt, &mut relay, &steps, &mut refused);
-    assert_eq!(rt; replies.len(), 10);
+    assert!(rt; replies.len() == 10);
     assert_pair(&rt, (replies[0], replies[1]), opened, &mut refused);
     assert_pair(&rt, (replies[2], replies[3]), followed, &mut refused);
-    assert_eq!(rt; &replies[4..], rest.as_slice());
+    assert!(rt; &replies[4..] == rest.as_slice());
     assert!(rt; refused.count <= 1);
 }
 
@@ -239,9 +239,9 @@ fn assert_pair(
 ) {
     if given.0 == WANT {
         refused.note();
-        assert_eq!(rt; given.1, expected.0, "made again");
+        assert!(rt; given.1 == expected.0, "made again");
     } else {
-        assert_eq!(rt; given.0, expected.0);
-        assert_eq!(rt; given.1, expected.1);
+        assert!(rt; given.0 == expected.0);
+        assert!(rt; given.1 == expected.1);
     }
 }

@@ -8,7 +8,7 @@ fn texts_of_1_to_32_bytes_are_names(rt: HostRuntime) {
     let text = b"AZaz09_-AZaz09_-AZaz09_-AZaz09_-";
     for length in 1..=32 {
         let name = BoardName::new(&text[..length]).expect(&rt, "a name");
-        assert_eq!(rt; name.as_bytes(), &text[..length]);
+        assert!(rt; name.as_bytes() == &text[..length]);
     }
 }
 
@@ -30,22 +30,17 @@ fn other_texts_are_no_names(rt: HostRuntime) {
         b"`".as_slice(),
         b"{".as_slice(),
     ] {
-        assert_eq!(rt; BoardName::new(text), None, "{text:?}");
+        assert!(rt; BoardName::new(text) == None, "{text:?}");
     }
 }
 
 #[test]
-fn a_name_is_shown_as_its_text(rt: HostRuntime) -> Result<(), AllocError> {
+fn a_name_is_its_text(rt: HostRuntime) -> Result<(), AllocError> {
     let name = BoardName::new(b"board-12").expect(&rt, "a name");
-    assert_eq!(rt; name.as_str(), "board-12");
-    assert_eq!(rt; name.to_string(rt.alloc())?.as_str(), "board-12");
-    Ok(())
-}
-
-#[test]
-fn names_are_equal_where_their_texts_are(rt: HostRuntime) {
+    assert!(rt; name.as_str() == "board-12");
+    assert!(rt; name.to_string(rt.alloc())?.as_str() == "board-12");
     let name = BoardName::new(b"ab").expect(&rt, "a name");
-    assert_eq!(rt; BoardName::new(b"ab"), Some(name));
+    assert!(rt; BoardName::new(b"ab") == Some(name));
     for text in [
         b"a".as_slice(),
         b"abc".as_slice(),
@@ -56,4 +51,5 @@ fn names_are_equal_where_their_texts_are(rt: HostRuntime) {
         let other = BoardName::new(text).expect(&rt, "a name");
         assert!(rt; other != name, "{text:?}");
     }
+    Ok(())
 }

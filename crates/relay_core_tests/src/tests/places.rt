@@ -1,10 +1,10 @@
 //! Followers who join at an earlier place of the log.
 
-use crate::tests::table::Asked::{End, Follow, FollowFrom, Leave, Open, Submit, SubmitLine, Take};
+use crate::tests::table::Asked::{End, FollowFrom, Leave, Open, Submit, SubmitLine, Take};
 use crate::tests::table::Told::{
     Cut, Ended, Following, Left, Nothing, Opened, Over, Played, Refused, Took,
 };
-use crate::tests::table::{START_518, assert_case, with_capacity};
+use crate::tests::table::{assert_case, with_capacity};
 use c960_game::{Ending, Outcome, Refusal};
 use std::test::Fail;
 
@@ -39,55 +39,4 @@ fn follow_from(rt: HostRuntime) -> Result<(), Fail> {
         (Take(2), Over(Outcome::Agreed)),
     ];
     assert_case(&rt, rt.alloc(), with_capacity(2), &rows)
-}
-
-#[test]
-fn too_far_back_comes_before_too_many_followers(rt: HostRuntime) -> Result<(), Fail> {
-    let rows = [
-        (Open("b1", 518), Opened),
-        (SubmitLine("b1", "e2e4 e7e5 g1f3"), Played(0)),
-        (FollowFrom(1, "b1", 1), Following(1, ONE_PLY)),
-        (Submit("b1", "b8c6"), Played(3)),
-        (FollowFrom(2, "b1", 0), Refused(Refusal::TooFarBack)),
-        (FollowFrom(2, "b1", 5), Refused(Refusal::NotYet)),
-        (FollowFrom(2, "b1", 2), Refused(Refusal::TooManyFollowers)),
-        (Follow(2, "b1"), Refused(Refusal::TooManyFollowers)),
-        // Who follows is told so before all else but a board that is not there.
-        (FollowFrom(1, "b1", 0), Refused(Refusal::FollowerExists)),
-        (FollowFrom(1, "b1", 65535), Refused(Refusal::FollowerExists)),
-        (FollowFrom(1, "b9", 65535), Refused(Refusal::NoSuchBoard)),
-    ];
-    assert_case(&rt, rt.alloc(), (16, 1, 2, 1024), &rows)
-}
-
-#[test]
-fn a_whole_capacity_back_stays_open_after_a_take(rt: HostRuntime) -> Result<(), Fail> {
-    let rows = [
-        (Open("b1", 518), Opened),
-        (SubmitLine("b1", "e2e4 e7e5"), Played(0)),
-        (FollowFrom(1, "b1", 0), Following(0, START_518)),
-        (FollowFrom(2, "b1", 0), Following(0, START_518)),
-        (Take(1), Took(0, "e2e4")),
-        (Submit("b1", "g1f3"), Played(2)),
-        (Take(1), Took(1, "e7e5")),
-        (Take(1), Took(2, "g1f3")),
-        (Take(1), Nothing),
-        (Leave(1), Left(0, 3, 3, false)),
-        (Leave(2), Left(0, 0, 2, true)),
-    ];
-    assert_case(&rt, rt.alloc(), with_capacity(2), &rows)
-}
-
-#[test]
-fn a_refused_submit_closes_nobody_a_whole_capacity_back(rt: HostRuntime) -> Result<(), Fail> {
-    let rows = [
-        (Open("b1", 518), Opened),
-        (Submit("b1", "e2e4"), Played(0)),
-        (FollowFrom(1, "b1", 0), Following(0, START_518)),
-        (Submit("b1", "e2e4"), Refused(Refusal::Illegal)),
-        (Take(1), Took(0, "e2e4")),
-        (Take(1), Nothing),
-        (Leave(1), Left(0, 1, 1, false)),
-    ];
-    assert_case(&rt, rt.alloc(), with_capacity(1), &rows)
 }

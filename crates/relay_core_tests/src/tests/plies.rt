@@ -31,19 +31,6 @@ fn ply_limit(rt: HostRuntime) -> Result<(), Fail> {
     assert_case(&rt, rt.alloc(), (16, 64, 64, 1), &rows)
 }
 
-#[test]
-fn a_mate_by_the_last_ply_is_a_mate(rt: HostRuntime) -> Result<(), Fail> {
-    let mated = Outcome::Checkmate(Colour::Black);
-    let rows = [
-        (Open("b1", 518), Opened),
-        (Follow(1, "b1"), Following(0, START_518)),
-        (SubmitLine("b1", "f2f3 e7e5 g2g4"), Played(0)),
-        (Submit("b1", "d8h4"), PlayedLast(3, mated)),
-        (Submit("b1", "a2a3"), Refused(Refusal::GameOver)),
-    ];
-    assert_case(&rt, rt.alloc(), (16, 64, 64, 4), &rows)
-}
-
 /// Twelve moves of knights.
 const SHUFFLE: &str = "g1f3 g8f6 f3g1 f6g8 g1f3 g8f6 f3g1 f6g8 g1f3 g8f6 f3g1 f6g8";
 

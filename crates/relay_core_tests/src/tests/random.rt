@@ -5,7 +5,7 @@ use crate::tests::table::{assert_replies, board_of, limits_of, move_of};
 use c960_board::Colour;
 use c960_game::Ending;
 use relay_core::{Reply, Step, Taken};
-use std::alloc::{AllocError, Global};
+use std::alloc::AllocError;
 use std::process::Abort;
 use std::test::Fail;
 

@@ -66,7 +66,7 @@ fn each_reply_has_its_text(rt: HostRuntime) -> Result<(), Fail> {
         (Reply::Took(Taken::Cut), r#"{"reply":"cut"}"#),
     ] {
         let given = encode(rt.alloc(), &Answer::Reply(reply))?;
-        assert_eq!(rt; given.as_str(), text);
+        assert!(rt; given.as_str() == text);
     }
     Ok(())
 }
@@ -117,7 +117,7 @@ fn each_outcome_has_its_text(rt: HostRuntime) -> Result<(), Fail> {
         ),
     ] {
         let given = encode(rt.alloc(), &Answer::Reply(Reply::Ended(outcome)))?;
-        assert_eq!(rt; given.as_str(), text);
+        assert!(rt; given.as_str() == text);
     }
     Ok(())
 }
@@ -211,7 +211,7 @@ fn each_refusal_and_each_fault_has_its_text(rt: HostRuntime) -> Result<(), Fail>
         ),
     ] {
         let given = encode(rt.alloc(), &answer)?;
-        assert_eq!(rt; given.as_str(), text);
+        assert!(rt; given.as_str() == text);
     }
     Ok(())
 }

@@ -69,7 +69,7 @@ fn each_command_is_read(rt: HostRuntime) {
         (r#"{"cmd":"take","spectator":2}"#, Step::Take(2)),
         (r#"{"cmd":"leave","spectator":3}"#, Step::Leave(3)),
     ] {
-        assert_eq!(rt; decode(rt.alloc(), text.as_bytes()), Ok(step), "{text}");
+        assert!(rt; decode(rt.alloc(), text.as_bytes()) == Ok(step), "{text}");
     }
 }
 
@@ -115,6 +115,6 @@ fn white_space_escapes_and_the_order_and_number_of_keys_are_free(rt: HostRuntime
             Step::Take(3),
         ),
     ] {
-        assert_eq!(rt; decode(rt.alloc(), text.as_bytes()), Ok(step), "{text}");
+        assert!(rt; decode(rt.alloc(), text.as_bytes()) == Ok(step), "{text}");
     }
 }

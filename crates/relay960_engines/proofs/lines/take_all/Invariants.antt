@@ -1,8 +1,8 @@
 use Rattle.std.proofs.Common.{◌≡◌, ℕ, ◌-◌, List, [], length}
 use Rattle.std.specs.Io.KnownBytes.{Consumes}
 use Rattle.relay960_engines.specs.Runs.{one_read}
-use Rattle.relay960_engines.specs.inner.Sending.{settled}
-use Rattle.relay960_engines.specs.inner.Taking.{Taken, Within}
+use Rattle.relay960_engines.specs.Inner.Sending.{settled}
+use Rattle.relay960_engines.specs.Inner.Taking.{Taken, Within}
 use Rattle.relay960_engines.proofs.lines.take_all.Given as goal
 
 -- all bytes that were read are taken, and nothing else, nothing is due, and no device has failed

@@ -1,6 +1,6 @@
 use Rattle.std.proofs.Common.{◌≡◌, take}
-use Rattle.relay960_engines.specs.inner.Sending.{outlet}
-use Rattle.relay960_engines.specs.inner.Taking.{Taken, Within}
+use Rattle.relay960_engines.specs.Inner.Sending.{outlet}
+use Rattle.relay960_engines.specs.Inner.Taking.{Taken, Within}
 use Rattle.relay960_engines.proofs.progress.take_bytes.Given as goal
 
 -- the bytes before this one are taken, and nothing else, and no write has failed

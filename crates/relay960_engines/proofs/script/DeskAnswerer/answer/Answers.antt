@@ -1,7 +1,7 @@
 use Rattle.std.proofs.Common.{rules, refl, ℕ, List}
 use Rattle.relay_messages.specs.Answers.{answer_text}
 use Rattle.relay960_engines.specs.Writing.{line}
-use Rattle.relay960_engines.specs.inner.ScriptSteps.{DeskGives, LeadsTo}
+use Rattle.relay960_engines.specs.Inner.ScriptSteps.{DeskGives, LeadsTo}
 use Rattle.relay960_engines.proofs.Prefixes.{on_err_known}
 use Rattle.relay960_engines.proofs.script.DeskAnswerer.answer.Goals as goal
 

@@ -1,0 +1,28 @@
+#!/usr/bin/env -S python3 -B
+"""Runs the built program on worked cases, which stand beside this file as tables, and compares all that it writes and its status."""
+
+import sys
+
+import games
+import limits
+import messages
+import relays
+import scripts
+import services
+import starts
+import streams
+import words
+
+
+def main():
+    count = 0
+    for table in (starts, games, scripts, messages, relays, limits, words, streams):
+        for run in table.RUNS:
+            run.try_it()
+        count += len(table.RUNS)
+    count += streams.closed_outputs() + streams.unreadable_inputs() + services.all_services()
+    print(f"crates/relay960/replays: {count} runs replayed")
+
+
+if __name__ == "__main__":
+    sys.exit(main())

@@ -1,0 +1,78 @@
+"""Services: the port, the count of connections, and how the end of one is told. What is said in sessions stands in sessions.md."""
+
+import socket
+import subprocess
+import sys
+
+from runs import PROGRAM
+
+DEFAULT_PORT = 9600
+
+
+def listening():
+    """A socket that listens on a free port."""
+    taken = socket.socket()
+    taken.bind(("127.0.0.1", 0))
+    taken.listen()
+    return taken
+
+
+def compare(what, found, wanted):
+    if found != wanted:
+        sys.exit(f"{what}: {found}\nwanted: {wanted}")
+
+
+def a_taken_port():
+    """Where another program listens, nothing is served."""
+    with listening() as taken:
+        ended = subprocess.run([PROGRAM, "serve", "--port", str(taken.getsockname()[1])], capture_output=True, timeout=60)
+    compare("on a taken port", (ended.stdout, ended.stderr, ended.returncode), (b"", b"fault 41 Device\n", 3))
+
+
+def a_full_output():
+    """Where it cannot be told that it listens, nothing is served."""
+    with listening() as free:
+        port = free.getsockname()[1]
+    with open("/dev/full", "wb") as full:
+        ended = subprocess.run([PROGRAM, "serve", "--port", str(port)], stdout=full, stderr=subprocess.PIPE, timeout=60)
+    compare("on a device without room", (ended.stderr, ended.returncode), (b"fault 32 Write\n", 3))
+
+
+def connections(count):
+    """As many connections as are asked for, each of which ends without a word, and then no more."""
+    with listening() as free:
+        port = free.getsockname()[1]
+    words = [PROGRAM, "serve", "--port", str(port), "--connections", str(count)]
+    with subprocess.Popen(words, stdout=subprocess.PIPE, stderr=subprocess.PIPE) as server:
+        try:
+            compare("the port", server.stdout.readline(), f"listening {port}\n".encode())
+            for _ in range(count):
+                socket.create_connection(("127.0.0.1", port), timeout=20).close()
+            printed, complained = server.communicate(timeout=60)
+        finally:
+            server.kill()
+    compare(f"after {count} connections", (printed, complained, server.returncode), (b"", f"served {count}, failed 0\n".encode(), 0))
+
+
+def default_port():
+    """Without the word the port is the default one, unless another program of this machine has it."""
+    with socket.socket() as probe:
+        probe.setsockopt(socket.SOL_SOCKET, socket.SO_REUSEADDR, 1)
+        try:
+            probe.bind(("127.0.0.1", DEFAULT_PORT))
+        except OSError:
+            return False
+    with subprocess.Popen([PROGRAM, "serve"], stdout=subprocess.PIPE) as server:
+        try:
+            compare("the default port", server.stdout.readline(), f"listening {DEFAULT_PORT}\n".encode())
+        finally:
+            server.kill()
+    return True
+
+
+def all_services():
+    a_taken_port()
+    a_full_output()
+    for count in (1, 3):
+        connections(count)
+    return 4 + default_port()

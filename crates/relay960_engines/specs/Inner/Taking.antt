@@ -1,0 +1,97 @@
+-- What the bytes of a stream do to a run that keeps the first 1,025 bytes of a line.
+use Rattle.std.specs.Prelude.{ℕ, ◌≡◌, ◌+◌, ◌<◌, ◌≤◌, ◌⊎◌, ◌==◌, nat_lt, List, [], ◌∷◌, ◌++◌, length, cond}
+use Rattle.std.specs.Io.KnownBytes.{Consumes, IsAtEnd}
+use Rattle.relay960_engines.specs.declared.bounds.Bounds.{Bounds}
+use Rattle.relay960_engines.specs.declared.fault.RunFault.{RunFault}
+use Rattle.relay960_engines.specs.declared.fault.RunFault.TheVariants.{Read, Write, TooLong, OutOfMemory, BadStart}
+use Rattle.relay960_engines.specs.declared.progress.Progress.{Progress}
+use Rattle.relay960_engines.specs.Lines.{Giving, Between, last_line}
+use Rattle.relay960_engines.specs.Runs.{Known, one_read}
+use Rattle.relay960_engines.specs.Inner.Sending.{Outlet, settled, Sends, Sent, SentPart}
+
+-- ---- Lines of which the first 1,025 bytes are kept.
+
+-- what is kept of a line with one more byte
+abbrev pub kept_with : List ℕ → ℕ → List ℕ
+kept_with line b = cond (nat_lt (length line) 1025) (line ++ b ∷ []) line
+
+-- what is kept of the lines that end with a line feed within the bytes; the first of them begins with what was kept before
+unfoldable pub kept_lines : List ℕ → List ℕ → List (List ℕ)
+kept_lines line [] = []
+kept_lines line (b ∷ bs) = cond (b == 10) (line ∷ kept_lines [] bs) (kept_lines (kept_with line b) bs)
+
+-- what is kept of the piece behind the last line feed
+unfoldable pub kept_piece : List ℕ → List ℕ → List ℕ
+kept_piece line [] = line
+kept_piece line (b ∷ bs) = cond (b == 10) (kept_piece [] bs) (kept_piece (kept_with line b) bs)
+
+-- ---- Bytes that were taken.
+
+-- no bound is passed, and a line that was begun may be answered
+pub record Within (bounds : Bounds) (p : Progress) : Type 0 where
+  pub answered_within : p.answered ≤ bounds.lines
+  pub taken_within : p.taken ≤ bounds.bytes
+  pub room : 0 < length p.line → p.answered < bounds.lines
+
+-- the bytes were taken: their lines were answered, the answers are written or due, and the progress went from p to q
+pub record Taken {S : Type 0} (gives : Giving S) (s t : S) (p q : Progress) (input : List ℕ) (old new : Outlet) : Type 0 where
+  pub sent : Sent (Between gives s t) (kept_lines p.line input) old new
+  pub piece : q.line ≡ kept_piece p.line input
+  pub count : q.answered ≡ p.answered + length (kept_lines p.line input)
+  pub total : q.taken ≡ p.taken + length input
+
+-- all bytes that the reader gave were taken, and nothing is due
+pub record TakenAll {S : Type 0} (gives : Giving S) (s t : S) (p q : Progress) (old_input new_input old new : Known) : Type 0 where
+  pub input : List ℕ
+  pub read : Consumes old_input new_input input
+  pub at_end : IsAtEnd new_input
+  pub took : Taken gives s t p q input (settled old) (settled new)
+
+-- ---- Bytes at which a run stopped.
+
+-- no bound is passed by the counts that a run from progress p has after these bytes
+pub record IsWithin (bounds : Bounds) (p : Progress) (seen : List ℕ) : Type 0 where
+  pub lines_within : p.answered + length (kept_lines p.line seen) ≤ bounds.lines
+  pub bytes_within : p.taken + length seen ≤ bounds.bytes
+
+-- a bound is reached by them
+abbrev pub IsAtBound : Bounds → Progress → List ℕ → Type 0
+IsAtBound bounds p seen = (bounds.lines ≤ p.answered + length (kept_lines p.line seen)) ⊎ (bounds.bytes ≤ p.taken + length seen)
+
+-- what was due and the lines' answers were not written whole, since a write failed; or there was no memory, and what was due was
+abbrev pub Unwritten : {S : Type 0} → Giving S → S → S → List (List ℕ) → Outlet → Outlet → RunFault → Type 0
+Unwritten gives s t lines old new Write = SentPart (Between gives s t) lines old new
+Unwritten gives s t lines old new OutOfMemory = Sends old new []
+Unwritten gives s t lines old new Read = ⊥
+Unwritten gives s t lines old new TooLong = ⊥
+Unwritten gives s t lines old new BadStart = ⊥
+
+-- what a run that stops with a fault did with the bytes that it saw
+abbrev pub StopsBy : {S : Type 0} → Giving S → S → S → Progress → Bounds → List ℕ → List ℕ → Outlet → Outlet → RunFault → Type 0
+StopsBy gives s t p bounds seen unseen old new Write = SentPart (Between gives s t) (kept_lines p.line seen) old new
+StopsBy gives s t p bounds seen unseen old new TooLong =
+    (0 < length unseen) × Sent (Between gives s t) (kept_lines p.line seen) old new × IsAtBound bounds p seen
+StopsBy {S} gives s t p bounds seen unseen old new OutOfMemory = (mid : S) × Sent (Between gives s mid) (kept_lines p.line seen) old new
+StopsBy gives s t p bounds seen unseen old new Read = ⊥
+StopsBy gives s t p bounds seen unseen old new BadStart = ⊥
+
+-- from progress p, a run stopped with a fault within the bytes, and no bound was passed
+pub record StopsIn {S : Type 0} (gives : Giving S) (s t : S) (p : Progress) (bounds : Bounds) (input : List ℕ) (old new : Outlet) (fault : RunFault) : Type 0 where
+  pub seen : List ℕ
+  pub unseen : List ℕ
+  pub split : input ≡ seen ++ unseen
+  pub within : IsWithin bounds p seen
+  pub stop : StopsBy gives s t p bounds seen unseen old new fault
+
+-- no bound is passed by the lines of these bytes, the line that they leave open among them
+abbrev pub LastFits : Bounds → Progress → List ℕ → Type 0
+LastFits bounds p seen =
+    p.answered + length (kept_lines p.line seen) + length (last_line (kept_piece p.line seen)) ≤ bounds.lines
+
+-- the same within the bytes that the reader gave, of which no more than one read's are unseen; or a read failed behind them
+pub record StopsReading {S : Type 0} (gives : Giving S) (s t : S) (p : Progress) (bounds : Bounds) (old_input new_input old new : Known) (fault : RunFault) : Type 0 where
+  pub input : List ℕ
+  pub read : Consumes old_input new_input input
+  pub stop : ((stops : StopsIn gives s t p bounds input (settled old) (settled new) fault) × (length stops.unseen ≤ one_read))
+      ⊎ ((fault ≡ Read) × IsWithin bounds p input × LastFits bounds p input
+      × Sent (Between gives s t) (kept_lines p.line input) (settled old) (settled new))
