@@ -25,6 +25,9 @@ use relay_core::Account;
 use std::alloc::Global;
 use std::marker::Model;
 
+#[cfg(test)]
+mod tests;
+
 /// A game that one thread plays while its followers take in the moves. To a contract it is its table and what its seat there knows.
 #[derive(Drop)]
 pub struct Board {

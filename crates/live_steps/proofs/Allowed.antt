@@ -234,5 +234,5 @@ allows_leaving z slots id m i p mine s q _ seat _ =
     )
 
 -- 12
-pub allows_joining : (z : BoardSetup) (id : ℕ) (v : View) (other : ℕ) (w : View) → Joins (Kept z) id v other w (taking_in v w) spent
-allows_joining z id v other w s q seat apart there = kept_silent z s _ q (joins_parts z q.now s id v other w q.shows seat apart there)
+pub allows_joining : (z : BoardSetup) (id : ℕ) (v : View) (other : ℕ) (w : View) → ¬ (w.owns ≡ true) → Joins (Kept z) id v other w (taking_in v w) spent
+allows_joining z id v other w follower s q seat apart there = kept_silent z s _ q (joins_parts z q.now s id v other w q.shows seat apart follower there)

@@ -45,6 +45,7 @@ makes_the_table z numbered limits ws is =
           }),
         );
         parts = λ j v e i p d. absurd (nobody (only j v e).1 i p d);
+        owner = (starting z, refl, refl);
         one_part = λ k h. refl;
       }),
     )

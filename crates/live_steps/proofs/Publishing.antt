@@ -88,7 +88,7 @@ stores_a_move z a s id m r seat owns item free =
     let ws : List ℕ = set s.words word code in
     let wide = r.count in
     let other : (j : ℕ) → j ≢ word → get_or ws j 0 ≡ get_or s.words j 0 = λ j ne. get_or-set_other s.words word j code 0 ne in
-    placed z a a s r ws id v w seat r.shared refl (length-set s.words word code) (other 0 (λ e. omega arith)) (other 1 (λ e. omega arith) ∙ r.status)
+    placed z a a s r ws id v w seat (λ o. o) r.shared refl (length-set s.words word code) (other 0 (λ e. omega arith)) (other 1 (λ e. omega arith) ∙ r.status)
     (λ k h. other (k + 2) (λ e. omega arith) ∙ r.cursors k h)
     (λ k h. other (z.limits.followers + 2 + k) (λ e. omega arith) ∙ r.moves k h)
     (λ j u apart e. ((λ o. absurd (apart ((r.board j u e o).0 ∙ sym (r.board id v seat owns).0))), r.parts j u e)) (
@@ -151,7 +151,7 @@ stores_the_length z a s id m r seat owns item stored going legal free =
     } in (
       now,
       event,
-      placed z a now s r ws id v w seat (goes z.limits a now (Submit item) r.shared event) refl (length-set s.words 1 n) (other 0 (λ e. omega arith)) (get_or-set_same s.words 1 n 0 (omega arith) ∙ says)
+      placed z a now s r ws id v w seat (λ o. o) (goes z.limits a now (Submit item) r.shared event) refl (length-set s.words 1 n) (other 0 (λ e. omega arith)) (get_or-set_same s.words 1 n 0 (omega arith) ∙ says)
           (λ k h. other (k + 2) (λ e. omega arith) ∙ r.cursors k h)
           (λ k h. other (z.limits.followers + 2 + k) (λ e. omega arith) ∙ dite (ℕ_discrete k (length a.log))
           (λ (e : k ≡ length a.log). ap (λ (x : ℕ). get_or s.words (z.limits.followers + 2 + x) 0) e ∙ (there.1 ∙ sym (ap (λ (x : ℕ). move_code (move_at (a.log ++ item ∷ []) x)) e ∙ ap move_code (get_or-append_seam a.log item [] no_move))))
@@ -191,7 +191,7 @@ stores_the_outcome z a s id m r seat owns ending going has_ground =
     } in (
       now,
       event,
-      placed z a now s r ws id v w seat (goes z.limits a now (End ending) r.shared event) refl (length-set s.words 1 n) (other 0 (λ e. omega arith)) (get_or-set_same s.words 1 n 0 (omega arith) ∙ ap (λ (x : ℕ). status_word x o) known)
+      placed z a now s r ws id v w seat (λ o. o) (goes z.limits a now (End ending) r.shared event) refl (length-set s.words 1 n) (other 0 (λ e. omega arith)) (get_or-set_same s.words 1 n 0 (omega arith) ∙ ap (λ (x : ℕ). status_word x o) known)
           (λ k h. other (k + 2) (λ e. omega arith) ∙ r.cursors k h)
           (λ k h. other (z.limits.followers + 2 + k) (λ e. omega arith) ∙ r.moves k h)
           (λ j u apart e. ((λ x. absurd (apart ((r.board j u e x).0 ∙ sym first))), parts u (r.parts j u e))) (

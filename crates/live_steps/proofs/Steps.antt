@@ -1,9 +1,9 @@
 -- What all steps have in common: one seat's view changes and at most one word.
-use Rattle.std.proofs.Common.{◌≡◌, ℕ, ◌+◌, ◌<◌, ◌≢◌, true, false, List, map, length, get_or, set, Option, Some, None, sym, refl, ap, ◌∙◌, subst, inl, inr, ◌⊎◌, ⊎_elim, arith, eqb, true≢false, length-set, get_or-set_other, get_or-set_same}
+use Rattle.std.proofs.Common.{◌≡◌, ℕ, zero, suc, ◌+◌, ◌<◌, ◌≢◌, true, false, List, [], ◌∷◌, ◌++◌, map, length, get_or, set, Option, Some, None, sym, refl, ap, ◌∙◌, subst, inl, inr, ◌⊎◌, ⊎_elim, arith, eqb, true≢false, length-set, get_or-set_other, get_or-set_same}
 use Rattle.std.specs.Prelude.{IfSome}
 use Rattle.std.proofs.lemmas.Option.{IfSome_then}
 use mathlib.Core.Logic.{dite}
-use mathlib.Core.Option.{some}
+use mathlib.Core.Option.{some, some-injective, some-ne-none}
 use native.Mathlib.Decide.{ℕ_discrete}
 use lib.ListN.{get_elem?}
 use lib.Seq.{set-get_or}
@@ -19,7 +19,7 @@ use Rattle.live_steps.specs.declared.view.Part.{Part}
 use Rattle.live_steps.specs.declared.view.View.{View}
 use Rattle.live_steps.specs.Words.{header_word, status_word, cursor_word}
 use Rattle.live_steps.specs.Views.{board, only_at}
-use Rattle.live_steps.specs.Shows.{Table, total, is_at, parts_at, one_if, ShowsPart, ShowsBoard, Shows}
+use Rattle.live_steps.specs.Shows.{Table, total, is_at, parts_at, one_if, ShowsPart, ShowsBoard, HasOwner, Shows}
 use Rattle.live_steps.specs.Plays.{Seat}
 use Rattle.live_steps.proofs.Notes.{Near, Notes}
 use Rattle.live_steps.proofs.Parts.{part_other, pick}
@@ -42,8 +42,20 @@ fits_set z a ws views id w others mine j u e =
     (λ (x : (j ≢ id) × (get_elem? views j ≡ some u)). others j u x.0 x.1)
     (at_set views id j w u e)
 
+-- ---- One view is the board's.
+
+pub owner_set : (views : List View) (id : ℕ) (v w : View) → get_elem? views id ≡ some v → (v.owns ≡ true → w.owns ≡ true) → HasOwner views → HasOwner (set views id w)
+owner_set [] id v w seat keep (u, first, owns) = absurd (some-ne-none u (sym first))
+owner_set (x ∷ xs) zero v w seat keep (u, first, owns) =
+    (w, refl, keep (subst (λ (y : View). y.owns ≡ true) (sym (some-injective x u first) ∙ some-injective x v seat) owns))
+owner_set (x ∷ xs) (suc id) v w seat keep owner = owner
+
+pub owner_append : (views more : List View) → HasOwner views → HasOwner (views ++ more)
+owner_append [] more (u, first, owns) = absurd (some-ne-none u (sym first))
+owner_append (x ∷ xs) more owner = owner
+
 -- a state with these words, and the view w at the seat id
-pub placed : (z : BoardSetup) (a b : SharedBoard) (s : Table) (r : Shows z a s) (ws : List ℕ) (id : ℕ) (v w : View) → get_elem? s.views id ≡ some v
+pub placed : (z : BoardSetup) (a b : SharedBoard) (s : Table) (r : Shows z a s) (ws : List ℕ) (id : ℕ) (v w : View) → get_elem? s.views id ≡ some v → (v.owns ≡ true → w.owns ≡ true)
     → IsShared z.limits b → b.start ≡ a.start
     → length ws ≡ length s.words → get_or ws 0 0 ≡ get_or s.words 0 0 → get_or ws 1 0 ≡ status_word (length b.log) b.outcome
     → ((k : ℕ) → k < z.limits.followers → get_or ws (k + 2) 0 ≡ cursor_word (b.followers k))
@@ -51,7 +63,7 @@ pub placed : (z : BoardSetup) (a b : SharedBoard) (s : Table) (r : Shows z a s) 
     → ((j : ℕ) (u : View) → j ≢ id → get_elem? s.views j ≡ some u → Fits z b ws j u) → Fits z b ws id w
     → ((k : ℕ) → k < z.limits.followers → total (is_at k) w.parts + one_if (a.followers k) ≡ total (is_at k) v.parts + one_if (b.followers k))
     → Shows z b record { words = ws; homes = s.homes; views = set s.views id w }
-placed z a b s r ws id v w seat shared start long head status cursors moves apart mine counts =
+placed z a b s r ws id v w seat keep shared start long head status cursors moves apart mine counts =
     let all = fits_set z b ws s.views id w apart mine in
     record {
       limits = r.limits;
@@ -64,13 +76,14 @@ placed z a b s r ws id v w seat shared start long head status cursors moves apar
       moves = moves;
       board = λ j u e. (all j u e).0;
       parts = λ j u e. (all j u e).1;
+      owner = owner_set s.views id v w seat keep r.owner;
       one_part = λ k h. omega (arith, total-set (λ u. total (is_at k) u.parts) s.views id v w seat, r.one_part k h, counts k h);
     }
 
 -- the same board and words, with other views
-pub viewed : (z : BoardSetup) (a : SharedBoard) (s : Table) (r : Shows z a s) (views : List View) → ((j : ℕ) (u : View) → get_elem? views j ≡ some u → Fits z a s.words j u)
+pub viewed : (z : BoardSetup) (a : SharedBoard) (s : Table) (r : Shows z a s) (views : List View) → HasOwner views → ((j : ℕ) (u : View) → get_elem? views j ≡ some u → Fits z a s.words j u)
     → ((k : ℕ) → k < z.limits.followers → parts_at k views ≡ one_if (a.followers k)) → Shows z a record { words = s.words; homes = s.homes; views = views }
-viewed z a s r views every counts = record {
+viewed z a s r views owner every counts = record {
   limits = r.limits;
   start_is = r.start_is;
   shared = r.shared;
@@ -81,6 +94,7 @@ viewed z a s r views every counts = record {
   moves = r.moves;
   board = λ j u e. (every j u e).0;
   parts = λ j u e. (every j u e).1;
+  owner = owner;
   one_part = counts;
 }
 
@@ -125,7 +139,7 @@ turned z a s r k o n id v w shared seat inside is others-parts others-notes owns
       checked = clen ∙ h.checked;
       notes = ns;
     } in
-    placed z a b s r ws id v w seat shared refl (length-set s.words (k + 2) n) (other 0 (λ e. omega arith)) (other 1 (λ e. omega arith) ∙ r.status)
+    placed z a b s r ws id v w seat (λ o. owns ∙ o) shared refl (length-set s.words (k + 2) n) (other 0 (λ e. omega arith)) (other 1 (λ e. omega arith) ∙ r.status)
     (λ j l. with_cases a.followers k o (λ x y. x < z.limits.followers → get_or ws (x + 2) 0 ≡ cursor_word y) (λ _. here) (λ x ne l'. other (x + 2) (λ e. ne (omega arith)) ∙ r.cursors x l') j l)
     (λ i l. other (z.limits.followers + 2 + i) (λ e. omega arith) ∙ r.moves i l)
     (λ j u ne e. (
@@ -141,7 +155,7 @@ pub silent : (z : BoardSetup) (a : SharedBoard) (s : Table) (r : Shows z a s) (i
     → Shows z a (stepped s i (get_or s.words i 0) id m.1 w keeps)
 silent z a s r i id m w seat owns board parts same =
     subst (λ (ws : List ℕ). Shows z a record { words = ws; homes = s.homes; views = set s.views id w }) (sym (set-get_or s.words i 0))
-    (placed z a a s r s.words id m.0 w seat r.shared refl refl refl r.status r.cursors r.moves (λ j u _ e. fits z a s r j u e)
+    (placed z a a s r s.words id m.0 w seat (λ o. sym owns ∙ o) r.shared refl refl refl r.status r.cursors r.moves (λ j u _ e. fits z a s r j u e)
     ((λ o. let mine : m.0.owns ≡ true = owns ∙ o in let b = r.board id m.0 seat mine in (b.0, board mine b.1)), parts)
     (λ k h. ap (λ (x : ℕ). x + one_if (a.followers k)) (same k)))
 

@@ -135,9 +135,9 @@ SwapsOut =
     → (i : ℕ) (p : Part) → get_elem? me.0.parts i ≡ some p → let word : ℕ = cursor_at p.place in
     IsEvent z a (Leave p.place) (after s word 0 id me (left_at word (found s word) me.0))
 
--- 12. A seat takes in the parts of another seat, which is spent: silent.
+-- 12. A seat takes in the parts of another seat, not the board's, which is spent: silent.
 abbrev pub JoinsParts : Type 0
 JoinsParts =
     (z : BoardSetup) (a : SharedBoard) (s : Table) (id : ℕ) (v : View) (other : ℕ) (w : View) → Shows z a s
-    → get_elem? s.views id ≡ some v → ¬ (other ≡ id) → get_elem? (slice_set s.views id (taking_in v w)) other ≡ some w
+    → get_elem? s.views id ≡ some v → ¬ (other ≡ id) → ¬ (w.owns ≡ true) → get_elem? (slice_set s.views id (taking_in v w)) other ≡ some w
     → IsSilent z a record { words = s.words; homes = s.homes; views = slice_set (slice_set s.views id (taking_in v w)) other spent }

@@ -78,6 +78,10 @@ pub record ShowsBoard (z : BoardSetup) (a : SharedBoard) (words : List ℕ) (v :
 
 -- ---- The whole table. Seat 0 is the board's.
 
+-- the view of seat 0 is the board's
+abbrev pub HasOwner : List View → Type 0
+HasOwner views = (v : View) × (get_elem? views 0 ≡ some v) × (v.owns ≡ true)
+
 pub record Shows (z : BoardSetup) (a : SharedBoard) (s : Table) : Type 0 where
   pub limits : AreBoardLimits z.limits
   pub start_is : a.start ≡ z.start
@@ -89,7 +93,8 @@ pub record Shows (z : BoardSetup) (a : SharedBoard) (s : Table) : Type 0 where
   pub status : slice_index s.words 1 ≡ status_word (length a.log) a.outcome
   pub cursors : (k : ℕ) → k < z.limits.followers → slice_index s.words (cursor_at k) ≡ cursor_word (a.followers k)
   pub moves : (place : ℕ) → place < length a.log → slice_index s.words (move_word_at z.limits place) ≡ move_code (move_at a.log place)
-  -- the views
+  -- the views: seat 0 has the board's, no other seat has it, and each shows what it knows
+  pub owner : HasOwner s.views
   pub board : (j : ℕ) (v : View) → get_elem? s.views j ≡ some v → v.owns ≡ true → (j ≡ 0) × ShowsBoard z a s.words v
   pub parts : (j : ℕ) (v : View) → get_elem? s.views j ≡ some v → (i : ℕ) (p : Part) → get_elem? v.parts i ≡ some p → ShowsPart z a p
   -- each cursor that is not vacant has exactly one part, a vacant one none

@@ -6,6 +6,7 @@ use Rattle.live_steps.specs.Sound.{IsSound}
 use Rattle.live_steps.specs.Views.{carrying, taking_in, each_part, sees, learns, noted, kept_part, given_part}
 use Rattle.live_steps.proofs.Allowed.{allows_sparing, allows_splitting, allows_joining, allows_looking, allows_checking}
 use Rattle.live_steps.proofs.Checking.{note_read}
+use Rattle.live_steps.proofs.Steps.{off}
 use Rattle.live_board.specs.Meeting.{Met}
 use Rattle.live_board.specs.Seats.{BoardSeat, FollowerSeat, part_of}
 use Rattle.live_board.proofs.Desks.{desk_of, noted_is, noted_there}
@@ -26,7 +27,7 @@ join_seat-requires c =
       ap (λ s. s.table_id) c.swap.ensures.x_after ∙ ap (λ (h : FollowerSeat). h.table) c.follower.view_is ∙ c.requires ∙ ap (λ (h : BoardSeat). h.table) (sym c.self.view_is) ∙ i.table ∙ here,
       ap (λ s. s.me.1) c.swap.ensures.x_after ∙ j.none_held,
       omega (arith, i.words, ap (λ t. t.shared.table_id.words) c.deref.ensures),
-      allows_joining _ _ _ _ _,
+      allows_joining _ _ _ _ _ (λ o. off (sym (ap (λ (v : View). v.owns) (ap (λ s. s.me.0) c.swap.ensures.x_after ∙ j.one)) ∙ o)),
     )
 
 pub load-status-requires : goal.load-status-requires
