@@ -9,8 +9,10 @@ mod name;
 mod relay;
 mod reply;
 mod step;
+mod stepper;
 
 pub use name::BoardName;
 pub use relay::Relay;
 pub use reply::{Account, Reply, Taken};
 pub use step::{Spectator, Step};
+pub use stepper::Stepper;
