@@ -193,7 +193,7 @@ impl Desk {
     }
 
     /// The first place that is noted vacant.
-    fn vacant(&self) -> Option<u64>
+    pub fn vacant(&self) -> Option<u64>
         ensures place { MatchOption result (NoneVacant self.now.knows) (λ k. (k < self.now.knows.setup.limits.followers) × (get_elem? self.now.knows.notes k ≡ some Vacant)) }
         ensures sound { IsSound self.now.knows }
     {
