@@ -1,5 +1,5 @@
 -- A take through the board's seat, which carries the follower's part.
-use Rattle.std.proofs.Common.{◌≡◌, ℕ, zero, suc, ◌+◌, ◌<◌, ◌≤◌, ◌≢◌, true, List, [], ◌∷◌, ◌++◌, map, length, drop, take, unwrap_or, Option, Some, None, sym, refl, ap, ◌∙◌, arith, cond, eqb, eq-eqb, ne_eqb, length-take}
+use Rattle.std.proofs.Common.{◌≡◌, ℕ, zero, suc, ◌+◌, ◌<◌, ◌≤◌, ◌≢◌, List, [], ◌∷◌, ◌++◌, map, length, drop, take, unwrap_or, Option, Some, None, sym, refl, ap, ◌∙◌, arith, cond, eqb, eq-eqb, ne_eqb, length-take}
 use Rattle.std.proofs.Math.ListN.{drop_of_length-le}
 use Rattle.std.proofs.Math.Seq.{take-length}
 use Rattle.std.proofs.lemmas.Option.{none-some}
