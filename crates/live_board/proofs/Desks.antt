@@ -16,6 +16,7 @@ use Rattle.live_steps.specs.Sound.{IsSound}
 use Rattle.live_steps.proofs.Allowed.{table_made}
 use Rattle.live_steps.proofs.Parts.{pick}
 use Rattle.live_steps.proofs.SoundViews.{sound}
+use Rattle.live_board.specs.Carried.{Carries}
 use Rattle.live_board.specs.Seats.{IsDesk}
 
 pub desk_of : {id : TableId} {key : BoardSetup} {seat : Seat (Unit {0}) View} {setup : BoardSetup} {len : ℕ} {notes : List Note} (v : View) → seat.me.0 ≡ v → seat.table_id ≡ id → id.words ≡ word_count setup.limits → key ≡ setup
@@ -77,3 +78,10 @@ noted_there {notes = notes} i k n v is inside found =
     let low : k < length notes = omega (arith, inside, b.noted, ap length i.notes_are, ap (λ (u : View). u.setup.limits.followers) is) in
     ap (λ (u : View). get_elem? u.notes k) (sym is)
     ∙ ap (λ (l : List Note). get_elem? l k) (sym i.notes_are) ∙ at_index notes k n low found
+
+-- the place of a part that a desk carries
+pub carried_inside : {id : TableId} {key : BoardSetup} {seat : Seat (Unit {0}) View} {setup : BoardSetup} {len : ℕ} {notes : List Note} → IsDesk id key seat setup len notes → (v : View) (k : ℕ) → seat.me.0 ≡ v → Carries v k
+    → k < v.setup.limits.followers
+carried_inside i v k is c =
+    let inside = ((i.sound.board i.owns).inside c.0 c.1 (ap (λ (u : View). get_elem? u.parts c.0) is ∙ c.2)).0 in
+    omega (arith, inside, c.3, ap (λ (u : View). u.setup.limits.followers) is)

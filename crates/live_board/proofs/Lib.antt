@@ -4,4 +4,5 @@ mod Followers
 mod Hands
 mod Tries
 mod Games
+mod Carrying
 mod Meetings

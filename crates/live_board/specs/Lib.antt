@@ -4,3 +4,4 @@ pub mod Takes
 pub mod Board
 pub mod Accounts
 pub mod Meeting
+pub mod Carried

@@ -8,9 +8,12 @@ ghost use Rattle.c960_game.specs.Ends.{own_outcome};
 ghost use Rattle.c960_game.specs.Positions.{last_position, position_at};
 ghost use Rattle.c960_game.specs.Record.{end_answer, play_answer};
 ghost use Rattle.relay_core.specs.Inner.Boards.{with_place};
+ghost use Rattle.relay_core.specs.Replies.{taken_of};
 ghost use Rattle.live_steps.specs.Sound.{IsSound};
-ghost use Rattle.live_steps.specs.Views.{finished, newcomer, starting};
+ghost use Rattle.live_steps.specs.declared.note.Note.TheVariants.{Vacant};
+ghost use Rattle.live_steps.specs.Views.{each_part, finished, followed, left_at, newcomer, sees, starting};
 ghost use Rattle.live_board.specs.Accounts.{account_of};
+ghost use Rattle.live_board.specs.Carried.{Carries, CarriesAt, cut_at, due_at, TookAt};
 ghost use Rattle.live_board.specs.Board.{from_place, game_of, IsNotYet, IsTooFarBack, setup_of};
 ghost use Rattle.live_board.specs.Desk.{Joined, LoadedBelow, NoneVacant, Searched, Submitted};
 ghost use Rattle.live_board.specs.Meeting.{Met};
@@ -21,7 +24,7 @@ use c960_board::{Move, Position};
 use c960_game::{Ending, Game, Limits, Outcome, Refusal};
 use live_machine::BoardLimits;
 use live_steps::BoardSetup;
-use relay_core::Account;
+use relay_core::{Account, Taken};
 use std::alloc::Global;
 use std::marker::Model;
 
@@ -158,6 +161,66 @@ impl Board {
         self.desk
             .sit(cursor, u64::from(place), outcome)
             .ok_or(Refusal::OutOfMemory)
+    }
+}
+
+/// For a keeper that holds all of a board's followers at the board's own seat, so that one thread steps for the board and for each of
+/// them. A follower is known by its cursor place here, and no seat is handed out.
+impl Board {
+    /// The first cursor place that is noted vacant.
+    pub fn vacant_place(&self) -> Option<u64>
+        ensures place { MatchOption result (NoneVacant self.now.knows) (λ k. (k < self.now.knows.setup.limits.followers) × (get_elem? self.now.knows.notes k ≡ some Vacant)) }
+    {
+        self.desk.vacant()
+    }
+
+    /// A follower joins at a vacant cursor place, and takes from the place `from` of the log. It takes no memory.
+    pub fn seat_at(&mut self, place: u64, from: u16)
+        requires inside { place < self.old.knows.setup.limits.followers }
+        requires vacant { get_elem? self.old.knows.notes place ≡ some Vacant }
+        requires from { (from ≤ length self.old.knows.log) × (length self.old.knows.log ≤ from + self.old.knows.setup.limits.capacity) }
+        ensures table { self.new.table ≡ self.old.table }
+        ensures knows { self.new.knows ≡ followed place from self.old.knows }
+        ensures sound { IsSound self.new.knows }
+    {
+        self.desk.seat_at(place, u64::from(from));
+    }
+
+    /// Takes for the follower at the cursor place, which takes the move at the place `next` of the log next. It takes no memory.
+    pub fn take_at(&mut self, place: u64, next: u16) -> Taken
+        requires { CarriesAt self.old.knows place next }
+        ensures answer { result ≡ taken_of next self.old.knows.outcome (cut_at self.old.knows place) (due_at self.old.knows place next) }
+        ensures table { self.new.table ≡ self.old.table }
+        ensures knows { TookAt place result self.old.knows self.new.knows }
+        ensures sound { IsSound self.new.knows }
+    {
+        if self.desk.closing_at(place) == Some(u64::from(next)) {
+            return Taken::Cut;
+        }
+        self.desk.look();
+        if next < self.game.len() {
+            let m = self.desk.gain_at(place, u64::from(next));
+            return Taken::Move(next, m);
+        }
+        match self.game.outcome() {
+            Some(outcome) => Taken::Over(outcome),
+            None => Taken::Nothing,
+        }
+    }
+
+    /// The follower at the cursor place leaves, and the place is noted vacant. Tells the length at which it was closed, if it was. It
+    /// takes no memory.
+    pub fn leave_at(&mut self, place: u64) -> Option<u64>
+        requires { Carries self.old.knows place }
+        ensures closing { result ≡ cut_at self.old.knows place }
+        ensures table { self.new.table ≡ self.old.table }
+        ensures knows { (status cursor : ℕ) × (self.new.knows ≡ left_at (place + 2) cursor (each_part (sees status) self.old.knows)) }
+        ensures sound { IsSound self.new.knows }
+    {
+        let closing = self.desk.closing_at(place);
+        self.desk.look();
+        self.desk.leave_at(place);
+        closing
     }
 }
 

@@ -3,6 +3,7 @@
 #![tactic(auto)]
 
 mod board;
+mod carried;
 mod cursor;
 mod desk;
 mod follower;
