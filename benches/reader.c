@@ -438,12 +438,17 @@ static void connects(int count) {
 }
 
 static void idle(int followers) {
+    enum { MOST_A_BOARD = 1000 };
     long before = resident();
-    struct peer board = publisher();
-    for (int i = 0; i < followers; i++) follower();
+    for (int i = 0; i < followers; i++) {
+        if (i % MOST_A_BOARD == 0) {
+            snprintf(name, sizeof name, "r%d_%d", getpid(), i);
+            publisher();
+        }
+        follower();
+    }
     usleep(500000);
     printf("{\"followers\": %d, \"resident_kb\": %ld, \"before_kb\": %ld}\n", followers, resident(), before);
-    close(board.fd);
 }
 
 int main(int argc, char **argv) {

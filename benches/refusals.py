@@ -2,14 +2,16 @@
 """Refuses each allocation of the built server in turn, and looks at what is left.
 
     benches/refusals.py [MOST]        the allocations 1 to MOST (600) of the program, its start included
+    benches/refusals.py --tests       those of each test that is to hold then too, until a run meets no refusal
 
 The server has room for one board and one follower. In each run an owner opens the board, plays a move and closes; then three guests, one
 after another, follow from the first place. Where the owner was answered in full, at least two guests get the move, the end as abandoned
 and the close 1000; else all three find the same: the board with the move, the board alone, or none. A server that cannot start says
 `fault 12 OutOfMemory` and ends with status 4; every other run ends with all four connections accounted for. The last line counts what
-met the refusal, and the status is 1 where a run was otherwise.
+met the refusal, and the status is 1 where a run was otherwise. The tests are those that `rt test` built.
 """
 import collections
+import itertools
 import os
 import pathlib
 import socket
@@ -19,7 +21,16 @@ import sys
 import tempfile
 
 HERE = pathlib.Path(__file__).resolve().parent
-PROGRAM = HERE.parent / "crates/relay960/out/relay960"
+CRATES = HERE.parent / "crates"
+PROGRAM = CRATES / "relay960/out/relay960"
+TESTS = {
+    "relay_pushing_tests": [
+        "tests::connections::a_connection_may_what_its_boards_let_it",
+        "tests::pushing::cut_pushed",
+        "tests::pushing::nothing_is_waited_for_and_is_no_text",
+    ],
+    "relay_server_tests": ["tests::refusals::a_refusal_ends_the_boards_and_leaves_no_seat_taken"],
+}
 REQUEST = (
     b"GET / HTTP/1.1\r\nHost: a\r\nConnection: upgrade\r\nUpgrade: websocket\r\nSec-WebSocket-Version: 13\r\n"
     b"Sec-WebSocket-Key: dGhlIHNhbXBsZSBub25jZQ==\r\n\r\n"
@@ -83,12 +94,34 @@ def met(refused, allocator):
     return "owner" if alike else None
 
 
+def refuse_in_tests(allocator, mark):
+    """Runs each test with each allocation refused; tells how many it asks for, and how many runs failed."""
+    failed = 0
+    for crate, names in TESTS.items():
+        for name in names:
+            for refused in itertools.count(1):
+                mark.unlink(missing_ok=True)
+                env = {**os.environ, "LD_PRELOAD": allocator, "REFUSED": str(refused), "MARK": str(mark)}
+                run = subprocess.run([CRATES / crate / "out" / f"{crate}_tests", name], env=env, capture_output=True, text=True)
+                if run.returncode:
+                    print(f"{name}, allocation {refused}: status {run.returncode} {run.stderr.strip()}")
+                    failed += 1
+                if not mark.exists():
+                    print(f"{name}: {refused - 1} allocations refused")
+                    break
+    print(f"{failed} runs failed")
+    return 1 if failed else 0
+
+
 def main():
-    most = int(sys.argv[1]) if len(sys.argv) > 1 else 600
+    tests = sys.argv[1:] == ["--tests"]
+    most = int(sys.argv[1]) if len(sys.argv) > 1 and not tests else 600
     counts, last = collections.Counter(), 0
     with tempfile.TemporaryDirectory() as room:
         allocator = f"{room}/refuse.so"
         subprocess.run(["cc", "-O2", "-shared", "-fPIC", "-o", allocator, str(HERE / "refuse.c")], check=True)
+        if tests:
+            return refuse_in_tests(allocator, pathlib.Path(room, "met"))
         for refused in range(1, most + 1):
             who = met(refused, allocator)
             counts[who] += 1

@@ -1,6 +1,9 @@
 // An allocator for benches/refusals.py, by LD_PRELOAD: the allocation of the number REFUSED is refused once, all others are the C library's.
+// Where it comes to that, the file MARK is made.
 #include <errno.h>
+#include <fcntl.h>
 #include <stdlib.h>
+#include <unistd.h>
 
 extern void *__libc_malloc(size_t);
 extern void *__libc_calloc(size_t, size_t);
@@ -16,6 +19,8 @@ static int is_refused(void) {
         refused = text ? atol(text) : 0;
     }
     if (__sync_add_and_fetch(&count, 1) != refused) return 0;
+    const char *mark = getenv("MARK");
+    if (mark) close(creat(mark, 0600));
     errno = ENOMEM;
     return 1;
 }

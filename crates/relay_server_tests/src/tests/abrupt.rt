@@ -1,42 +1,11 @@
-//! Peers that go away without a word.
+//! Followers that go away without a word.
 
-use crate::tests::client::{Client, registry};
-use relay_server::{OpenGate, serve};
-use std::net::TcpListener;
+use crate::tests::client::Client;
+use crate::tests::server::Server;
+use crate::tests::texts::{FOLLOW_B1, FOLLOWING, OPEN_B1, OPENED};
+use relay_server::OpenGate;
 use std::sync::Arc;
 use std::test::Fail;
-use std::thread;
-
-const OPEN_B1: &str = "{\"cmd\":\"open\",\"board\":\"b1\",\"start\":518}";
-
-const OPENED: &str = "{\"reply\":\"opened\"}";
-
-const FOLLOW_B1: &str = "{\"cmd\":\"follow\",\"board\":\"b1\",\"spectator\":1}";
-
-#[test]
-fn a_board_that_goes_is_abandoned(rt: HostRuntime) -> Result<(), Fail> {
-    let alloc = rt.alloc();
-    let listener = TcpListener::bind(&rt, "127.0.0.1:0")?;
-    let addr = listener.local_addr()?;
-    let registry = registry(alloc, 64, 64)?;
-    let gate = Arc::new(alloc, OpenGate)?;
-    let own = rt.clone()?;
-    let server = thread::spawn(&rt, move || {
-        serve(&own, alloc, &listener, &registry, &gate, 2)
-    })?;
-    let mut one = Client::connect(&rt, alloc, addr)?;
-    assert!(rt; one.asks(OPEN_B1, OPENED)?);
-    let mut two = Client::connect(&rt, alloc, addr)?;
-    two.say(FOLLOW_B1)?;
-    let _ = two.hear()?;
-    drop(one);
-    assert!(rt; two.hears("{\"outcome\":\"abandoned\",\"reply\":\"over\"}")?);
-    assert!(rt; two.hears_close(1000)?);
-    drop(two);
-    let end = server.join(&rt);
-    assert_eq!(rt; end.served, 2);
-    Ok(())
-}
 
 /// How often the next spectator tries to follow.
 const MOST_TRIES: u32 = 100_000;
@@ -44,20 +13,13 @@ const MOST_TRIES: u32 = 100_000;
 #[test]
 fn a_follower_that_goes_leaves_its_place(rt: HostRuntime) -> Result<(), Fail> {
     let alloc = rt.alloc();
-    let listener = TcpListener::bind(&rt, "127.0.0.1:0")?;
-    let addr = listener.local_addr()?;
-    let registry = registry(alloc, 1, 64)?;
     let gate = Arc::new(alloc, OpenGate)?;
-    let own = rt.clone()?;
-    let server = thread::spawn(&rt, move || {
-        serve(&own, alloc, &listener, &registry, &gate, 3)
-    })?;
-    let mut one = Client::connect(&rt, alloc, addr)?;
+    let server = Server::start(&rt, alloc, (1, 64), &gate, 3)?;
+    let mut one = Client::connect(&rt, alloc, server.addr)?;
     assert!(rt; one.asks(OPEN_B1, OPENED)?);
-    let mut two = Client::connect(&rt, alloc, addr)?;
-    two.say(FOLLOW_B1)?;
-    let _ = two.hear()?;
-    let mut three = Client::connect(&rt, alloc, addr)?;
+    let mut two = Client::connect(&rt, alloc, server.addr)?;
+    assert!(rt; two.asks(FOLLOW_B1, FOLLOWING)?);
+    let mut three = Client::connect(&rt, alloc, server.addr)?;
     assert!(rt;
         three.asks(
             FOLLOW_B1,
@@ -86,7 +48,6 @@ fn a_follower_that_goes_leaves_its_place(rt: HostRuntime) -> Result<(), Fail> {
     assert!(rt; follows);
     drop(one);
     drop(three);
-    let end = server.join(&rt);
-    assert_eq!(rt; end.served, 3);
+    assert!(rt; server.has_served(&rt, 3));
     Ok(())
 }

@@ -1,26 +1,11 @@
 //! A client over a socket on loopback. A read that waits for more than twenty seconds fails, so each test ends by itself.
 
-use crate::tests::frames::{CLOSE, REQUEST, RESPONSE_BYTES, TEXT, frame};
-use c960_game::Limits;
-use relay_server::Registry;
-use std::alloc::{AllocError, Global};
+use crate::tests::frames::{CLOSE, PING, REQUEST, RESPONSE_BYTES, TEXT, frame};
+use std::alloc::Global;
 use std::io::{Read, Write};
-use std::net::{Net, SocketAddr, TcpStream};
-use std::sync::Arc;
+use std::net::{Net, Shutdown, SocketAddr, TcpStream};
 use std::test::Fail;
 use std::time::Duration;
-
-/// A shared registry with these limits on followers and queues.
-pub fn registry(
-    alloc: Global,
-    followers: u16,
-    capacity: u16,
-) -> Result<Arc<Registry, Global>, Fail> {
-    let Some(limits) = Limits::new(16, followers, capacity, 1024) else {
-        return Err(Fail::from(AllocError));
-    };
-    Ok(Arc::new(alloc, Registry::new(alloc, limits)?)?)
-}
 
 /// A connection whose handshake is done.
 #[derive(Drop)]
@@ -49,6 +34,31 @@ impl Client {
     pub fn say(&mut self, text: &str) -> Result<(), Fail> {
         let bytes = frame(self.alloc, TEXT, text.as_bytes())?;
         self.stream.write_all(bytes.as_slice())?;
+        Ok(())
+    }
+
+    /// Sends texts in one piece.
+    pub fn say_all(&mut self, texts: &[&str]) -> Result<(), Fail> {
+        let mut bytes = Vec::new(self.alloc);
+        for text in texts {
+            bytes.extend_from_slice(frame(self.alloc, TEXT, text.as_bytes())?.as_slice())?;
+        }
+        self.stream.write_all(bytes.as_slice())?;
+        Ok(())
+    }
+
+    /// Sends so many pings, of 100 bytes each.
+    pub fn ping(&mut self, count: u32) -> Result<(), Fail> {
+        let bytes = frame(self.alloc, PING, &[0; 100])?;
+        for _ in 0..count {
+            self.stream.write_all(bytes.as_slice())?;
+        }
+        Ok(())
+    }
+
+    /// Goes away without a word.
+    pub fn go(&mut self) -> Result<(), Fail> {
+        self.stream.shutdown(Shutdown::Both)?;
         Ok(())
     }
 

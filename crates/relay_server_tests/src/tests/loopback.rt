@@ -1,172 +1,199 @@
-//! A server on loopback, and clients.
+//! Conversations with a server on loopback.
 
-use crate::tests::client::{Client, registry};
-use crate::tests::gates::{SecondFirst, SecondHeld};
-use relay_server::{OpenGate, serve};
-use std::net::TcpListener;
-use std::sync::Arc;
-use std::sync::atomic::Ordering;
+use crate::tests::client::Client;
+use crate::tests::loopback::Act::{Goes, Hears, HearsClose, Pings, Says, SaysAtOnce, Waits};
+use crate::tests::server::Server;
+use crate::tests::texts::{
+    ABANDONED, END_B1, ENDED, FOLLOW_B1, FOLLOW_B1_FROM_0, FOLLOWING, MOVED_E2E4, MOVED_E7E5,
+    MOVED_G1F3, NO_SUCH, NOT_YOURS, OPEN_B1, OPEN_B2, OPENED, OVER, PLAYED_AT_0, PLAYED_AT_1,
+    PLAYED_AT_2, SUBMIT_E2E4, SUBMIT_E7E5, SUBMIT_G1F3, WRONG_MODE,
+};
+use relay_server::OpenGate;
+use std::alloc::Global;
+use std::net::{Net, TcpListener, TcpStream};
+use std::process::Abort;
+use std::sync::{Arc, Wait};
 use std::test::Fail;
-use std::thread;
+use std::thread::Threads;
+use std::time::Clock;
 
-const OPEN_B1: &str = "{\"cmd\":\"open\",\"board\":\"b1\",\"start\":518}";
+/// What a client does.
+#[derive(Clone, Copy)]
+enum Act {
+    /// Sends a text.
+    Says(&'static str),
+    /// Sends texts in one piece.
+    SaysAtOnce(&'static [&'static str]),
+    /// Receives this text next.
+    Hears(&'static str),
+    /// Receives a close with this code next.
+    HearsClose(u16),
+    /// Sends as many pings, of 100 bytes each.
+    Pings(u32),
+    /// Lets the server go on.
+    Waits,
+    /// Goes away without a word.
+    Goes,
+}
 
-const OPENED: &str = "{\"reply\":\"opened\"}";
+/// Who does what. A client connects as it is first named.
+type Line = (usize, Act);
 
-const FOLLOW_B1: &str = "{\"cmd\":\"follow\",\"board\":\"b1\",\"spectator\":1}";
+const LOOPBACK: &[Line] = &[
+    (0, Says(OPEN_B1)),
+    (0, Hears(OPENED)),
+    (1, Says(FOLLOW_B1)),
+    (1, Hears(FOLLOWING)),
+    (0, Says(SUBMIT_E2E4)),
+    (0, Hears(PLAYED_AT_0)),
+    (0, Says(FOLLOW_B1)),
+    (0, Hears(WRONG_MODE)),
+    (0, Says(END_B1)),
+    (0, Hears(ENDED)),
+    (1, Hears(MOVED_E2E4)),
+    (1, Hears(OVER)),
+    (1, HearsClose(1000)),
+    (2, Says(SUBMIT_E7E5)),
+    (2, Hears(NOT_YOURS)),
+    (
+        2,
+        Says("{\"cmd\":\"submit\",\"board\":\"b9\",\"move\":\"e7e5\"}"),
+    ),
+    (2, Hears(NO_SUCH)),
+    (2, Says("{\"cmd\":\"take\",\"spectator\":1}")),
+    (2, Hears(WRONG_MODE)),
+];
 
-const FOLLOWING: &str =
-    "{\"fen\":\"rnbqkbnr/pppppppp/8/8/8/8/PPPPPPPP/RNBQKBNR w HAha - 0 1\",\"joined\":0,\"reply\":\"following\"}";
+/// The follower asks for moves that were played before; then the board goes, and its game is abandoned.
+const FOLLOW_FROM_LOOPBACK: &[Line] = &[
+    (0, Says(OPEN_B1)),
+    (0, Hears(OPENED)),
+    (0, Says(SUBMIT_E2E4)),
+    (0, Hears(PLAYED_AT_0)),
+    (0, Says(SUBMIT_E7E5)),
+    (0, Hears(PLAYED_AT_1)),
+    (0, Says(SUBMIT_G1F3)),
+    (0, Hears(PLAYED_AT_2)),
+    (
+        1,
+        Says("{\"cmd\":\"follow\",\"board\":\"b1\",\"spectator\":1,\"from\":4}"),
+    ),
+    (
+        1,
+        Hears("{\"code\":16,\"name\":\"NotYet\",\"reply\":\"refused\"}"),
+    ),
+    (1, Says(FOLLOW_B1_FROM_0)),
+    (1, Hears(FOLLOWING)),
+    (1, Hears(MOVED_E2E4)),
+    (1, Hears(MOVED_E7E5)),
+    (1, Hears(MOVED_G1F3)),
+    (0, Goes),
+    (1, Hears(ABANDONED)),
+    (1, HearsClose(1000)),
+];
 
-const E2E4: &str = "{\"cmd\":\"submit\",\"board\":\"b1\",\"move\":\"e2e4\"}";
+const SUBMIT_D2D4_ON_B2: &str = "{\"cmd\":\"submit\",\"board\":\"b2\",\"move\":\"d2d4\"}";
 
-const E7E5: &str = "{\"cmd\":\"submit\",\"board\":\"b1\",\"move\":\"e7e5\"}";
+const MOVES_OF_TWO_BOARDS: &[&str] = &[SUBMIT_E2E4, SUBMIT_D2D4_ON_B2, SUBMIT_E7E5];
 
-const G1F3: &str = "{\"cmd\":\"submit\",\"board\":\"b1\",\"move\":\"g1f3\"}";
+/// The moves of both boards come in one piece, so that the wakes of their followers are put off.
+const TWO_BOARDS: &[Line] = &[
+    (0, Says(OPEN_B1)),
+    (0, Hears(OPENED)),
+    (0, Says(OPEN_B2)),
+    (0, Hears(OPENED)),
+    (1, Says(FOLLOW_B1)),
+    (1, Hears(FOLLOWING)),
+    (
+        2,
+        Says("{\"cmd\":\"follow\",\"board\":\"b2\",\"spectator\":1}"),
+    ),
+    (2, Hears(FOLLOWING)),
+    (0, SaysAtOnce(MOVES_OF_TWO_BOARDS)),
+    (0, Hears(PLAYED_AT_0)),
+    (0, Hears(PLAYED_AT_0)),
+    (0, Hears(PLAYED_AT_1)),
+    (1, Hears(MOVED_E2E4)),
+    (1, Hears(MOVED_E7E5)),
+    (
+        2,
+        Hears("{\"move\":\"d2d4\",\"place\":0,\"reply\":\"move\"}"),
+    ),
+    (0, Goes),
+    (1, Hears(ABANDONED)),
+    (2, Hears(ABANDONED)),
+];
 
-const WRONG_MODE: &str = "{\"code\":14,\"name\":\"WrongMode\",\"reply\":\"refused\"}";
+/// The server has closed when the follower reads on, and a reset would have overtaken its texts.
+const A_FOLLOWER_THAT_SENDS: &[Line] = &[
+    (0, Says(OPEN_B1)),
+    (0, Hears(OPENED)),
+    (1, Says(FOLLOW_B1)),
+    (1, Hears(FOLLOWING)),
+    (1, Pings(500)),
+    (0, Says(SUBMIT_E2E4)),
+    (0, Hears(PLAYED_AT_0)),
+    (0, Says(END_B1)),
+    (0, Hears(ENDED)),
+    (1, Waits),
+    (1, Hears(MOVED_E2E4)),
+    (1, Hears(OVER)),
+    (1, HearsClose(1000)),
+];
 
-#[test]
-fn loopback(rt: HostRuntime) -> Result<(), Fail> {
-    let alloc = rt.alloc();
-    let listener = TcpListener::bind(&rt, "127.0.0.1:0")?;
-    let addr = listener.local_addr()?;
-    let registry = registry(alloc, 64, 64)?;
+/// Does what a client is to do; tells whether it heard what it is to hear.
+fn carry_out<C: Clock>(
+    clock: &C,
+    server: &Server,
+    client: &mut Client,
+    act: Act,
+) -> Result<bool, Fail> {
+    match act {
+        Says(text) => client.say(text)?,
+        SaysAtOnce(texts) => client.say_all(texts)?,
+        Hears(text) => return client.hears(text),
+        HearsClose(code) => return client.hears_close(code),
+        Pings(count) => client.ping(count)?,
+        Waits => server.pause(clock),
+        Goes => client.go()?,
+    }
+    Ok(true)
+}
+
+/// Asserts that clients of a server of their own hear what they are to hear, and that it serves them all.
+fn assert_conversation<R>(rt: &R, alloc: Global, count: u32, lines: &[Line]) -> Result<(), Fail>
+where
+    R: Net<Listener = TcpListener, Stream = TcpStream>
+        + Threads
+        + Wait
+        + Clock
+        + Clone
+        + Send
+        + Abort
+        + Drop
+        + 'static,
+{
     let gate = Arc::new(alloc, OpenGate)?;
-    let own = rt.clone()?;
-    let server = thread::spawn(&rt, move || {
-        serve(&own, alloc, &listener, &registry, &gate, 3)
-    })?;
-    let mut one = Client::connect(&rt, alloc, addr)?;
-    assert!(rt; one.asks(OPEN_B1, OPENED)?);
-    let mut two = Client::connect(&rt, alloc, addr)?;
-    assert!(rt; two.asks(FOLLOW_B1, FOLLOWING)?);
-    assert!(rt; one.asks(E2E4, "{\"outcome\":null,\"place\":0,\"reply\":\"played\"}")?);
-    assert!(rt; one.asks(FOLLOW_B1, WRONG_MODE)?);
-    assert!(rt;
-        one.asks(
-            "{\"cmd\":\"end\",\"board\":\"b1\",\"how\":\"agreed\"}",
-            "{\"outcome\":\"agreed\",\"reply\":\"ended\"}"
-        )?
-    );
-    assert!(rt; two.hears("{\"move\":\"e2e4\",\"place\":0,\"reply\":\"move\"}")?);
-    assert!(rt; two.hears("{\"outcome\":\"agreed\",\"reply\":\"over\"}")?);
-    assert!(rt; two.hears_close(1000)?);
-    let mut three = Client::connect(&rt, alloc, addr)?;
-    assert!(rt;
-        three.asks(
-            E7E5,
-            "{\"code\":13,\"name\":\"NotYourBoard\",\"reply\":\"refused\"}"
-        )?
-    );
-    assert!(rt;
-        three.asks(
-            "{\"cmd\":\"submit\",\"board\":\"b9\",\"move\":\"e7e5\"}",
-            "{\"code\":1,\"name\":\"NoSuchBoard\",\"reply\":\"refused\"}"
-        )?
-    );
-    assert!(rt; three.asks("{\"cmd\":\"take\",\"spectator\":1}", WRONG_MODE)?);
-    drop(one);
-    drop(two);
-    drop(three);
-    let end = server.join(&rt);
-    assert_eq!(rt; end.served, 3);
-    assert_eq!(rt; end.failed, 0);
+    let server = Server::start(rt, alloc, (64, 64), &gate, count)?;
+    let mut clients = Vec::new(alloc);
+    for (who, what) in lines {
+        if *who == clients.len() {
+            clients.push(Client::connect(rt, alloc, server.addr)?)?;
+        }
+        let Some(client) = clients.get_mut(*who) else {
+            panic!(rt; "clients are named in order");
+        };
+        assert!(rt; carry_out(rt, &server, client, *what)?);
+    }
+    drop(clients);
+    assert!(rt; server.has_served(rt, count));
     Ok(())
 }
 
 #[test]
-fn two_at_once(rt: HostRuntime) -> Result<(), Fail> {
-    let alloc = rt.alloc();
-    let listener = TcpListener::bind(&rt, "127.0.0.1:0")?;
-    let addr = listener.local_addr()?;
-    let registry = registry(alloc, 64, 64)?;
-    let gate = Arc::new(alloc, SecondFirst::new())?;
-    let theirs = Arc::try_clone(&gate)?;
-    let own = rt.clone()?;
-    let server = thread::spawn(&rt, move || {
-        serve(&own, alloc, &listener, &registry, &theirs, 2)
-    })?;
-    let mut one = Client::connect(&rt, alloc, addr)?;
-    let mut two = Client::connect(&rt, alloc, addr)?;
-    one.say(OPEN_B1)?;
-    assert!(rt; two.asks("{\"cmd\":\"open\",\"board\":\"b2\",\"start\":518}", OPENED)?);
-    assert!(rt; one.hears(OPENED)?);
-    assert_eq!(rt; gate.answered.load(Ordering::SeqCst), 1);
-    assert_eq!(rt; gate.gave_up.load(Ordering::SeqCst), 0);
-    drop(one);
-    drop(two);
-    let end = server.join(&rt);
-    assert_eq!(rt; end.served, 2);
-    assert_eq!(rt; end.failed, 0);
-    Ok(())
-}
-
-#[test]
-fn a_full_queue_is_cut_off(rt: HostRuntime) -> Result<(), Fail> {
-    let alloc = rt.alloc();
-    let listener = TcpListener::bind(&rt, "127.0.0.1:0")?;
-    let addr = listener.local_addr()?;
-    let registry = registry(alloc, 64, 2)?;
-    let gate = Arc::new(alloc, SecondHeld::new())?;
-    let theirs = Arc::try_clone(&gate)?;
-    let own = rt.clone()?;
-    let server = thread::spawn(&rt, move || {
-        serve(&own, alloc, &listener, &registry, &theirs, 2)
-    })?;
-    let mut one = Client::connect(&rt, alloc, addr)?;
-    assert!(rt; one.asks(OPEN_B1, OPENED)?);
-    let mut two = Client::connect(&rt, alloc, addr)?;
-    assert!(rt; two.asks(FOLLOW_B1, FOLLOWING)?);
-    assert!(rt; one.asks(E2E4, "{\"outcome\":null,\"place\":0,\"reply\":\"played\"}")?);
-    assert!(rt; one.asks(E7E5, "{\"outcome\":null,\"place\":1,\"reply\":\"played\"}")?);
-    assert!(rt; one.asks(G1F3, "{\"outcome\":null,\"place\":2,\"reply\":\"played\"}")?);
-    gate.let_go.fetch_add(1, Ordering::SeqCst);
-    assert!(rt; two.hears("{\"move\":\"e2e4\",\"place\":0,\"reply\":\"move\"}")?);
-    assert!(rt; two.hears("{\"move\":\"e7e5\",\"place\":1,\"reply\":\"move\"}")?);
-    assert!(rt; two.hears("{\"reply\":\"cut\"}")?);
-    assert!(rt; two.hears_close(4001)?);
-    drop(one);
-    drop(two);
-    let end = server.join(&rt);
-    assert_eq!(rt; end.served, 2);
-    Ok(())
-}
-
-#[test]
-fn follow_from_loopback(rt: HostRuntime) -> Result<(), Fail> {
-    let alloc = rt.alloc();
-    let listener = TcpListener::bind(&rt, "127.0.0.1:0")?;
-    let addr = listener.local_addr()?;
-    let registry = registry(alloc, 64, 64)?;
-    let gate = Arc::new(alloc, OpenGate)?;
-    let own = rt.clone()?;
-    let server = thread::spawn(&rt, move || {
-        serve(&own, alloc, &listener, &registry, &gate, 2)
-    })?;
-    let mut one = Client::connect(&rt, alloc, addr)?;
-    assert!(rt; one.asks(OPEN_B1, OPENED)?);
-    assert!(rt; one.asks(E2E4, "{\"outcome\":null,\"place\":0,\"reply\":\"played\"}")?);
-    assert!(rt; one.asks(E7E5, "{\"outcome\":null,\"place\":1,\"reply\":\"played\"}")?);
-    let mut two = Client::connect(&rt, alloc, addr)?;
-    assert!(rt;
-        two.asks(
-            "{\"cmd\":\"follow\",\"board\":\"b1\",\"spectator\":1,\"from\":3}",
-            "{\"code\":16,\"name\":\"NotYet\",\"reply\":\"refused\"}"
-        )?
-    );
-    assert!(rt;
-        two.asks(
-            "{\"cmd\":\"follow\",\"board\":\"b1\",\"spectator\":1,\"from\":0}",
-            FOLLOWING
-        )?
-    );
-    assert!(rt; two.hears("{\"move\":\"e2e4\",\"place\":0,\"reply\":\"move\"}")?);
-    assert!(rt; two.hears("{\"move\":\"e7e5\",\"place\":1,\"reply\":\"move\"}")?);
-    drop(one);
-    drop(two);
-    let end = server.join(&rt);
-    assert_eq!(rt; end.served, 2);
-    assert_eq!(rt; end.failed, 0);
-    Ok(())
+fn loopback_and_follow_from_loopback(rt: HostRuntime) -> Result<(), Fail> {
+    assert_conversation(&rt, rt.alloc(), 3, LOOPBACK)?;
+    assert_conversation(&rt, rt.alloc(), 2, FOLLOW_FROM_LOOPBACK)?;
+    assert_conversation(&rt, rt.alloc(), 3, TWO_BOARDS)?;
+    assert_conversation(&rt, rt.alloc(), 2, A_FOLLOWER_THAT_SENDS)
 }
