@@ -5,7 +5,6 @@ use relay_core::{BoardName, Relay, Reply, Spectator, Step, Taken};
 use relay_pushing::{Bell, Keeper, Source};
 use std::alloc::{AllocError, Global};
 use std::cell::Cell;
-use std::test::Fail;
 
 /// The name of a board.
 pub fn board(name: &str) -> BoardName {
@@ -30,11 +29,12 @@ pub fn relay(alloc: Global, capacity: u16) -> Result<Relay, AllocError> {
     }
 }
 
-/// A relay, and the steps that it was asked to make.
+/// A relay, the steps that it was asked to make, and how many of them it accepted.
 #[derive(Drop)]
 pub struct Desk {
     pub relay: Relay,
     pub steps: Vec<Step>,
+    pub accepted: u32,
 }
 
 impl Desk {
@@ -42,6 +42,7 @@ impl Desk {
         Ok(Desk {
             relay: relay(alloc, capacity)?,
             steps: Vec::with_capacity(alloc, 64)?,
+            accepted: 0,
         })
     }
 }
@@ -49,10 +50,14 @@ impl Desk {
 impl Desk {
     /// Makes a step, and notes that it was asked to.
     fn note_and_make(&mut self, step: &Step) -> Reply {
-        match self.steps.push(*step) {
-            Ok(()) => self.relay.step(*step),
-            Err(_) => Reply::Refused(Refusal::OutOfMemory),
+        if self.steps.push(*step).is_err() {
+            return Reply::Refused(Refusal::OutOfMemory);
         }
+        let reply = self.relay.step(*step);
+        if !matches!(&reply, Reply::Refused(_)) {
+            self.accepted = self.accepted.saturating_add(1);
+        }
+        reply
     }
 }
 
@@ -139,14 +144,4 @@ impl Bell for Ringing {
         self.waits.set(self.waits.get().wrapping_add(1));
         next
     }
-}
-
-/// The texts of these bytes, each with a line feed.
-pub fn lines(alloc: Global, texts: &[Vec<u8>]) -> Result<Vec<u8>, Fail> {
-    let mut all = Vec::new(alloc);
-    for text in texts {
-        all.extend_from_slice(text.as_slice())?;
-        all.push(b'\n')?;
-    }
-    Ok(all)
 }

@@ -1,111 +1,141 @@
-//! What an outlet is sent.
+//! What an outlet is sent. The rows hold with ample memory, and where one allocation is refused, each in turn (`rt try --test
+//! --fail-alloc N`): then pushing ends behind the texts that were sent before.
 
 use crate::list_outlet::ListOutlet;
-use crate::tests::fakes::{Answers, Ringing, Seat, board, lines, relay};
+use crate::tests::fakes::{Answers, Ringing, Seat, board, relay};
 use c960_board::{Move, read_move};
-use c960_game::Outcome;
-use relay_core::{Relay, Step, Taken};
+use c960_game::{Outcome, Refusal};
+use relay_core::{Relay, Reply, Step, Taken};
 use relay_pushing::{PushEnd, SendFault, push_all};
-use std::alloc::Global;
-use std::test::Fail;
+use std::alloc::{AllocError, Global};
+use std::process::Abort;
+use std::sync::Wait;
 
-const CUT_OFF: &[u8] =
-    b"{\"move\":\"e2e4\",\"place\":0,\"reply\":\"move\"}\n{\"move\":\"e7e5\",\"place\":1,\"reply\":\"move\"}\n{\"reply\":\"cut\"}\n";
+const FIRST: &[u8] = b"{\"move\":\"e2e4\",\"place\":0,\"reply\":\"move\"}";
 
-const FIRST: &[u8] = b"{\"move\":\"e2e4\",\"place\":0,\"reply\":\"move\"}\n";
+const SECOND: &[u8] = b"{\"move\":\"e7e5\",\"place\":1,\"reply\":\"move\"}";
 
-fn move_of(text: &str) -> Result<Move, Fail> {
+const TEXTS_OF_CUT: [&[u8]; 3] = [FIRST, SECOND, b"{\"reply\":\"cut\"}"];
+
+const TEXTS_OF_OVER: [&[u8]; 3] = [
+    FIRST,
+    SECOND,
+    b"{\"outcome\":\"agreed\",\"reply\":\"over\"}",
+];
+
+const NO_MEMORY: PushEnd = PushEnd::Failed(SendFault::OutOfMemory);
+
+const NO_DEVICE: PushEnd = PushEnd::Failed(SendFault::Device);
+
+fn move_of(rt: &impl Abort, text: &str) -> Move {
     match read_move(text.as_bytes()) {
-        Ok(m) => Ok(m),
-        Err(_) => Err(Fail::from(std::alloc::AllocError)),
+        Ok(m) => m,
+        Err(_) => panic!(rt; "no move"),
     }
 }
 
-/// A relay in which spectator 1 was closed at its capacity of 2.
-fn full_queue(alloc: Global) -> Result<Relay, Fail> {
-    let mut relay = relay(alloc, 2)?;
-    let _ = relay.step(Step::Open(board("b1"), 518));
-    let _ = relay.step(Step::Follow(1, board("b1"), None));
+/// Makes a step, again where it was refused for want of memory.
+fn make(relay: &mut Relay, step: &Step) {
+    if relay.step(*step) == Reply::Refused(Refusal::OutOfMemory) {
+        let _ = relay.step(*step);
+    }
+}
+
+/// A follower that was closed at its capacity of 2.
+fn full_queue(rt: &impl Abort, alloc: Global) -> Seat {
+    let mut relay = match relay(alloc, 2) {
+        Ok(relay) => relay,
+        Err(AllocError) => relay(alloc, 2).expect(rt, "one refusal at the most"),
+    };
+    make(&mut relay, &Step::Open(board("b1"), 518));
+    make(&mut relay, &Step::Follow(1, board("b1"), None));
     for text in ["e2e4", "e7e5", "g1f3"] {
-        let _ = relay.step(Step::Submit(board("b1"), move_of(text)?));
+        make(&mut relay, &Step::Submit(board("b1"), move_of(rt, text)));
     }
-    Ok(relay)
+    Seat {
+        relay,
+        spectator: 1,
+    }
 }
 
-#[test]
-fn cut_pushed(rt: HostRuntime) -> Result<(), Fail> {
-    let mut outlet = ListOutlet::new(rt.alloc(), 9, 9);
-    let mut seat = Seat {
-        relay: full_queue(rt.alloc())?,
-        spectator: 1,
+/// Asserts that the outlet has the first of these texts.
+fn assert_first(rt: &impl Abort, outlet: &ListOutlet, wanted: &[&[u8]]) {
+    assert!(rt; outlet.texts.len() <= wanted.len());
+    for (text, wanted) in outlet.texts.iter().zip(wanted) {
+        assert_eq!(rt; text.as_slice(), *wanted);
+    }
+}
+
+/// Asserts that pushing goes on behind the text that was lost: to its end, where that was lost.
+fn assert_rest<R: Wait + Abort>(rt: &R, alloc: Global, seat: &mut Seat, sent: usize) {
+    let Some(wanted) = TEXTS_OF_CUT.get(sent.saturating_add(1).min(2)..) else {
+        panic!(rt; "there is an end");
     };
-    let bell = Ringing::new();
-    let end = push_all(&rt, rt.alloc(), &mut outlet, &mut seat, &bell);
+    let mut outlet = ListOutlet::new(alloc, 9, 9);
+    let end = push_all(rt, alloc, &mut outlet, seat, &Ringing::new());
     assert_eq!(rt; end, PushEnd::Cut);
-    assert_eq!(rt;
-        lines(rt.alloc(), outlet.texts.as_slice())?.as_slice(),
-        CUT_OFF
-    );
-    assert_eq!(rt; bell.waits.get(), 0);
-    Ok(())
+    assert_eq!(rt; outlet.texts.len(), wanted.len());
+    assert_first(rt, &outlet, wanted);
 }
 
 #[test]
-fn the_second_send_fails(rt: HostRuntime) -> Result<(), Fail> {
-    let mut outlet = ListOutlet::new(rt.alloc(), 1, 9);
-    let mut seat = Seat {
-        relay: full_queue(rt.alloc())?,
-        spectator: 1,
-    };
-    let end = push_all(&rt, rt.alloc(), &mut outlet, &mut seat, &Ringing::new());
-    assert_eq!(rt; end, PushEnd::Failed(SendFault::Device));
+fn cut_pushed(rt: HostRuntime) {
+    // How many texts the device takes, how pushing ends, and how many texts were sent.
+    for (room, wanted, texts) in [(9, PushEnd::Cut, 3), (1, NO_DEVICE, 1)] {
+        let mut outlet = ListOutlet::new(rt.alloc(), room, 9);
+        let mut seat = full_queue(&rt, rt.alloc());
+        let bell = Ringing::new();
+        let end = push_all(&rt, rt.alloc(), &mut outlet, &mut seat, &bell);
+        let sent = outlet.texts.len();
+        assert_first(&rt, &outlet, &TEXTS_OF_CUT);
+        assert_eq!(rt; bell.waits.get(), 0);
+        if end == NO_MEMORY {
+            assert_eq!(rt; outlet.failures, 0);
+            assert_rest(&rt, rt.alloc(), &mut seat, sent);
+            continue;
+        }
+        assert_eq!(rt; end, wanted);
+        assert_eq!(rt; sent, texts);
+        assert_eq!(rt; outlet.failures, u64::from(wanted == NO_DEVICE));
+    }
     assert_eq!(rt; SendFault::Device.code(), 41);
-    assert_eq!(rt; outlet.texts.len(), 1);
-    assert_eq!(rt;
-        lines(rt.alloc(), outlet.texts.as_slice())?.as_slice(),
-        FIRST
-    );
-    assert_eq!(rt; outlet.failures, 1);
-    Ok(())
+    assert_eq!(rt; SendFault::OutOfMemory.code(), 12);
 }
 
-#[test]
-fn nothing_is_waited_for_and_is_no_text(rt: HostRuntime) -> Result<(), Fail> {
-    let answers = [
-        Taken::Nothing,
-        Taken::Move(0, move_of("e2e4")?),
-        Taken::Nothing,
-        Taken::Nothing,
-        Taken::Move(1, move_of("e7e5")?),
-        Taken::Over(Outcome::Agreed),
-    ];
-    let mut outlet = ListOutlet::new(rt.alloc(), 9, 9);
-    let mut source = Answers { rest: &answers };
-    let bell = Ringing::new();
-    let end = push_all(&rt, rt.alloc(), &mut outlet, &mut source, &bell);
-    assert_eq!(rt; end, PushEnd::Over(Outcome::Agreed));
-    assert_eq!(rt;
-        lines(rt.alloc(), outlet.texts.as_slice())?.as_slice(),
-        b"{\"move\":\"e2e4\",\"place\":0,\"reply\":\"move\"}\n{\"move\":\"e7e5\",\"place\":1,\"reply\":\"move\"}\n{\"outcome\":\"agreed\",\"reply\":\"over\"}\n".as_slice()
-    );
-    assert_eq!(rt; bell.waits.get(), 3);
-    assert_eq!(rt; source.rest.len(), 0);
-    Ok(())
-}
+/// What the device takes, texts and flushes; how pushing ends; and how many texts were sent, how often the bell was waited for, and
+/// how many answers were not taken.
+type Row = ((usize, usize), PushEnd, (usize, u64, usize));
+
+const ROWS: [Row; 3] = [
+    ((9, 9), PushEnd::Over(Outcome::Agreed), (3, 3, 0)),
+    // The second text fails, and the second flush.
+    ((1, 9), NO_DEVICE, (1, 3, 1)),
+    ((9, 1), NO_DEVICE, (1, 1, 3)),
+];
 
 #[test]
-fn a_failed_flush_ends_it(rt: HostRuntime) -> Result<(), Fail> {
+fn nothing_is_waited_for_and_is_no_text(rt: HostRuntime) {
     let answers = [
         Taken::Nothing,
-        Taken::Move(0, move_of("e2e4")?),
+        Taken::Move(0, move_of(&rt, "e2e4")),
         Taken::Nothing,
+        Taken::Nothing,
+        Taken::Move(1, move_of(&rt, "e7e5")),
         Taken::Over(Outcome::Agreed),
     ];
-    let mut outlet = ListOutlet::new(rt.alloc(), 9, 1);
-    let mut source = Answers { rest: &answers };
-    let end = push_all(&rt, rt.alloc(), &mut outlet, &mut source, &Ringing::new());
-    assert_eq!(rt; end, PushEnd::Failed(SendFault::Device));
-    assert_eq!(rt; outlet.texts.len(), 1);
-    assert_eq!(rt; source.rest.len(), 1);
-    Ok(())
+    for ((room, flushes), wanted, counts) in ROWS {
+        let mut outlet = ListOutlet::new(rt.alloc(), room, flushes);
+        let mut source = Answers { rest: &answers };
+        let bell = Ringing::new();
+        let end = push_all(&rt, rt.alloc(), &mut outlet, &mut source, &bell);
+        let sent = outlet.texts.len();
+        assert_first(&rt, &outlet, &TEXTS_OF_OVER);
+        if end == NO_MEMORY {
+            assert_eq!(rt; outlet.failures, 0);
+            continue;
+        }
+        assert_eq!(rt; end, wanted);
+        assert_eq!(rt; (sent, bell.waits.get(), source.rest.len()), counts);
+        assert_eq!(rt; outlet.failures, u64::from(wanted == NO_DEVICE));
+    }
 }
