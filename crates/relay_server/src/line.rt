@@ -19,6 +19,8 @@ pub(crate) struct Line<S> {
     stream: S,
     head: Head,
     output: Vec<u8>,
+    /// Whether a write failed. A part of it may have been sent, so nothing can be sent behind it.
+    has_failed: bool,
     wakes: Wakes,
 }
 
@@ -29,6 +31,7 @@ impl<S: Read + Write> Line<S> {
             stream,
             head,
             output: Vec::new(alloc),
+            has_failed: false,
             wakes: Wakes::new(most_wakes),
         }
     }
@@ -38,14 +41,18 @@ impl<S: Read + Write> Line<S> {
         self.wakes.put_off(rung);
     }
 
-    /// Wakes whom it was put off to wake, and sends what was kept back.
+    /// Wakes whom it was put off to wake, and sends what was kept back. Once that has failed, nothing is sent any more.
     pub(crate) fn send_now(&mut self) -> io::Result<()> {
         self.wakes.wake();
         if self.output.is_empty() {
             return Ok(());
         }
+        if self.has_failed {
+            return Err(io::Error::from(ErrorKind::BrokenPipe));
+        }
         let sent = self.stream.write_all(self.output.as_slice());
         self.output.clear();
+        self.has_failed = sent.is_err();
         sent?;
         self.stream.flush()
     }
