@@ -33,7 +33,7 @@ fn assert_attackers(
 ) {
     let found = plain::attackers(&parts.placement, by, square.number());
     assert!(rt; attackers(position, by, square) == found);
-    assert!(rt; attacked(position, by, square) == found != 0);
+    assert!(rt; attacked(position, by, square) == (found != 0));
 }
 
 /// Asserts that a square is in the sets of what it holds.
@@ -41,7 +41,7 @@ fn assert_sets(rt: &impl Abort, position: &Position, parts: &Parts, square: Squa
     let number = square.number();
     let cell = position.piece_at(square);
     assert!(rt; cell == parts.placement[number as usize]);
-    assert!(rt; (position.occupied() >> number) & 1 == 1 == cell.is_some());
+    assert!(rt; ((position.occupied() >> number) & 1 == 1) == cell.is_some());
     if let Some(piece) = cell {
         assert!(rt; (position.pieces(piece) >> number) & 1 == 1);
     }
