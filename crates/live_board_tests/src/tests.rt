@@ -1,0 +1,15 @@
+//! Worked cases of live boards, comparisons with a plain one, and games that threads take in.
+
+mod boards;
+mod cases;
+mod crowd;
+mod games;
+mod long;
+mod memory;
+mod plain;
+mod random;
+mod stage;
+mod table;
+mod threads;
+mod threads_by_chance;
+mod travels;

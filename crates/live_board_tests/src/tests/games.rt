@@ -1,0 +1,54 @@
+//! Games of many moves.
+
+use c960_board::{Move, read_move};
+use c960_game::Limits;
+use std::alloc::{AllocError, Global};
+use std::process::Abort;
+
+/// Twelve moves of knights, after which the position is the one before.
+const SHUFFLE: &str = "g1f3 g8f6 f3g1 f6g8 g1f3 g8f6 f3g1 f6g8 g1f3 g8f6 f3g1 f6g8";
+
+/// What stands between the shuffles of the game of a hundred plies.
+const BETWEEN: [&str; 7] = [
+    "b1c3 b8c6",
+    "a1b1 a8b8",
+    "b1a1 b8a8",
+    "c3b1 c6b8",
+    "b1a3 b8a6",
+    "a1b1 a8b8",
+    "a3c4 a6c5",
+];
+
+/// The move of a text.
+pub fn move_of(rt: &impl Abort, text: &str) -> Move {
+    let Ok(m) = read_move(text.as_bytes()) else {
+        panic!(rt; "no move: {text}");
+    };
+    m
+}
+
+/// The limits of one board: followers, capacity, plies.
+pub fn limits_of(rt: &impl Abort, followers: u16, capacity: u16, plies: u16) -> Limits {
+    let Some(limits) = Limits::new(1, followers, capacity, plies) else {
+        panic!(rt; "no limits");
+    };
+    limits
+}
+
+fn add_line(rt: &impl Abort, moves: &mut Vec<Move>, line: &str) -> Result<(), AllocError> {
+    for text in line.split(' ') {
+        moves.push(move_of(rt, text))?;
+    }
+    Ok(())
+}
+
+/// A game of a hundred plies from start 518 without a pawn's move or a capture, so that White may claim a draw after it.
+pub fn hundred_plies(rt: &impl Abort, alloc: Global) -> Result<Vec<Move>, AllocError> {
+    let mut moves = Vec::with_capacity(alloc, 100)?;
+    for line in BETWEEN {
+        add_line(rt, &mut moves, SHUFFLE)?;
+        add_line(rt, &mut moves, line)?;
+    }
+    add_line(rt, &mut moves, "g1f3 g8f6")?;
+    Ok(moves)
+}

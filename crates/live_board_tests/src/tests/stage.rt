@@ -1,0 +1,124 @@
+//! A live board with its followers on one thread.
+
+use c960_board::Move;
+use c960_game::{Ending, Limits, Outcome, Refusal};
+use live_board::{Board, Follower};
+use relay_core::{Account, Taken};
+use std::alloc::{AllocError, Global};
+
+/// What is asked of a board, or of one of its followers.
+#[derive(Clone, Copy, PartialEq, Debug)]
+pub enum Ask {
+    Submit(Move),
+    End(Ending),
+    /// Follows from a place, or from the log's present length.
+    Follow(usize, Option<u16>),
+    Take(usize),
+    Leave(usize),
+    /// Goes without leaving.
+    Drop(usize),
+}
+
+/// What it answers.
+#[derive(Clone, Copy, PartialEq, Debug)]
+pub enum Answer {
+    Played(u16, Option<Outcome>),
+    Ended(Outcome),
+    /// Joined at this place, and has taken so many moves.
+    Following(u16, u16),
+    Took(Taken),
+    Left(Account),
+    Dropped,
+    Refused(Refusal),
+    /// That follower is not here, or is here already.
+    Amiss,
+}
+
+/// A board and those who follow it.
+#[derive(Drop)]
+pub struct Stage {
+    pub board: Board,
+    followers: Vec<Option<Follower>>,
+}
+
+impl Stage {
+    /// A new board, with room for so many followers on the stage. The refusal of the board is inside.
+    pub fn open(
+        alloc: Global,
+        start: u16,
+        limits: Limits,
+        room: usize,
+    ) -> Result<Result<Stage, Refusal>, AllocError> {
+        let mut followers = Vec::with_capacity(alloc, room)?;
+        for _ in 0..room {
+            followers.push(None)?;
+        }
+        match Board::open(alloc, start, limits) {
+            Ok(board) => Ok(Ok(Stage { board, followers })),
+            Err(refusal) => Ok(Err(refusal)),
+        }
+    }
+
+    /// Asks, and gives the answer.
+    pub fn ask(&mut self, asked: Ask) -> Answer {
+        match asked {
+            Ask::Submit(m) => match self.board.submit(m) {
+                Ok((place, outcome)) => Answer::Played(place, outcome),
+                Err(refusal) => Answer::Refused(refusal),
+            },
+            Ask::End(ending) => match self.board.end(ending) {
+                Ok(outcome) => Answer::Ended(outcome),
+                Err(refusal) => Answer::Refused(refusal),
+            },
+            Ask::Follow(who, from) => self.follow(who, from),
+            Ask::Take(who) => self.take(who),
+            Ask::Leave(who) => self.leave(who),
+            Ask::Drop(who) => self.drop_follower(who),
+        }
+    }
+
+    fn follow(&mut self, who: usize, from: Option<u16>) -> Answer {
+        if who >= self.followers.len() || self.followers[who].is_some() {
+            return Answer::Amiss;
+        }
+        match self.board.follow(from) {
+            Ok(follower) => {
+                let answer = Answer::Following(follower.joined(), follower.taken());
+                self.followers[who] = Some(follower);
+                answer
+            }
+            Err(refusal) => Answer::Refused(refusal),
+        }
+    }
+
+    fn take(&mut self, who: usize) -> Answer {
+        if who >= self.followers.len() {
+            return Answer::Amiss;
+        }
+        match &mut self.followers[who] {
+            Some(follower) => Answer::Took(follower.take()),
+            None => Answer::Amiss,
+        }
+    }
+
+    fn leave(&mut self, who: usize) -> Answer {
+        if who >= self.followers.len() {
+            return Answer::Amiss;
+        }
+        match self.followers[who].take() {
+            Some(follower) => {
+                let (account, _) = follower.leave();
+                Answer::Left(account)
+            }
+            None => Answer::Amiss,
+        }
+    }
+
+    fn drop_follower(&mut self, who: usize) -> Answer {
+        if who >= self.followers.len() || self.followers[who].is_none() {
+            return Answer::Amiss;
+        }
+        self.followers[who] = None;
+        Answer::Dropped
+    }
+}
