@@ -1,0 +1,10 @@
+pub mod Maps
+pub mod Closings
+pub mod Offers
+pub mod Submits
+pub mod Ends
+pub mod Takes
+pub mod Entries
+pub mod Opens
+pub mod Leaves
+pub mod Follows

@@ -1,0 +1,57 @@
+-- Look-ups after one value is another.
+use Rattle.std.proofs.Common.{◌≡◌, ◌≢◌, ◌⊎◌, ℕ, zero, suc, Bool, true, false, true≢false, List, [], ◌∷◌, cond, Some, sym, refl, ap, ◌∙◌, inl, inr, ⊎_elim}
+use Rattle.std.proofs.lemmas.Option.{same_Some, none-some}
+use Rattle.std.specs.Map.{lookup, set_value}
+use mathlib.Core.Option.{some, some-injective}
+use lib.ListN.{get_elem?}
+
+module _ {K V : Type 0} (eq : K → K → Bool) (is : (a b : K) → eq a b ≡ true → a ≡ b) (back : (a b : K) → a ≡ b → eq a b ≡ true) where
+  pub seek_same : (b : K) (es : List (K × V)) (x c : V) → lookup (eq b) es ≡ Some x → lookup (eq b) (set_value (eq b) es c) ≡ Some c
+  seek_same b [] x c e = absurd (none-some x e)
+  seek_same b (y ∷ ys) x c e = by (seek_same b ys x c) (eq b y.0) refl e
+    where
+      by : (lookup (eq b) ys ≡ Some x → lookup (eq b) (set_value (eq b) ys c) ≡ Some c) → (t : Bool) → eq b y.0 ≡ t → cond t (Some y.1) (lookup (eq b) ys) ≡ Some x → lookup (eq b) (cond t ((y.0, c) ∷ ys) (y ∷ set_value (eq b) ys c)) ≡ Some c
+      by more true i e = ap (λ t. cond t (Some c) (lookup (eq b) ys)) i
+      by more false i e = ap (λ t. cond t (Some y.1) (lookup (eq b) (set_value (eq b) ys c))) i ∙ more e
+
+  pub seek_other : (b q : K) (es : List (K × V)) (c : V) → eq b q ≡ false → lookup (eq q) (set_value (eq b) es c) ≡ lookup (eq q) es
+  seek_other b q [] c ne = refl
+  seek_other b q (y ∷ ys) c ne = by (seek_other b q ys c ne) (eq b y.0) (eq q y.0) refl refl
+    where
+      by : lookup (eq q) (set_value (eq b) ys c) ≡ lookup (eq q) ys → (t s : Bool) → eq b y.0 ≡ t → eq q y.0 ≡ s → lookup (eq q) (cond t ((y.0, c) ∷ ys) (y ∷ set_value (eq b) ys c)) ≡ cond (eq q y.0) (Some y.1) (lookup (eq q) ys)
+      by more true true i at = absurd (true≢false (sym (back b q (is b y.0 i ∙ sym (is q y.0 at))) ∙ ne))
+      by more true false i at = ap (λ t. cond t (Some c) (lookup (eq q) ys)) at ∙ sym (ap (λ t. cond t (Some y.1) (lookup (eq q) ys)) at)
+      by more false s i at = ap (cond (eq q y.0) (Some y.1)) more
+
+-- where the value that is written stands
+abbrev pub Written : {K V : Type 0} → (K → Bool) → List (K × V) → V → V → Type 0
+Written {K} {V} test es f w = (j : ℕ) × (k : K) × (get_elem? es j ≡ some (k, f)) × ((i : ℕ) (e : K × V) → get_elem? (set_value test es w) i ≡ some e → ((i ≡ j) × (e ≡ (k, w))) ⊎ ((i ≢ j) × (get_elem? es i ≡ some e)))
+
+pub written : {K V : Type 0} (test : K → Bool) (es : List (K × V)) (f w : V) → lookup test es ≡ Some f → Written test es f w
+written test [] f w e = absurd (none-some f e)
+written {K} {V} test (y ∷ ys) f w e = by (written test ys f w) (test y.0) refl e
+  where
+    zero_suc : (n : ℕ) → suc n ≢ zero
+    zero_suc n h = cc
+
+    down : (i j : ℕ) → suc i ≡ suc j → i ≡ j
+    down i j h = cc
+
+    by : (lookup test ys ≡ Some f → Written test ys f w) → (t : Bool) → test y.0 ≡ t → cond t (Some y.1) (lookup test ys) ≡ Some f → Written test (y ∷ ys) f w
+    by more true at e =
+        let same : y.1 ≡ f = same_Some _ _ e in
+        let list : set_value test (y ∷ ys) w ≡ (y.0, w) ∷ ys = ap (λ t. cond t ((y.0, w) ∷ ys) (y ∷ set_value test ys w)) at in
+        (0, y.0, ap (λ (x : V). some (y.0, x)) same, λ i d h. place i d (ap (λ l. get_elem? l i) (sym list) ∙ h))
+      where
+        place : (i : ℕ) (d : K × V) → get_elem? ((y.0, w) ∷ ys) i ≡ some d → ((i ≡ 0) × (d ≡ (y.0, w))) ⊎ ((i ≢ 0) × (get_elem? (y ∷ ys) i ≡ some d))
+        place zero d h = inl (refl, sym (some-injective _ _ h))
+        place (suc i) d h = inr (zero_suc i, h)
+    by more false at e =
+        let m = more e in
+        let list : set_value test (y ∷ ys) w ≡ y ∷ set_value test ys w = ap (λ t. cond t ((y.0, w) ∷ ys) (y ∷ set_value test ys w)) at in
+        (suc m.0, m.1, m.2, λ i d h. place m.0 m.1 m.3 i d (ap (λ l. get_elem? l i) (sym list) ∙ h))
+      where
+        place : (j : ℕ) (k : K) → ((i : ℕ) (e : K × V) → get_elem? (set_value test ys w) i ≡ some e → ((i ≡ j) × (e ≡ (k, w))) ⊎ ((i ≢ j) × (get_elem? ys i ≡ some e)))
+            → (i : ℕ) (d : K × V) → get_elem? (y ∷ set_value test ys w) i ≡ some d → ((i ≡ suc j) × (d ≡ (k, w))) ⊎ ((i ≢ suc j) × (get_elem? (y ∷ ys) i ≡ some d))
+        place j k all zero d h = inr ((λ z. zero_suc j (sym z)), h)
+        place j k all (suc i) d h = ⊎_elim (λ (x : (i ≡ j) × (d ≡ (k, w))). inl (ap suc x.0, x.1)) (λ (x : (i ≢ j) × (get_elem? ys i ≡ some d)). inr ((λ z. x.0 (down i j z)), x.1)) (all i d h)

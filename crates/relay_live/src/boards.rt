@@ -1,0 +1,103 @@
+//! What a step does on one board of the map.
+
+ghost use Rattle.std.specs.Prelude.{◌≡◌, ◌+◌, ◌<◌, ◌≤◌, ℕ, length, true, option_map, OnErr, OnOk, Some, None};
+ghost use mathlib.Core.Option.{some};
+ghost use lib.ListN.{get_elem?};
+ghost use Rattle.std.specs.Map.{lookup};
+ghost use Rattle.c960_game.specs.Ending.{named_outcome};
+ghost use Rattle.relay_core.specs.Inner.Boards.{end_answer_at, play_answer_at};
+ghost use Rattle.relay_core.specs.Inner.Followers.{account_of};
+ghost use Rattle.relay_core.specs.Name.{same_name};
+ghost use Rattle.relay_core.specs.Replies.{taken_of};
+ghost use Rattle.live_steps.specs.declared.note.Note.TheVariants.{Vacant};
+ghost use Rattle.live_steps.specs.Sound.{IsSound};
+ghost use Rattle.live_steps.specs.Views.{each_part, finished, followed, left_at, sees};
+ghost use Rattle.live_board.specs.Board.{game_of};
+ghost use Rattle.live_board.specs.Carried.{cut_at, due_at, TookAt};
+ghost use Rattle.live_board.specs.Desk.{Submitted};
+ghost use Rattle.live_board.specs.Seats.{BoardSeat};
+ghost use Rattle.relay_live.specs.Live.{IsSeated, Swapped, held_in};
+
+use crate::seated::{Seated, account};
+use c960_board::Move;
+use c960_game::{Ending, Outcome, Refusal};
+use indexmap::IndexMap;
+use live_board::Board;
+use relay_core::{Account, BoardName, Taken};
+
+/// Makes a move on a board, and tells its place and the outcome that it makes.
+#[tactic(auto, using(std::proofs::lemmas::Map::Steps::set_value_same))]
+pub(crate) fn play(
+    boards: &mut IndexMap<BoardName, Board>,
+    board: BoardName,
+    m: Move,
+) -> Result<(u16, Option<Outcome>), Refusal>
+    ensures answer { result ≡ play_answer_at m (option_map (λ b. game_of b.knows) (lookup (same_name board) boards.old.entries)) }
+    ensures refused { OnErr result (boards.new.entries ≡ boards.old.entries) }
+    ensures swapped { OnOk result (Swapped (λ b c. Submitted m b.knows c.knows × IsSound c.knows) board boards.old.entries boards.new.entries) }
+{
+    let Some(live) = boards.get_mut(&board) else {
+        return Err(Refusal::NoSuchBoard);
+    };
+    live.submit(m)
+}
+
+/// Ends the game of a board, and tells the outcome that the ending names.
+#[tactic(auto, using(std::proofs::lemmas::Map::Steps::set_value_same))]
+pub(crate) fn end(
+    boards: &mut IndexMap<BoardName, Board>,
+    board: BoardName,
+    ending: Ending,
+) -> Result<Outcome, Refusal>
+    ensures answer { result ≡ end_answer_at ending (option_map (λ b. game_of b.knows) (lookup (same_name board) boards.old.entries)) }
+    ensures refused { OnErr result (boards.new.entries ≡ boards.old.entries) }
+    ensures swapped { OnOk result (Swapped (λ b c. (c.knows ≡ finished (Some (named_outcome ending)) b.knows) × IsSound c.knows) board boards.old.entries boards.new.entries) }
+{
+    let Some(live) = boards.get_mut(&board) else {
+        return Err(Refusal::NoSuchBoard);
+    };
+    live.end(ending)
+}
+
+/// Takes for one who is seated at a board.
+pub(crate) fn take_for(boards: &mut IndexMap<BoardName, Board>, seated: Seated) -> Taken
+    requires seated { IsSeated boards.old.entries seated }
+    requires fits { seated.joined + seated.taken < 65536 }
+    ensures swapped { Swapped (λ b c. TookAt seated.place result b.knows c.knows × IsSound c.knows
+        × (result ≡ taken_of (seated.joined + seated.taken) b.knows.outcome (cut_at b.knows seated.place) (due_at b.knows seated.place (seated.joined + seated.taken))))
+        seated.board boards.old.entries boards.new.entries }
+{
+    let Some(live) = boards.get_mut(&seated.board) else {
+        unreachable!();
+    };
+    live.take_at(seated.place, seated.joined + seated.taken)
+}
+
+/// Seats a follower at a vacant cursor place of a board, to take from a place of its log on.
+pub(crate) fn seat(boards: &mut IndexMap<BoardName, Board>, board: BoardName, place: u64, from: u16)
+    requires { (b : BoardSeat) × (lookup (same_name board) boards.old.entries ≡ Some b)
+        × (place < b.knows.setup.limits.followers) × (get_elem? b.knows.notes place ≡ some Vacant)
+        × (from ≤ length b.knows.log) × (length b.knows.log ≤ from + b.knows.setup.limits.capacity) }
+    ensures { Swapped (λ b c. (c.knows ≡ followed place from b.knows) × IsSound c.knows) board boards.old.entries boards.new.entries }
+{
+    let Some(live) = boards.get_mut(&board) else {
+        unreachable!();
+    };
+    live.seat_at(place, from);
+}
+
+/// Lets one who is seated at a board go, and tells what it has had.
+pub(crate) fn leave_for(boards: &mut IndexMap<BoardName, Board>, seated: Seated) -> Account
+    requires seated { IsSeated boards.old.entries seated }
+    requires sound { (b : BoardSeat) → lookup (same_name seated.board) boards.old.entries ≡ Some b → IsSound b.knows × (b.knows.owns ≡ true) }
+    ensures { Swapped (λ b c. ((status cursor : ℕ) × (c.knows ≡ left_at (seated.place + 2) cursor (each_part (sees status) b.knows))) × IsSound c.knows
+        × ((capacity : ℕ) → result ≡ account_of (length b.knows.log) (held_in capacity b.knows seated)))
+        seated.board boards.old.entries boards.new.entries }
+{
+    let Some(live) = boards.get_mut(&seated.board) else {
+        unreachable!();
+    };
+    let present = live.len();
+    let closing = live.leave_at(seated.place);
+    account(seated, present, closing)
+}

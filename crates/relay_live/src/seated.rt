@@ -1,0 +1,45 @@
+//! Where a spectator follows.
+
+ghost use Rattle.std.specs.Prelude.{◌≡◌, ℕ, ◌+◌, ◌<◌, Some, IfSome, is_some, nat_eq, unwrap_or};
+ghost use Rattle.std.specs.Map.{lookup, set_value};
+ghost use Rattle.relay_live.specs.Live.{with_one_more};
+
+use indexmap::IndexMap;
+use relay_core::{Account, BoardName, Spectator};
+
+/// A spectator's board, its cursor place there, the place of the log at which it joined, and how many moves it has taken. All else of it
+/// stands in what the board knows.
+#[derive(Clone, Copy, PartialEq, Eq, Debug)]
+pub(crate) struct Seated {
+    pub(crate) board: BoardName,
+    pub(crate) place: u64,
+    pub(crate) joined: u16,
+    pub(crate) taken: u16,
+}
+
+/// Counts one more move for a spectator.
+pub(crate) fn count_take(seats: &mut IndexMap<Spectator, Seated>, who: Spectator)
+    requires { IfSome (lookup (nat_eq who) seats.old.entries) (λ f. f.taken < 65535) }
+    ensures { IfSome (lookup (nat_eq who) seats.old.entries) (λ f. seats.new.entries ≡ set_value (nat_eq who) seats.old.entries (with_one_more f)) }
+{
+    let Some(seated) = seats.get_mut(&who) else {
+        return;
+    };
+    seated.taken += 1;
+}
+
+/// What a spectator has had, whose board's log has this length, and which was closed at that length if it was.
+pub(crate) fn account(seated: Seated, present: u16, closing: Option<u64>) -> Account
+    requires { (c : ℕ) → closing ≡ Some c → c < 65536 }
+    ensures joined { result.joined ≡ seated.joined }
+    ensures taken { result.taken ≡ seated.taken }
+    ensures limit { result.limit ≡ unwrap_or closing present }
+    ensures cut { result.cut ≡ is_some closing }
+{
+    Account {
+        joined: seated.joined,
+        taken: seated.taken,
+        limit: closing.unwrap_or(u64::from(present)) as u16,
+        cut: closing.is_some(),
+    }
+}
