@@ -12,7 +12,7 @@ use crate::fault::RunFault;
 use crate::limits::ScriptLimits;
 use crate::lines::run_lines;
 use relay_core::Relay;
-use relay_messages::{Answer, decode, encode};
+use relay_messages::{Answer, Decoder, encode};
 use std::alloc::{AllocError, Global};
 
 /// The answerer of a script.
@@ -20,6 +20,8 @@ use std::alloc::{AllocError, Global};
 pub struct Desk {
     /// The relay that the commands so far have led to.
     pub relay: Relay,
+    /// What decodes the lines.
+    pub decoder: Decoder,
 }
 
 impl Answerer for Desk {
@@ -30,7 +32,7 @@ impl Answerer for Desk {
     ghost cut = { λ s l bytes t given. answers_cut s.relay l bytes t.relay given };
 
     fn answer(&mut self, alloc: Global, line: &[u8]) -> Result<Vec<u8>, AllocError> {
-        let answer = match decode(alloc, line) {
+        let answer = match self.decoder.decode(line) {
             Ok(command) => Answer::Reply(self.relay.step(command)),
             Err(fault) => Answer::Fault(fault),
         };
@@ -73,6 +75,7 @@ pub fn script_run<R: ReadDevice, W: WriteDevice>(
     let Ok(relay) = Relay::new(alloc, limits.limits()) else {
         return Err(RunFault::OutOfMemory);
     };
-    let mut desk = Desk { relay };
+    let decoder = Decoder::new(alloc);
+    let mut desk = Desk { relay, decoder };
     run_lines(alloc, reader, &mut desk, writer, limits.bounds())
 }

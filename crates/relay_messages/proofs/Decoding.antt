@@ -15,7 +15,7 @@ use Rattle.relay_messages.specs.declared.fault.MessageFault.{MessageFault}
 use Rattle.relay_messages.specs.declared.fault.MessageFault.TheVariants.{OutOfMemory, NotJson, NotObject, UnknownCommand, BadField}
 use Rattle.relay_messages.specs.Commands.{command_by, command_in, command_named, end_in, follow_in, leave_in, open_in, submit_in, take_in}
 use Rattle.relay_messages.specs.Fields.{text_at}
-use Rattle.relay_messages.specs.Decoding.{IsDecoding, command_read, decoded}
+use Rattle.relay_messages.specs.Decoding.{IsDecoding, IsReading, command_read, decoded}
 
 -- ---- A text that is not too long.
 
@@ -24,8 +24,12 @@ decoded_short : (text : List ℕ) → length text ≤ 1024
 unfolding decoded
 decoded_short text h = let short : nat_lt 1024 (length text) ≡ false = grind arith in rw short refl
 
-pub decoded_value : (text : List ℕ) (d : Data) → length text ≤ 1024 → IsUtf8 text → read text ≡ Some d → decoded text ≡ command_in d
-decoded_value text d h is_text same = decoded_short text h ∙ rw (is_utf8-from_IsUtf8 text is_text, same) refl
+-- what reading a text in UTF-8 answers is what decoding it does
+pub decoding_of_reading : (text : List ℕ) (answer : Result Step MessageFault) → length text ≤ 1024 → IsUtf8 text
+    → IsReading text answer → IsDecoding text answer
+decoding_of_reading text answer short is_text (inl same) =
+    inl (same ∙ sym (decoded_short text short ∙ rw (is_utf8-from_IsUtf8 text is_text) refl))
+decoding_of_reading text answer short is_text (inr want) = inr (short, want)
 
 unread : (is_text : Bool) (value : Option Data) → (is_text ≡ true → value ≡ None)
     → cond is_text (command_read value) (Err NotJson) ≡ Err NotJson

@@ -1,3 +1,5 @@
 pub mod Ascii
 pub mod Names
 pub mod Decoding
+pub mod PlainFacts
+pub mod PlainReading

@@ -23,3 +23,7 @@ decoded text = cond (nat_lt most_bytes (length text)) (Err BadField) (cond (is_u
 -- what decoding answers: what the text says, or want of memory, which a text of more bytes than it may have does not meet
 abbrev pub IsDecoding : List ℕ → Result Step MessageFault → Type 0
 IsDecoding text answer = (answer ≡ decoded text) ⊎ ((length text ≤ most_bytes) × (answer ≡ Err OutOfMemory))
+
+-- what reading a text in UTF-8 answers: what the text says, or want of memory
+abbrev pub IsReading : List ℕ → Result Step MessageFault → Type 0
+IsReading text answer = (answer ≡ command_read (read text)) ⊎ (answer ≡ Err OutOfMemory)

@@ -1,24 +1,22 @@
 //! The commands that objects say, one function each.
 
 ghost use Rattle.std.specs.Prelude.{◌≡◌, Some};
-ghost use Rattle.serde_json.specs.View.{view};
 ghost use Rattle.relay_messages.specs.Commands.{end_in, ending_in, ending_named, follow_in, from_in, leave_in, open_in, submit_in, take_in, with_members};
 ghost use Rattle.relay_messages.specs.Fields.{side_at};
 
 use crate::fields::{
-    board_field, count_of, from_field, has_from, move_field, side_field, spectator_field,
-    start_field, text_field,
+    board_field, from_field, has_from, move_field, side_field, spectator_field, start_field,
 };
+use crate::object::Object;
 use c960_board::Colour;
 use c960_game::Ending;
 use relay_core::Step;
-use serde_json::Value;
 
 /// Opens a board: `board` and `start`.
-pub fn open_of(object: &Value) -> Option<Step>
-    ensures { result ≡ open_in (view object.now) }
+pub fn open_of<O: Object>(object: &O) -> Option<Step>
+    ensures { result ≡ open_in (O.said object.now) }
 {
-    if count_of(object) != 3 {
+    if object.count() != 3 {
         return None;
     }
     let board = board_field(object)?;
@@ -27,10 +25,10 @@ pub fn open_of(object: &Value) -> Option<Step>
 }
 
 /// Plays a move: `board` and `move`.
-pub fn submit_of(object: &Value) -> Option<Step>
-    ensures { result ≡ submit_in (view object.now) }
+pub fn submit_of<O: Object>(object: &O) -> Option<Step>
+    ensures { result ≡ submit_in (O.said object.now) }
 {
-    if count_of(object) != 3 {
+    if object.count() != 3 {
         return None;
     }
     let board = board_field(object)?;
@@ -39,28 +37,28 @@ pub fn submit_of(object: &Value) -> Option<Step>
 }
 
 /// The side, in an object with no other key more.
-fn side_of_ending(object: &Value) -> Option<Colour>
-    ensures { result ≡ with_members 4 (view object.now) (side_at (view object.now)) }
+fn side_of_ending<O: Object>(object: &O) -> Option<Colour>
+    ensures { result ≡ with_members 4 (O.said object.now) (side_at (O.said object.now)) }
 {
-    if count_of(object) != 4 {
+    if object.count() != 4 {
         return None;
     }
     side_field(object)
 }
 
 /// An ending that names no side.
-fn without_side(object: &Value, ending: Ending) -> Option<Ending>
-    ensures { result ≡ with_members 3 (view object.now) (Some ending) }
+fn without_side<O: Object>(object: &O, ending: Ending) -> Option<Ending>
+    ensures { result ≡ with_members 3 (O.said object.now) (Some ending) }
 {
-    if count_of(object) != 3 {
+    if object.count() != 3 {
         return None;
     }
     Some(ending)
 }
 
 /// The ending of this name, with its side where it has one.
-fn ending_of(object: &Value, how: &str) -> Option<Ending>
-    ensures { result ≡ ending_named (view object.now) how.now }
+fn ending_of<O: Object>(object: &O, how: &str) -> Option<Ending>
+    ensures { result ≡ ending_named (O.said object.now) how.now }
 {
     match how {
         "resign" => Some(Ending::Resigns(side_of_ending(object)?)),
@@ -73,20 +71,20 @@ fn ending_of(object: &Value, how: &str) -> Option<Ending>
 }
 
 /// Ends a game: `board`, `how` and for some endings `side`.
-pub fn end_of(object: &Value) -> Option<Step>
-    ensures { result ≡ end_in (view object.now) }
+pub fn end_of<O: Object>(object: &O) -> Option<Step>
+    ensures { result ≡ end_in (O.said object.now) }
 {
     let board = board_field(object)?;
-    let how = text_field(object, "how")?;
+    let how = object.text("how")?;
     let ending = ending_of(object, how)?;
     Some(Step::End(board, ending))
 }
 
 /// The place from which to follow, or none without the key, in an object with no other key more.
-fn from_of(object: &Value) -> Option<Option<u16>>
-    ensures { result ≡ from_in (view object.now) }
+fn from_of<O: Object>(object: &O) -> Option<Option<u16>>
+    ensures { result ≡ from_in (O.said object.now) }
 {
-    match (has_from(object), count_of(object)) {
+    match (has_from(object), object.count()) {
         (false, 3) => Some(None),
         (true, 4) => Some(Some(from_field(object)?)),
         _ => None,
@@ -94,8 +92,8 @@ fn from_of(object: &Value) -> Option<Option<u16>>
 }
 
 /// Lets a spectator follow a board: `board`, `spectator` and, where it is not to join at the log's present length, `from`.
-pub fn follow_of(object: &Value) -> Option<Step>
-    ensures { result ≡ follow_in (view object.now) }
+pub fn follow_of<O: Object>(object: &O) -> Option<Step>
+    ensures { result ≡ follow_in (O.said object.now) }
 {
     let board = board_field(object)?;
     let spectator = spectator_field(object)?;
@@ -104,10 +102,10 @@ pub fn follow_of(object: &Value) -> Option<Step>
 }
 
 /// Takes a spectator's next move: `spectator`.
-pub fn take_of(object: &Value) -> Option<Step>
-    ensures { result ≡ take_in (view object.now) }
+pub fn take_of<O: Object>(object: &O) -> Option<Step>
+    ensures { result ≡ take_in (O.said object.now) }
 {
-    if count_of(object) != 2 {
+    if object.count() != 2 {
         return None;
     }
     let spectator = spectator_field(object)?;
@@ -115,10 +113,10 @@ pub fn take_of(object: &Value) -> Option<Step>
 }
 
 /// Ends a spectator's following: `spectator`.
-pub fn leave_of(object: &Value) -> Option<Step>
-    ensures { result ≡ leave_in (view object.now) }
+pub fn leave_of<O: Object>(object: &O) -> Option<Step>
+    ensures { result ≡ leave_in (O.said object.now) }
 {
-    if count_of(object) != 2 {
+    if object.count() != 2 {
         return None;
     }
     let spectator = spectator_field(object)?;

@@ -8,9 +8,12 @@ mod encoding;
 mod fault;
 mod fields;
 pub mod laws;
+mod member;
+mod object;
+mod plain;
 mod reading;
 
 pub use answer::Answer;
 pub use encoding::encode;
 pub use fault::MessageFault;
-pub use reading::{Command, decode};
+pub use reading::{Command, Decoder, decode};

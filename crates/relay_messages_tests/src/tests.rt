@@ -3,6 +3,7 @@
 mod answers;
 mod bounds;
 mod commands;
+mod decoders;
 mod faults;
 mod round_trip;
 mod values;

@@ -1,0 +1,7 @@
+-- The value that a plain object stands for.
+use Rattle.serde_json.specs.Data.{Data, object}
+use Rattle.relay_messages.specs.declared.plain.PlainObject.{PlainObject}
+use Rattle.relay_messages.specs.Members.{members_in}
+
+abbrev pub plain_data : PlainObject → Data
+plain_data o = object (members_in o.members.items)

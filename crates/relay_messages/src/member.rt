@@ -1,0 +1,25 @@
+//! A member of a plain object.
+
+/// What a member has.
+#[derive(Clone, Copy, Drop)]
+pub enum Field<'a> {
+    /// A text, without its escapes.
+    Text(&'a str),
+    /// An unsigned whole number.
+    Number(u64),
+}
+
+impl<'a> Default for Field<'a> {
+    fn default() -> Field<'a> {
+        Field::Number(0)
+    }
+}
+
+/// A member of an object.
+#[derive(Clone, Copy, Default, Drop)]
+pub struct Member<'a> {
+    /// Its key.
+    pub key: &'a str,
+    /// What it has.
+    pub field: Field<'a>,
+}

@@ -1,0 +1,85 @@
+//! Objects in which members are looked up, however they were read.
+
+ghost use Rattle.std.specs.Prelude.{◌≡◌, is_some, option_map};
+ghost use Rattle.serde_json.specs.Data.{Data};
+ghost use Rattle.serde_json.specs.Find.{get};
+ghost use Rattle.relay_messages.specs.Fields.{member_count, number_at, text_at};
+
+use crate::member::Field;
+use crate::plain::PlainObject;
+use serde_json::Value;
+
+/// A JSON value in which members are looked up. One that is no object has none.
+pub trait Object {
+    /// The value that it says.
+    ghost said: { Self → Data };
+
+    /// How many members it has.
+    fn count(&self) -> usize
+        ensures { result ≡ member_count (said self.now) };
+
+    /// The text of a member.
+    fn text<'a>(&'a self, key: &str) -> Option<&'a str>
+        ensures { option_map (λ text. text.now) result ≡ text_at key.now (said self.entry.now) };
+
+    /// The unsigned whole number of a member.
+    fn number(&self, key: &str) -> Option<u64>
+        ensures { result ≡ number_at key.now (said self.now) };
+
+    /// Whether there is a member of that key, of any form.
+    fn has(&self, key: &str) -> bool
+        ensures { result ≡ is_some (get key.now (said self.now)) };
+}
+
+impl Object for Value {
+    ghost use Rattle.serde_json.specs.View.{view};
+
+    ghost said = { λ value. view value };
+
+    fn count(&self) -> usize {
+        match self.as_object() {
+            Some(members) => members.len(),
+            None => 0,
+        }
+    }
+
+    fn text<'a>(&'a self, key: &str) -> Option<&'a str> {
+        self.get(key).and_then(Value::as_str)
+    }
+
+    fn number(&self, key: &str) -> Option<u64> {
+        self.get(key).and_then(Value::as_u64)
+    }
+
+    fn has(&self, key: &str) -> bool {
+        self.get(key).is_some()
+    }
+}
+
+impl<'t> Object for PlainObject<'t> {
+    ghost use Rattle.relay_messages.specs.Plain.{plain_data};
+
+    ghost said = { λ object. plain_data object };
+
+    fn count(&self) -> usize {
+        self.len()
+    }
+
+    fn text<'a>(&'a self, key: &str) -> Option<&'a str> {
+        match self.get(key) {
+            Some(Field::Text(text)) => Some(text),
+            _ => None,
+        }
+    }
+
+    fn number(&self, key: &str) -> Option<u64> {
+        match self.get(key) {
+            Some(Field::Number(number)) => Some(number),
+            _ => None,
+        }
+    }
+
+    fn has(&self, key: &str) -> bool {
+        self.get(key).is_some()
+    }
+}

@@ -1,0 +1,159 @@
+//! Plain objects: at most four members, each a text or an unsigned whole number, and no key twice. All objects of commands are plain. Such an
+//! object is read straight from the tokens of its text, whose bytes it borrows: no tree is built, and nothing is copied but texts with escapes.
+
+ghost use Rattle.std.specs.Prelude.{◌≡◌, ◌==◌, ◌<◌, IfOk, IfSome, OnOk, Some, length, option_map, slice_index};
+ghost use Rattle.json.specs.Json.{members, value};
+ghost use Rattle.serde_json.specs.Data.{no_members, object as an_object, put, unsigned};
+ghost use Rattle.serde_json.specs.Events.{members_len};
+ghost use Rattle.serde_json.specs.Find.{get_member};
+ghost use Rattle.serde_json.specs.Read.{converted, number_of, of_json, of_members, read as read_text};
+ghost use Rattle.relay_messages.specs.Members.{field_data, members_in};
+ghost use Rattle.relay_messages.specs.Tokens.{read_tokens};
+
+use crate::member::{Field, Member};
+use arrayvec::ArrayVec;
+use fast_float::Numeral;
+use json::{Invalid, Reader, Scratch, Token};
+use std::alloc::AllocError;
+
+/// How many members a plain object has at most: as many as the command with the most keys.
+const MOST: usize = 4;
+
+/// A plain object.
+#[derive(Drop)]
+pub struct PlainObject<'a> {
+    members: ArrayVec<Member<'a>, MOST>,
+    ghost counted: { members_len (members_in members.items) ≡ length members.items },
+}
+
+impl<'a> PlainObject<'a> {
+    /// An object without members.
+    fn new() -> PlainObject<'a>
+        ensures { members_in result.members.items ≡ no_members }
+    {
+        PlainObject {
+            members: ArrayVec::new(),
+        }
+    }
+
+    /// How many members it has.
+    pub fn len(&self) -> usize
+        ensures { result ≡ members_len (members_in self.now.members.items) }
+    {
+        self.members.len()
+    }
+
+    /// What the member of that key has.
+    pub fn get(&self, key: &str) -> Option<Field<'a>>
+        ensures { option_map field_data result ≡ get_member key.now (members_in self.now.members.items) }
+    {
+        find(self.members.as_slice(), key)
+    }
+
+    /// Adds a member.
+    ///
+    /// # Errors
+    ///
+    /// There is a member of that key, or there is no room.
+    fn add(&mut self, key: &'a str, field: Field<'a>) -> Result<(), Invalid>
+        ensures { OnOk result (members_in self.new.members.items
+            ≡ put key.now (field_data field.entry) (members_in self.old.members.items)) }
+    {
+        if self.get(key).is_some() || self.members.is_full() {
+            return Err(Invalid);
+        }
+        self.members.push(Member { key, field });
+        Ok(())
+    }
+}
+
+/// What the last of the members of that key has.
+fn find<'a>(members: &[Member<'a>], key: &str) -> Option<Field<'a>>
+    ensures { option_map field_data result ≡ get_member key.now (members_in members.now) }
+{
+    let mut found = None;
+    'members: for member in members {
+        if member.key == key {
+            found = Some(member.field);
+        }
+    }
+    found
+}
+
+/// Whether a number's text has a minus sign.
+fn has_minus(digits: &[u8]) -> bool
+    ensures value { result ≡ (slice_index digits.now 0 == 45) }
+{
+    !digits.is_empty() && digits[0] == b'-'
+}
+
+/// The unsigned whole number of a number's text: `1.0` and `1e0` are none.
+fn whole_number(text: &str) -> Option<u64>
+    ensures { IfSome result (λ number. number_of text.now ≡ Some (unsigned number)) }
+{
+    let digits = text.as_bytes();
+    if has_minus(digits) {
+        return None;
+    }
+    Numeral::scan(digits).to_u64()
+}
+
+/// The text or the unsigned whole number that comes next.
+fn read_field<'a>(reader: &mut Reader<'a>) -> Result<Field<'a>, Invalid>
+    ensures ok { IfOk result (λ field. converted of_json (value 126 reader.old) ≡ Some (field_data field, reader.new)) }
+    ensures shorter { OnOk result (length reader.new < length reader.old) }
+{
+    let token = reader.next().ok_or(Invalid)?;
+    match token {
+        Token::String(text) => Ok(Field::Text(text)),
+        Token::Number(text) => match whole_number(text) {
+            Some(number) => Ok(Field::Number(number)),
+            None => Err(Invalid),
+        },
+        _ => Err(Invalid),
+    }
+}
+
+/// The members behind an opening brace, with the brace that closes them.
+fn read_members<'a>(reader: &mut Reader<'a>) -> Result<PlainObject<'a>, Invalid>
+    ensures { IfOk result (λ object. converted (λ ms. of_members ms no_members)
+        (members (value 126) (length reader.old) reader.old) ≡ Some (members_in object.members.items, reader.new)) }
+{
+    let mut object = PlainObject::new();
+    'members: while let Some(key) = reader.next_key()? {
+        let field = read_field(reader)?;
+        object.add(key, field)?;
+    }
+    Ok(object)
+}
+
+/// The plain object that the tokens are.
+fn read_object<'a>(reader: &mut Reader<'a>) -> Result<PlainObject<'a>, Invalid>
+    ensures { IfOk result (λ object. read_tokens reader.old ≡ Some (an_object (members_in object.members.items))) }
+{
+    let Some(Token::BeginObject) = reader.next() else {
+        return Err(Invalid);
+    };
+    let object = read_members(reader)?;
+    match reader.next() {
+        None => Ok(object),
+        Some(_) => Err(Invalid),
+    }
+}
+
+/// The plain object that a text is, or none where it is something else. The scratch grows to the length of the text, and is lent to the
+/// object.
+///
+/// # Errors
+///
+/// There was no memory for the scratch to grow.
+pub fn read_plain<'a>(
+    text: &'a str,
+    scratch: &'a mut Scratch,
+) -> Result<Option<PlainObject<'a>>, AllocError>
+    ensures { IfOk result (λ found. IfSome found (λ object.
+        read_text text.now ≡ Some (an_object (members_in object.members.items)))) }
+{
+    let mut reader = Reader::new(text, scratch)?;
+    Ok(read_object(&mut reader).ok())
+}
