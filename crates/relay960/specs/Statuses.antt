@@ -12,8 +12,8 @@ use Rattle.relay960_engines.specs.Script.{Ran, ScriptStopped}
 use Rattle.relay960_engines.specs.Runs.{Known}
 use Rattle.relay960_engines.specs.Start.{start_line}
 use Rattle.relay960_engines.specs.Writing.{AppendsPart}
-use Rattle.relay960.specs.declared.words.Job.{Job}
-use Rattle.relay960.specs.declared.words.Job.TheVariants.{Start, Moves, Play, Script}
+use Rattle.relay960_words.specs.declared.order.Job.{Job}
+use Rattle.relay960_words.specs.declared.order.Job.TheVariants.{Start, Moves, Play, Script}
 
 -- 3 where a device failed or the input was too long, 4 where there was no memory, 1 where the argument was refused
 abbrev pub fault_status : RunFault → ℕ

@@ -2,14 +2,13 @@
 #![tactic(auto)]
 
 mod program;
-mod words;
 
-use program::{Course, course_of, status_of_error, status_without_memory};
+use program::{Course, course_of};
 use relay960_serving::status_of_service;
+use relay960_words::{status_of_no_text, status_without_memory};
 use std::env;
 use std::io::ErrorKind;
 use std::process::ExitCode;
-use words::not_utf8;
 
 fn main(rt: HostRuntime) -> ExitCode {
     let alloc = rt.alloc();
@@ -22,7 +21,7 @@ fn main(rt: HostRuntime) -> ExitCode {
             Err(_) => status_without_memory(&rt),
         },
         Err(error) if error.kind() == ErrorKind::OutOfMemory => status_without_memory(&rt),
-        Err(_) => status_of_error(&rt, &not_utf8(alloc)),
+        Err(_) => status_of_no_text(&rt, alloc),
     };
     ExitCode::from(status)
 }

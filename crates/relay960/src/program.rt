@@ -1,15 +1,12 @@
 //! What the program does for its words, and the status that it ends with.
 
-ghost use Rattle.std.specs.Prelude.{◌≡◌, ◌≢◌, MatchResult, cond};
-ghost use Rattle.clap.specs.Words.{kind_of};
+ghost use Rattle.std.specs.Prelude.{◌≡◌, MatchResult, cond};
 ghost use Rattle.relay960.specs.Statuses.{Ends, EndsSomehow, fault_status};
 
-use crate::words::{Job, Order, order_of};
-use clap::error::ErrorKind;
 use relay960_engines::{
     RunFault, ScriptLimits, default_limits, moves_run, play_run, script_run, start_run,
 };
-use relay960_serving::Service;
+use relay960_words::{Job, Order, Service, order_of};
 use std::alloc::Global;
 use std::convert::AsStr;
 use std::io;
@@ -20,9 +17,6 @@ pub const DONE: u8 = 0;
 
 /// The job's argument was refused.
 pub const REFUSED: u8 = 1;
-
-/// The words are faulty or ask for help.
-pub const FAULTY_WORDS: u8 = 2;
 
 /// A device failed, or the input was too long.
 pub const DEVICE_FAILED: u8 = 3;
@@ -45,32 +39,11 @@ pub fn course_of<R: Input + Print + Eprint, S: AsStr>(
     alloc: Global,
     words: &[S],
 ) -> Course {
-    match order_of(alloc, words) {
+    match order_of(rt, alloc, words) {
         Ok(Order::Run(job)) => Course::Ended(status_over_streams(rt, alloc, &job)),
         Ok(Order::Serve(service)) => Course::Serves(service),
-        Err(error) => Course::Ended(status_of_error(rt, &error)),
+        Err(status) => Course::Ended(status),
     }
-}
-
-/// Prints the text of an error of the words on standard error, for help too, and gives the status.
-pub fn status_of_error<R: Eprint>(rt: &R, error: &clap::Error) -> u8
-    ensures memory { kind_of error.now ≡ ErrorKind.OutOfMemory → result ≡ 4 }
-    ensures words { kind_of error.now ≢ ErrorKind.OutOfMemory → result ≡ 2 }
-{
-    if error.kind() == ErrorKind::OutOfMemory {
-        return status_without_memory(rt);
-    }
-    // The status tells of the error, also where standard error is closed.
-    let _ = rt.eprint(error);
-    FAULTY_WORDS
-}
-
-/// Tells on standard error that there was no memory, and gives the status.
-pub fn status_without_memory<R: Eprint>(rt: &R) -> u8
-    ensures { result ≡ 4 }
-{
-    let _ = rt.eprintln("fault 12 OutOfMemory");
-    OUT_OF_MEMORY
 }
 
 /// Does the job over the program's own streams, and gives the status. What these hold they do not tell, so what was read and written

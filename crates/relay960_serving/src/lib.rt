@@ -6,5 +6,5 @@ mod service;
 mod status;
 
 pub use fault::ServeFault;
-pub use service::{Service, serve_run};
+pub use service::serve_run;
 pub use status::status_of_service;

@@ -3,8 +3,8 @@
 ghost use Rattle.std.specs.Prelude.{◌≡◌, ◌+◌, IfOk};
 
 use crate::fault::ServeFault;
-use c960_game::Limits;
 use relay_server::{OpenGate, Registry, ServeEnd, serve};
+use relay960_words::Service;
 use std::alloc::Global;
 use std::io;
 use std::io::Write;
@@ -12,17 +12,6 @@ use std::net::{Net, TcpListener, TcpStream};
 use std::sync::{Arc, Wait};
 use std::thread::Threads;
 use std::time::Clock;
-
-/// What is served: a relay with these limits, on this port of 127.0.0.1, to this many connections.
-#[derive(Clone, Copy, PartialEq, Eq, Debug)]
-pub struct Service {
-    /// The port.
-    pub port: u16,
-    /// How many connections are accepted.
-    pub connections: u32,
-    /// The limits of the relay.
-    pub limits: Limits,
-}
 
 /// Listens, writes the line `listening P` to standard output, and serves until all sessions have ended.
 ///

@@ -4,8 +4,9 @@ ghost use Rattle.std.specs.Prelude.{◌≡◌, ◌⊎◌, MatchResult};
 ghost use Rattle.relay960_serving.specs.Faults.{serve_fault_status};
 
 use crate::fault::ServeFault;
-use crate::service::{Service, serve_run};
+use crate::service::serve_run;
 use relay_server::ServeEnd;
+use relay960_words::Service;
 use std::alloc::Global;
 use std::net::{Net, TcpListener, TcpStream};
 use std::sync::Wait;

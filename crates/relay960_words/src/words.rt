@@ -1,34 +1,15 @@
 //! The words of the command line, read by `clap`.
 
+ghost use Rattle.std.specs.Prelude.{IfErr};
+ghost use Rattle.relay960_words.specs.Statuses.{IsFault};
+
+use crate::fault::status_of_error;
+use crate::order::{Job, Order, Service};
 use c960_game::Limits;
 use clap::error::ErrorKind;
 use clap::{Arg, ArgAction, ArgMatches, Command, Error, value_parser};
-use relay960_engines::default_limits;
-use relay960_serving::Service;
 use std::alloc::{AllocError, Global};
 use std::convert::AsStr;
-
-/// What the words ask for.
-#[derive(Clone, Copy, PartialEq, Eq, Debug)]
-pub enum Order<'a> {
-    /// To do a job over the program's own streams.
-    Run(Job<'a>),
-    /// To serve.
-    Serve(Service),
-}
-
-/// A job over a reader and a writer.
-#[derive(Clone, Copy, PartialEq, Eq, Debug)]
-pub enum Job<'a> {
-    /// To print the starting position of that number.
-    Start(u16),
-    /// To print the legal moves and the state of the position of that text.
-    Moves(&'a str),
-    /// To play the game of the start of that number over lines.
-    Play(u16),
-    /// To run a script over a relay with these limits.
-    Script(Limits),
-}
 
 fn start_command<'a>(alloc: Global) -> Result<Command<'a>, AllocError> {
     let number = Arg::new(alloc, "N")
@@ -129,18 +110,39 @@ fn program_command<'a>(alloc: Global) -> Result<Command<'a>, AllocError> {
         .subcommand(serve_command(alloc)?)
 }
 
-/// What the words ask for, of which the first is the program's name; else `clap`'s error, whose text is for the user.
-/// Words that ask for help are such an error too.
-pub fn order_of<'a, S: AsStr>(alloc: Global, words: &'a [S]) -> Result<Order<'a>, Error> {
+/// What the words ask for, of which the first is the program's name.
+///
+/// # Errors
+///
+/// The status, where they ask for help or for nothing that can be done: 2, or 4 where there was no memory. Standard error has been told.
+pub fn order_of<'a, R: Eprint, S: AsStr>(
+    rt: &R,
+    alloc: Global,
+    words: &'a [S],
+) -> Result<Order<'a>, u8>
+    ensures { IfErr result IsFault }
+{
+    match read_order(alloc, words) {
+        Ok(order) => Ok(order),
+        Err(error) => Err(status_of_error(rt, &error)),
+    }
+}
+
+/// What the words ask for; else `clap`'s error, whose text is for the user. Words that ask for help are such an error too.
+fn read_order<'a, S: AsStr>(alloc: Global, words: &'a [S]) -> Result<Order<'a>, Error> {
     let matches = program_command(alloc)?.try_get_matches_from(words)?;
     match matches.subcommand() {
         // `clap` answers an error where the number or the text is missing, so `unwrap_or` is never needed here.
         Some(("start", given)) => Ok(Order::Run(Job::Start(number_of(given)))),
         Some(("moves", given)) => Ok(Order::Run(Job::Moves(given.get_str("FEN").unwrap_or("")))),
         Some(("play", given)) => Ok(Order::Run(Job::Play(number_of(given)))),
-        Some(("serve", given)) => Ok(Order::Serve(service_of(given))),
-        Some((_, given)) => Ok(Order::Run(Job::Script(limits_of(given)))),
-        None => Ok(Order::Run(Job::Script(default_limits()))),
+        Some(("serve", given)) => Ok(Order::Serve(service_of(alloc, given)?)),
+        Some((_, given)) => Ok(Order::Run(Job::Script(limits_of(alloc, given)?))),
+        // With the program's name alone, a script has its defaults.
+        None => {
+            let given = script_command(alloc)?.try_get_matches_from(words)?;
+            Ok(Order::Run(Job::Script(limits_of(alloc, &given)?)))
+        }
     }
 }
 
@@ -150,28 +152,35 @@ fn number_of(given: &ArgMatches) -> u16 {
 }
 
 /// The service that is given.
-fn service_of(given: &ArgMatches) -> Service {
-    Service {
+fn service_of(alloc: Global, given: &ArgMatches) -> Result<Service, Error> {
+    Ok(Service {
         port: given.get_one::<u16>("port").unwrap_or(9600),
         connections: given.get_one::<u32>("connections").unwrap_or(1_000_000),
-        limits: limits_of(given),
-    }
+        limits: limits_of(alloc, given)?,
+    })
 }
 
-/// The limits that are given. `clap` has tried each against its range, so they make limits.
-fn limits_of(given: &ArgMatches) -> Limits {
+/// The limits that are given.
+fn limits_of(alloc: Global, given: &ArgMatches) -> Result<Limits, Error> {
     let limit = |name| given.get_one::<u16>(name).unwrap_or(1);
-    Limits::new(
+    let limits = Limits::new(
         limit("boards"),
         limit("followers"),
         limit("capacity"),
         limit("plies"),
-    )
-    .unwrap_or(default_limits())
+    );
+    match limits {
+        Some(limits) => Ok(limits),
+        // `clap` has tried each against its range, so they make limits.
+        None => Err(program_command(alloc)?.error(
+            ErrorKind::ValueValidation,
+            "these limits are out of range",
+        )?),
+    }
 }
 
 /// The error for a word that is no text in UTF-8.
-pub fn not_utf8(alloc: Global) -> Error {
+pub(crate) fn not_utf8(alloc: Global) -> Error {
     match not_utf8_text(alloc) {
         Ok(error) => error,
         Err(error) => Error::from(error),
