@@ -1,5 +1,8 @@
 //! The boards of a server, which all connections share.
 
+ghost use Rattle.std.specs.Prelude.{◌≡◌, ◌⊎◌, ◌++◌, ◌∷◌, [], Err, OnOk, OnErr};
+ghost use Rattle.relay_server.specs.Opening.{admission};
+
 use crate::broadcast::Broadcast;
 use c960_game::{Limits, Refusal};
 use indexmap::IndexMap;
@@ -71,7 +74,13 @@ impl Registry {
         let Ok(broadcast) = Arc::new(self.alloc, broadcast) else {
             return Err(Refusal::OutOfMemory);
         };
-        enter(&mut self.boards.lock(rt), &self.limits, start, broadcast)
+        enter(
+            &mut self.boards.lock(rt),
+            &self.limits,
+            name,
+            start,
+            broadcast,
+        )
     }
 }
 
@@ -91,18 +100,25 @@ pub(crate) fn share(broadcast: &Arc<Broadcast, Global>) -> Result<Arc<Broadcast,
 fn enter(
     boards: &mut Boards,
     limits: &Limits,
+    name: BoardName,
     start: u16,
     broadcast: Arc<Broadcast, Global>,
-) -> Result<(), Refusal> {
-    admit(boards, limits, &broadcast.name, start)?;
-    match boards.insert(broadcast.name, broadcast) {
+) -> Result<(), Refusal>
+    ensures entered { OnOk result (boards.new.entries ≡ boards.old.entries ++ (name, broadcast) ∷ []) }
+    ensures answer { (result ≡ admission boards.old.entries limits.now.boards name start) ⊎ (result ≡ Err Refusal.OutOfMemory) }
+    ensures refused { OnErr result (boards.new.entries ≡ boards.old.entries) }
+{
+    admit(boards, limits, &name, start)?;
+    match boards.insert(name, broadcast) {
         Ok(_) => Ok(()),
         Err(_) => Err(Refusal::OutOfMemory),
     }
 }
 
 /// Tells in order why no board of this name and start may be opened, memory aside.
-fn admit(boards: &Boards, limits: &Limits, name: &BoardName, start: u16) -> Result<(), Refusal> {
+fn admit(boards: &Boards, limits: &Limits, name: &BoardName, start: u16) -> Result<(), Refusal>
+    ensures { result ≡ admission boards.now.entries limits.now.boards name.now start }
+{
     if boards.contains_key(name) {
         return Err(Refusal::BoardExists);
     }
