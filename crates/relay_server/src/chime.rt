@@ -3,9 +3,8 @@
 ghost use Rattle.std.specs.Prelude.{◌≢◌};
 
 use relay_pushing::Bell;
-use std::alloc::Global;
+use std::sync::Wait;
 use std::sync::atomic::{AtomicU64, Ordering};
-use std::sync::{Arc, Wait};
 use std::time::Duration;
 
 /// A count of rings, and how many threads sleep on it. Ringing and waking are two calls, so that the waking, which costs far
@@ -78,7 +77,7 @@ impl Chime {
 #[derive(Drop)]
 pub(crate) struct BoardBell<'a, R> {
     pub(crate) rt: &'a R,
-    pub(crate) chime: Arc<Chime, Global>,
+    pub(crate) chime: &'a Chime,
 }
 
 impl<R: Wait> Bell for BoardBell<'_, R> {

@@ -1,6 +1,7 @@
 //! Sessions of a relay over WebSocket (RFC 6455), a thread for each connection.
 #![tactic(auto)]
 
+mod broadcast;
 mod chime;
 mod deadline;
 mod gates;
@@ -11,6 +12,7 @@ mod registry;
 mod seat;
 mod serving;
 mod sessions;
+mod spectating;
 mod stream;
 mod talk;
 mod threads;

@@ -1,11 +1,13 @@
 //! A stream that puts off what need not be done before its peer is waited for.
 
+use crate::broadcast::Broadcast;
 use crate::head::Head;
 use crate::stream::Stream;
-use crate::wakes::{Rung, Wakes};
+use crate::wakes::Wakes;
 use std::alloc::Global;
 use std::io;
 use std::io::{ErrorKind, Read, Write};
+use std::sync::Arc;
 use std::time::Duration;
 
 /// How many bytes of output are kept back at most, beside the last piece written.
@@ -37,7 +39,7 @@ impl<S: Read + Write> Line<S> {
     }
 
     /// Wakes the followers of a board later.
-    pub(crate) fn wake_later(&mut self, rung: Rung) {
+    pub(crate) fn wake_later(&mut self, rung: Arc<Broadcast, Global>) {
         self.wakes.put_off(rung);
     }
 

@@ -3,14 +3,15 @@
 ghost use Rattle.std.specs.Prelude.{Err};
 ghost use Rattle.relay_pushing.specs.Sending.{Counts};
 
+use crate::broadcast::Broadcast;
 use crate::deadline::Deadline;
 use crate::line::Line;
 use crate::stream::Stream;
-use crate::wakes::Rung;
 use relay_pushing::{Outlet, SendFault};
 use std::alloc::Global;
 use std::io;
 use std::io::{ErrorKind, Read, Write};
+use std::sync::Arc;
 use std::time::{Clock, Duration};
 use tungstenite::{CloseCode, CloseFrame, Error, Message, NoMask, Utf8Bytes, WebSocket};
 
@@ -44,7 +45,7 @@ impl<S: Read + Write + Drop> SocketOutlet<S> {
     }
 
     /// Wakes the followers of a board later.
-    pub(crate) fn wake_later(&mut self, rung: Rung) {
+    pub(crate) fn wake_later(&mut self, rung: Arc<Broadcast, Global>) {
         self.socket.get_mut().wake_later(rung);
     }
 

@@ -1,101 +1,140 @@
-//! What a connection asks of the registry: as a keeper for its commands, as a source for what it follows.
+//! What a connection asks of the registry: it keeps the boards for the connection's commands.
 
-use crate::registry::Registry;
-use crate::wakes::Rung;
-use circular_buffer::HeapCircularBuffer;
-use relay_core::{BoardName, Reply, Spectator, Step, Taken};
-use relay_pushing::{Keeper, Source};
+use crate::broadcast::Broadcast;
+use crate::registry::{Registry, share};
+use crate::spectating::Spectating;
+use c960_board::Move;
+use c960_game::{Ending, Refusal};
+use relay_core::{BoardName, Reply, Step};
+use relay_pushing::Keeper;
 use std::alloc::Global;
-use std::sync::Wait;
+use std::sync::{Arc, Wait};
 
-/// How many moves are taken ahead of their sending at most: that many go under one lock.
-const MOST_AHEAD: usize = 64;
-
-/// A connection's seat at the registry. Its spectator has the connection's number, whatever number a command names.
+/// A connection's seat at the registry. It follows one board at most, whatever spectator a command names.
 #[derive(Drop)]
 pub(crate) struct Seat<'a, R> {
     rt: &'a R,
-    alloc: Global,
     registry: &'a Registry,
-    connection: Spectator,
-    followed: Option<BoardName>,
-    rung: Option<Rung>,
-    /// The moves that were taken and are still to be given.
-    ahead: Option<HeapCircularBuffer<Taken>>,
+    /// The board of the last command, so that the next one to it need not look it up.
+    latest: Option<Arc<Broadcast, Global>>,
+    spectating: Option<Spectating>,
+    /// The board that was rung last, whose sleepers are still to be woken.
+    rung: Option<Arc<Broadcast, Global>>,
 }
 
 impl<'a, R: Wait> Seat<'a, R> {
     /// The seat of a connection that follows nothing.
-    pub(crate) fn new(
-        rt: &'a R,
-        alloc: Global,
-        registry: &'a Registry,
-        connection: Spectator,
-    ) -> Seat<'a, R> {
+    pub(crate) fn new(rt: &'a R, registry: &'a Registry) -> Seat<'a, R> {
         Seat {
             rt,
-            alloc,
             registry,
-            connection,
-            followed: None,
+            latest: None,
+            spectating: None,
             rung: None,
-            ahead: None,
         }
     }
 
-    /// The board that the connection follows.
-    pub(crate) fn followed(&self) -> Option<BoardName> {
-        self.followed
+    /// Whether the connection follows a board.
+    pub(crate) fn follows(&self) -> bool {
+        self.spectating.is_some()
+    }
+
+    /// What the connection follows.
+    pub(crate) fn spectating(&mut self) -> Option<&mut Spectating> {
+        self.spectating.as_mut()
     }
 
     /// The board that was rung last, whose sleepers are still to be woken.
-    pub(crate) fn take_rung(&mut self) -> Option<Rung> {
+    pub(crate) fn take_rung(&mut self) -> Option<Arc<Broadcast, Global>> {
         self.rung.take()
     }
 
     /// Gives the seat up: who is still asleep is woken, and the follower leaves.
     pub(crate) fn leave(self) {
-        if let Some(rung) = &self.rung {
+        let Seat {
+            spectating,
+            rung,
+            ..
+        } = self;
+        if let Some(rung) = &rung {
             rung.chime.wake();
         }
-        if self.followed.is_some() {
-            let _ = self.registry.step(self.rt, &Step::Leave(self.connection));
+        if let Some(spectating) = spectating {
+            spectating.leave();
         }
     }
 
-    /// Makes a step, and notes the board that it rang.
-    fn make(&mut self, step: &Step) -> Reply {
-        let (reply, rung) = self.registry.step(self.rt, step);
-        if let Some(rung) = rung {
-            self.note(rung);
+    /// The board of a name.
+    fn find(&mut self, name: BoardName) -> Result<Arc<Broadcast, Global>, Refusal> {
+        if let Some(latest) = &self.latest {
+            if latest.name == name {
+                return share(latest);
+            }
         }
-        reply
+        let found = self.registry.find(self.rt, &name)?;
+        self.latest = share(&found).ok();
+        Ok(found)
     }
 
-    /// Follows a board as the connection's own spectator, and notes that it does. Where there is no memory for moves ahead, they are
-    /// taken one at a time.
-    fn follow(&mut self, board: BoardName, from: Option<u16>) -> Reply {
-        let reply = self.make(&Step::Follow(self.connection, board, from));
-        if matches!(&reply, Reply::Following { .. }) {
-            self.followed = Some(board);
-            self.ahead = HeapCircularBuffer::with_capacity(self.alloc, MOST_AHEAD).ok();
+    /// Opens a board.
+    fn open(&mut self, name: BoardName, start: u16) -> Result<Reply, Refusal> {
+        self.registry.open(self.rt, name, start)?;
+        Ok(Reply::Opened)
+    }
+
+    /// Makes a move on a board.
+    fn submit(&mut self, name: BoardName, m: Move) -> Result<Reply, Refusal> {
+        let broadcast = self.find(name)?;
+        let (place, outcome) = broadcast.submit(self.rt, m)?;
+        self.note(broadcast);
+        Ok(Reply::Played { place, outcome })
+    }
+
+    /// Ends the game of a board.
+    fn end(&mut self, name: BoardName, ending: Ending) -> Result<Reply, Refusal> {
+        let broadcast = self.find(name)?;
+        let outcome = broadcast.end(self.rt, ending)?;
+        self.note(broadcast);
+        Ok(Reply::Ended(outcome))
+    }
+
+    /// Follows a board. A connection that follows one already does not follow another.
+    fn follow(&mut self, name: BoardName, from: Option<u16>) -> Result<Reply, Refusal> {
+        let broadcast = self.find(name)?;
+        if self.follows() {
+            return Err(Refusal::FollowerExists);
         }
-        reply
+        let (follower, position) = broadcast.follow(self.rt, from)?;
+        let joined = follower.joined();
+        self.spectating = Some(Spectating::new(broadcast, follower));
+        Ok(Reply::Following { joined, position })
     }
 
     /// Notes a board that was rung. The sleepers of one noted before are woken.
-    fn note(&mut self, rung: Rung) {
+    fn note(&mut self, rung: Arc<Broadcast, Global>) {
         if let Some(earlier) = &self.rung {
-            if earlier.board != rung.board {
+            if earlier.name != rung.name {
                 earlier.chime.wake();
             }
         }
         self.rung = Some(rung);
     }
+
+    /// Makes a step.
+    fn make(&mut self, step: &Step) -> Result<Reply, Refusal> {
+        match *step {
+            Step::Open(board, start) => self.open(board, start),
+            Step::Submit(board, m) => self.submit(board, m),
+            Step::End(board, ending) => self.end(board, ending),
+            Step::Follow(_, board, from) => self.follow(board, from),
+            // A connection does not ask for what it is sent.
+            Step::Take(_) | Step::Leave(_) => Err(Refusal::WrongMode),
+        }
+    }
 }
 
 impl<R: Wait> Keeper for Seat<'_, R> {
-    // Other connections step the same relay, so nothing is known of what it answers.
+    // Other connections open and play boards too, so nothing is known of what it answers.
     ghost tells = { λ _ _ _. Unit {0} };
 
     ghost makes = { λ _ _ _ _. Unit {0} };
@@ -105,24 +144,9 @@ impl<R: Wait> Keeper for Seat<'_, R> {
     }
 
     fn step(&mut self, step: Step) -> Reply {
-        match step {
-            Step::Follow(_, board, from) => self.follow(board, from),
-            _ => self.make(&step),
-        }
-    }
-}
-
-impl<R: Wait> Source for Seat<'_, R> {
-    // What was queued since the last take is not known.
-    ghost gives = { λ _ _ _. Unit {0} };
-
-    fn take(&mut self) -> Taken {
-        let Some(ahead) = &mut self.ahead else {
-            return self.registry.take(self.rt, self.connection);
-        };
-        match ahead.pop_front() {
-            Some(taken) => taken,
-            None => self.registry.take_ahead(self.rt, self.connection, ahead),
+        match self.make(&step) {
+            Ok(reply) => reply,
+            Err(refusal) => Reply::Refused(refusal),
         }
     }
 }

@@ -1,6 +1,5 @@
 //! Sessions: one connection from its handshake to its end.
 
-use crate::chime::BoardBell;
 use crate::head::Head;
 use crate::line::Line;
 use crate::outlet::SocketOutlet;
@@ -8,8 +7,7 @@ use crate::registry::Registry;
 use crate::seat::Seat;
 use crate::stream::Stream;
 use crate::talk::{Talk, TalkEnd};
-use relay_core::BoardName;
-use relay_pushing::{Conn, Gate, Outlet, PushEnd, push_all};
+use relay_pushing::{Conn, Gate, Outlet, PushEnd};
 use std::alloc::Global;
 use std::io::ErrorKind;
 use std::sync::Wait;
@@ -59,7 +57,7 @@ pub fn session<'a, R: Wait + Clock, S: Stream + Drop, G: Gate>(
         connection,
         outlet,
         conn: Conn::new(alloc),
-        seat: Seat::new(rt, alloc, registry, connection),
+        seat: Seat::new(rt, registry),
         gate,
         is_open: false,
     };
@@ -76,7 +74,7 @@ pub fn session<'a, R: Wait + Clock, S: Stream + Drop, G: Gate>(
             let _ = outlet.close(NORMAL);
             SessionEnd::Closed
         }
-        TalkEnd::Follows(board) => follow(rt, alloc, registry, &mut outlet, &mut seat, board),
+        TalkEnd::Follows => follow(rt, alloc, &mut outlet, &mut seat),
         TalkEnd::Failed => SessionEnd::Failed,
     };
     outlet.give_up();
@@ -111,20 +109,17 @@ fn shake_hands<C: Clock, S: Stream + Drop>(
     }
 }
 
-/// Pushes a board's moves to the connection, which is no longer read.
+/// Pushes the moves of the board that it follows to the connection, which is no longer read.
 fn follow<R: Wait, S: Stream + Drop>(
     rt: &R,
     alloc: Global,
-    registry: &Registry,
     outlet: &mut SocketOutlet<S>,
     seat: &mut Seat<'_, R>,
-    board: BoardName,
 ) -> SessionEnd {
-    let Some(chime) = registry.chime(rt, &board) else {
+    let Some(spectating) = seat.spectating() else {
         return SessionEnd::Failed;
     };
-    let bell = BoardBell { rt, chime };
-    match push_all(rt, alloc, outlet, seat, &bell) {
+    match spectating.push(rt, alloc, outlet) {
         PushEnd::Over(_) => {
             let _ = outlet.close(NORMAL);
             SessionEnd::Over

@@ -3,7 +3,6 @@
 use crate::outlet::SocketOutlet;
 use crate::seat::Seat;
 use crate::stream::Stream;
-use relay_core::BoardName;
 use relay_messages::{Answer, MessageFault, encode};
 use relay_pushing::{Conn, Gate, Outlet};
 use std::alloc::{AllocError, Global};
@@ -20,8 +19,8 @@ pub(crate) enum TalkEnd {
     Closed,
     /// As many messages were read as may be.
     Full,
-    /// A command to follow this board was accepted and answered.
-    Follows(BoardName),
+    /// A command to follow a board was accepted and answered.
+    Follows,
     /// The device failed, or there was no memory.
     Failed,
 }
@@ -52,8 +51,8 @@ impl<R: Wait, S: Stream + Drop, G: Gate> Talk<'_, '_, R, S, G> {
                 Ok(()) => {}
                 Err(Stop) => return TalkEnd::Failed,
             }
-            if let Some(board) = self.seat.followed() {
-                return TalkEnd::Follows(board);
+            if self.seat.follows() {
+                return TalkEnd::Follows;
             }
         }
         TalkEnd::Full

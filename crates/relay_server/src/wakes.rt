@@ -1,21 +1,14 @@
 //! Wakes that are put off.
 
-use crate::chime::Chime;
-use relay_core::BoardName;
+use crate::broadcast::Broadcast;
 use std::alloc::Global;
 use std::sync::Arc;
-
-/// A board whose chime was rung, and whose sleepers are still to be woken.
-#[derive(Drop)]
-pub(crate) struct Rung {
-    pub(crate) board: BoardName,
-    pub(crate) chime: Arc<Chime, Global>,
-}
 
 /// The wakes that a connection has put off: those of one board at a time, and at most so many.
 #[derive(Drop)]
 pub(crate) struct Wakes {
-    rung: Option<Rung>,
+    /// The board that was rung, whose sleepers are still to be woken.
+    rung: Option<Arc<Broadcast, Global>>,
     put_off: u16,
     most: u16,
 }
@@ -31,9 +24,9 @@ impl Wakes {
     }
 
     /// Puts a wake off, or wakes at once where as many were put off as may be. Another board's sleepers are woken first.
-    pub(crate) fn put_off(&mut self, rung: Rung) {
+    pub(crate) fn put_off(&mut self, rung: Arc<Broadcast, Global>) {
         if let Some(earlier) = &self.rung {
-            if earlier.board != rung.board {
+            if earlier.name != rung.name {
                 self.wake();
             }
         }

@@ -11,6 +11,8 @@ use std::sync::Arc;
 use std::sync::atomic::Ordering;
 use std::test::Fail;
 
+const OPEN_B3: &str = "{\"board\":\"b3\",\"cmd\":\"open\",\"start\":518}";
+
 #[test]
 fn two_at_once(rt: HostRuntime) -> Result<(), Fail> {
     let alloc = rt.alloc();
@@ -23,6 +25,11 @@ fn two_at_once(rt: HostRuntime) -> Result<(), Fail> {
     assert!(rt; one.hears(OPENED)?);
     assert_eq!(rt; gate.answered.load(Ordering::SeqCst), 1);
     assert_eq!(rt; gate.gave_up.load(Ordering::SeqCst), 0);
+    // Both open one name at once, and one of them does.
+    one.say(OPEN_B3)?;
+    two.say(OPEN_B3)?;
+    let opened = (one.hears(OPENED)?, two.hears(OPENED)?);
+    assert!(rt; opened.0 != opened.1);
     drop(one);
     drop(two);
     assert!(rt; server.has_served(&rt, 2));

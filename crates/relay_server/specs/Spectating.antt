@@ -1,0 +1,52 @@
+-- What the connection of a follower is sent: what the follower takes.
+use Rattle.std.specs.Prelude.{◌≡◌, ◌+◌, ◌≤◌, ℕ, List, [], ◌∷◌, ◌++◌, length, Option, Some, None, ⊤}
+use Rattle.c960_board.specs.Moves.{Triple}
+use Rattle.relay_core.specs.declared.reply.Taken.{Taken}
+use Rattle.relay_core.specs.declared.reply.Taken.TheVariants as takes
+use Rattle.relay_pushing.specs.declared.pushing.PushEnd.{PushEnd}
+use Rattle.relay_pushing.specs.declared.pushing.PushEnd.TheVariants.{Over, Cut, Failed}
+use Rattle.relay_pushing.specs.Pushing.{text_of}
+use Rattle.relay_pushing.specs.Sending.{GainsAll}
+use Rattle.live_steps.specs.declared.view.Part.{Part}
+use Rattle.live_steps.specs.Views.{next_of}
+use Rattle.live_board.specs.Seats.{FollowerSeat}
+use Rattle.live_board.specs.Takes.{Stays, Took}
+
+-- a take of the follower gives this answer, and leads from f to g
+abbrev pub Gives : FollowerSeat → Taken → FollowerSeat → Type 0
+Gives f taken g = Stays f g × Took f g taken
+
+-- the texts of moves, the first of them with this place, the others with the places behind it
+abbrev pub move_texts : ℕ → List Triple → List (List ℕ)
+move_texts place [] = []
+move_texts place (m ∷ moves) = text_of (takes.Move place m) ∷ move_texts (place + 1) moves
+
+-- the text of an end
+abbrev pub end_texts : PushEnd → List (List ℕ)
+end_texts (Over outcome) = text_of (takes.Over outcome) ∷ []
+end_texts Cut = text_of takes.Cut ∷ []
+end_texts (Failed fault) = []
+
+-- a move was taken and not sent: one at most, and only where a text could not be made or sent
+abbrev pub IsLost : PushEnd → List Triple → Type 0
+IsLost (Over outcome) lost = lost ≡ []
+IsLost Cut lost = lost ≡ []
+IsLost (Failed fault) lost = length lost ≤ 1
+
+-- an end is told by the outcome that the follower has seen, or by the closing where it stands
+abbrev pub IsEnd : Part → PushEnd → Type 0
+IsEnd p (Over outcome) = (p.outcome ≡ Some outcome) × (next_of p ≡ p.seen) × (p.closing ≡ None)
+IsEnd p Cut = p.closing ≡ Some (next_of p)
+IsEnd p (Failed fault) = ⊤
+
+-- The follower took moves. The outlet gained their texts, each once and in order, with the places from the follower's next place on, and
+-- then the end's; where a text could not be made or sent, perhaps not the last move's.
+pub record Sent (f g : FollowerSeat) (old new : Option (List (List ℕ))) (end : PushEnd) : Type 0 where
+  pub table : g.table ≡ f.table
+  pub joined : g.part.joined ≡ f.part.joined
+  pub sent : List Triple
+  pub lost : List Triple
+  pub taken : g.part.taken ≡ f.part.taken ++ sent ++ lost
+  pub few : IsLost end lost
+  pub gained : GainsAll old new (move_texts (next_of f.part) sent ++ end_texts end)
+  pub ended : IsEnd g.part end

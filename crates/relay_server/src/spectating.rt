@@ -1,0 +1,74 @@
+//! What a connection follows, and what it is sent of it.
+
+ghost use Rattle.relay_server.specs.Spectating.{Sent};
+
+use crate::broadcast::Broadcast;
+use crate::chime::BoardBell;
+use live_board::Follower;
+use relay_core::Taken;
+use relay_pushing::{Outlet, PushEnd, Source, push_all};
+use std::alloc::Global;
+use std::marker::Model;
+use std::sync::{Arc, Wait};
+
+/// A follower as the source of what its connection is sent. It takes without a lock. To a contract it is what the follower is.
+#[derive(Drop)]
+pub(crate) struct FollowerSource {
+    follower: Follower,
+}
+
+impl Model for FollowerSource {
+    ghost use Rattle.live_board.specs.Seats.{FollowerSeat};
+
+    ghost Value = { FollowerSeat };
+
+    ghost view = { λ s. s.follower };
+}
+
+impl Source for FollowerSource {
+    ghost use Rattle.relay_server.specs.Spectating.{Gives};
+
+    ghost gives = { λ old taken new. Gives old taken new };
+
+    fn take(&mut self) -> Taken {
+        self.follower.take()
+    }
+}
+
+/// A connection's follower, and the board that it follows.
+#[derive(Drop)]
+pub(crate) struct Spectating {
+    broadcast: Arc<Broadcast, Global>,
+    source: FollowerSource,
+}
+
+impl Spectating {
+    /// A follower of this board.
+    pub(crate) fn new(broadcast: Arc<Broadcast, Global>, follower: Follower) -> Spectating {
+        Spectating {
+            broadcast,
+            source: FollowerSource { follower },
+        }
+    }
+
+    /// Sends what the follower takes, until its end: the moves from its next place on, each once and in order, and then the end.
+    pub(crate) fn push<R: Wait, O: Outlet>(
+        &mut self,
+        rt: &R,
+        alloc: Global,
+        outlet: &mut O,
+    ) -> PushEnd
+        ensures { Sent self.old.source self.new.source (O.sent outlet.old) (O.sent outlet.new) result }
+    {
+        let bell = BoardBell {
+            rt,
+            chime: &self.broadcast.chime,
+        };
+        push_all(rt, alloc, outlet, &mut self.source, &bell)
+    }
+
+    /// The follower leaves.
+    pub(crate) fn leave(self) {
+        let _ = self.source.follower.leave();
+    }
+}
