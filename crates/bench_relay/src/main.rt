@@ -1,11 +1,16 @@
-//! Makes steps of a relay, to be timed from outside. The moves of its games are the words of its input, of a game from start 518.
+//! Makes steps of a relay, to be timed from outside, or by the words `plain` or `live` and three numbers steps over crowds, which it times
+//! itself. The moves of its games are the words of its input, of a game from start 518.
 #![tactic(auto)]
+
+mod crowds;
 
 use c960_board::{Move, read_move};
 use c960_game::Limits;
+use crowds::{Crowd, measure};
 use relay_core::{BoardName, Relay, Reply, Spectator, Step, Taken};
+use relay_live::LiveRelay;
 use std::alloc::{AllocError, Global};
-use std::io;
+use std::{env, io};
 
 /// The name of a board.
 fn name_of(board: u8) -> Option<BoardName> {
@@ -140,11 +145,36 @@ fn moves_of(alloc: Global, text: &str) -> Result<Vec<Move>, AllocError> {
     Ok(moves)
 }
 
-fn main(rt: HostRuntime) -> io::Result<()> {
-    let alloc = rt.alloc();
-    let text = io::read_to_string(alloc, rt.reader())?;
-    let moves = moves_of(alloc, text.as_str())?;
-    let moves = moves.as_slice();
+/// The number that a word gives.
+fn number(words: &[String], at: usize) -> Option<u16> {
+    words.get(at)?.as_str().parse::<u16>().ok()
+}
+
+/// Which kind of relay is measured.
+#[derive(Clone, Copy)]
+enum Kind {
+    Plain,
+    Live,
+}
+
+/// What is measured where the words name it: the kind of relay, boards, followers a board, and moves a board.
+fn named(words: &[String]) -> Option<(Kind, Crowd, Limits)> {
+    let kind = match words.get(1)?.as_str() {
+        "plain" => Kind::Plain,
+        "live" => Kind::Live,
+        _ => return None,
+    };
+    let crowd = Crowd {
+        boards: number(words, 2)?,
+        followers: number(words, 3)?,
+        plies: number(words, 4)?,
+    };
+    let limits = Limits::new(crowd.boards, crowd.followers, 1024, 16384)?;
+    Some((kind, crowd, limits))
+}
+
+/// Plays the games that are timed from outside, and prints how many replies were counted.
+fn games(rt: &impl Print, alloc: Global, moves: &[Move]) -> io::Result<()> {
     let one = run(alloc, moves, b"a", 13)?;
     println!(rt; "1 board, 64 followers: {one}")?;
     let sixteen = run(alloc, moves, b"abcdefghijklmnop", 1)?;
@@ -153,4 +183,27 @@ fn main(rt: HostRuntime) -> io::Result<()> {
     println!(rt; "follows from the present: {now}")?;
     let back = follow(alloc, moves, Some(250))?;
     println!(rt; "follows from 1,000 plies back: {back}")
+}
+
+fn main(rt: HostRuntime) -> io::Result<()> {
+    let alloc = rt.alloc();
+    let text = io::read_to_string(alloc, rt.reader())?;
+    let moves = moves_of(alloc, text.as_str())?;
+    let moves = moves.as_slice();
+    let words = env::args(&rt)?.collect::<Vec<String>>(alloc)?;
+    match named(words.as_slice()) {
+        None => games(&rt, alloc, moves),
+        Some((Kind::Plain, crowd, limits)) => {
+            measure(&rt, alloc, &mut Relay::new(alloc, limits)?, crowd, moves)
+        }
+        Some((Kind::Live, crowd, limits)) => {
+            measure(
+                &rt,
+                alloc,
+                &mut LiveRelay::new(alloc, limits)?,
+                crowd,
+                moves,
+            )
+        }
+    }
 }

@@ -11,25 +11,26 @@ use crate::devices::{ReadDevice, WriteDevice};
 use crate::fault::RunFault;
 use crate::limits::ScriptLimits;
 use crate::lines::run_lines;
-use relay_core::Relay;
+use relay_core::Stepper;
+use relay_live::LiveRelay;
 use relay_messages::{Answer, Decoder, encode};
 use std::alloc::{AllocError, Global};
 
-/// The answerer of a script.
+/// The answerer of a script, over any kind of relay.
 #[derive(Drop)]
-pub struct Desk {
+pub struct Desk<S: Stepper> {
     /// The relay that the commands so far have led to.
-    pub relay: Relay,
+    pub relay: S,
     /// What decodes the lines.
     pub decoder: Decoder,
 }
 
-impl Answerer for Desk {
+impl<S: Stepper> Answerer for Desk<S> {
     ghost use Rattle.relay960_engines.specs.Inner.ScriptSteps.{DeskGives, answers_cut};
 
-    ghost gives = { λ s l bytes t. DeskGives s.relay l bytes t.relay };
+    ghost gives = { λ s l bytes t. DeskGives (S.record_of s.relay) l bytes (S.record_of t.relay) };
 
-    ghost cut = { λ s l bytes t given. answers_cut s.relay l bytes t.relay given };
+    ghost cut = { λ s l bytes t given. answers_cut (S.record_of s.relay) l bytes (S.record_of t.relay) given };
 
     fn answer(&mut self, alloc: Global, line: &[u8]) -> Result<Vec<u8>, AllocError> {
         let answer = match self.decoder.decode(line) {
@@ -72,7 +73,7 @@ pub fn script_run<R: ReadDevice, W: WriteDevice>(
     ensures reads_counted { R.failures reader.new ≡ reads_failed result (R.failures reader.old) }
     ensures writes_counted { W.failures writer.new ≡ writes_failed result (W.failures writer.old) }
 {
-    let Ok(relay) = Relay::new(alloc, limits.limits()) else {
+    let Ok(relay) = LiveRelay::new(alloc, limits.limits()) else {
         return Err(RunFault::OutOfMemory);
     };
     let decoder = Decoder::new(alloc);

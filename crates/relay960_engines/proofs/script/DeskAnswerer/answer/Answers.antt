@@ -6,7 +6,10 @@ use Rattle.relay960_engines.proofs.Prefixes.{on_err_known}
 use Rattle.relay960_engines.proofs.script.DeskAnswerer.answer.Goals as goal
 
 pub returns-clause-unspelt : goal.returns-clause-unspelt
-returns-clause-unspelt c =
-    let leads : LeadsTo c.args.self.now.relay c.args.line.now c.match-decode.answer c.match-decode.self.relay = search rules in
-    on_err_known {P = (text : List ℕ) × DeskGives c.args.self.now.relay c.args.line.now text c.match-decode.self.relay} _
+returns-clause-unspelt g c =
+    let record_of = g.S.Stepper.record_of in
+    let old = record_of c.args.self.now.relay in
+    let new = record_of c.match-decode.self.relay in
+    let leads : LeadsTo old c.args.line.now c.match-decode.answer new = search rules in
+    on_err_known {P = (text : List ℕ) × DeskGives old c.args.line.now text new} _
     (line (answer_text c.match-decode.answer), record { answer = c.match-decode.answer; leads = leads; spelt = refl })
