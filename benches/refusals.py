@@ -24,6 +24,11 @@ HERE = pathlib.Path(__file__).resolve().parent
 CRATES = HERE.parent / "crates"
 PROGRAM = CRATES / "relay960/out/relay960"
 TESTS = {
+    "relay_tests": [
+        "tests::memory::a_refused_run_makes_no_step",
+        "tests::memory::a_refused_step_is_accepted_when_made_again",
+        "tests::memory::the_steps_after_an_opening_and_a_follow_are_answered_whatever_is_refused",
+    ],
     "relay_pushing_tests": [
         "tests::connections::a_connection_may_what_its_boards_let_it",
         "tests::pushing::cut_pushed",

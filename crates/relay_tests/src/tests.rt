@@ -1,8 +1,10 @@
-//! Worked cases of the relay, and comparisons with a plain one.
+//! Worked cases of both kinds of relay, and comparisons with a plain one.
 
 mod boards;
 mod closing;
 mod endings;
+mod kinds;
+mod live;
 mod memory;
 mod names;
 mod places;

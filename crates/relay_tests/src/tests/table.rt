@@ -1,8 +1,10 @@
 //! Cases as tables: what is asked of a relay, and what it has to tell, a row each.
 
+use crate::tests::kinds::Kind;
 use c960_board::{Move, read_fen, read_move};
 use c960_game::{Ending, Limits, Outcome, Refusal};
 use relay_core::{Account, BoardName, Relay, Reply, Spectator, Step, Taken};
+use relay_live::LiveRelay;
 use std::alloc::{AllocError, Global};
 use std::process::Abort;
 use std::test::Fail;
@@ -51,9 +53,9 @@ pub enum Told {
 
 /// Steps, and the replies to be given.
 #[derive(Drop)]
-struct Case {
-    steps: Vec<Step>,
-    replies: Vec<Reply>,
+pub struct Case {
+    pub steps: Vec<Step>,
+    pub replies: Vec<Reply>,
 }
 
 /// The limits of these numbers: boards, followers a board, capacity, plies.
@@ -149,7 +151,7 @@ pub fn line_of(asked: Asked) -> &'static str {
 }
 
 /// The case of a table.
-fn case_of(rt: &impl Abort, alloc: Global, rows: &[(Asked, Told)]) -> Result<Case, AllocError> {
+pub fn case_of(rt: &impl Abort, alloc: Global, rows: &[(Asked, Told)]) -> Result<Case, AllocError> {
     let mut case = Case {
         steps: Vec::new(alloc),
         replies: Vec::new(alloc),
@@ -165,14 +167,14 @@ fn case_of(rt: &impl Abort, alloc: Global, rows: &[(Asked, Told)]) -> Result<Cas
     Ok(case)
 }
 
-/// Whether a new relay with these limits gives these replies step by step.
-fn answers_by_step(
+/// Whether a new relay of the kind gives these replies step by step.
+fn answers_by_step<K: Kind>(
     alloc: Global,
     limits: Limits,
     steps: &[Step],
     replies: &[Reply],
 ) -> Result<bool, AllocError> {
-    let mut relay = Relay::new(alloc, limits)?;
+    let mut relay = K::made(alloc, limits)?;
     for i in 0..steps.len().min(replies.len()) {
         if relay.step(steps[i]) != replies[i] {
             return Ok(false);
@@ -181,19 +183,19 @@ fn answers_by_step(
     Ok(true)
 }
 
-/// Whether a new relay with these limits gives these replies in one run.
-fn answers_by_run(
+/// Whether a new relay of the kind gives these replies in one run.
+fn answers_by_run<K: Kind>(
     alloc: Global,
     limits: Limits,
     steps: &[Step],
     replies: &[Reply],
 ) -> Result<bool, AllocError> {
-    let mut relay = Relay::new(alloc, limits)?;
-    let given = relay.run(steps)?;
+    let mut relay = K::made(alloc, limits)?;
+    let given = relay.ran(steps)?;
     Ok(given.as_slice() == replies)
 }
 
-/// Asserts that a new relay with these limits gives these replies to these steps, step by step and in one run.
+/// Asserts that a new relay of either kind with these limits gives these replies to these steps, step by step and in one run.
 pub fn assert_replies(
     rt: &impl Abort,
     alloc: Global,
@@ -201,12 +203,26 @@ pub fn assert_replies(
     steps: &[Step],
     replies: &[Reply],
 ) -> Result<(), Fail> {
-    assert!(rt; answers_by_step(alloc, limits, steps, replies)?, "by step");
-    assert!(rt; answers_by_run(alloc, limits, steps, replies)?, "by run");
+    assert!(rt;
+        answers_by_step::<Relay>(alloc, limits, steps, replies)?,
+        "by step"
+    );
+    assert!(rt;
+        answers_by_run::<Relay>(alloc, limits, steps, replies)?,
+        "by run"
+    );
+    assert!(rt;
+        answers_by_step::<LiveRelay>(alloc, limits, steps, replies)?,
+        "live, by step"
+    );
+    assert!(rt;
+        answers_by_run::<LiveRelay>(alloc, limits, steps, replies)?,
+        "live, by run"
+    );
     Ok(())
 }
 
-/// Asserts that a relay with these limits answers each row so, step by step and in runs.
+/// Asserts that a relay of either kind with these limits answers each row so, step by step and in runs.
 pub fn assert_case(
     rt: &impl Abort,
     alloc: Global,

@@ -1,6 +1,7 @@
 //! Want of memory. Where one allocation is refused (`rt try --test --fail-alloc N`, for each N in turn), the call that wanted
 //! it says so and changes nothing, and is accepted when made again; all else is answered as ever.
 
+use crate::tests::kinds::Kind;
 use crate::tests::table::Asked::{End, Follow, FollowFrom, Leave, Open, Submit, Take};
 use crate::tests::table::Told::{
     Cut, Ended, Following, Left, Nothing, Opened, Over, Played, PlayedLast, Took,
@@ -11,7 +12,8 @@ use crate::tests::table::{
 };
 use c960_board::Colour;
 use c960_game::{Ending, Limits, Outcome, Refusal};
-use relay_core::{Account, Relay, Reply, Step, Taken};
+use relay_core::{Account, Relay, Reply, Step, Stepper, Taken};
+use relay_live::LiveRelay;
 use std::alloc::{AllocError, Global};
 use std::process::Abort;
 
@@ -30,12 +32,12 @@ impl Refused {
 const WANT: Reply = Reply::Refused(Refusal::OutOfMemory);
 
 /// A new relay, made again where it was refused.
-fn new_relay(rt: &impl Abort, alloc: Global, limits: Limits, refused: &mut Refused) -> Relay {
-    match Relay::new(alloc, limits) {
+fn new_relay<K: Kind>(rt: &impl Abort, alloc: Global, limits: Limits, refused: &mut Refused) -> K {
+    match K::made(alloc, limits) {
         Ok(relay) => relay,
         Err(AllocError) => {
             refused.note();
-            Relay::new(alloc, limits).expect(rt, "one refusal at the most")
+            K::made(alloc, limits).expect(rt, "one refusal at the most")
         }
     }
 }
@@ -58,7 +60,7 @@ fn in_vain(step: &Step) -> Option<(Step, Reply)> {
 /// Asserts that a step is answered so; one that takes memory is made again where it was refused for want of it.
 fn assert_answer(
     rt: &impl Abort,
-    relay: &mut Relay,
+    relay: &mut impl Stepper,
     step: &Step,
     reply: &Reply,
     refused: &mut Refused,
@@ -79,12 +81,17 @@ fn assert_answer(
 }
 
 /// The replies of a run, made again where it was refused: then no step was made, as the replies show.
-fn run(rt: &impl Abort, relay: &mut Relay, steps: &[Step], refused: &mut Refused) -> Vec<Reply> {
-    match relay.run(steps) {
+fn run(
+    rt: &impl Abort,
+    relay: &mut impl Kind,
+    steps: &[Step],
+    refused: &mut Refused,
+) -> Vec<Reply> {
+    match relay.ran(steps) {
         Ok(replies) => replies,
         Err(AllocError) => {
             refused.note();
-            relay.run(steps).expect(rt, "one refusal at the most")
+            relay.ran(steps).expect(rt, "one refusal at the most")
         }
     }
 }
@@ -141,8 +148,8 @@ const ROWS: [(Asked, Told); 25] = [
     (Take(4), Nothing),
 ];
 
-/// Asserts that a new relay answers these rows, and how many of their calls were refused for want of memory.
-fn refusals_in(
+/// Asserts that a new relay of the kind answers these rows, and how many of their calls were refused for want of memory.
+fn refusals_in<K: Kind>(
     rt: &impl Abort,
     alloc: Global,
     limits: (u16, u16, u16, u16),
@@ -150,7 +157,7 @@ fn refusals_in(
 ) -> u32 {
     let mut refused = Refused { count: 0 };
     let limits = limits_of(rt, limits);
-    let mut relay = new_relay(rt, alloc, limits, &mut refused);
+    let mut relay: K = new_relay(rt, alloc, limits, &mut refused);
     for (asked, told) in rows {
         let step = step_of(rt, *asked, line_of(*asked));
         let reply = reply_of(rt, *told, 0);
@@ -161,7 +168,10 @@ fn refusals_in(
 
 #[test]
 fn a_refused_step_is_accepted_when_made_again(rt: HostRuntime) {
-    assert!(rt; refusals_in(&rt, rt.alloc(), (2, 1, 1, 1024), &ROWS) <= 1);
+    let limits = (2, 1, 1, 1024);
+    let plain = refusals_in::<Relay>(&rt, rt.alloc(), limits, &ROWS);
+    let live = refusals_in::<LiveRelay>(&rt, rt.alloc(), limits, &ROWS);
+    assert!(rt; plain.saturating_add(live) <= 1);
 }
 
 /// A mate that one follower takes move by move. Only the first two steps take memory.
@@ -186,16 +196,19 @@ const MATED: Outcome = Outcome::Checkmate(Colour::Black);
 
 #[test]
 fn the_steps_after_an_opening_and_a_follow_are_answered_whatever_is_refused(rt: HostRuntime) {
-    assert!(rt; refusals_in(&rt, rt.alloc(), (16, 64, 64, 1024), &MATE) <= 1);
+    let limits = (16, 64, 64, 1024);
+    let plain = refusals_in::<Relay>(&rt, rt.alloc(), limits, &MATE);
+    let live = refusals_in::<LiveRelay>(&rt, rt.alloc(), limits, &MATE);
+    assert!(rt; plain.saturating_add(live) <= 1);
 }
 
-#[test]
-fn a_refused_run_makes_no_step(rt: HostRuntime) {
+/// Asserts that a new relay of the kind answers a run, and how many calls were refused for want of memory.
+fn refusals_of_a_run<K: Kind>(rt: &impl Abort, alloc: Global) -> u32 {
     let mut refused = Refused { count: 0 };
-    let limits = limits_of(&rt, (1, 1, 1, 1024));
-    let mut relay = new_relay(&rt, rt.alloc(), limits, &mut refused);
-    let board = board_of(&rt, "a");
-    let (e2e4, e7e5) = (move_of(&rt, "e2e4"), move_of(&rt, "e7e5"));
+    let limits = limits_of(rt, (1, 1, 1, 1024));
+    let mut relay: K = new_relay(rt, alloc, limits, &mut refused);
+    let board = board_of(rt, "a");
+    let (e2e4, e7e5) = (move_of(rt, "e2e4"), move_of(rt, "e7e5"));
     // Each step that takes memory stands twice: where the first is refused for want of it, the second is accepted.
     let steps = [
         Step::Open(board, 518),
@@ -211,7 +224,7 @@ fn a_refused_run_makes_no_step(rt: HostRuntime) {
     ];
     let opened = (Reply::Opened, Reply::Refused(Refusal::BoardExists));
     let followed = (
-        following(&rt, 0, START_518),
+        following(rt, 0, START_518),
         Reply::Refused(Refusal::FollowerExists),
     );
     let rest = [
@@ -222,12 +235,19 @@ fn a_refused_run_makes_no_step(rt: HostRuntime) {
         left(0, 1, 1, true),
         Reply::Refused(Refusal::Illegal),
     ];
-    let replies = run(&rt, &mut relay, &steps, &mut refused);
+    let replies = run(rt, &mut relay, &steps, &mut refused);
     assert!(rt; replies.len() == 10);
-    assert_pair(&rt, (replies[0], replies[1]), opened, &mut refused);
-    assert_pair(&rt, (replies[2], replies[3]), followed, &mut refused);
+    assert_pair(rt, (replies[0], replies[1]), opened, &mut refused);
+    assert_pair(rt, (replies[2], replies[3]), followed, &mut refused);
     assert!(rt; &replies[4..] == rest.as_slice());
-    assert!(rt; refused.count <= 1);
+    refused.count
+}
+
+#[test]
+fn a_refused_run_makes_no_step(rt: HostRuntime) {
+    let plain = refusals_of_a_run::<Relay>(&rt, rt.alloc());
+    let live = refusals_of_a_run::<LiveRelay>(&rt, rt.alloc());
+    assert!(rt; plain.saturating_add(live) <= 1);
 }
 
 /// Asserts that a step made twice is answered so, or that the first was refused for want of memory and the second accepted.

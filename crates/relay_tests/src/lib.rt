@@ -1,0 +1,7 @@
+//! The tests of the relay on one thread, over games and over live boards. They stand in a crate of their own, since a crate with tests is
+//! proved twice; beside them stands a small proved example of a caller.
+#![tactic(auto)]
+
+#[cfg(test)]
+mod tests;
+pub mod visits;

@@ -1,0 +1,33 @@
+//! The two kinds of relay, of which the same is asked.
+
+use c960_game::Limits;
+use relay_core::{Relay, Reply, Step, Stepper};
+use relay_live::LiveRelay;
+use std::alloc::{AllocError, Global};
+
+/// A kind of relay: beside its steps, how one is made, and how it runs a list of steps.
+pub trait Kind: Stepper + Drop {
+    fn made(alloc: Global, limits: Limits) -> Result<Self, AllocError>;
+
+    fn ran(&mut self, steps: &[Step]) -> Result<Vec<Reply>, AllocError>;
+}
+
+impl Kind for Relay {
+    fn made(alloc: Global, limits: Limits) -> Result<Relay, AllocError> {
+        Relay::new(alloc, limits)
+    }
+
+    fn ran(&mut self, steps: &[Step]) -> Result<Vec<Reply>, AllocError> {
+        self.run(steps)
+    }
+}
+
+impl Kind for LiveRelay {
+    fn made(alloc: Global, limits: Limits) -> Result<LiveRelay, AllocError> {
+        LiveRelay::new(alloc, limits)
+    }
+
+    fn ran(&mut self, steps: &[Step]) -> Result<Vec<Reply>, AllocError> {
+        self.run(steps)
+    }
+}
