@@ -1,6 +1,6 @@
 //! A live board: a game, and its log on a table that its followers read.
 
-ghost use Rattle.std.specs.Prelude.{◌≡◌, ◌↔◌, ℕ, ◌+◌, ◌<◌, ◌≤◌, ◌⊎◌, [], ◌∷◌, ◌++◌, length, Some, None, Err, IfOk, IfErr, OnErr, OnOk, MatchOption};
+ghost use Rattle.std.specs.Prelude.{◌≡◌, ◌↔◌, ℕ, ◌+◌, ◌<◌, ◌≤◌, ◌⊎◌, [], ◌∷◌, ◌++◌, length, Some, None, Err, IfOk, IfErr, IsSome, OnErr, OnOk, MatchOption};
 ghost use mathlib.Core.Option.{some};
 ghost use lib.ListN.{get_elem?};
 ghost use Rattle.c960_game.specs.Ending.{named_outcome};
@@ -27,9 +27,6 @@ use live_steps::BoardSetup;
 use relay_core::{Account, Taken};
 use std::alloc::Global;
 use std::marker::Model;
-
-#[cfg(test)]
-mod tests;
 
 /// A game that one thread plays while its followers take in the moves. To a contract it is its table and what its seat there knows.
 #[derive(Drop)]
@@ -95,6 +92,15 @@ impl Board {
         ensures { result ≡ self.now.knows.outcome }
     {
         self.game.outcome()
+    }
+
+    /// The word at a place of the board's table, as it stands just now; docs/LIVE.md has what the words say. None exactly where the table
+    /// ends: it has the header, the status, a word for each follower and one for each ply. It is for those who look on: no other call
+    /// goes by it, and the answer says nothing of what the board's seat knows.
+    pub fn word(&self, place: u64) -> Option<u64>
+        ensures { IsSome result ↔ (place < self.now.knows.setup.limits.followers + 2 + self.now.knows.setup.limits.plies) }
+    {
+        self.desk.word(place)
     }
 
     /// Makes a move: its place in the log, and the outcome where it ends the game. Refused as by `Game::play`, and then nothing has

@@ -1,7 +1,7 @@
 //! A board's side of its table: the seat, and what the board keeps of the seat's view. It knows no rules of chess; the game stands
 //! beside it, so that while a move is being stored the game may be one move ahead of the view.
 
-ghost use Rattle.std.specs.Prelude.{◌≡◌, ℕ, ◌+◌, ◌<◌, ◌≤◌, ◌++◌, ◌∷◌, [], length, Some, None, IfOk, IfErr, IfSome, MatchOption};
+ghost use Rattle.std.specs.Prelude.{◌≡◌, ◌↔◌, ℕ, ◌+◌, ◌<◌, ◌≤◌, ◌++◌, ◌∷◌, [], length, Some, None, IfOk, IfErr, IfSome, IsSome, MatchOption};
 ghost use mathlib.Core.Option.{some};
 ghost use lib.ListN.{get_elem?};
 ghost use Rattle.c960_rules.specs.Legal.{Legal};
@@ -190,6 +190,17 @@ impl Desk {
         ensures { result ≡ self.now.knows.setup.limits.capacity }
     {
         self.setup.limits.capacity
+    }
+
+    /// The word at a place of the table, as it stands just now: None exactly where the table ends.
+    pub fn word(&self, place: u64) -> Option<u64>
+        ensures { IsSome result ↔ (place < self.now.knows.setup.limits.followers + 2 + self.now.knows.setup.limits.plies) }
+    {
+        if place < self.setup.limits.followers + 2 + self.setup.limits.plies {
+            Some(self.table.shared.peek(place as usize))
+        } else {
+            None
+        }
     }
 
     /// The first place that is noted vacant.

@@ -1,8 +1,9 @@
 //! Worked cases on one thread, a table each: what is asked, and what has to be answered.
 
-use crate::tests::table::Asked::{self, Drop, End, Follow, FollowFrom, Leave, Submit, Take};
+use crate::tests::table::Asked::{self, Drop, End, Follow, FollowFrom, Leave, Look, Submit, Take};
 use crate::tests::table::Told::{
-    self, Cut, Dropped, Ended, Following, Left, Nothing, Over, Played, PlayedLast, Refused, Took,
+    self, Cut, Dropped, Ended, Following, Left, NoWord, Nothing, Over, Played, PlayedLast, Refused,
+    Took, Word,
 };
 use crate::tests::table::assert_case;
 use c960_board::Colour;
@@ -221,23 +222,89 @@ const GIVEN_BACK: [(Asked, Told); 19] = [
     (Take(2), Cut),
 ];
 
+/// The words of the worked examples: header, status and cursor of a board that one may follow, whose queues hold two moves.
+const WORDS: [(Asked, Told); 34] = [
+    (Look(0), Word(131590)),
+    (Look(1), Word(0)),
+    (Look(2), Word(0)),
+    (Look(18), Word(0)),
+    (Look(19), NoWord),
+    // One joins at 0 and is closed at length 2; it takes one move and leaves.
+    (Follow(1), Following(0)),
+    (Look(2), Word(4294967296)),
+    (Submit("e2e4 e7e5"), Played(0)),
+    (Look(1), Word(2)),
+    (Look(2), Word(4294967296)),
+    (Submit("g1f3"), Played(2)),
+    (Look(2), Word(17179869184)),
+    (Take(1), Took(0, "e2e4")),
+    (Look(2), Word(17179869185)),
+    (Leave(1), Left(0, 1, 2, true)),
+    (Look(2), Word(0)),
+    // A refused follow leaves the cursor as it was. One that joins at 1 is closed at length 3.
+    (FollowFrom(1, 0), Refused(Refusal::TooFarBack)),
+    (Look(2), Word(0)),
+    (FollowFrom(1, 4), Refused(Refusal::NotYet)),
+    (Look(2), Word(0)),
+    (FollowFrom(1, 1), Following(1)),
+    (Look(2), Word(4294967297)),
+    (FollowFrom(2, 1), Refused(Refusal::TooManyFollowers)),
+    (Look(2), Word(4294967297)),
+    (Submit("e2e5"), Refused(Refusal::Illegal)),
+    (Look(1), Word(3)),
+    (Submit("b8c6"), Played(3)),
+    (Look(2), Word(21474836481)),
+    // e2e4 has the code 1804. The header never changes.
+    (Look(3), Word(1804)),
+    (Look(1), Word(4)),
+    (Look(0), Word(131590)),
+    // An agreed draw is the outcome 6.
+    (End(Ending::Agreed), Ended(Outcome::Agreed)),
+    (Look(1), Word(393220)),
+    (Look(2), Word(21474836481)),
+];
+
+/// The status after a mate.
+const WORD_OF_A_MATE: [(Asked, Told); 3] = [
+    (Submit("f2f3 e7e5 g2g4"), Played(0)),
+    (Submit("d8h4"), PlayedLast(3, BLACK_MATES)),
+    (Look(1), Word(131076)),
+];
+
+/// The status after an agreed draw without a move.
+const WORD_OF_A_DRAW: [(Asked, Told); 2] = [
+    (End(Ending::Agreed), Ended(Outcome::Agreed)),
+    (Look(1), Word(393216)),
+];
+
+/// A case: its name, its board's followers, capacity and plies, and its rows.
+type Case = (&'static str, (u16, u16, u16), &'static [(Asked, Told)]);
+
+const CASES: [Case; 18] = [
+    ("mate", (64, 4, 1024), &MATE),
+    ("mate", (64, 64, 1024), &MATE),
+    ("mate", (64, 1024, 1024), &MATE),
+    ("mate closes", (64, 3, 1024), &MATE_CLOSES),
+    ("full", (64, 2, 1024), &FULL),
+    ("leaves closed", (64, 2, 1024), &LEAVES_CLOSED),
+    ("refused submit", (64, 2, 1024), &REFUSED_SUBMIT),
+    ("ended", (64, 1, 1024), &ENDED),
+    ("full log", (64, 1, 1), &FULL_LOG),
+    ("fivefold", (64, 64, 1024), &FIVEFOLD),
+    ("earlier", (64, 2, 1024), &EARLIER),
+    ("full board", (1, 2, 1024), &FULL_BOARD),
+    ("takes first", (64, 2, 1024), &TAKES_FIRST),
+    ("dropped", (2, 1, 1024), &DROPPED),
+    ("given back", (3, 1, 1024), &GIVEN_BACK),
+    ("words", (1, 2, 16), &WORDS),
+    ("mate's word", (1, 2, 16), &WORD_OF_A_MATE),
+    ("draw's word", (1, 2, 16), &WORD_OF_A_DRAW),
+];
+
 #[test]
 fn the_worked_cases_are_answered_as_their_tables_say(rt: HostRuntime) -> Result<(), Fail> {
-    let alloc = rt.alloc();
-    for capacity in [4, 64, 1024] {
-        assert_case(&rt, alloc, "mate", (64, capacity, 1024), &MATE)?;
+    for (name, limits, rows) in CASES {
+        assert_case(&rt, rt.alloc(), name, limits, rows)?;
     }
-    assert_case(&rt, alloc, "mate closes", (64, 3, 1024), &MATE_CLOSES)?;
-    assert_case(&rt, alloc, "full", (64, 2, 1024), &FULL)?;
-    assert_case(&rt, alloc, "leaves closed", (64, 2, 1024), &LEAVES_CLOSED)?;
-    assert_case(&rt, alloc, "refused submit", (64, 2, 1024), &REFUSED_SUBMIT)?;
-    assert_case(&rt, alloc, "ended", (64, 1, 1024), &ENDED)?;
-    assert_case(&rt, alloc, "full log", (64, 1, 1), &FULL_LOG)?;
-    assert_case(&rt, alloc, "fivefold", (64, 64, 1024), &FIVEFOLD)?;
-    assert_case(&rt, alloc, "earlier", (64, 2, 1024), &EARLIER)?;
-    assert_case(&rt, alloc, "full board", (1, 2, 1024), &FULL_BOARD)?;
-    assert_case(&rt, alloc, "takes first", (64, 2, 1024), &TAKES_FIRST)?;
-    assert_case(&rt, alloc, "dropped", (2, 1, 1024), &DROPPED)?;
-    assert_case(&rt, alloc, "given back", (3, 1, 1024), &GIVEN_BACK)?;
     Ok(())
 }

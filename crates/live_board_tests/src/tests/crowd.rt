@@ -30,20 +30,20 @@ fn crowd(
 
 /// Asserts that the follower takes this move, then none, and leaves with an account that says so.
 fn assert_takes_one(rt: &impl Abort, mut follower: Follower, place: u16, text: &str, cut: bool) {
-    assert_eq!(rt; follower.take(), Taken::Move(place, move_of(rt, text)));
+    assert!(rt; follower.take() == Taken::Move(place, move_of(rt, text)));
     let idle = if cut { Taken::Cut } else { Taken::Nothing };
-    assert_eq!(rt; follower.take(), idle);
+    assert!(rt; follower.take() == idle);
     let (account, _) = follower.leave();
     let taken = place.saturating_add(1);
     let limit = taken;
-    assert_eq!(rt;
-        account,
-        Account {
-            joined: 0,
-            taken,
-            limit,
-            cut
-        }
+    assert!(rt;
+        account
+            == (Account {
+                joined: 0,
+                taken,
+                limit,
+                cut
+            })
     );
 }
 
@@ -54,16 +54,16 @@ fn a_board_has_a_thousand_and_twenty_four_followers(rt: HostRuntime) -> Result<(
         panic!(rt; "no board");
     };
     let mut followers = crowd(&rt, alloc, &mut board, None)?;
-    assert_eq!(rt; board.submit(move_of(&rt, "e2e4")), Ok((0, None)));
+    assert!(rt; board.submit(move_of(&rt, "e2e4")) == Ok((0, None)));
     // Every second one takes the move, and the others are closed by the next.
     let mut takes = true;
     for follower in &mut followers {
         if takes {
-            assert_eq!(rt; follower.take(), Taken::Move(0, move_of(&rt, "e2e4")));
+            assert!(rt; follower.take() == Taken::Move(0, move_of(&rt, "e2e4")));
         }
         takes = !takes;
     }
-    assert_eq!(rt; board.submit(move_of(&rt, "e7e5")), Ok((1, None)));
+    assert!(rt; board.submit(move_of(&rt, "e7e5")) == Ok((1, None)));
     let mut took = true;
     for follower in followers {
         if took {
@@ -74,8 +74,8 @@ fn a_board_has_a_thousand_and_twenty_four_followers(rt: HostRuntime) -> Result<(
         took = !took;
     }
     for mut follower in crowd(&rt, alloc, &mut board, Some(1))? {
-        assert_eq!(rt; follower.take(), Taken::Move(1, move_of(&rt, "e7e5")));
-        assert_eq!(rt; follower.take(), Taken::Nothing);
+        assert!(rt; follower.take() == Taken::Move(1, move_of(&rt, "e7e5")));
+        assert!(rt; follower.take() == Taken::Nothing);
     }
     Ok(())
 }

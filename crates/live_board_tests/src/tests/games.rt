@@ -35,20 +35,22 @@ pub fn limits_of(rt: &impl Abort, followers: u16, capacity: u16, plies: u16) -> 
     limits
 }
 
-fn add_line(rt: &impl Abort, moves: &mut Vec<Move>, line: &str) -> Result<(), AllocError> {
-    for text in line.split(' ') {
+/// The moves of a line.
+pub fn line_of(rt: &impl Abort, alloc: Global, line: &str) -> Result<Vec<Move>, AllocError> {
+    let mut moves = Vec::new(alloc);
+    for text in line.split_whitespace() {
         moves.push(move_of(rt, text))?;
     }
-    Ok(())
+    Ok(moves)
 }
 
 /// A game of a hundred plies from start 518 without a pawn's move or a capture, so that White may claim a draw after it.
 pub fn hundred_plies(rt: &impl Abort, alloc: Global) -> Result<Vec<Move>, AllocError> {
-    let mut moves = Vec::with_capacity(alloc, 100)?;
+    let mut moves = Vec::new(alloc);
     for line in BETWEEN {
-        add_line(rt, &mut moves, SHUFFLE)?;
-        add_line(rt, &mut moves, line)?;
+        moves.append(&mut line_of(rt, alloc, SHUFFLE)?)?;
+        moves.append(&mut line_of(rt, alloc, line)?)?;
     }
-    add_line(rt, &mut moves, "g1f3 g8f6")?;
+    moves.append(&mut line_of(rt, alloc, "g1f3 g8f6")?)?;
     Ok(moves)
 }

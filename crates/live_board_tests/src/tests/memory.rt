@@ -13,7 +13,7 @@ fn open(rt: &impl Abort, alloc: Global, limits: Limits) -> Board {
     match Board::open(alloc, 518, limits) {
         Ok(board) => board,
         Err(refusal) => {
-            assert_eq!(rt; refusal, Refusal::OutOfMemory);
+            assert!(rt; refusal == Refusal::OutOfMemory);
             let Ok(board) = Board::open(alloc, 518, limits) else {
                 panic!(rt; "one refusal at the most");
             };
@@ -28,8 +28,8 @@ fn follow(rt: &impl Abort, board: &mut Board, from: Option<u16>) -> Follower {
     match board.follow(from) {
         Ok(follower) => follower,
         Err(refusal) => {
-            assert_eq!(rt; refusal, Refusal::OutOfMemory);
-            assert_eq!(rt; board.len(), len);
+            assert!(rt; refusal == Refusal::OutOfMemory);
+            assert!(rt; board.len() == len);
             let Ok(follower) = board.follow(from) else {
                 panic!(rt; "one refusal at the most");
             };
@@ -48,37 +48,37 @@ fn one_allocation_may_be_refused(rt: HostRuntime) {
         )
     );
     let mut one = follow(&rt, &mut board, None);
-    assert_eq!(rt; board.submit(move_of(&rt, "e2e4")), Ok((0, None)));
+    assert!(rt; board.submit(move_of(&rt, "e2e4")) == Ok((0, None)));
     let mut two = follow(&rt, &mut board, Some(0));
     assert!(rt; matches!(board.follow(None), Err(Refusal::TooManyFollowers)));
-    assert_eq!(rt; one.take(), Taken::Move(0, move_of(&rt, "e2e4")));
-    assert_eq!(rt; board.submit(move_of(&rt, "e7e5")), Ok((1, None)));
-    assert_eq!(rt; one.take(), Taken::Move(1, move_of(&rt, "e7e5")));
-    assert_eq!(rt; two.take(), Taken::Move(0, move_of(&rt, "e2e4")));
-    assert_eq!(rt; two.take(), Taken::Cut);
+    assert!(rt; one.take() == Taken::Move(0, move_of(&rt, "e2e4")));
+    assert!(rt; board.submit(move_of(&rt, "e7e5")) == Ok((1, None)));
+    assert!(rt; one.take() == Taken::Move(1, move_of(&rt, "e7e5")));
+    assert!(rt; two.take() == Taken::Move(0, move_of(&rt, "e2e4")));
+    assert!(rt; two.take() == Taken::Cut);
     let (account, _) = two.leave();
-    assert_eq!(rt;
-        account,
-        Account {
-            joined: 0,
-            taken: 1,
-            limit: 1,
-            cut: true
-        }
+    assert!(rt;
+        account
+            == (Account {
+                joined: 0,
+                taken: 1,
+                limit: 1,
+                cut: true
+            })
     );
     let mut three = follow(&rt, &mut board, Some(1));
-    assert_eq!(rt; board.end(Ending::Agreed), Ok(Outcome::Agreed));
-    assert_eq!(rt; three.take(), Taken::Move(1, move_of(&rt, "e7e5")));
-    assert_eq!(rt; three.take(), Taken::Over(Outcome::Agreed));
-    assert_eq!(rt; one.take(), Taken::Over(Outcome::Agreed));
+    assert!(rt; board.end(Ending::Agreed) == Ok(Outcome::Agreed));
+    assert!(rt; three.take() == Taken::Move(1, move_of(&rt, "e7e5")));
+    assert!(rt; three.take() == Taken::Over(Outcome::Agreed));
+    assert!(rt; one.take() == Taken::Over(Outcome::Agreed));
     let (account, _) = one.leave();
-    assert_eq!(rt;
-        account,
-        Account {
-            joined: 0,
-            taken: 2,
-            limit: 2,
-            cut: false
-        }
+    assert!(rt;
+        account
+            == (Account {
+                joined: 0,
+                taken: 2,
+                limit: 2,
+                cut: false
+            })
     );
 }

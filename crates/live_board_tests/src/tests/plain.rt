@@ -6,11 +6,9 @@ use c960_game::{Ending, Game, Limits, Outcome, Refusal};
 use relay_core::{Account, Taken};
 use std::alloc::{AllocError, Global};
 
-/// A place that was given out. One whose follower has gone without leaving is nobody's, and still given out.
+/// A follower: what it had, its closing, and the moves that wait for it.
 #[derive(Drop)]
 struct Seat {
-    who: Option<usize>,
-    is_given_back: bool,
     joined: u16,
     taken: u16,
     closed_at: Option<u16>,
@@ -27,6 +25,20 @@ impl Seat {
             cut: self.closed_at.is_some(),
         }
     }
+
+    /// Takes the next move that waits, or tells why none does.
+    fn take(&mut self, outcome: Option<Outcome>) -> Taken {
+        if !self.queue.is_empty() {
+            let (place, m) = self.queue.remove(0);
+            self.taken = self.taken.saturating_add(1);
+            return Taken::Move(place, m);
+        }
+        match (self.closed_at, outcome) {
+            (Some(_), _) => Taken::Cut,
+            (None, Some(outcome)) => Taken::Over(outcome),
+            (None, None) => Taken::Nothing,
+        }
+    }
 }
 
 /// A plain board with its followers.
@@ -34,19 +46,31 @@ impl Seat {
 pub struct Plain {
     game: Game,
     limits: Limits,
-    seats: Vec<Seat>,
+    seats: Vec<Option<Seat>>,
+    /// How many places are given out: that of a follower that goes without leaving stays so.
+    given_out: u16,
     alloc: Global,
 }
 
 impl Plain {
-    /// One that nobody follows.
-    pub fn new(alloc: Global, game: Game, limits: Limits) -> Plain {
-        Plain {
+    /// One that nobody follows, with room for so many followers.
+    pub fn new(
+        alloc: Global,
+        game: Game,
+        limits: Limits,
+        room: usize,
+    ) -> Result<Plain, AllocError> {
+        let mut seats = Vec::new(alloc);
+        for _ in 0..room {
+            seats.push(None)?;
+        }
+        Ok(Plain {
             game,
             limits,
-            seats: Vec::new(alloc),
+            seats,
+            given_out: 0,
             alloc,
-        }
+        })
     }
 
     /// The answer. Want of memory is an error here, so that no answer tells of it.
@@ -58,16 +82,9 @@ impl Plain {
             Ask::Take(who) => Ok(self.take(who)),
             Ask::Leave(who) => Ok(self.leave(who)),
             Ask::Drop(who) => Ok(self.drop_follower(who)),
+            // It has no table.
+            Ask::Word(_) => Ok(Answer::Word(None)),
         }
-    }
-
-    fn is_here(&self, who: usize) -> bool {
-        self.seats.iter().any(|seat| seat.who == Some(who))
-    }
-
-    /// How many places are given out.
-    fn given_out(&self) -> usize {
-        self.seats.iter().filter(|seat| !seat.is_given_back).count()
     }
 
     fn submit(&mut self, m: Move) -> Result<Answer, AllocError> {
@@ -78,11 +95,13 @@ impl Plain {
         };
         let capacity = usize::from(self.limits.capacity());
         for seat in &mut self.seats {
-            if seat.closed_at.is_none() {
-                if seat.queue.len() >= capacity {
-                    seat.closed_at = Some(place);
-                } else {
-                    seat.queue.push((place, m))?;
+            if let Some(seat) = seat {
+                if seat.closed_at.is_none() {
+                    if seat.queue.len() >= capacity {
+                        seat.closed_at = Some(place);
+                    } else {
+                        seat.queue.push((place, m))?;
+                    }
                 }
             }
         }
@@ -108,7 +127,7 @@ impl Plain {
     }
 
     fn follow(&mut self, who: usize, from: Option<u16>) -> Result<Answer, AllocError> {
-        if self.is_here(who) {
+        if !matches!(self.seats.get(who), Some(None)) {
             return Ok(Answer::Amiss);
         }
         let joined = from.unwrap_or(self.game.len());
@@ -119,63 +138,51 @@ impl Plain {
         if queue.len() > usize::from(self.limits.capacity()) {
             return Ok(Answer::Refused(Refusal::TooFarBack));
         }
-        if self.given_out() >= usize::from(self.limits.followers()) {
+        if self.given_out >= self.limits.followers() {
             return Ok(Answer::Refused(Refusal::TooManyFollowers));
         }
-        self.seats.push(Seat {
-            who: Some(who),
-            is_given_back: false,
-            joined,
-            taken: 0,
-            closed_at: None,
-            queue,
-        })?;
+        if let Some(seat) = self.seats.get_mut(who) {
+            *seat = Some(Seat {
+                joined,
+                taken: 0,
+                closed_at: None,
+                queue,
+            });
+            self.given_out = self.given_out.saturating_add(1);
+        }
         Ok(Answer::Following(joined, 0))
     }
 
     fn take(&mut self, who: usize) -> Answer {
         let outcome = self.game.outcome();
-        for seat in &mut self.seats {
-            if seat.who == Some(who) {
-                if !seat.queue.is_empty() {
-                    let (place, m) = seat.queue.remove(0);
-                    seat.taken = seat.taken.saturating_add(1);
-                    return Answer::Took(Taken::Move(place, m));
-                }
-                return Answer::Took(idle(seat.closed_at, outcome));
-            }
+        if who >= self.seats.len() {
+            return Answer::Amiss;
         }
-        Answer::Amiss
+        match &mut self.seats[who] {
+            Some(seat) => Answer::Took(seat.take(outcome)),
+            None => Answer::Amiss,
+        }
     }
 
     fn leave(&mut self, who: usize) -> Answer {
-        let len = self.game.len();
-        for seat in &mut self.seats {
-            if seat.who == Some(who) {
-                seat.who = None;
-                seat.is_given_back = true;
-                return Answer::Left(seat.account(len));
-            }
-        }
-        Answer::Amiss
+        let Some(place) = self.seats.get_mut(who) else {
+            return Answer::Amiss;
+        };
+        let Some(seat) = place.take() else {
+            return Answer::Amiss;
+        };
+        self.given_out = self.given_out.saturating_sub(1);
+        Answer::Left(seat.account(self.game.len()))
     }
 
     fn drop_follower(&mut self, who: usize) -> Answer {
-        for seat in &mut self.seats {
-            if seat.who == Some(who) {
-                seat.who = None;
-                return Answer::Dropped;
-            }
+        let Some(place) = self.seats.get_mut(who) else {
+            return Answer::Amiss;
+        };
+        if place.is_none() {
+            return Answer::Amiss;
         }
-        Answer::Amiss
-    }
-}
-
-/// What is told where no move waits.
-fn idle(closed_at: Option<u16>, outcome: Option<Outcome>) -> Taken {
-    match (closed_at, outcome) {
-        (Some(_), _) => Taken::Cut,
-        (None, Some(outcome)) => Taken::Over(outcome),
-        (None, None) => Taken::Nothing,
+        *place = None;
+        Answer::Dropped
     }
 }

@@ -7,7 +7,7 @@ use relay_core::{Account, Taken};
 use std::alloc::{AllocError, Global};
 
 /// What is asked of a board, or of one of its followers.
-#[derive(Clone, Copy, PartialEq, Debug)]
+#[derive(Clone, Copy)]
 pub enum Ask {
     Submit(Move),
     End(Ending),
@@ -17,10 +17,12 @@ pub enum Ask {
     Leave(usize),
     /// Goes without leaving.
     Drop(usize),
+    /// What stands at a place of the board's table.
+    Word(u64),
 }
 
 /// What it answers.
-#[derive(Clone, Copy, PartialEq, Debug)]
+#[derive(Clone, Copy, PartialEq)]
 pub enum Answer {
     Played(u16, Option<Outcome>),
     Ended(Outcome),
@@ -29,6 +31,7 @@ pub enum Answer {
     Took(Taken),
     Left(Account),
     Dropped,
+    Word(Option<u64>),
     Refused(Refusal),
     /// That follower is not here, or is here already.
     Amiss,
@@ -74,6 +77,7 @@ impl Stage {
             Ask::Take(who) => self.take(who),
             Ask::Leave(who) => self.leave(who),
             Ask::Drop(who) => self.drop_follower(who),
+            Ask::Word(place) => Answer::Word(self.board.word(place)),
         }
     }
 

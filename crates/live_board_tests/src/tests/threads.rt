@@ -74,10 +74,10 @@ fn with_the_rest(alloc: Global, follower: &mut Follower, early: Took) -> Result<
 fn assert_had(rt: &impl Abort, moves: &[Move], had: &Took, account: Account) -> bool {
     let count = had.moves.len();
     assert!(rt; had.in_order && count <= moves.len());
-    assert_eq!(rt; had.moves.as_slice(), &moves[..count]);
-    assert_eq!(rt; account.joined, 0);
-    assert_eq!(rt; usize::from(account.taken), count);
-    assert_eq!(rt; usize::from(account.limit), count);
+    assert!(rt; had.moves.as_slice() == &moves[..count]);
+    assert!(rt; account.joined == 0);
+    assert!(rt; usize::from(account.taken) == count);
+    assert!(rt; usize::from(account.limit) == count);
     let is_whole = count == moves.len() && had.last == Taken::Over(Outcome::Agreed);
     assert!(rt;
         if account.cut {
@@ -87,6 +87,33 @@ fn assert_had(rt: &impl Abort, moves: &[Move], had: &Took, account: Account) -> 
         }
     );
     account.cut
+}
+
+/// Plays the board while two others take the moves in, in threads of their own; gives them with what each had.
+fn play_with_two<R: Threads + Abort>(
+    rt: &R,
+    alloc: Global,
+    board: &mut Board,
+    moves: &[Move],
+) -> Result<Vec<(Follower, Took)>, Fail> {
+    let mut running = Vec::new(alloc);
+    for _ in 0..2 {
+        let Ok(mut follower) = board.follow(None) else {
+            panic!(rt; "nobody follows");
+        };
+        running.push(thread::spawn(rt, move || {
+            let took = take_all(alloc, &mut follower, MOST_TAKES);
+            (follower, took)
+        })?)?;
+    }
+    assert!(rt; play_all(board, moves));
+    let mut ended = Vec::new(alloc);
+    for handle in running {
+        let (mut follower, early) = handle.join(rt);
+        let had = with_the_rest(alloc, &mut follower, early?)?;
+        ended.push((follower, had))?;
+    }
+    Ok(ended)
 }
 
 /// Plays a game while two others take it in, whose queues hold so many moves. Whether one of them was closed.
@@ -99,31 +126,15 @@ fn play_before_two<R: Threads + Abort>(
     let Ok(mut board) = Board::open(alloc, 518, limits_of(rt, 2, capacity, 1024)) else {
         panic!(rt; "no board");
     };
-    let (Ok(mut one), Ok(mut two)) = (board.follow(None), board.follow(None)) else {
-        panic!(rt; "nobody follows");
-    };
-    let first = thread::spawn(rt, move || {
-        let took = take_all(alloc, &mut one, MOST_TAKES);
-        (one, took)
-    })?;
-    let second = thread::spawn(rt, move || {
-        let took = take_all(alloc, &mut two, MOST_TAKES);
-        (two, took)
-    })?;
-    assert!(rt; play_all(&mut board, moves));
-    let (mut one, first) = first.join(rt);
-    let (mut two, second) = second.join(rt);
-    let first = with_the_rest(alloc, &mut one, first?)?;
-    let second = with_the_rest(alloc, &mut two, second?)?;
+    let ended = play_with_two(rt, alloc, &mut board, moves)?;
     assert!(rt; matches!(board.follow(None), Err(Refusal::TooManyFollowers)));
-    let (one, _) = one.leave();
-    let (two, _) = two.leave();
-    let closed = [
-        assert_had(rt, moves, &first, one),
-        assert_had(rt, moves, &second, two),
-    ];
+    let mut is_closed = false;
+    for (follower, had) in ended {
+        let (account, _) = follower.leave();
+        is_closed = assert_had(rt, moves, &had, account) || is_closed;
+    }
     assert!(rt; board.follow(None).is_ok() && board.follow(None).is_ok());
-    Ok(closed[0] || closed[1])
+    Ok(is_closed)
 }
 
 #[test]

@@ -32,21 +32,43 @@ fn assert_stretch(rt: &impl Abort, moves: &[Move], visit: Visit) -> Result<(), A
     let from = usize::from(joined);
     let to = from.saturating_add(took.moves.len());
     assert!(rt; from <= to && to <= moves.len());
-    assert_eq!(rt; took.moves.as_slice(), &moves[from..to]);
-    assert_eq!(rt; account.joined, joined);
-    assert_eq!(rt; usize::from(account.taken), took.moves.len());
+    assert!(rt; took.moves.as_slice() == &moves[from..to]);
+    assert!(rt; account.joined == joined);
+    assert!(rt; usize::from(account.taken) == took.moves.len());
     assert!(rt; usize::from(account.limit) >= to && usize::from(account.limit) <= moves.len());
     match took.last {
         Taken::Cut => assert!(rt; account.cut && usize::from(account.limit) == to),
         Taken::Over(outcome) => {
-            assert_eq!(rt;
-                (outcome, to, account.cut),
-                (Outcome::Agreed, moves.len(), false)
-            );
+            assert!(rt; (outcome, to, account.cut) == (Outcome::Agreed, moves.len(), false));
         }
         _ => {}
     }
     Ok(())
+}
+
+/// One comes, from the present or a place back, and takes in a thread of its own; none where the board is full.
+fn come<R: Threads + Abort>(
+    rt: &R,
+    alloc: Global,
+    board: &mut Board,
+    dice: &mut Dice,
+) -> Result<Option<JoinHandle<Visit>>, Fail> {
+    let from = match dice.roll() % 3 {
+        0 => Some(board.len()),
+        1 => Some(board.len().saturating_sub(1)),
+        _ => None,
+    };
+    match board.follow(from) {
+        Ok(follower) => {
+            let most = dice.roll() % 2000;
+            let handle = thread::spawn(rt, move || visit(alloc, follower, most))?;
+            Ok(Some(handle))
+        }
+        Err(refusal) => {
+            assert!(rt; refusal == Refusal::TooManyFollowers);
+            Ok(None)
+        }
+    }
 }
 
 /// One game, with the visits that it had.
@@ -61,31 +83,17 @@ fn play<R: Threads + Abort>(
         panic!(rt; "no board");
     };
     let mut visits: Vec<JoinHandle<Visit>> = Vec::new(alloc);
-    let mut refused = 0u32;
     let mut place = 0u16;
     for m in moves {
         if dice.roll() % 4 == 0 {
-            let back = (dice.roll() % 3) as u16;
-            let from = if back == 2 {
-                None
-            } else {
-                Some(place.saturating_sub(back))
-            };
-            match board.follow(from) {
-                Ok(follower) => {
-                    let most = dice.roll() % 2000;
-                    visits.push(thread::spawn(rt, move || visit(alloc, follower, most))?)?;
-                }
-                Err(refusal) => {
-                    assert_eq!(rt; refusal, Refusal::TooManyFollowers);
-                    refused = refused.wrapping_add(1);
-                }
+            if let Some(handle) = come(rt, alloc, &mut board, dice)? {
+                visits.push(handle)?;
             }
         }
-        assert_eq!(rt; board.submit(*m), Ok((place, None)));
+        assert!(rt; board.submit(*m) == Ok((place, None)));
         place = place.saturating_add(1);
     }
-    assert_eq!(rt; board.end(Ending::Agreed), Ok(Outcome::Agreed));
+    assert!(rt; board.end(Ending::Agreed) == Ok(Outcome::Agreed));
     let mut count = 0u32;
     for handle in visits {
         assert_stretch(rt, moves, handle.join(rt))?;
@@ -96,7 +104,7 @@ fn play<R: Threads + Abort>(
         let Ok(follower) = board.follow(None) else {
             panic!(rt; "a place was not found again");
         };
-        assert_eq!(rt; follower.joined(), 100);
+        assert!(rt; follower.joined() == 100);
         let _ = visit(alloc, follower, 1);
     }
     Ok(count)

@@ -16,16 +16,15 @@ fn a_follower_goes_to_another_thread(rt: HostRuntime) -> Result<(), Fail> {
         panic!(rt; "nobody follows");
     };
     let played = board.submit(move_of(&rt, "e2e4"));
-    assert_eq!(rt; played, Ok((0, None)));
+    assert!(rt; played == Ok((0, None)));
     let met = meet(&mut board, &mut follower);
-    assert_eq!(rt;
-        met,
-        Account {
+    assert!(rt;
+        met == (Account {
             joined: 0,
             taken: 0,
             limit: 1,
             cut: false
-        }
+        })
     );
     assert!(rt; matches!(board.follow(None), Err(Refusal::TooManyFollowers)));
     let child = thread::spawn(&rt, move || {
@@ -35,22 +34,22 @@ fn a_follower_goes_to_another_thread(rt: HostRuntime) -> Result<(), Fail> {
         (first, second, account)
     })?;
     let (first, second, account) = child.join(&rt);
-    assert_eq!(rt; first, Taken::Move(0, move_of(&rt, "e2e4")));
-    assert_eq!(rt; second, Taken::Nothing);
-    assert_eq!(rt;
-        account,
-        Account {
-            joined: 0,
-            taken: 1,
-            limit: 1,
-            cut: false
-        }
+    assert!(rt; first == Taken::Move(0, move_of(&rt, "e2e4")));
+    assert!(rt; second == Taken::Nothing);
+    assert!(rt;
+        account
+            == (Account {
+                joined: 0,
+                taken: 1,
+                limit: 1,
+                cut: false
+            })
     );
     let Ok(next) = board.follow(None) else {
         panic!(rt; "the place was not found again");
     };
-    assert_eq!(rt; next.joined(), 1);
-    assert_eq!(rt; next.taken(), 0);
+    assert!(rt; next.joined() == 1);
+    assert!(rt; next.taken() == 0);
     Ok(())
 }
 
@@ -72,17 +71,17 @@ fn after_a_meeting_it_knows_what_the_board_knows(rt: HostRuntime) -> Result<(), 
     let Ok(mut slow) = board.follow(None) else {
         panic!(rt; "nobody follows");
     };
-    assert_eq!(rt; board.submit(move_of(&rt, "e2e4")), Ok((0, None)));
-    assert_eq!(rt; board.submit(move_of(&rt, "e7e5")), Ok((1, None)));
-    assert_eq!(rt; meet(&mut board, &mut slow), told(0, 2, false));
-    assert_eq!(rt; board.submit(move_of(&rt, "g1f3")), Ok((2, None)));
-    assert_eq!(rt; meet(&mut board, &mut slow), told(0, 2, true));
-    assert_eq!(rt; slow.take(), Taken::Move(0, move_of(&rt, "e2e4")));
-    assert_eq!(rt; slow.take(), Taken::Move(1, move_of(&rt, "e7e5")));
-    assert_eq!(rt; slow.take(), Taken::Cut);
-    assert_eq!(rt; board.end(Ending::Agreed), Ok(Outcome::Agreed));
-    assert_eq!(rt; meet(&mut board, &mut slow), told(2, 2, true));
+    assert!(rt; board.submit(move_of(&rt, "e2e4")) == Ok((0, None)));
+    assert!(rt; board.submit(move_of(&rt, "e7e5")) == Ok((1, None)));
+    assert!(rt; meet(&mut board, &mut slow) == told(0, 2, false));
+    assert!(rt; board.submit(move_of(&rt, "g1f3")) == Ok((2, None)));
+    assert!(rt; meet(&mut board, &mut slow) == told(0, 2, true));
+    assert!(rt; slow.take() == Taken::Move(0, move_of(&rt, "e2e4")));
+    assert!(rt; slow.take() == Taken::Move(1, move_of(&rt, "e7e5")));
+    assert!(rt; slow.take() == Taken::Cut);
+    assert!(rt; board.end(Ending::Agreed) == Ok(Outcome::Agreed));
+    assert!(rt; meet(&mut board, &mut slow) == told(2, 2, true));
     let (account, _) = slow.leave();
-    assert_eq!(rt; account, told(2, 2, true));
+    assert!(rt; account == told(2, 2, true));
     Ok(())
 }
