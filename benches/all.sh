@@ -30,7 +30,7 @@ for round in $(seq "${ROUNDS:-3}"); do
     for followers in 0 1 64; do
         for which in ${OLD:+OLD} NEW; do
             eval "program=\$$which"
-            timed "script $followers" "$which" sh -c '"$0" script --boards 256 --followers 1024 --plies 16384 < "lines-$1" > "answers-script-$1-$2"' "$program" "$followers" "$which"
+            timed "script $followers" "$which" sh -c '"$0" script --boards 256 --followers 64 --plies 16384 < "lines-$1" > "answers-script-$1-$2"' "$program" "$followers" "$which"
         done
     done
     timed "positions" COUNT sh -c '"$0" deep > answers-count' "$COUNT"
