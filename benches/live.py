@@ -45,7 +45,7 @@ def build_peers(folder):
 
 def lines(words):
     """What a program says of its work: of each piece how much it was, and the nanoseconds that passed and that processors worked."""
-    with open(CRATE / "stdin") as moves:
+    with open(CRATE.parent / "bench_relay/stdin") as moves:
         ran = subprocess.run(words, stdin=moves, stdout=subprocess.DEVNULL, stderr=subprocess.PIPE, text=True, check=True)
     for line in ran.stderr.splitlines():
         what, _, numbers = line.rpartition(": ")
