@@ -1,5 +1,6 @@
 """Services: the port, the count of connections, and how the end of one is told. What is said in sessions stands in sessions.md."""
 
+import resource
 import socket
 import subprocess
 import sys
@@ -54,6 +55,26 @@ def connections(count):
     compare(f"after {count} connections", (printed, complained, server.returncode), (b"", f"served {count}, failed 0\n".encode(), 0))
 
 
+def too_few_descriptors():
+    """A connection that there is no descriptor for counts as failed, each time that it is tried, and the one before it is served."""
+    with listening() as free:
+        port = free.getsockname()[1]
+    # The three standard streams, the listener and one connection.
+    few = (5, 5)
+    words = [PROGRAM, "serve", "--port", str(port), "--connections", "3"]
+    with subprocess.Popen(
+        words, stdout=subprocess.PIPE, stderr=subprocess.PIPE, preexec_fn=lambda: resource.setrlimit(resource.RLIMIT_NOFILE, few)
+    ) as server:
+        try:
+            compare("the port", server.stdout.readline(), f"listening {port}\n".encode())
+            # The first says nothing, so that its session lasts as long as a handshake may, and keeps its descriptor meanwhile.
+            with socket.create_connection(("127.0.0.1", port), timeout=20), socket.create_connection(("127.0.0.1", port), timeout=20):
+                printed, complained = server.communicate(timeout=60)
+        finally:
+            server.kill()
+    compare("with five descriptors", (printed, complained, server.returncode), (b"", b"served 1, failed 2\n", 0))
+
+
 def default_port():
     """Without the word the port is the default one, unless another program of this machine has it."""
     with socket.socket() as probe:
@@ -75,4 +96,5 @@ def all_services():
     a_full_output()
     for count in (1, 3):
         connections(count)
-    return 4 + default_port()
+    too_few_descriptors()
+    return 5 + default_port()
