@@ -4,6 +4,7 @@ ghost use Rattle.std.specs.Prelude.{◌≡◌, ◌+◌, ◌<◌, ◌≤◌, ℕ,
 ghost use mathlib.Core.Option.{some};
 ghost use lib.ListN.{get_elem?};
 ghost use Rattle.std.specs.Map.{lookup};
+ghost use Rattle.std.specs.HashMap.{spare};
 ghost use Rattle.c960_game.specs.Ending.{named_outcome};
 ghost use Rattle.relay_core.specs.Inner.Boards.{end_answer_at, play_answer_at};
 ghost use Rattle.relay_core.specs.Inner.Followers.{account_of};
@@ -35,6 +36,7 @@ pub(crate) fn play(
     ensures answer { result ≡ play_answer_at m (option_map (λ b. game_of b.knows) (lookup (same_name board) boards.old.entries)) }
     ensures refused { OnErr result (boards.new.entries ≡ boards.old.entries) }
     ensures swapped { OnOk result (Swapped (λ b c. Submitted m b.knows c.knows × IsSound c.knows) board boards.old.entries boards.new.entries) }
+    ensures room { spare boards.new ≡ spare boards.old }
 {
     let Some(live) = boards.get_mut(&board) else {
         return Err(Refusal::NoSuchBoard);
@@ -52,6 +54,7 @@ pub(crate) fn end(
     ensures answer { result ≡ end_answer_at ending (option_map (λ b. game_of b.knows) (lookup (same_name board) boards.old.entries)) }
     ensures refused { OnErr result (boards.new.entries ≡ boards.old.entries) }
     ensures swapped { OnOk result (Swapped (λ b c. (c.knows ≡ finished (Some (named_outcome ending)) b.knows) × IsSound c.knows) board boards.old.entries boards.new.entries) }
+    ensures room { spare boards.new ≡ spare boards.old }
 {
     let Some(live) = boards.get_mut(&board) else {
         return Err(Refusal::NoSuchBoard);
@@ -66,6 +69,7 @@ pub(crate) fn take_for(boards: &mut IndexMap<BoardName, Board>, seated: Seated) 
     ensures swapped { Swapped (λ b c. TookAt seated.place result b.knows c.knows × IsSound c.knows
         × (result ≡ taken_of (seated.joined + seated.taken) b.knows.outcome (cut_at b.knows seated.place) (due_at b.knows seated.place (seated.joined + seated.taken))))
         seated.board boards.old.entries boards.new.entries }
+    ensures room { spare boards.new ≡ spare boards.old }
 {
     let Some(live) = boards.get_mut(&seated.board) else {
         unreachable!();
@@ -90,9 +94,10 @@ pub(crate) fn seat(boards: &mut IndexMap<BoardName, Board>, board: BoardName, pl
 pub(crate) fn leave_for(boards: &mut IndexMap<BoardName, Board>, seated: Seated) -> Account
     requires seated { IsSeated boards.old.entries seated }
     requires sound { (b : BoardSeat) → lookup (same_name seated.board) boards.old.entries ≡ Some b → IsSound b.knows × (b.knows.owns ≡ true) }
-    ensures { Swapped (λ b c. ((status cursor : ℕ) × (c.knows ≡ left_at (seated.place + 2) cursor (each_part (sees status) b.knows))) × IsSound c.knows
+    ensures swapped { Swapped (λ b c. ((status cursor : ℕ) × (c.knows ≡ left_at (seated.place + 2) cursor (each_part (sees status) b.knows))) × IsSound c.knows
         × ((capacity : ℕ) → result ≡ account_of (length b.knows.log) (held_in capacity b.knows seated)))
         seated.board boards.old.entries boards.new.entries }
+    ensures room { spare boards.new ≡ spare boards.old }
 {
     let Some(live) = boards.get_mut(&seated.board) else {
         unreachable!();

@@ -36,7 +36,7 @@ invariant_of-self-2 c =
     let a = c.self.inside in
     let f = c.in-Some.seated in
     let mine : lookup (nat_eq c.args.who) a.followers.entries ≡ Some f = sym c.shift_remove.ensures.value ∙ c.in-Some.is in
-    let t = c.leave_for.ensures in
+    let t = c.leave_for.ensures.swapped in
     lives a.limits a.boards.entries c.leave_for.new.boards.entries a.followers.entries c.shift_remove.new.self.entries c.args.who f c.self.invariant mine
     t.0 t.1 t.2 t.3.0.0 t.3.0.1 t.3.0.2 t.3.1 t.4 c.shift_remove.ensures.entries c.shift_remove.ensures.updates.0
 
@@ -45,7 +45,7 @@ returns-clause-stands c =
     let a = c.self.inside in
     let f = c.in-Some.seated in
     let mine : lookup (nat_eq c.args.who) a.followers.entries ≡ Some f = sym c.shift_remove.ensures.value ∙ c.in-Some.is in
-    let t = c.leave_for.ensures in
+    let t = c.leave_for.ensures.swapped in
     stands (held_of a) (held_by a.limits c.leave_for.new.boards.entries c.shift_remove.new.self.entries) _ _ c.self.invariant.kept _ c.self.view_is
     (subst (λ (x : Account). Goes (held_of a) (held_by a.limits c.leave_for.new.boards.entries c.shift_remove.new.self.entries) (Leave c.args.who) (Left x)) (sym (t.3.2 a.limits.capacity))
     (goes a.limits a.boards.entries c.leave_for.new.boards.entries a.followers.entries c.shift_remove.new.self.entries c.args.who f c.self.invariant mine

@@ -60,7 +60,7 @@ invariant_of-self c =
     let at = sym c.get.ensures.value ∙ ap option_copied c.in-Some.is in
     let t = c.take_for-taken.ensures.swapped in
     lives a.limits a.boards.entries c.take_for-taken.new.boards.entries a.followers.entries c.count_take.new.seats.entries c.args.who f c.self.invariant at c.take_for-taken.result t.0 t.1 t.2 t.3.0 t.3.1 t.3.2 t.4
-    (counted c.args.who a.followers.entries c.count_take.new.seats.entries f c.take_for-taken.result _ _ at c.in-Move.is c.count_take.ensures)
+    (counted c.args.who a.followers.entries c.count_take.new.seats.entries f c.take_for-taken.result _ _ at c.in-Move.is c.count_take.ensures.counted)
 
 pub invariant_of-self-in_default-taken : goal.invariant_of-self-in_default-taken
 invariant_of-self-in_default-taken c =
@@ -80,7 +80,7 @@ returns-clause-stands c =
     elim c.match-taken.branch [
       | in-Move w ↦ rw (w.self-is) (stands (held_of a) (held_by a.limits c.take_for-taken.new.boards.entries w.count_take.new.seats.entries) _ _ c.self.invariant.kept _ c.self.view_is
           (goes a.limits a.boards.entries c.take_for-taken.new.boards.entries a.followers.entries w.count_take.new.seats.entries c.args.who f c.self.invariant at c.take_for-taken.result t.0 t.1 t.2 t.3.0 t.3.1 t.3.2 t.4
-          (counted c.args.who a.followers.entries w.count_take.new.seats.entries f c.take_for-taken.result _ _ at w.in-Move.is w.count_take.ensures)))
+          (counted c.args.who a.followers.entries w.count_take.new.seats.entries f c.take_for-taken.result _ _ at w.in-Move.is w.count_take.ensures.counted)))
       | in_default-taken w ↦ rw (w.self-is) (stands (held_of a) (held_by a.limits c.take_for-taken.new.boards.entries a.followers.entries) _ _ c.self.invariant.kept _ c.self.view_is
           (goes a.limits a.boards.entries c.take_for-taken.new.boards.entries a.followers.entries a.followers.entries c.args.who f c.self.invariant at c.take_for-taken.result t.0 t.1 t.2 t.3.0 t.3.1 t.3.2 t.4
           (uncounted c.args.who a.followers.entries f c.take_for-taken.result at w.in_default-taken.not-Move)))
