@@ -5,6 +5,7 @@ pub mod LineFacts
 pub mod AnsweredFacts
 pub mod SendingFacts
 pub mod TakingFacts
+pub mod PieceFacts
 pub mod StopFacts
 pub mod RunFacts
 pub mod PlayFacts

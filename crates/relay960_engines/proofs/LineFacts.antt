@@ -1,10 +1,10 @@
 -- Lemmas on the lines of bytes, and on lines of which the first 1,025 bytes are kept.
-use Rattle.std.proofs.Common.{◌≡◌, ℕ, ◌<◌, ◌≤◌, ◌==◌, nat_lt, List, [], ◌∷◌, ◌++◌, length, take, map, zero, suc}
-use Rattle.std.proofs.Common.{Bool, true, false, cond, refl, sym, ap, ◌∙◌, arith, append_assoc}
-use Rattle.std.proofs.lemmas.Bool.{ltb-true, ltb-false}
-use Rattle.std.proofs.lemmas.List.{take-append-le, length-take, length-append}
+use Rattle.std.proofs.Common.{◌≡◌, ◌≢◌, ℕ, ◌-◌, ◌<◌, ◌≤◌, ◌==◌, nat_lt, slice_index, List, [], ◌∷◌, ◌++◌, length, take, map, zero, suc}
+use Rattle.std.proofs.Common.{Bool, true, false, cond, refl, sym, ap, ◌∙◌, arith, append_assoc, append-nil}
+use Rattle.std.proofs.lemmas.Bool.{ltb-true, ltb-false, ne_eqb}
+use Rattle.std.proofs.lemmas.List.{take-append-le, length-take, length-append, get_or-take, take_all}
 use Rattle.relay960_engines.specs.Lines.{whole_lines, last_piece, last_line, lines_of}
-use Rattle.relay960_engines.specs.Inner.Taking.{kept_with, kept_lines, kept_piece}
+use Rattle.relay960_engines.specs.Inner.Taking.{IsPlain, kept_behind, kept_with, kept_lines, kept_piece}
 
 -- the lines of some bytes and of more behind them
 pub kept_lines-append : (line xs ys : List ℕ)
@@ -38,13 +38,53 @@ pub kept_piece-end : (line : List ℕ) (b : ℕ) → b ≡ 10 → kept_piece lin
 unfolding kept_piece
 kept_piece-end line b is_end = rw is_end refl
 
-pub kept_lines-more : (line : List ℕ) (b : ℕ) → (b == 10) ≡ false → kept_lines line (b ∷ []) ≡ []
-unfolding kept_lines
-kept_lines-more line b more = ap (λ is_end. cond is_end (line ∷ []) []) more
+-- ---- Bytes with no line feed.
 
-pub kept_piece-more : (line : List ℕ) (b : ℕ) → (b == 10) ≡ false → kept_piece line (b ∷ []) ≡ kept_with line b
+tail_plain : (x : ℕ) (xs : List ℕ) → IsPlain (x ∷ xs) → IsPlain xs
+tail_plain x xs plain = λ k below. plain (suc k) (omega arith)
+
+-- they end no line
+pub kept_lines-plain : (line xs : List ℕ) → IsPlain xs → kept_lines line xs ≡ []
+unfolding kept_lines
+kept_lines-plain line [] plain = refl
+kept_lines-plain line (x ∷ xs) plain =
+    ap (λ is_end. cond is_end (line ∷ kept_lines [] xs) (kept_lines (kept_with line x) xs)) (ne_eqb x 10 (plain 0 (omega arith)))
+    ∙ kept_lines-plain (kept_with line x) xs (tail_plain x xs plain)
+
+behind_at : (has_room : Bool) (line : List ℕ) (x : ℕ) (xs : List ℕ) → nat_lt (length line) 1025 ≡ has_room
+    → kept_behind (cond has_room (line ++ x ∷ []) line) xs ≡ kept_behind line (x ∷ xs)
+behind_at true line x xs e =
+    let short : length line < 1025 = ltb-true _ _ e in
+    let one : 1025 - length line ≡ suc (1025 - length (line ++ x ∷ [])) = omega (arith, short, length-append line (x ∷ [])) in
+    append_assoc line (x ∷ []) (take (1025 - length (line ++ x ∷ [])) xs) ∙ sym (ap (λ n. line ++ take n (x ∷ xs)) one)
+behind_at false line x xs e =
+    let long : 1025 ≤ length line = ltb-false _ _ e in
+    let none : 1025 - length line ≡ 0 = omega (arith, long) in
+    ap (λ n. line ++ take n xs) none ∙ sym (ap (λ n. line ++ take n (x ∷ xs)) none)
+
+-- they stand behind the line, as far as they are kept
+pub kept_piece-plain : (line xs : List ℕ) → IsPlain xs → kept_piece line xs ≡ kept_behind line xs
 unfolding kept_piece
-kept_piece-more line b more = ap (λ is_end. cond is_end [] (kept_with line b)) more
+kept_piece-plain line [] plain = sym (ap (λ l. line ++ l) (take_all (1025 - length line) [] (omega arith)) ∙ append-nil line)
+kept_piece-plain line (x ∷ xs) plain =
+    ap (λ is_end. cond is_end (kept_piece [] xs) (kept_piece (kept_with line x) xs)) (ne_eqb x 10 (plain 0 (omega arith)))
+    ∙ kept_piece-plain (kept_with line x) xs (tail_plain x xs plain) ∙ behind_at _ line x xs refl
+
+-- a line feed behind them ends a line
+pub kept_lines-ended : (line xs : List ℕ) → IsPlain xs → kept_lines line (xs ++ 10 ∷ []) ≡ kept_behind line xs ∷ []
+kept_lines-ended line xs plain =
+    kept_lines-append line xs (10 ∷ [])
+    ∙ ap (λ ls. ls ++ kept_lines (kept_piece line xs) (10 ∷ [])) (kept_lines-plain line xs plain)
+    ∙ kept_lines-end (kept_piece line xs) 10 refl ∙ ap (λ l. l ∷ []) (kept_piece-plain line xs plain)
+
+pub kept_piece-ended : (line xs : List ℕ) → kept_piece line (xs ++ 10 ∷ []) ≡ []
+kept_piece-ended line xs = kept_piece-append line xs (10 ∷ []) ∙ kept_piece-end (kept_piece line xs) 10 refl
+
+-- bytes before the first line feed
+pub plain_front : (xs : List ℕ) (end n : ℕ) → ((k : ℕ) → k < end → slice_index xs k ≢ 10) → n ≤ end → IsPlain (take n xs)
+plain_front xs end n plain within = λ k below.
+    let before : k < n = omega (arith, below, length-take n xs) in
+    λ is. plain k (omega (arith, before, within)) (sym (get_or-take n xs k 0 before) ∙ is)
 
 -- ---- What is kept is the first 1,025 bytes.
 

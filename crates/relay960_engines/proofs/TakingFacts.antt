@@ -1,8 +1,7 @@
 -- Lemmas on bytes that were taken, and on a run that stopped within them.
-use Rattle.std.proofs.Common.{◌≡◌, ℕ, ◌+◌, ◌<◌, ◌≤◌, ◌⊎◌, ◌==◌, List, [], ◌∷◌, ◌++◌, length, take, drop, get_or, false}
-use Rattle.std.proofs.Common.{refl, sym, ap, ◌∙◌, subst, inl, inr, arith, append-nil, append_assoc, length-append, take-append-drop}
+use Rattle.std.proofs.Common.{◌≡◌, ℕ, ◌+◌, ◌<◌, ◌≤◌, List, [], ◌∷◌, ◌++◌, length}
+use Rattle.std.proofs.Common.{refl, sym, ap, ◌∙◌, subst, inl, inr, arith, append-nil, append_assoc, length-append}
 use Rattle.std.proofs.Common.{Result, Ok, Err, OnOk, OnErr, IfErr}
-use Rattle.std.proofs.lemmas.List.{take_more}
 use Rattle.std.proofs.KnownBytes.{Consumes-trans}
 use Rattle.std.specs.Io.KnownBytes.{Appends, Consumes}
 use Rattle.relay960_engines.specs.declared.bounds.Bounds.{Bounds}
@@ -12,10 +11,10 @@ use Rattle.relay960_engines.specs.declared.progress.Progress.{Progress}
 use Rattle.relay960_engines.specs.Lines.{Giving, Between, last_line}
 use Rattle.relay960_engines.specs.Runs.{Known, one_read}
 use Rattle.relay960_engines.specs.Writing.{AppendsPart}
-use Rattle.relay960_engines.specs.Inner.Sending.{Outlet, settled, Sends, Sent, SentPart}
-use Rattle.relay960_engines.specs.Inner.Taking.{kept_with, kept_lines, kept_piece, Within, Taken, Unwritten, IsWithin, IsAtBound, StopsBy, StopsIn, StopsReading}
-use Rattle.relay960_engines.proofs.LineFacts.{kept_lines-append, kept_piece-append, kept_lines-end, kept_piece-end, kept_lines-more, kept_piece-more}
-use Rattle.relay960_engines.proofs.SendingFacts.{Sent-nil, Sent-none, Sent-none_part, Sent-trans, Sent-part, Sent-settled, Sent-unsettled}
+use Rattle.relay960_engines.specs.Inner.Sending.{Outlet, settled, Sent, SentPart}
+use Rattle.relay960_engines.specs.Inner.Taking.{kept_lines, kept_piece, Within, Taken, IsWithin, IsAtBound, StopsBy, StopsIn, StopsReading}
+use Rattle.relay960_engines.proofs.LineFacts.{kept_lines-append, kept_piece-append}
+use Rattle.relay960_engines.proofs.SendingFacts.{Sent-nil, Sent-none_part, Sent-trans, Sent-part, Sent-settled, Sent-unsettled}
 
 -- ---- Bytes that were taken.
 
@@ -50,51 +49,13 @@ Taken-trans gives s t u p q r xs ys a b c first second =
       total = omega (arith, first.total, second.total, length-append xs ys);
     }
 
--- a line feed, and the answer to its line
-pub taken_end : {S : Type 0} (gives : Giving S) (s t : S) (p q : Progress) (b : ℕ) (old new : Outlet) → b ≡ 10
-    → Sent (Between gives s t) (p.line ∷ []) old new → q.line ≡ [] → q.answered ≡ p.answered + 1 → q.taken ≡ p.taken + 1
-    → Taken gives s t p q (b ∷ []) old new
-taken_end gives s t p q b old new is_end wrote none count total =
-    let lines : kept_lines p.line (b ∷ []) ≡ p.line ∷ [] = kept_lines-end p.line b is_end in
-    record {
-      sent = subst (λ ls. Sent (Between gives s t) ls old new) (sym lines) wrote;
-      piece = none ∙ sym (kept_piece-end p.line b is_end);
-      count = count ∙ ap (λ ls. p.answered + length ls) (sym lines);
-      total = total;
-    }
-
--- a byte of a line
-pub taken_more : {S : Type 0} (gives : Giving S) (s : S) (p q : Progress) (b : ℕ) (a : Outlet) → (b == 10) ≡ false
-    → q.line ≡ kept_with p.line b → q.answered ≡ p.answered → q.taken ≡ p.taken + 1
-    → Taken gives s s p q (b ∷ []) a a
-taken_more gives s p q b a more line same total =
-    let lines : kept_lines p.line (b ∷ []) ≡ [] = kept_lines-more p.line b more in
-    record {
-      sent = subst (λ ls. Sent (Between gives s s) ls a a) (sym lines) (Sent-nil gives s a);
-      piece = line ∙ sym (kept_piece-more p.line b more);
-      count = omega (arith, same, ap length lines);
-      total = total;
-    }
-
 -- ---- A run that stopped.
 
 -- before the first of the bytes the counts are those of the progress
-within_before : (bounds : Bounds) (p : Progress) → Within bounds p → IsWithin bounds p []
+pub within_before : (bounds : Bounds) (p : Progress) → Within bounds p → IsWithin bounds p []
 unfolding kept_lines
 within_before bounds p within =
     record { lines_within = omega (arith, within.answered_within); bytes_within = omega (arith, within.taken_within) }
-
-bound_before : (bounds : Bounds) (p : Progress) → (bounds.lines ≤ p.answered) ⊎ (bounds.bytes ≤ p.taken) → IsAtBound bounds p []
-unfolding kept_lines
-bound_before bounds p (inl h) = inl (omega (arith, h))
-bound_before bounds p (inr h) = inr (omega (arith, h))
-
--- a line feed adds a line
-within_at_line : (bounds : Bounds) (p : Progress) (b : ℕ) → b ≡ 10 → p.answered < bounds.lines → p.taken < bounds.bytes
-    → IsWithin bounds p (b ∷ [])
-within_at_line bounds p b is_end few short =
-    let one : length (kept_lines p.line (b ∷ [])) ≡ 1 = ap length (kept_lines-end p.line b is_end) in
-    record { lines_within = omega (arith, one, few); bytes_within = omega (arith, short) }
 
 -- behind bytes that were taken, the counts go on
 pub within_behind : {S : Type 0} (gives : Giving S) (s t : S) (p q : Progress) (bounds : Bounds) (xs seen : List ℕ) (a b : Outlet)
@@ -116,20 +77,7 @@ bound_behind gives s t p q bounds xs seen a b first (inl h) =
 bound_behind gives s t p q bounds xs seen a b first (inr h) =
     inr (omega (arith, first.total, length-append xs seen, h))
 
--- a bound stands before the bytes, and what was due was written
-pub stops_at_bound : {S : Type 0} (gives : Giving S) (s : S) (p : Progress) (bounds : Bounds) (b : ℕ) (bs : List ℕ) (old new : Outlet)
-    → Within bounds p → (bounds.lines ≤ p.answered) ⊎ (bounds.bytes ≤ p.taken) → Sends old new []
-    → StopsIn gives s s p bounds (b ∷ bs) old new TooLong
-unfolding kept_lines
-stops_at_bound gives s p bounds b bs old new within reached sends = record {
-  seen = [];
-  unseen = b ∷ bs;
-  split = refl;
-  within = within_before bounds p within;
-  stop = (omega arith, Sent-none gives s old new sends, bound_before bounds p reached);
-}
-
--- the same, and it was not written whole
+-- what was due was not written whole before the bytes
 pub stops_unsent : {S : Type 0} (gives : Giving S) (s : S) (p : Progress) (bounds : Bounds) (bs : List ℕ) (old new : Outlet)
     (e : RunFault) → Within bounds p → e ≡ Write → AppendsPart old.held new.held old.due → StopsIn gives s s p bounds bs old new e
 unfolding kept_lines
@@ -142,29 +90,6 @@ stops_unsent gives s p bounds bs old new e within is part =
       within = within_before bounds p within;
       stop = Sent-none_part gives s old new part;
     })
-
--- the answer to a line was not written whole
-pub stops_at_line : {S : Type 0} (gives : Giving S) (s t : S) (p : Progress) (bounds : Bounds) (b : ℕ) (old new : Outlet)
-    (fault : RunFault) → b ≡ 10 → Within bounds p → p.answered < bounds.lines → p.taken < bounds.bytes
-    → Unwritten gives s t (p.line ∷ []) old new fault → StopsIn gives s t p bounds (b ∷ []) old new fault
-unfolding kept_lines
-stops_at_line gives s t p bounds b old new Write is_end within few short part = record {
-  seen = b ∷ [];
-  unseen = [];
-  split = refl;
-  within = within_at_line bounds p b is_end few short;
-  stop = subst (λ ls. SentPart (Between gives s t) ls old new) (sym (kept_lines-end p.line b is_end)) part;
-}
-stops_at_line gives s t p bounds b old new OutOfMemory is_end within few short kept = record {
-  seen = [];
-  unseen = b ∷ [];
-  split = refl;
-  within = within_before bounds p within;
-  stop = (s, Sent-none gives s old new kept);
-}
-stops_at_line gives s t p bounds b old new Read is_end within few short none = absurd none
-stops_at_line gives s t p bounds b old new TooLong is_end within few short none = absurd none
-stops_at_line gives s t p bounds b old new BadStart is_end within few short none = absurd none
 
 stop_behind : {S : Type 0} (gives : Giving S) (s t u : S) (p q : Progress) (bounds : Bounds) (xs seen unseen : List ℕ)
     (a b c : Outlet) (fault : RunFault) → Taken gives s t p q xs a b
@@ -196,28 +121,6 @@ stops_behind gives s t u p q bounds xs ys a b c fault first stops = record {
   split = ap (λ l. xs ++ l) stops.split ∙ sym (append_assoc xs stops.seen stops.unseen);
   within = within_behind gives s t p q bounds xs stops.seen a b first stops.within;
   stop = stop_behind gives s t u p q bounds xs stops.seen stops.unseen a b c fault first stops.stop;
-}
-
-stop_before : {S : Type 0} (gives : Giving S) (s t : S) (p : Progress) (bounds : Bounds) (seen unseen ys : List ℕ)
-    (a b : Outlet) (fault : RunFault) → StopsBy gives s t p bounds seen unseen a b fault
-    → StopsBy gives s t p bounds seen (unseen ++ ys) a b fault
-stop_before gives s t p bounds seen unseen ys a b Write stop = stop
-stop_before gives s t p bounds seen unseen ys a b OutOfMemory stop = stop
-stop_before gives s t p bounds seen unseen ys a b TooLong (more, wrote, bound) =
-    (omega (arith, more, length-append unseen ys), wrote, bound)
-stop_before gives s t p bounds seen unseen ys a b Read none = absurd none
-stop_before gives s t p bounds seen unseen ys a b BadStart none = absurd none
-
--- bytes behind were not looked at
-pub stops_before : {S : Type 0} (gives : Giving S) (s t : S) (p : Progress) (bounds : Bounds) (xs ys : List ℕ)
-    (a b : Outlet) (fault : RunFault) → StopsIn gives s t p bounds xs a b fault
-    → StopsIn gives s t p bounds (xs ++ ys) a b fault
-stops_before gives s t p bounds xs ys a b fault stops = record {
-  seen = stops.seen;
-  unseen = stops.unseen ++ ys;
-  split = ap (λ l. l ++ ys) stops.split ∙ append_assoc stops.seen stops.unseen ys;
-  within = stops.within;
-  stop = stop_before gives s t p bounds stops.seen stops.unseen ys a b fault stops.stop;
 }
 
 -- a stop within the bytes of a further read
@@ -305,29 +208,3 @@ stops_at_read gives s t p q bounds xs old_input new_input a b read within took =
     took.sent,
   );
 }
-
--- ---- Byte by byte.
-
--- one byte more of a chunk
-pub taken_byte : {S : Type 0} (gives : Giving S) (s t u : S) (p q r : Progress) (chunk : List ℕ) (i x : ℕ) (a b c : Outlet)
-    → i < length chunk → x ≡ get_or chunk i 0 → Taken gives s t p q (take i chunk) a b
-    → Taken gives t u q r (x ∷ []) b c → Taken gives s u p r (take (i + 1) chunk) a c
-taken_byte gives s t u p q r chunk i x a b c below same first second =
-    let grown : take i chunk ++ x ∷ [] ≡ take (i + 1) chunk =
-    ap (λ y. take i chunk ++ y ∷ []) same ∙ sym (take_more chunk i 0 below) in
-    subst (λ l. Taken gives s u p r l a c) grown
-    (Taken-trans gives s t u p q r (take i chunk) (x ∷ []) a b c first second)
-
--- a stop at a byte of a chunk
-pub stops_at_byte : {S : Type 0} (gives : Giving S) (s t u : S) (p q : Progress) (bounds : Bounds) (chunk : List ℕ) (i x : ℕ)
-    (a b c : Outlet) (fault : RunFault) → i < length chunk → x ≡ get_or chunk i 0
-    → Taken gives s t p q (take i chunk) a b → StopsIn gives t u q bounds (x ∷ []) b c fault
-    → StopsIn gives s u p bounds chunk a c fault
-stops_at_byte gives s t u p q bounds chunk i x a b c fault below same first stops =
-    let grown : take i chunk ++ x ∷ [] ≡ take (i + 1) chunk =
-    ap (λ y. take i chunk ++ y ∷ []) same ∙ sym (take_more chunk i 0 below) in
-    let whole : (take i chunk ++ x ∷ []) ++ drop (i + 1) chunk ≡ chunk =
-    ap (λ l. l ++ drop (i + 1) chunk) grown ∙ take-append-drop (i + 1) chunk in
-    subst (λ l. StopsIn gives s u p bounds l a c fault) whole
-    (stops_before gives s u p bounds (take i chunk ++ x ∷ []) (drop (i + 1) chunk) a c fault
-    (stops_behind gives s t u p q bounds (take i chunk) (x ∷ []) a b c fault first stops))

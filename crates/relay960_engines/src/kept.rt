@@ -1,8 +1,9 @@
 //! The line that is being read, of which the first bytes alone are kept.
 
 ghost use Rattle.std.specs.Prelude.{◌≡◌, ◌==◌, [], length, IfOk};
-ghost use Rattle.relay960_engines.specs.Inner.Taking.{kept_with};
+ghost use Rattle.relay960_engines.specs.Inner.Taking.{kept_behind};
 
+use crate::pieces::front;
 use std::alloc::{AllocError, Global};
 use std::marker::Model;
 
@@ -38,13 +39,13 @@ impl KeptLine {
         Ok(KeptLine { bytes })
     }
 
-    /// Keeps one more byte, where fewer than `KEPT` are kept.
-    pub fn push(&mut self, byte: u8)
-        ensures { self.new ≡ kept_with self.old byte }
+    /// Keeps more bytes, as far as fewer than `KEPT` are kept.
+    pub fn extend(&mut self, piece: &[u8])
+        ensures { self.new ≡ kept_behind self.old piece.now }
     {
-        if self.bytes.len() < KEPT {
-            self.bytes.push_reserved(byte);
-        }
+        let room = KEPT.saturating_sub(self.bytes.len());
+        // The memory is there.
+        let _ = self.bytes.extend_from_slice(front(piece, room));
     }
 
     /// Begins the next line.

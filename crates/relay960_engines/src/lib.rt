@@ -13,6 +13,7 @@ mod limits;
 mod lines;
 mod listing;
 mod moves;
+mod pieces;
 mod play;
 mod play_texts;
 mod progress;

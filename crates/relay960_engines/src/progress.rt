@@ -1,18 +1,19 @@
-//! How the bytes of a stream are taken, one after another: each line is answered as soon as its line feed is seen, and the answers to
+//! How the bytes of a stream are taken, a line at a time: each line is answered as soon as its line feed is seen, and the answers to
 //! the lines of one read go out together.
 
-ghost use Rattle.std.specs.Prelude.{◌≡◌, ◌∷◌, [], IfOk, IfErr, OnOk};
+ghost use Rattle.std.specs.Prelude.{◌≡◌, ◌<◌, ◌≤◌, ◌∷◌, [], length, take, IfOk, IfErr, OnOk};
 ghost use Rattle.relay960_engines.specs.Failures.{writes_failed};
 ghost use Rattle.relay960_engines.specs.Lines.{Between};
 ghost use Rattle.relay960_engines.specs.Inner.Sending.{Sent, outlet, settled};
-ghost use Rattle.relay960_engines.specs.Inner.Taking.{StopsIn, Taken, Unwritten, Within};
+ghost use Rattle.relay960_engines.specs.Inner.Taking.{StopsIn, Taken, Unwritten, Within, kept_behind};
 
 use crate::answerer::Answerer;
 use crate::bounds::Bounds;
 use crate::devices::WriteDevice;
 use crate::due::Due;
 use crate::fault::RunFault;
-use crate::kept::KeptLine;
+use crate::kept::{KEPT, KeptLine};
+use crate::pieces::{front, line_end};
 use std::alloc::{AllocError, Global};
 
 /// How far a run has come.
@@ -68,41 +69,77 @@ pub fn answer_line<A: Answerer, W: WriteDevice>(
     }
 }
 
-/// Takes one byte, where both bounds allow it: a line feed ends the line, which is answered, and any other byte belongs
-/// to it. Before any fault what was due is written.
-fn take_byte<A: Answerer, W: WriteDevice>(
+/// Adds the answer to the line that was begun and that the piece ends, and begins the next line. A line of which nothing was begun is
+/// answered where it stands, with no copy.
+fn answer_ended<A: Answerer, W: WriteDevice>(
+    alloc: Global,
+    answerer: &mut A,
+    due: &mut Due,
+    writer: &mut W,
+    begun: &mut KeptLine,
+    piece: &[u8],
+) -> Result<(), RunFault>
+    ensures none { OnOk result (begun.new ≡ []) }
+    ensures sent { OnOk result (Sent (Between A.gives answerer.old answerer.new) (kept_behind begun.old piece.now ∷ [])
+        (outlet (W.contents writer.old) due.old) (outlet (W.contents writer.new) due.new)) }
+    ensures failed { IfErr result (λ fault. Unwritten A.gives answerer.old answerer.new (kept_behind begun.old piece.now ∷ [])
+        (outlet (W.contents writer.old) due.old) (settled (W.contents writer.new)) fault) }
+    ensures writes_counted { W.failures writer.new ≡ writes_failed result (W.failures writer.old) }
+{
+    if begun.is_empty() {
+        return answer_line(alloc, answerer, due, writer, front(piece, KEPT));
+    }
+    begun.extend(piece);
+    answer_line(alloc, answerer, due, writer, begun.as_slice())?;
+    begun.clear();
+    Ok(())
+}
+
+/// Takes the front of the bytes, up to the first line feed and with it, where both bounds allow it, and gives the number of its bytes:
+/// a line feed ends the line, which is answered, and the other bytes belong to it. Before any fault what was due is written.
+fn take_front<A: Answerer, W: WriteDevice>(
     alloc: Global,
     answerer: &mut A,
     due: &mut Due,
     writer: &mut W,
     progress: &mut Progress,
     bounds: Bounds,
-    byte: u8,
-) -> Result<(), RunFault>
-    requires { Within bounds progress.old }
+    bytes: &[u8],
+) -> Result<usize, RunFault>
+    requires within { Within bounds progress.old }
+    requires some { 0 < length bytes.now }
+    ensures count { IfOk result (λ n. (0 < n) × (n ≤ length bytes.now)) }
     ensures within { OnOk result (Within bounds progress.new) }
-    ensures took { OnOk result (Taken A.gives answerer.old answerer.new progress.old progress.new (byte ∷ [])
+    ensures took { IfOk result (λ n. Taken A.gives answerer.old answerer.new progress.old progress.new (take n bytes.now)
         (outlet (W.contents writer.old) due.old) (outlet (W.contents writer.new) due.new)) }
     ensures failed { IfErr result (λ fault. StopsIn A.gives answerer.old answerer.new progress.old bounds
-        (byte ∷ []) (outlet (W.contents writer.old) due.old) (settled (W.contents writer.new)) fault) }
+        bytes.now (outlet (W.contents writer.old) due.old) (settled (W.contents writer.new)) fault) }
     ensures writes_counted { W.failures writer.new ≡ writes_failed result (W.failures writer.old) }
 {
-    if progress.answered >= bounds.lines || progress.taken >= bounds.bytes {
+    let end = line_end(bytes);
+    let count = if end < bytes.len() { end + 1 } else { end };
+    if progress.answered >= bounds.lines || count as u64 > bounds.bytes - progress.taken {
         due.send(writer)?;
         return Err(RunFault::TooLong);
     }
-    progress.taken += 1;
-    if byte != b'\n' {
-        progress.line.push(byte);
-        return Ok(());
+    progress.taken += count as u64;
+    if end < bytes.len() {
+        answer_ended(
+            alloc,
+            answerer,
+            due,
+            writer,
+            &mut progress.line,
+            &bytes[..end],
+        )?;
+        progress.answered += 1;
+    } else {
+        progress.line.extend(bytes);
     }
-    answer_line(alloc, answerer, due, writer, progress.line.as_slice())?;
-    progress.line.clear();
-    progress.answered += 1;
-    Ok(())
+    Ok(count)
 }
 
-/// Takes the bytes one after another, as far as both bounds allow it. Before any fault what was due is written.
+/// Takes the bytes, as far as both bounds allow it. Before any fault what was due is written.
 fn take_bytes<A: Answerer, W: WriteDevice>(
     alloc: Global,
     answerer: &mut A,
@@ -120,8 +157,17 @@ fn take_bytes<A: Answerer, W: WriteDevice>(
         chunk.now (outlet (W.contents writer.old) due.old) (settled (W.contents writer.new)) fault) }
     ensures writes_counted { W.failures writer.new ≡ writes_failed result (W.failures writer.old) }
 {
-    for byte in chunk {
-        take_byte(alloc, answerer, due, writer, progress, bounds, *byte)?;
+    let mut taken = 0;
+    while taken < chunk.len() {
+        taken += take_front(
+            alloc,
+            answerer,
+            due,
+            writer,
+            progress,
+            bounds,
+            &chunk[taken..],
+        )?;
     }
     Ok(())
 }

@@ -1,5 +1,5 @@
 -- What the bytes of a stream do to a run that keeps the first 1,025 bytes of a line.
-use Rattle.std.specs.Prelude.{ℕ, ◌≡◌, ◌+◌, ◌<◌, ◌≤◌, ◌⊎◌, ◌==◌, nat_lt, List, [], ◌∷◌, ◌++◌, length, cond}
+use Rattle.std.specs.Prelude.{ℕ, ◌≡◌, ◌≢◌, ◌+◌, ◌-◌, ◌<◌, ◌≤◌, ◌⊎◌, ◌==◌, nat_lt, List, [], ◌∷◌, ◌++◌, length, take, slice_index, cond}
 use Rattle.std.specs.Io.KnownBytes.{Consumes, IsAtEnd}
 use Rattle.relay960_engines.specs.declared.bounds.Bounds.{Bounds}
 use Rattle.relay960_engines.specs.declared.fault.RunFault.{RunFault}
@@ -24,6 +24,14 @@ kept_lines line (b ∷ bs) = cond (b == 10) (line ∷ kept_lines [] bs) (kept_li
 unfoldable pub kept_piece : List ℕ → List ℕ → List ℕ
 kept_piece line [] = line
 kept_piece line (b ∷ bs) = cond (b == 10) (kept_piece [] bs) (kept_piece (kept_with line b) bs)
+
+-- no line feed is among the bytes
+abbrev pub IsPlain : List ℕ → Type 0
+IsPlain bytes = (k : ℕ) → k < length bytes → slice_index bytes k ≢ 10
+
+-- what is kept of a line with these bytes behind it
+abbrev pub kept_behind : List ℕ → List ℕ → List ℕ
+kept_behind line bytes = line ++ take (1025 - length line) bytes
 
 -- ---- Bytes that were taken.
 

@@ -1,20 +1,22 @@
-use Rattle.std.proofs.Common.{rules, refl, ◌∙◌}
+use Rattle.std.proofs.Common.{rules, arith, refl, ◌∙◌}
+use Rattle.std.proofs.lemmas.List.{length-drop}
 use Rattle.relay960_engines.proofs.AnswerFacts.{passed_on}
-use Rattle.relay960_engines.proofs.TakingFacts.{Taken-nil, taken_byte, stops_at_byte}
+use Rattle.relay960_engines.proofs.PieceFacts.{taken_front, stops_at_front}
+use Rattle.relay960_engines.proofs.TakingFacts.{Taken-nil}
 use Rattle.relay960_engines.proofs.progress.take_bytes.Goals as goal
 
-pub loop-byte-init : goal.loop-byte-init
-loop-byte-init g c = record { within = c.requires; took = Taken-nil _ _ _ _; counted = refl }
+pub loop-taken-init : goal.loop-taken-init
+loop-taken-init g c = record { inside = search rules; within = c.requires; took = Taken-nil _ _ _ _; counted = refl }
 
-pub returns-in_err-take_byte-clause-failed : goal.returns-in_err-take_byte-clause-failed
-returns-in_err-take_byte-clause-failed g c =
-    passed_on _ _ _ c.from_residual.ensures.1 (stops_at_byte _ _ _ _ _ _ _ c.args.chunk.now c.loop-byte.byte-index _ _ _ _ _
-    (search rules) refl c.loop-byte.invariant.took c.in_err-take_byte.ensures.failed)
+pub returns-in_err-taken-clause-failed : goal.returns-in_err-taken-clause-failed
+returns-in_err-taken-clause-failed g c =
+    passed_on _ _ _ c.from_residual.ensures.1 (stops_at_front _ _ _ _ _ _ _ c.args.chunk.now c.loop-taken.taken _ _ _ _
+    c.loop-taken.invariant.took c.in_err-taken.ensures.failed)
 
-pub loop-byte-preserved : goal.loop-byte-preserved
-loop-byte-preserved g c = record {
-  within = c.in_ok-take_byte.ensures.within;
-  took = taken_byte _ _ _ _ _ _ _ c.args.chunk.now c.loop-byte.byte-index _ _ _ _
-      (search rules) refl c.loop-byte.invariant.took c.in_ok-take_byte.ensures.took;
-  counted = c.in_ok-take_byte.ensures.writes_counted ∙ c.loop-byte.invariant.counted;
+pub loop-taken-preserved : goal.loop-taken-preserved
+loop-taken-preserved g c = record {
+  inside = omega (arith, c.in_ok-taken.ensures.count.1, c.loop-taken-test.true, length-drop c.loop-taken.taken c.args.chunk.now);
+  within = c.in_ok-taken.ensures.within;
+  took = taken_front _ _ _ _ _ _ _ c.args.chunk.now c.loop-taken.taken _ _ _ _ c.loop-taken.invariant.took c.in_ok-taken.ensures.took;
+  counted = c.in_ok-taken.ensures.writes_counted ∙ c.loop-taken.invariant.counted;
 }

@@ -1,13 +1,18 @@
-use Rattle.std.proofs.Common.{◌≡◌, take}
+use Rattle.std.proofs.Common.{◌≡◌, ◌≤◌, ◌-◌, length, take}
 use Rattle.relay960_engines.specs.Inner.Sending.{outlet}
 use Rattle.relay960_engines.specs.Inner.Taking.{Taken, Within}
 use Rattle.relay960_engines.proofs.progress.take_bytes.Given as goal
 
--- the bytes before this one are taken, and nothing else, and no write has failed
-abbrev pub invariant-loop-byte : goal.invariant-loop-byte
-invariant-loop-byte g l = record {
+-- so many bytes of the chunk are taken, and nothing else, and no write has failed
+abbrev pub invariant-loop-taken : goal.invariant-loop-taken
+invariant-loop-taken g l = record {
+  inside : l.taken ≤ length l.chunk;
   within : Within l.bounds l.progress;
-  took : Taken g.A.Answerer.gives l.fn.answerer l.answerer l.fn.progress l.progress (take l.byte-index l.chunk)
+  took : Taken g.A.Answerer.gives l.fn.answerer l.answerer l.fn.progress l.progress (take l.taken l.chunk)
       (outlet (g.W.WriteDevice.contents l.fn.writer) l.fn.due) (outlet (g.W.WriteDevice.contents l.writer) l.due);
   counted : g.W.WriteDevice.failures l.writer ≡ g.W.WriteDevice.failures l.fn.writer;
 }
+
+-- the bytes that are left
+abbrev pub decreases-loop-taken : goal.decreases-loop-taken
+decreases-loop-taken g l = length l.chunk - l.taken
