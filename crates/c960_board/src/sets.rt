@@ -20,7 +20,8 @@ pub struct Sets {
 }
 
 /// The square of a number below 64.
-fn square_of(number: u8) -> Square
+#[inline(always)]
+pub(crate) fn square_of(number: u8) -> Square
     requires { number < 64 }
     ensures { result ≡ number }
 {
@@ -152,16 +153,15 @@ impl Sets {
     pub fn cell(&self, square: Square) -> Option<Piece>
         ensures { result ≡ cell_in self.now square }
     {
-        let kind = self.kind_on(square);
         if Sets::is_in(self.white, square) {
             Some(Piece {
                 colour: Colour::White,
-                kind,
+                kind: self.kind_on(square),
             })
         } else if Sets::is_in(self.black, square) {
             Some(Piece {
                 colour: Colour::Black,
-                kind,
+                kind: self.kind_on(square),
             })
         } else {
             None
