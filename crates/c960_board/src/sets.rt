@@ -1,6 +1,6 @@
 //! The squares of a placement's pieces as sets: bit s of a set, counted from the lowest, is 1 where the square s is in it.
 
-ghost use Rattle.std.specs.Prelude.{◌≡◌, ◌<◌};
+ghost use Rattle.std.specs.Prelude.{◌≡◌};
 ghost use Rattle.c960_board.specs.Pieces.{is_of};
 
 use crate::piece::{Colour, Kind, Piece};
@@ -17,18 +17,6 @@ pub struct Sets {
     pub rooks: u64,
     pub queens: u64,
     pub kings: u64,
-}
-
-/// The square of a number below 64.
-#[inline(always)]
-pub(crate) fn square_of(number: u8) -> Square
-    requires { number < 64 }
-    ensures { result ≡ number }
-{
-    match Square::new(number) {
-        Some(square) => square,
-        None => unreachable!(),
-    }
 }
 
 impl Sets {
@@ -174,7 +162,7 @@ impl Sets {
     {
         let mut placement = [None; 64];
         for number in 0..64u8 {
-            placement[number as usize] = self.cell(square_of(number));
+            placement[number as usize] = self.cell(Square::known(number));
         }
         placement
     }

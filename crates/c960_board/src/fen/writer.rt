@@ -12,7 +12,7 @@ use crate::fen::bytes::FenBytes;
 use crate::piece::{Colour, Kind, Piece};
 use crate::position::Position;
 use crate::rights::CastlingRights;
-use crate::sets::{Sets, square_of};
+use crate::sets::Sets;
 use crate::square::Square;
 use crate::square_text::square_bytes;
 use arrayvec::ArrayVec;
@@ -56,7 +56,7 @@ fn write_rank(text: &mut ArrayVec<u8, 93>, sets: &Sets, rank: u8)
 {
     let mut empty: u8 = 0;
     for file in 0..8 {
-        match sets.cell(square_of(8 * rank + file)) {
+        match sets.cell(Square::known(8 * rank + file)) {
             None => empty += 1,
             Some(piece) => {
                 write_run(text, empty);

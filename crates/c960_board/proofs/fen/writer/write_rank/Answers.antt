@@ -8,13 +8,13 @@ use Rattle.c960_board.proofs.fen.writer.write_rank.Goals.{in-None, in-Some}
 
 pub write_run-requires-clause-room : goal.write_run-requires-clause-room
 write_run-requires-clause-room c =
-    let is = sym (c.cell.ensures ∙ ap (cell_in c.args.sets.now) c.square_of.ensures) ∙ c.in-Some.is in
+    let is = sym (c.cell.ensures ∙ ap (cell_in c.args.sets.now) c.known.ensures) ∙ c.in-Some.is in
     let step = rank_text_piece c.args.sets.now c.args.rank c.loop-file.file c.loop-file.empty c.in-Some.piece c.loop-file-test.true is in
     first_fits _ _ _ _ _ c.requires.room (rw step at c.loop-file.invariant.text)
 
 pub push-requires : goal.push-requires
 push-requires c =
-    let is = sym (c.cell.ensures ∙ ap (cell_in c.args.sets.now) c.square_of.ensures) ∙ c.in-Some.is in
+    let is = sym (c.cell.ensures ∙ ap (cell_in c.args.sets.now) c.known.ensures) ∙ c.in-Some.is in
     let step = rank_text_piece c.args.sets.now c.args.rank c.loop-file.file c.loop-file.empty c.in-Some.piece c.loop-file-test.true is in
     let left = written _ _ _ _ _ _ c.write_run.ensures step c.loop-file.invariant.text in
     (omega arith, omega (arith, first_fits _ _ _ (letter c.in-Some.piece ∷ []) _ c.requires.room left))
@@ -22,7 +22,7 @@ push-requires c =
 pub loop-file-preserved : goal.loop-file-preserved
 loop-file-preserved c =
     let s = c.args.sets.now in
-    let told = sym (c.cell.ensures ∙ ap (cell_in s) c.square_of.ensures) in
+    let told = sym (c.cell.ensures ∙ ap (cell_in s) c.known.ensures) in
     elim c.match-cell.branch [
       | in-None w ↦
           let step = rank_text_empty s c.args.rank c.loop-file.file c.loop-file.empty c.loop-file-test.true (told ∙ w.in-None.is) in
