@@ -6,3 +6,5 @@ pub mod Ranks
 pub mod Rights
 pub mod Fields
 pub mod Laws
+pub mod RankCells
+pub mod Told

@@ -9,3 +9,4 @@ pub mod Text
 pub mod Faults
 pub mod Reading
 pub mod Canonical
+pub mod RankCells

@@ -1,6 +1,6 @@
 //! The squares of a placement's pieces as sets: bit s of a set, counted from the lowest, is 1 where the square s is in it.
 
-ghost use Rattle.std.specs.Prelude.{◌≡◌, ◌<◌};
+ghost use Rattle.std.specs.Prelude.{◌≡◌};
 ghost use Rattle.c960_board.specs.Pieces.{is_of};
 
 use crate::piece::{Colour, Kind, Piece};
@@ -17,17 +17,6 @@ pub struct Sets {
     pub rooks: u64,
     pub queens: u64,
     pub kings: u64,
-}
-
-/// The square of a number below 64.
-fn square_of(number: u8) -> Square
-    requires { number < 64 }
-    ensures { result ≡ number }
-{
-    match Square::new(number) {
-        Some(square) => square,
-        None => unreachable!(),
-    }
 }
 
 impl Sets {
@@ -152,16 +141,15 @@ impl Sets {
     pub fn cell(&self, square: Square) -> Option<Piece>
         ensures { result ≡ cell_in self.now square }
     {
-        let kind = self.kind_on(square);
         if Sets::is_in(self.white, square) {
             Some(Piece {
                 colour: Colour::White,
-                kind,
+                kind: self.kind_on(square),
             })
         } else if Sets::is_in(self.black, square) {
             Some(Piece {
                 colour: Colour::Black,
-                kind,
+                kind: self.kind_on(square),
             })
         } else {
             None
@@ -174,7 +162,7 @@ impl Sets {
     {
         let mut placement = [None; 64];
         for number in 0..64u8 {
-            placement[number as usize] = self.cell(square_of(number));
+            placement[number as usize] = self.cell(Square::known(number));
         }
         placement
     }

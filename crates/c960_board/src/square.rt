@@ -36,6 +36,15 @@ impl Square {
         }
     }
 
+    /// The square of a number that is known to be one's.
+    #[inline(always)]
+    pub(crate) fn known(number: u8) -> Square
+        requires { number < 64 }
+        ensures { result ≡ number }
+    {
+        Square { number }
+    }
+
     /// The number of the square, below 64.
     pub fn number(self) -> u8
         ensures value { result ≡ self }

@@ -11,6 +11,10 @@ use c960_board::{MoveFault, Position, write_fen};
 use c960_game::{Outcome, Refusal};
 use std::alloc::{AllocError, Global};
 
+/// For how many bytes the text after a move has room from the start: the longest position's line and outcome's line fit, so that memory is
+/// taken once.
+const ROOM: usize = 128;
+
 /// Adds the pieces to the text, one after the other.
 fn add_pieces(text: &mut Vec<u8>, pieces: &[&[u8]]) -> Result<(), AllocError>
     ensures { OnOk result (text.new.items ≡ text.old.items ++ flat_map (λ piece. piece.now) pieces.now) }
@@ -39,7 +43,7 @@ pub fn played_text(
 ) -> Result<Vec<u8>, AllocError>
     ensures { IfOk result (λ text. text.items ≡ line (canonical position.now) ++ over_line outcome) }
 {
-    let mut text = Vec::new(alloc);
+    let mut text = Vec::with_capacity(alloc, ROOM)?;
     add_pieces(&mut text, &[write_fen(position).as_slice(), b"\n"])?;
     add_outcome(&mut text, outcome)?;
     Ok(text)

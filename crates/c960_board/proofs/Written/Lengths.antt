@@ -1,5 +1,5 @@
 -- The written text has 93 bytes at most.
-use Rattle.std.proofs.Common.{◌≡◌, ℕ, zero, suc, ◌+◌, ◌*◌, ◌≤◌, List, [], ◌∷◌, length, take, drop, Option, Some, None, refl, ap, arith, decimal, length-append, length-drop}
+use Rattle.std.proofs.Common.{◌≡◌, ℕ, zero, suc, ◌+◌, ◌*◌, ◌≤◌, List, [], ◌∷◌, length, take, drop, Option, Some, None, refl, arith, decimal, length-append, length-drop}
 use Rattle.std.proofs.lemmas.Fmt.{length-decimal-le}
 use Rattle.std.proofs.lemmas.List.{length-take}
 use Rattle.c960_board.specs.declared.piece.Colour.{Colour}
@@ -93,10 +93,12 @@ canonical_short p valid =
       length-decimal-le 5 p.number (omega arith) (omega arith) (omega arith),
     )
 
--- the fields of a position's parts fit, with the spaces
-pub fields_fit : (p q : Parts) → p ≡ q → IsPosition q
-    → length (ranks_text 7 p.placement) + length (turn_text p.turn) + length (rights_text p.rights)
+-- the fields and the spaces fit
+abbrev pub FieldsFit : Parts → Type 0
+FieldsFit p =
+    length (ranks_text 7 p.placement) + length (turn_text p.turn) + length (rights_text p.rights)
     + length (target_text p.target) + length (decimal p.half_moves) + length (decimal p.number) + 5 ≤ 93
-fields_fit p q e valid =
-    let same = ap (λ (x : Parts). length (canonical x)) e in
-    omega (arith, canonical_length p, canonical_short q valid)
+
+-- those of a position do
+pub fields_fit : (p : Parts) → IsPosition p → FieldsFit p
+fields_fit p valid = omega (arith, canonical_length p, canonical_short p valid)

@@ -1,6 +1,6 @@
 -- Steps of the written text.
 use Rattle.std.proofs.Common.{◌≡◌, ◌≢◌, ℕ, suc, ◌+◌, ◌*◌, ◌<◌, ◌≤◌, true, false, cond, List, [], ◌∷◌, ◌++◌, length, get_or, take, drop, Some, None, refl, sym, ap, arith, decimal, add-one, append_assoc, append-nil, drop-cons, length-append}
-use Rattle.std.proofs.lemmas.List.{nil_from_length}
+use Rattle.std.proofs.lemmas.List.{nil_from_length, at_drop_all}
 use Rattle.c960_board.specs.declared.piece.Colour.{Colour}
 use Rattle.c960_board.specs.declared.piece.Colour.TheVariants.{White, Black}
 use Rattle.c960_board.specs.declared.piece.Piece.{Piece}
@@ -17,6 +17,17 @@ pub squares_text_piece : (cells : List Cell) (i n : ℕ) (p : Piece) → i < len
     → squares_text (drop i cells) n ≡ run_text n ++ letter p ∷ squares_text (drop (i + 1) cells) 0
 unfolding squares_text
 squares_text_piece cells i n p l e = rw (add-one, drop-cons cells i None, e) refl
+
+-- a square without a piece makes the run longer
+pub squares_text_empty : (cells : List Cell) (i n : ℕ) → i < length cells → get_or cells i None ≡ None
+    → squares_text (drop i cells) n ≡ squares_text (drop (i + 1) cells) (n + 1)
+unfolding squares_text
+squares_text_empty cells i n l e = let next : i + 1 ≡ suc i = omega arith in rw (next, drop-cons cells i None, e) refl
+
+-- behind the last square the run alone is left
+pub squares_text_end : (cells : List Cell) (i n : ℕ) → length cells ≤ i → squares_text (drop i cells) n ≡ run_text n
+unfolding squares_text
+squares_text_end cells i n l = at_drop_all (λ (left : List Cell). squares_text left n) cells i l
 
 -- the first part of what is left has room where all of it had
 pub first_fits : (old whole text first rest : List ℕ) → length old + length whole ≤ 93

@@ -4,12 +4,15 @@ ghost use Rattle.std.specs.Prelude.{◌≡◌, ◌≤◌, ◌<◌, ◌+◌, ◌+
 ghost use Rattle.arrayvec.specs.ArrayVec.{array_vec_len};
 ghost use Rattle.c960_board.specs.Fen.Canonical.{canonical, ranks_text, rights_text, run_text, side_text, squares_text};
 ghost use Rattle.c960_board.specs.Fen.Letters.{letter, right_base, turn_text};
+ghost use Rattle.c960_board.specs.Fen.RankCells.{rank_cells};
 ghost use Rattle.c960_board.specs.Fen.Target.{target_text};
+ghost use Rattle.c960_board.specs.Sets.{cells_of, parts_of};
 
 use crate::fen::bytes::FenBytes;
 use crate::piece::{Colour, Kind, Piece};
 use crate::position::Position;
 use crate::rights::CastlingRights;
+use crate::sets::Sets;
 use crate::square::Square;
 use crate::square_text::square_bytes;
 use arrayvec::ArrayVec;
@@ -44,20 +47,20 @@ fn write_run(text: &mut ArrayVec<u8, 93>, empty: u8)
     }
 }
 
-/// Appends the squares of a rank, from file a to file h.
-#[tactic(auto, unfolding(crate::specs::Fen::Canonical::squares_text))]
-fn write_rank(text: &mut ArrayVec<u8, 93>, squares: &[Option<Piece>])
-    requires width { length squares.now ≤ 8 }
-    requires room { array_vec_len text.old + length (squares_text squares.now 0) ≤ 93 }
-    ensures { text.new.items ≡ text.old.items ++ squares_text squares.now 0 }
+/// Appends the squares of a rank, from file a to file h. Rank 0 is the first.
+#[tactic(auto, using(crate::proofs::Written::RankCells::rank_text_end))]
+fn write_rank(text: &mut ArrayVec<u8, 93>, sets: &Sets, rank: u8)
+    requires on_board { rank < 8 }
+    requires room { array_vec_len text.old + length (squares_text (rank_cells sets.now rank) 0) ≤ 93 }
+    ensures { text.new.items ≡ text.old.items ++ squares_text (rank_cells sets.now rank) 0 }
 {
     let mut empty: u8 = 0;
-    for square in squares {
-        match square {
+    for file in 0..8 {
+        match sets.cell(Square::known(8 * rank + file)) {
             None => empty += 1,
             Some(piece) => {
                 write_run(text, empty);
-                text.push(letter_of(*piece));
+                text.push(letter_of(piece));
                 empty = 0;
             }
         }
@@ -66,20 +69,16 @@ fn write_rank(text: &mut ArrayVec<u8, 93>, squares: &[Option<Piece>])
 }
 
 /// Appends the ranks from the eighth to the first, parted by slashes.
-#[tactic(auto, using(crate::proofs::Written::Steps::ranks_text_last))]
-fn write_placement(text: &mut ArrayVec<u8, 93>, placement: &[Option<Piece>; 64])
-    requires { array_vec_len text.old + length (ranks_text 7 placement.now) ≤ 93 }
-    ensures text { text.new.items ≡ text.old.items ++ ranks_text 7 placement.now }
-    ensures len { array_vec_len text.new ≡ array_vec_len text.old + length (ranks_text 7 placement.now) }
+fn write_placement(text: &mut ArrayVec<u8, 93>, sets: &Sets)
+    requires { array_vec_len text.old + length (ranks_text 7 (cells_of sets.now)) ≤ 93 }
+    ensures text { text.new.items ≡ text.old.items ++ ranks_text 7 (cells_of sets.now) }
+    ensures len { array_vec_len text.new ≡ array_vec_len text.old + length (ranks_text 7 (cells_of sets.now)) }
 {
-    let mut squares = placement.as_slice();
     for rank in (1..8).rev() {
-        let (lower, highest) = squares.split_at(8 * rank);
-        write_rank(text, highest);
+        write_rank(text, sets, rank);
         text.push(b'/');
-        squares = lower;
     }
-    write_rank(text, squares);
+    write_rank(text, sets, 0);
 }
 
 /// Appends the letter of the side to move.
@@ -160,25 +159,48 @@ fn write_number(text: &mut ArrayVec<u8, 93>, number: u16)
     let _ = text.try_extend_from_slice(buffer.format(number).as_bytes());
 }
 
+/// The fields of a position's text, parted by spaces.
+fn fields(
+    sets: &Sets,
+    turn: Colour,
+    rights: &CastlingRights,
+    target: Option<Square>,
+    half_moves: u16,
+    number: u16,
+) -> ArrayVec<u8, 93>
+    requires { length (ranks_text 7 (cells_of sets.now)) + length (turn_text turn) + length (rights_text rights.now)
+        + length (target_text target) + length (decimal half_moves) + length (decimal number) + 5 ≤ 93 }
+    ensures { result.items ≡ canonical (parts_of sets.now turn rights.now target half_moves number) }
+{
+    let mut text = ArrayVec::new();
+    write_placement(&mut text, sets);
+    text.push(b' ');
+    write_turn(&mut text, turn);
+    text.push(b' ');
+    write_rights(&mut text, rights);
+    text.push(b' ');
+    write_target(&mut text, target);
+    text.push(b' ');
+    write_number(&mut text, half_moves);
+    text.push(b' ');
+    write_number(&mut text, number);
+    text
+}
+
 /// The text of the position in Shredder-FEN: the placement from rank 8 to rank 1, the side to move, the castling
 /// rights, the en passant target, the half-move counter and the move number. A right is the letter of its rook's file,
 /// a capital for White. White's rights stand before Black's, and of a side's two rights the higher file is first.
-#[tactic(auto, using(crate::proofs::Written::Lengths::fields_fit))]
 pub fn write_fen(position: &Position) -> FenBytes
     ensures { result ≡ canonical position.now }
 {
-    let parts = position.parts();
-    let mut text = ArrayVec::new();
-    write_placement(&mut text, &parts.placement);
-    text.push(b' ');
-    write_turn(&mut text, parts.turn);
-    text.push(b' ');
-    write_rights(&mut text, &parts.rights);
-    text.push(b' ');
-    write_target(&mut text, parts.target);
-    text.push(b' ');
-    write_number(&mut text, parts.half_moves);
-    text.push(b' ');
-    write_number(&mut text, parts.number);
-    FenBytes::new(text)
+    let sets = position.sets();
+    let rights = position.rights();
+    FenBytes::new(fields(
+        &sets,
+        position.turn(),
+        &rights,
+        position.target(),
+        position.half_moves(),
+        position.number(),
+    ))
 }

@@ -11,7 +11,7 @@ loop-number-preserved c =
     let full = c.loop-number.invariant.0 in
     let more = c.loop-number-test.true in
     let inside : c.loop-number.number < length cells = omega arith in
-    let is = c.cell.ensures ∙ ap (cell_in sets) c.square_of.ensures in (
+    let is = c.cell.ensures ∙ ap (cell_in sets) c.known.ensures in (
       length-set cells c.loop-number.number c.cell.result ∙ full,
       filled_more (cell_in sets) cells c.loop-number.number c.cell.result inside is c.loop-number.invariant.1,
     )
