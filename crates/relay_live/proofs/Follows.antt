@@ -1,5 +1,5 @@
 -- A follow on a live relay.
-use Rattle.std.proofs.Common.{◌≡◌, ◌≢◌, ◌+◌, ◌-◌, ◌<◌, ◌≤◌, ℕ, zero, suc, nat_eq, add-zero, nat_le, is_some, Bool, true, false, List, [], ◌∷◌, ◌++◌, length, drop, take, unwrap_or, Option, Some, None, option_map, sym, refl, ap, ◌∙◌, subst, cond, arith, fold, inl, inr, ⊎_elim, ◌⊎◌}
+use Rattle.std.proofs.Common.{◌≡◌, ◌≢◌, ◌+◌, ◌-◌, ◌<◌, ◌≤◌, ℕ, zero, suc, nat_eq, add-zero, nat_le, is_some, true, false, List, [], ◌∷◌, ◌++◌, length, drop, take, unwrap_or, Option, Some, None, option_map, sym, refl, ap, ◌∙◌, subst, cond, arith, fold, inl, inr, ⊎_elim, ◌⊎◌}
 use Rattle.std.specs.Prelude.{count_by}
 use Rattle.std.proofs.Math.Seq.{take-length}
 use Rattle.std.proofs.lemmas.Option.{same_Some}
@@ -25,8 +25,8 @@ use Rattle.relay_core.specs.Name.{same_name}
 use Rattle.relay_core.specs.Replies.{reply_to_follow}
 use Rattle.relay_core.specs.Stands.{game_of as history_game}
 use Rattle.relay_core.proofs.Followed.{follow_exists, follow_goes, follow_no_memory, follow_not_yet, follow_too_far, follow_too_many, place_in}
-use Rattle.relay_core.proofs.Lists.{lookup-map, none_below, set_value-map, shown-push}
-use Rattle.relay_core.proofs.NameFacts.{same_name_is, is_same_name}
+use Rattle.relay_core.proofs.Lists.{lookup-map, none_below, shown-push}
+use Rattle.relay_core.proofs.NameFacts.{is_same_name}
 use Rattle.relay_core.proofs.Refused.{goes_refused}
 use Rattle.relay_core.proofs.Standing.{Goes, keeps}
 use Rattle.live_steps.specs.declared.note.Note.{Note}
@@ -44,9 +44,8 @@ use Rattle.relay_live.specs.declared.seated.Seated.{Seated}
 use Rattle.relay_live.specs.Live.{Boards, held_at, held_in, view_in, held_by, games, holders, IsSeated, IsLive, Swapped, vacancy}
 use Rattle.relay_live.proofs.Closings.{at_within}
 use Rattle.relay_live.proofs.Entries.{crowd, one_if_true, crowd_push, none_vacant}
-use Rattle.relay_live.proofs.Maps.{seek_same, seek_other}
 use Rattle.relay_live.proofs.Opens.{at_least}
-use Rattle.relay_live.proofs.Submits.{game}
+use Rattle.relay_live.proofs.Swaps.{Each, each_on, each_turned, flipped, game, held_still, holders_on, same_games, seated_still, swapped_here}
 
 -- how many follow, as the record counts them
 pub crowd_held : (q : List ℕ) (k : ℕ) (boards : Boards) (fs : List (ℕ × Seated)) → count_by (λ e. same_name q e.1.board) (holders k boards fs) ≡ crowd q fs
@@ -125,30 +124,14 @@ module _ (limits : LimitNumbers) (old new : Boards) (fs fs' : List (ℕ × Seate
     (b c : BoardSeat) (there : lookup (same_name name) old ≡ Some b) (vacant : get_elem? b.knows.notes place ≡ some Vacant) (within : joined ≤ length b.knows.log)
     (knows : c.knows ≡ followed place joined b.knows) (sound' : IsSound c.knows) (new-is : new ≡ set_value (same_name name) old c)
     (s : Seated) (s-board : s.board ≡ name) (s-place : s.place ≡ place) (s-joined : s.joined ≡ joined) (s-taken : s.taken ≡ 0) (fs-is : fs' ≡ fs ++ (who, s) ∷ []) where
-  here : lookup (same_name name) new ≡ Some c
-  here = ap (lookup (same_name name)) new-is ∙ seek_same same_name same_name_is is_same_name name old b c there
-
-  elsewhere : (q : List ℕ) → same_name name q ≡ false → lookup (same_name q) new ≡ lookup (same_name q) old
-  elsewhere q ne = ap (lookup (same_name q)) new-is ∙ seek_other same_name same_name_is is_same_name name q old c ne
-
-  at_name : (P : List ℕ → Option BoardSeat → Type 0) → ((q : List ℕ) → name ≡ q → P q (Some c)) → ((q : List ℕ) → same_name name q ≡ false → P q (lookup (same_name q) old)) → (q : List ℕ) → P q (lookup (same_name q) new)
-  at_name P mine others q = by (same_name name q) refl
-    where
-      by : (t : Bool) → same_name name q ≡ t → P q (lookup (same_name q) new)
-      by true e = let same = same_name_is name q e in subst (P q) (sym (ap (λ (x : List ℕ). lookup (same_name x) new) (sym same) ∙ here)) (mine q same)
-      by false e = subst (P q) (sym (elsewhere q e)) (others q e)
+  here : lookup (same_name s.board) new ≡ Some c
+  here = swapped_here old new name b c there new-is s.board (sym s-board)
 
   ok : IsSoundBoard b.knows
   ok = (live.sound name b there).board (live.owns name b there)
 
   low : place < length b.knows.notes
   low = at_within b.knows.notes place Vacant vacant
-
-  same_game : game c ≡ game b
-  same_game = ap game_of knows
-
-  same_games : games new ≡ games old
-  same_games = ap games new-is ∙ set_value-map (same_name name) game old b c there same_game
 
   notes_other : (k : ℕ) → k ≢ place → get_elem? c.knows.notes k ≡ get_elem? b.knows.notes k
   notes_other k ne = ap (λ (x : View). get_elem? x.notes k) knows ∙ set_else b.knows.notes place k (Open joined joined) ne
@@ -163,35 +146,17 @@ module _ (limits : LimitNumbers) (old new : Boards) (fs fs' : List (ℕ × Seate
       ok.agree t.index t.part (ap (λ (x : BoardSeat). get_elem? x.knows.parts t.index) (sym is) ∙ t.carried) Vacant (ap (get_elem? b.knows.notes) (t.place_is ∙ at) ∙ vacant)
 
   held_other : (g : Seated) → IsSeated old g → held_at limits.capacity new g ≡ held_at limits.capacity old g
-  held_other g t = by (same_name name g.board) refl
-    where
-      by : (x : Bool) → same_name name g.board ≡ x → held_at limits.capacity new g ≡ held_at limits.capacity old g
-      by false e = ap (λ o. held_in limits.capacity (view_in o) g) (elsewhere g.board e)
-      by true e =
-          let same = same_name_is name g.board e in
-          let note = notes_other g.place (far g t same) in
-          let log : c.knows.log ≡ b.knows.log = ap (λ (x : View). x.log) knows in
-          ap (λ o. held_in limits.capacity (view_in o) g) (ap (λ (x : List ℕ). lookup (same_name x) new) (sym same) ∙ here)
-          ∙ (λ i. record {
-            board = g.board;
-            joined = g.joined;
-            taken = g.taken;
-            cut = closing_found (note i);
-            queue = drop (g.joined + g.taken) (take (unwrap_or (closing_found (note i)) (length (log i))) (log i));
-            capacity = limits.capacity;
-          })
-          ∙ ap (λ o. held_in limits.capacity (view_in o) g) (sym (ap (λ (x : List ℕ). lookup (same_name x) old) (sym same) ∙ there))
+  held_other g t = held_still old new name b c there new-is limits.capacity g (ap (λ (x : View). x.log) knows) (λ same. notes_other g.place (far g t same))
 
-  kept_holders : (l : List (ℕ × Seated)) → ((i : ℕ) (e : ℕ × Seated) → get_elem? l i ≡ some e → IsSeated old e.1) → holders limits.capacity new l ≡ holders limits.capacity old l
-  kept_holders [] all = refl
-  kept_holders (x ∷ xs) all = λ i. (x.0, held_other x.1 (all 0 x refl) i) ∷ kept_holders xs (λ k e d. all (suc k) e d) i
+  kept_holders : holders limits.capacity new fs ≡ holders limits.capacity old fs
+  kept_holders = holders_on limits.capacity old new fs (λ i e d. held_other e.1 (live.seated i e d))
 
   -- the new follower
   held_new : held_at limits.capacity new s ≡ joining name joined b.knows.log limits.capacity
   held_new =
       let log : c.knows.log ≡ b.knows.log = ap (λ (x : View). x.log) knows in
       let queue : drop (joined + 0) (take (length b.knows.log) b.knows.log) ≡ drop joined b.knows.log = rw (add-zero, take-length b.knows.log) refl in
-      ap (λ o. held_in limits.capacity (view_in o) s) (ap (λ (x : List ℕ). lookup (same_name x) new) s-board ∙ here)
+      ap (λ o. held_in limits.capacity (view_in o) s) here
       ∙ (λ i. record {
         board = s-board i;
         joined = s-joined i;
@@ -213,7 +178,7 @@ module _ (limits : LimitNumbers) (old new : Boards) (fs fs' : List (ℕ × Seate
   holders-are : holders limits.capacity new fs' ≡ holders limits.capacity old fs ++ (who, joining name joined b.knows.log limits.capacity) ∷ []
   holders-are =
       ap (holders limits.capacity new) fs-is ∙ shown-push (held_at limits.capacity new) fs who s
-      ∙ (λ i. kept_holders fs live.seated i ++ (who, held_new i) ∷ [])
+      ∙ (λ i. kept_holders i ++ (who, held_new i) ∷ [])
 
   pub goes : (from : Option ℕ) (position : Parts) → joined ≡ place_in from (game b) → length b.knows.log - joined ≤ limits.capacity → Some position ≡ position_at b.knows.setup.start b.knows.log joined
       → Goes (held_by limits old fs) (held_by limits new fs') (Follow who name from) (Following joined position)
@@ -222,35 +187,19 @@ module _ (limits : LimitNumbers) (old new : Boards) (fs fs' : List (ℕ × Seate
       let none : lookup (nat_eq who) (holders limits.capacity old fs) ≡ None = lookup-map (nat_eq who) (held_at limits.capacity old) fs ∙ ap (option_map (held_at limits.capacity old)) nobody in
       let few = room limits old fs name b place live there vacant in
       let count = crowd_held name limits.capacity old fs in
-      subst (λ (x : List (List ℕ × GameRecord)). Goes (held_by limits old fs) record { limits = limits; boards = x; followers = holders limits.capacity new fs' } (Follow who name from) (Following joined position)) (sym same_games)
+      subst (λ (x : List (List ℕ × GameRecord)). Goes (held_by limits old fs) record { limits = limits; boards = x; followers = holders limits.capacity new fs' } (Follow who name from) (Following joined position)) (sym (same_games old new name b c there new-is (ap game_of knows)))
       (follow_goes (held_by limits old fs) who name from (game b) found none (subst (λ (x : ℕ). x ≤ length b.knows.log) at within) (subst (λ (x : ℕ). length b.knows.log - x ≤ limits.capacity) at near)
       (subst (λ (x : ℕ). x < limits.followers) (sym count) few) (holders limits.capacity new fs') joined position at stood holders-are)
 
   -- ---- What is kept.
 
   seated_on : (g : Seated) → IsSeated old g → IsSeated new g
-  seated_on g t = by (same_name name g.board) refl
-    where
-      by : (x : Bool) → same_name name g.board ≡ x → IsSeated new g
-      by false e = record { board = t.board; there = elsewhere g.board e ∙ t.there; index = t.index; part = t.part; carried = t.carried; place_is = t.place_is; joined_is = t.joined_is; taken_is = t.taken_is }
-      by true e =
-          let same = same_name_is name g.board e in
-          let is : t.board ≡ b = same_Some _ _ (sym t.there ∙ ap (λ (x : List ℕ). lookup (same_name x) old) (sym same) ∙ there) in
-          record {
-            board = c;
-            there = ap (λ (x : List ℕ). lookup (same_name x) new) (sym same) ∙ here;
-            index = suc t.index;
-            part = t.part;
-            carried = ap (λ (x : View). get_elem? x.parts (suc t.index)) knows ∙ ap (λ (x : BoardSeat). get_elem? x.knows.parts t.index) (sym is) ∙ t.carried;
-            place_is = t.place_is;
-            joined_is = t.joined_is;
-            taken_is = t.taken_is;
-          }
+  seated_on g t = seated_still old new name b c there new-is g t (λ same e. (suc t.index, t.part, ap (λ (x : View). get_elem? x.parts (suc t.index)) knows ∙ e, refl))
 
   seated_new : IsSeated new s
   seated_new = record {
     board = c;
-    there = ap (λ (x : List ℕ). lookup (same_name x) new) s-board ∙ here;
+    there = here;
     index = 0;
     part = newcomer place joined b.knows;
     carried = ap (λ (x : View). get_elem? x.parts 0) knows;
@@ -294,43 +243,22 @@ module _ (limits : LimitNumbers) (old new : Boards) (fs fs' : List (ℕ × Seate
       let is = ap (λ (x : View). total vacancy x.notes) knows in
       omega (arith, put, is)
 
-  counted_on : (q : List ℕ) (x : BoardSeat) → lookup (same_name q) new ≡ Some x → count_by (λ e. same_name q e.1.board) fs' + total vacancy x.knows.notes ≡ limits.followers
-  counted_on q x e =
-      let more : crowd q fs' ≡ crowd q fs + cond (same_name q name) 1 0 = ap (crowd q) fs-is ∙ crowd_push q fs (who, s) ∙ ap (λ (z : List ℕ). crowd q fs + one_if_true (same_name q z)) s-board in
-      by more (same_name name q) refl
-    where
-      flip : (t : Bool) → same_name name q ≡ t → same_name q name ≡ t
-      flip true at = is_same_name q name (sym (same_name_is name q at))
-      flip false at = back (same_name q name) refl
-        where
-          back : (t : Bool) → same_name q name ≡ t → t ≡ false
-          back false z = refl
-          back true z = sym (is_same_name name q (sym (same_name_is q name z))) ∙ at
+  more : (q : List ℕ) → crowd q fs' ≡ crowd q fs + cond (same_name q name) 1 0
+  more q = ap (crowd q) fs-is ∙ crowd_push q fs (who, s) ∙ ap (λ (z : List ℕ). crowd q fs + one_if_true (same_name q z)) s-board
 
-      by : crowd q fs' ≡ crowd q fs + cond (same_name q name) 1 0 → (t : Bool) → same_name name q ≡ t → crowd q fs' + total vacancy x.knows.notes ≡ limits.followers
-      by more false at =
-          let none = ap one_if_true (flip false at) in
-          let was = live.counted q x (sym (elsewhere q at) ∙ e) in
-          omega (arith, more, none, was)
-      by more true at =
-          let same = same_name_is name q at in
-          let is : c ≡ x = same_Some _ _ (sym (ap (λ (y : List ℕ). lookup (same_name y) new) (sym same) ∙ here) ∙ e) in
-          let one = ap one_if_true (flip true at) in
-          let was = live.counted q b (ap (λ (y : List ℕ). lookup (same_name y) old) (sym same) ∙ there) in
-          let now = ap (λ (y : BoardSeat). total vacancy y.knows.notes) is in
-          let less = one_less in
-          omega (arith, more, one, was, now, less)
+  counted_on : Each (λ q v. crowd q fs' + total vacancy v.notes ≡ limits.followers) new
+  counted_on = each_turned old new name b c there new-is (λ q v. crowd q fs + total vacancy v.notes ≡ limits.followers) (λ q v. crowd q fs' + total vacancy v.notes ≡ limits.followers) live.counted
+      (λ q same h. let one = ap one_if_true (is_same_name q name (sym same)) in let n = more q in let less = one_less in omega (arith, h, one, n, less))
+      (λ q v ne h. let none = ap one_if_true (flipped name q false ne) in let n = more q in omega (arith, h, none, n))
 
   pub lives : (from : Option ℕ) (position : Parts) → joined ≡ place_in from (game b) → length b.knows.log - joined ≤ limits.capacity → Some position ≡ position_at b.knows.setup.start b.knows.log joined → IsLive limits new fs'
   lives from position at near stood = record {
     kept = keeps (held_by limits old fs) (held_by limits new fs') (Follow who name from) (Following joined position) live.kept refl (goes from position at near stood);
-    setups = at_name (λ q o. (x : BoardSeat) → o ≡ Some x → x.knows.setup ≡ setup_of x.knows.setup.start limits)
-        (λ q same x e. subst (λ (y : BoardSeat). y.knows.setup ≡ setup_of y.knows.setup.start limits) (same_Some c x e) (subst (λ (v : View). v.setup ≡ setup_of v.setup.start limits) (sym knows) (live.setups name b there))) (λ q ne. live.setups q);
-    owns = at_name (λ q o. (x : BoardSeat) → o ≡ Some x → x.knows.owns ≡ true) (λ q same x e. subst (λ (y : BoardSeat). y.knows.owns ≡ true) (same_Some c x e) (ap (λ (v : View). v.owns) knows ∙ live.owns name b there)) (λ q ne. live.owns q);
-    sound = at_name (λ q o. (x : BoardSeat) → o ≡ Some x → IsSound x.knows) (λ q same x e. subst (λ (y : BoardSeat). IsSound y.knows) (same_Some c x e) sound') (λ q ne. live.sound q);
+    setups = each_on old new name b c there new-is (λ q v. v.setup ≡ setup_of v.setup.start limits) live.setups (λ q same h. subst (λ (v : View). v.setup ≡ setup_of v.setup.start limits) (sym knows) h);
+    owns = each_on old new name b c there new-is (λ q v. v.owns ≡ true) live.owns (λ q same h. ap (λ (v : View). v.owns) knows ∙ h);
+    sound = each_on old new name b c there new-is (λ q v. IsSound v) live.sound (λ q same h. sound');
     seated = λ i e d. ⊎_elim (λ (x : (get_elem? fs i ≡ some e) × (i < length fs)). seated_on e.1 (live.seated i e x.0)) (λ (x : (e ≡ (who, s)) × (i ≡ length fs)). subst (λ (y : ℕ × Seated). IsSeated new y.1) (sym x.0) seated_new) (at_entry i e d);
     apart = apart_now;
-    carried = at_name (λ q o. (x : BoardSeat) → o ≡ Some x → (k : ℕ) (n : Note) → get_elem? x.knows.notes k ≡ some n → n ≢ Vacant → Carries x.knows k)
-        (λ q same x e. subst (λ (y : BoardSeat). (k : ℕ) (n : Note) → get_elem? y.knows.notes k ≡ some n → n ≢ Vacant → Carries y.knows k) (same_Some c x e) carried_on) (λ q ne. live.carried q);
+    carried = each_on old new name b c there new-is (λ q v. (k : ℕ) (n : Note) → get_elem? v.notes k ≡ some n → n ≢ Vacant → Carries v k) live.carried (λ q same h. carried_on);
     counted = counted_on;
   }

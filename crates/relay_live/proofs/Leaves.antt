@@ -1,6 +1,5 @@
 -- A leave on a live relay.
-use Rattle.std.proofs.Common.{◌≡◌, ◌≢◌, ◌+◌, ◌-◌, ◌<◌, ℕ, suc, nat_eq, set, Bool, true, false, List, [], ◌∷◌, map, length, drop, take, unwrap_or, Option, Some, None, option_map, sym, refl, ap, ◌∙◌, subst, cond, arith}
-use Rattle.std.specs.Prelude.{count_by}
+use Rattle.std.proofs.Common.{◌≡◌, ◌≢◌, ◌+◌, ◌-◌, ◌<◌, ℕ, nat_eq, set, Bool, true, false, List, map, length, Some, None, option_map, sym, refl, ap, ◌∙◌, subst, cond, arith}
 use Rattle.std.proofs.lemmas.Option.{same_Some, none-some}
 use Rattle.std.specs.Map.{lookup, set_value, remove_entry}
 use mathlib.Core.Option.{some, some-injective}
@@ -17,8 +16,8 @@ use Rattle.relay_core.specs.Inner.Boards.{length_at}
 use Rattle.relay_core.specs.Inner.Followers.{account_of}
 use Rattle.relay_core.specs.Name.{same_name}
 use Rattle.relay_core.proofs.Leaves.{leave_goes}
-use Rattle.relay_core.proofs.Lists.{lookup-map, remove-map, set_value-map}
-use Rattle.relay_core.proofs.NameFacts.{same_name_is, is_same_name}
+use Rattle.relay_core.proofs.Lists.{lookup-map, remove-map}
+use Rattle.relay_core.proofs.NameFacts.{is_same_name}
 use Rattle.relay_core.proofs.Standing.{Goes, keeps}
 use Rattle.live_steps.specs.declared.note.Note.{Note}
 use Rattle.live_steps.specs.declared.note.Note.TheVariants.{Vacant, Open, Closed}
@@ -37,8 +36,7 @@ use Rattle.relay_live.specs.declared.seated.Seated.{Seated}
 use Rattle.relay_live.specs.Live.{Boards, held_at, held_in, view_in, held_by, games, holders, IsSeated, IsLive, vacancy}
 use Rattle.relay_live.proofs.Closings.{at_other, at_place, at_within}
 use Rattle.relay_live.proofs.Entries.{crowd, one_if_true, crowd_removed, removed, taken, up, up_apart, up_one, without_keeps}
-use Rattle.relay_live.proofs.Maps.{seek_same, seek_other}
-use Rattle.relay_live.proofs.Submits.{game}
+use Rattle.relay_live.proofs.Swaps.{Each, each_on, each_turned, flipped, game, held_still, holders_on, same_games, seated_still}
 
 -- a closing is a length of the log, so it fits 16 bits
 pub closing_low : (v : View) (place i : ℕ) (p : Part) (c : ℕ) → IsSoundBoard v → get_elem? v.parts i ≡ some p → p.place ≡ place → cut_at v place ≡ Some c → c < 65536
@@ -60,57 +58,17 @@ closing_low v place i p c ok carried at cut =
 module _ (limits : LimitNumbers) (old new : Boards) (fs fs' : List (ℕ × Seated)) (who : ℕ) (f : Seated) (live : IsLive limits old fs) (mine : lookup (nat_eq who) fs ≡ Some f)
     (b c : BoardSeat) (there : lookup (same_name f.board) old ≡ Some b) (status cursor : ℕ) (left : c.knows ≡ left_at (f.place + 2) cursor (each_part (sees status) b.knows)) (sound' : IsSound c.knows)
     (new-is : new ≡ set_value (same_name f.board) old c) (fs-is : fs' ≡ remove_entry (nat_eq who) fs) (gone : (q : ℕ) → lookup (nat_eq q) fs' ≡ cond (nat_eq who q) None (lookup (nat_eq q) fs)) where
-  here : lookup (same_name f.board) new ≡ Some c
-  here = ap (lookup (same_name f.board)) new-is ∙ seek_same same_name same_name_is is_same_name f.board old b c there
-
-  elsewhere : (q : List ℕ) → same_name f.board q ≡ false → lookup (same_name q) new ≡ lookup (same_name q) old
-  elsewhere q ne = ap (lookup (same_name q)) new-is ∙ seek_other same_name same_name_is is_same_name f.board q old c ne
-
-  at_name : (P : List ℕ → Option BoardSeat → Type 0) → ((q : List ℕ) → f.board ≡ q → P q (Some c)) → ((q : List ℕ) → same_name f.board q ≡ false → P q (lookup (same_name q) old)) → (q : List ℕ) → P q (lookup (same_name q) new)
-  at_name P mine others q = by (same_name f.board q) refl
-    where
-      by : (t : Bool) → same_name f.board q ≡ t → P q (lookup (same_name q) new)
-      by true e = let same = same_name_is f.board q e in subst (P q) (sym (ap (λ (x : List ℕ). lookup (same_name x) new) (sym same) ∙ here)) (mine q same)
-      by false e = subst (P q) (sym (elsewhere q e)) (others q e)
-
   ok : IsSoundBoard b.knows
   ok = (live.sound f.board b there).board (live.owns f.board b there)
 
   notes_other : (k : ℕ) → k ≢ f.place → get_elem? c.knows.notes k ≡ get_elem? b.knows.notes k
   notes_other k ne = ap (λ (x : View). get_elem? x.notes k) left ∙ at_other b.knows.notes f.place k Vacant ne
 
-  same_game : game c ≡ game b
-  same_game = ap game_of left
-
-  same_games : games new ≡ games old
-  same_games = ap games new-is ∙ set_value-map (same_name f.board) game old b c there same_game
-
   abbrev pub apart_from : Seated → Type 0
   apart_from g = f.board ≡ g.board → g.place ≢ f.place
 
   held_other : (g : Seated) → apart_from g → held_at limits.capacity new g ≡ held_at limits.capacity old g
-  held_other g far = by (same_name f.board g.board) refl
-    where
-      by : (t : Bool) → same_name f.board g.board ≡ t → held_at limits.capacity new g ≡ held_at limits.capacity old g
-      by false e = ap (λ o. held_in limits.capacity (view_in o) g) (elsewhere g.board e)
-      by true e =
-          let same = same_name_is f.board g.board e in
-          let note = notes_other g.place (far same) in
-          let log : c.knows.log ≡ b.knows.log = ap (λ (x : View). x.log) left in
-          ap (λ o. held_in limits.capacity (view_in o) g) (ap (λ (x : List ℕ). lookup (same_name x) new) (sym same) ∙ here)
-          ∙ (λ i. record {
-            board = g.board;
-            joined = g.joined;
-            taken = g.taken;
-            cut = closing_found (note i);
-            queue = drop (g.joined + g.taken) (take (unwrap_or (closing_found (note i)) (length (log i))) (log i));
-            capacity = limits.capacity;
-          })
-          ∙ ap (λ o. held_in limits.capacity (view_in o) g) (sym (ap (λ (x : List ℕ). lookup (same_name x) old) (sym same) ∙ there))
-
-  kept_holders : (l : List (ℕ × Seated)) → ((i : ℕ) (e : ℕ × Seated) → get_elem? l i ≡ some e → apart_from e.1) → holders limits.capacity new l ≡ holders limits.capacity old l
-  kept_holders [] all = refl
-  kept_holders (x ∷ xs) all = λ i. (x.0, held_other x.1 (all 0 x refl) i) ∷ kept_holders xs (λ k e d. all (suc k) e d) i
+  held_other g far = held_still old new f.board b c there new-is limits.capacity g (ap (λ (x : View). x.log) left) (λ same. notes_other g.place (far same))
 
   -- who is left, and where it stood
   stays : (i : ℕ) (e : ℕ × Seated) → get_elem? fs' i ≡ some e → get_elem? fs (up (removed (nat_eq who) fs f mine).0 i) ≡ some e
@@ -121,12 +79,15 @@ module _ (limits : LimitNumbers) (old new : Boards) (fs fs' : List (ℕ × Seate
       let m = removed (nat_eq who) fs f mine in
       up_apart m.0 i (live.apart (up m.0 i) m.0 e (m.1, f) (stays i e d) m.2 (sym same) place)
 
+  kept_holders : holders limits.capacity new fs' ≡ holders limits.capacity old fs'
+  kept_holders = holders_on limits.capacity old new fs' (λ i e d. held_other e.1 (far_away i e d))
+
   holders-are : holders limits.capacity new fs' ≡ remove_entry (nat_eq who) (holders limits.capacity old fs)
-  holders-are = kept_holders fs' far_away ∙ ap (holders limits.capacity old) fs-is ∙ remove-map (nat_eq who) (held_at limits.capacity old) fs
+  holders-are = kept_holders ∙ ap (holders limits.capacity old) fs-is ∙ remove-map (nat_eq who) (held_at limits.capacity old) fs
 
   updates : (q : ℕ) → lookup (nat_eq q) (holders limits.capacity new fs') ≡ cond (nat_eq who q) None (lookup (nat_eq q) (holders limits.capacity old fs))
   updates q =
-      ap (lookup (nat_eq q)) (kept_holders fs' far_away) ∙ lookup-map (nat_eq q) (held_at limits.capacity old) fs' ∙ ap (option_map (held_at limits.capacity old)) (gone q) ∙ by (nat_eq who q)
+      ap (lookup (nat_eq q)) kept_holders ∙ lookup-map (nat_eq q) (held_at limits.capacity old) fs' ∙ ap (option_map (held_at limits.capacity old)) (gone q) ∙ by (nat_eq who q)
       ∙ ap (cond (nat_eq who q) None) (sym (lookup-map (nat_eq q) (held_at limits.capacity old) fs))
     where
       by : (t : Bool) → option_map (held_at limits.capacity old) (cond t None (lookup (nat_eq q) fs)) ≡ cond t None (option_map (held_at limits.capacity old) (lookup (nat_eq q) fs))
@@ -144,7 +105,7 @@ module _ (limits : LimitNumbers) (old new : Boards) (fs fs' : List (ℕ × Seate
       let long : length_at (lookup (same_name f.board) (games old)) ≡ length b.knows.log = ap length_at (lookup-map (same_name f.board) game old ∙ ap (option_map game) there) in
       let held : held_at limits.capacity old f ≡ held_in limits.capacity b.knows f = ap (λ o. held_in limits.capacity (view_in o) f) there in
       subst (λ (x : List (List ℕ × GameRecord) × Account). Goes (held_by limits old fs) record { limits = limits; boards = x.0; followers = holders limits.capacity new fs' } (Leave who) (Left x.1))
-      (λ i. (sym same_games i, account_of (long i) (held i)))
+      (λ i. (sym (same_games old new f.board b c there new-is (ap game_of left)) i, account_of (long i) (held i)))
       (leave_goes (held_by limits old fs) (holders limits.capacity new fs') who (held_at limits.capacity old f) found updates holders-are)
 
   -- ---- What is kept.
@@ -161,24 +122,8 @@ module _ (limits : LimitNumbers) (old new : Boards) (fs fs' : List (ℕ × Seate
       (m.0, ap (λ (x : View). get_elem? x.parts m.0) left ∙ m.1)
 
   seated_on : (g : Seated) → IsSeated old g → apart_from g → IsSeated new g
-  seated_on g s far = by (same_name f.board g.board) refl
-    where
-      by : (t : Bool) → same_name f.board g.board ≡ t → IsSeated new g
-      by false e = record { board = s.board; there = elsewhere g.board e ∙ s.there; index = s.index; part = s.part; carried = s.carried; place_is = s.place_is; joined_is = s.joined_is; taken_is = s.taken_is }
-      by true e =
-          let same = same_name_is f.board g.board e in
-          let is : s.board ≡ b = same_Some _ _ (sym s.there ∙ ap (λ (x : List ℕ). lookup (same_name x) old) (sym same) ∙ there) in
-          let m = keeps_part s.index s.part (ap (λ (x : BoardSeat). get_elem? x.knows.parts s.index) (sym is) ∙ s.carried) (λ z. far same (sym s.place_is ∙ z)) in
-          record {
-            board = c;
-            there = ap (λ (x : List ℕ). lookup (same_name x) new) (sym same) ∙ here;
-            index = m.0;
-            part = sees status s.part;
-            carried = m.1;
-            place_is = s.place_is;
-            joined_is = s.joined_is;
-            taken_is = s.taken_is;
-          }
+  seated_on g s far = seated_still old new f.board b c there new-is g s
+      (λ same e. let m = keeps_part s.index s.part e (λ z. far same (sym s.place_is ∙ z)) in (m.0, sees status s.part, m.1, refl))
 
   mine_seated : IsSeated old f
   mine_seated = let m = removed (nat_eq who) fs f mine in live.seated m.0 (m.1, f) m.2
@@ -214,43 +159,22 @@ module _ (limits : LimitNumbers) (old new : Boards) (fs fs' : List (ℕ × Seate
       ap (λ (x : View). total vacancy x.notes) left ∙ ap (λ (k : ℕ). total vacancy (set b.knows.notes k Vacant)) at in
       omega (arith, put, none, is)
 
-  counted_on : (q : List ℕ) (x : BoardSeat) → lookup (same_name q) new ≡ Some x → count_by (λ e. same_name q e.1.board) fs' + total vacancy x.knows.notes ≡ limits.followers
-  counted_on q x e =
-      let fewer : crowd q fs' + cond (same_name q f.board) 1 0 ≡ crowd q fs = ap (λ (l : List (ℕ × Seated)). crowd q l + one_if_true (same_name q f.board)) fs-is ∙ crowd_removed q (nat_eq who) fs f mine in
-      by fewer (same_name f.board q) refl
-    where
-      flip : (t : Bool) → same_name f.board q ≡ t → same_name q f.board ≡ t
-      flip true at = is_same_name q f.board (sym (same_name_is f.board q at))
-      flip false at = back (same_name q f.board) refl
-        where
-          back : (t : Bool) → same_name q f.board ≡ t → t ≡ false
-          back false z = refl
-          back true z = sym (is_same_name f.board q (sym (same_name_is q f.board z))) ∙ at
+  fewer : (q : List ℕ) → crowd q fs' + cond (same_name q f.board) 1 0 ≡ crowd q fs
+  fewer q = ap (λ (l : List (ℕ × Seated)). crowd q l + one_if_true (same_name q f.board)) fs-is ∙ crowd_removed q (nat_eq who) fs f mine
 
-      by : crowd q fs' + cond (same_name q f.board) 1 0 ≡ crowd q fs → (t : Bool) → same_name f.board q ≡ t → crowd q fs' + total vacancy x.knows.notes ≡ limits.followers
-      by fewer false at =
-          let none = ap one_if_true (flip false at) in
-          let was = live.counted q x (sym (elsewhere q at) ∙ e) in
-          omega (arith, fewer, none, was)
-      by fewer true at =
-          let same = same_name_is f.board q at in
-          let is : c ≡ x = same_Some _ _ (sym (ap (λ (y : List ℕ). lookup (same_name y) new) (sym same) ∙ here) ∙ e) in
-          let one = ap one_if_true (flip true at) in
-          let was = live.counted q b (ap (λ (y : List ℕ). lookup (same_name y) old) (sym same) ∙ there) in
-          let now = ap (λ (y : BoardSeat). total vacancy y.knows.notes) is in
-          let more = one_more in
-          omega (arith, fewer, one, was, now, more)
+  counted_on : Each (λ q v. crowd q fs' + total vacancy v.notes ≡ limits.followers) new
+  counted_on = each_turned old new f.board b c there new-is (λ q v. crowd q fs + total vacancy v.notes ≡ limits.followers) (λ q v. crowd q fs' + total vacancy v.notes ≡ limits.followers) live.counted
+      (λ q same h. let one = ap one_if_true (is_same_name q f.board (sym same)) in let n = fewer q in let more = one_more in omega (arith, h, one, n, more))
+      (λ q v ne h. let none = ap one_if_true (flipped f.board q false ne) in let n = fewer q in omega (arith, h, none, n))
 
   pub lives : IsLive limits new fs'
   lives = record {
     kept = keeps (held_by limits old fs) (held_by limits new fs') (Leave who) (Left told) live.kept refl goes;
-    setups = at_name (λ q o. (x : BoardSeat) → o ≡ Some x → x.knows.setup ≡ setup_of x.knows.setup.start limits)
-        (λ q same x e. subst (λ (y : BoardSeat). y.knows.setup ≡ setup_of y.knows.setup.start limits) (same_Some c x e) (subst (λ z. z ≡ setup_of z.start limits) (sym setup') (live.setups f.board b there))) (λ q ne. live.setups q);
-    owns = at_name (λ q o. (x : BoardSeat) → o ≡ Some x → x.knows.owns ≡ true) (λ q same x e. subst (λ (y : BoardSeat). y.knows.owns ≡ true) (same_Some c x e) owns') (λ q ne. live.owns q);
-    sound = at_name (λ q o. (x : BoardSeat) → o ≡ Some x → IsSound x.knows) (λ q same x e. subst (λ (y : BoardSeat). IsSound y.knows) (same_Some c x e) sound') (λ q ne. live.sound q);
+    setups = each_on old new f.board b c there new-is (λ q v. v.setup ≡ setup_of v.setup.start limits) live.setups (λ q same h. subst (λ z. z ≡ setup_of z.start limits) (sym setup') h);
+    owns = each_on old new f.board b c there new-is (λ q v. v.owns ≡ true) live.owns (λ q same h. owns');
+    sound = each_on old new f.board b c there new-is (λ q v. IsSound v) live.sound (λ q same h. sound');
     seated = λ i e d. seated_on e.1 (live.seated (up (removed (nat_eq who) fs f mine).0 i) e (stays i e d)) (far_away i e d);
     apart = λ i j e d x y same place. up_one (removed (nat_eq who) fs f mine).0 i j (live.apart _ _ e d (stays i e x) (stays j d y) same place);
-    carried = at_name (λ q o. (x : BoardSeat) → o ≡ Some x → (k : ℕ) (n : Note) → get_elem? x.knows.notes k ≡ some n → n ≢ Vacant → Carries x.knows k)
-        (λ q same x e. subst (λ (y : BoardSeat). (k : ℕ) (n : Note) → get_elem? y.knows.notes k ≡ some n → n ≢ Vacant → Carries y.knows k) (same_Some c x e) carried_on) (λ q ne. live.carried q);
+    carried = each_on old new f.board b c there new-is (λ q v. (k : ℕ) (n : Note) → get_elem? v.notes k ≡ some n → n ≢ Vacant → Carries v k) live.carried (λ q same h. carried_on);
     counted = counted_on;
   }

@@ -1,4 +1,5 @@
 pub mod Maps
+pub mod Swaps
 pub mod Closings
 pub mod Offers
 pub mod Submits

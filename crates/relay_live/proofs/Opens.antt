@@ -1,5 +1,5 @@
 -- An open on a live relay.
-use Rattle.std.proofs.Common.{◌≡◌, ◌≢◌, ◌+◌, ◌<◌, ◌≤◌, ℕ, suc, nat_le, is_some, inl, inr, Bool, true, false, true≢false, List, [], ◌∷◌, ◌++◌, length, Option, Some, None, option_map, sym, refl, ap, ◌∙◌, subst, cond, arith}
+use Rattle.std.proofs.Common.{◌≡◌, ◌≢◌, ◌+◌, ◌<◌, ◌≤◌, ℕ, nat_le, is_some, inl, inr, Bool, true, false, true≢false, List, [], ◌∷◌, ◌++◌, length, Option, Some, None, option_map, sym, refl, ap, ◌∙◌, subst, cond, arith}
 use Rattle.std.specs.Prelude.{count_by}
 use Rattle.std.proofs.lemmas.Bool.Decides.{nat_tests}
 use Rattle.std.proofs.lemmas.List.{length-map}
@@ -35,7 +35,7 @@ use Rattle.live_board.specs.Seats.{BoardSeat}
 use Rattle.relay_live.specs.declared.seated.Seated.{Seated}
 use Rattle.relay_live.specs.Live.{Boards, held_at, held_in, view_in, held_by, games, holders, IsSeated, IsLive, vacancy}
 use Rattle.relay_live.proofs.Entries.{at_replicate, all_vacant, crowd_none}
-use Rattle.relay_live.proofs.Submits.{game}
+use Rattle.relay_live.proofs.Swaps.{game, holders_on}
 
 -- ---- An open that is refused.
 
@@ -143,15 +143,14 @@ module _ (limits : LimitNumbers) (old new : Boards) (fs : List (ℕ × Seated)) 
   same_held : (f : Seated) → IsSeated old f → held_at limits.capacity new f ≡ held_at limits.capacity old f
   same_held f s = ap (λ o. held_in limits.capacity (view_in o) f) (still f.board s.board s.there ∙ sym s.there)
 
-  same_holders : (l : List (ℕ × Seated)) → ((i : ℕ) (e : ℕ × Seated) → get_elem? l i ≡ some e → IsSeated old e.1) → holders limits.capacity new l ≡ holders limits.capacity old l
-  same_holders [] all = refl
-  same_holders (x ∷ xs) all = λ i. (x.0, same_held x.1 (all 0 x refl) i) ∷ same_holders xs (λ k e d. all (suc k) e d) i
+  same_holders : holders limits.capacity new fs ≡ holders limits.capacity old fs
+  same_holders = holders_on limits.capacity old new fs (λ i e d. same_held e.1 (live.seated i e d))
 
   opened_game : game b ≡ game_of (starting (setup_of start limits))
   opened_game = ap game_of is
 
   pub goes : start < 960 → length old < limits.boards → Goes (held_by limits old fs) (held_by limits new fs) (Open name start) Opened
-  goes low room = subst (λ (l : List (ℕ × HeldFollower)). Goes (held_by limits old fs) record { limits = limits; boards = games new; followers = l } (Open name start) Opened) (sym (same_holders fs live.seated))
+  goes low room = subst (λ (l : List (ℕ × HeldFollower)). Goes (held_by limits old fs) record { limits = limits; boards = games new; followers = l } (Open name start) Opened) (sym same_holders)
       (open_goes (held_by limits old fs) name start (lookup-map (same_name name) game old ∙ ap (option_map game) none) low
       (subst (λ (n : ℕ). n < limits.boards) (sym (length-map old (λ e. (e.0, game e.1)))) room) (games new)
       (ap games new-is ∙ shown-push game old name b ∙ ap (λ g. games old ++ (name, g) ∷ []) opened_game))

@@ -1,7 +1,5 @@
 -- A submit to a live relay.
-use Rattle.std.proofs.Common.{◌≡◌, ◌≢◌, ◌==◌, ℕ, suc, ◌+◌, Bool, true, false, List, [], ◌∷◌, map, length, Result, Ok, Err, Option, Some, option_map, sym, refl, ap, ◌∙◌, subst, arith, cond, ◌&&◌, not, is_some}
-use Rattle.std.proofs.lemmas.List.{length-map}
-use Rattle.std.proofs.lemmas.Map.{length-set_value}
+use Rattle.std.proofs.Common.{◌≡◌, ◌≢◌, ◌==◌, ℕ, suc, ◌+◌, Bool, true, false, List, [], ◌∷◌, map, length, Result, Ok, Err, Option, Some, option_map, sym, refl, ap, ◌∙◌, arith, cond, ◌&&◌, not, is_some}
 use Rattle.std.proofs.lemmas.Option.{same_Some}
 use Rattle.std.specs.Prelude.{count_by}
 use Rattle.live_steps.specs.declared.note.Note.{Note}
@@ -13,21 +11,21 @@ use Rattle.c960_board.specs.Moves.{Triple}
 use Rattle.c960_game.specs.declared.outcome.Outcome.{Outcome}
 use Rattle.c960_game.specs.declared.refusal.Refusal.{Refusal}
 use Rattle.c960_game.specs.Limits.{LimitNumbers}
-use Rattle.c960_game.specs.Record.{GameRecord, play_answer, with_move}
+use Rattle.c960_game.specs.Record.{play_answer, with_move}
 use Rattle.relay_core.specs.declared.step.Step.TheVariants.{Submit}
 use Rattle.relay_core.specs.declared.reply.Reply.TheVariants.{Played, Refused}
 use Rattle.relay_core.specs.Inner.Boards.{play_answer_at, with_place}
 use Rattle.relay_core.specs.Inner.Followers.{offered, published, closed_at, queued}
 use Rattle.relay_core.specs.Name.{same_name}
 use Rattle.relay_core.proofs.Lists.{lookup-map}
-use Rattle.relay_core.proofs.NameFacts.{same_name_is, is_same_name}
+use Rattle.relay_core.proofs.NameFacts.{same_name_is}
 use Rattle.relay_core.proofs.Standing.{Goes, keeps}
 use Rattle.relay_core.proofs.Submits.{submit_goes, submit_refused}
 use Rattle.relay_live.specs.declared.seated.Seated.{Seated}
 use Rattle.live_steps.specs.declared.setup.BoardSetup.{BoardSetup}
 use Rattle.live_steps.specs.declared.view.View.{View}
 use Rattle.live_board.specs.Board.{game_of, setup_of}
-use Rattle.live_board.specs.Carried.{Carries, Holding, holding_of}
+use Rattle.live_board.specs.Carried.{Carries, holding_of}
 use Rattle.live_board.specs.Desk.{Submitted}
 use Rattle.live_board.specs.Seats.{BoardSeat}
 use Rattle.relay_live.specs.Live.{Boards, held_at, held_in, view_in, held_by, games, holders, IsSeated, IsLive, vacancy}
@@ -36,13 +34,10 @@ use Rattle.live_steps.specs.Sound.{IsSound, IsSoundBoard}
 use Rattle.live_steps.specs.Views.{published as published_view, storing}
 use Rattle.relay_live.proofs.Offers.{offered_here, same_part, carried_after, vacancies}
 use Rattle.relay_live.proofs.Closings.{Closes, closes}
-use Rattle.relay_live.proofs.Maps.{seek_same, seek_other}
+use Rattle.relay_live.proofs.Swaps.{each_on, game, games_changed, games_counted, seated_still, swapped_before, swapped_elsewhere, swapped_here}
 
 abbrev both : ℕ → Option Outcome → ℕ × Option Outcome
 both place outcome = (place, outcome)
-
-abbrev pub game : BoardSeat → GameRecord
-game b = game_of b.knows
 
 module _ (limits : LimitNumbers) (old new : Boards) (fs : List (ℕ × Seated)) (name : List ℕ) (m : Triple) (live : IsLive limits old fs)
     (b c : BoardSeat) (there : lookup (same_name name) old ≡ Some b) (sub : Submitted m b.knows c.knows) (sound' : IsSound c.knows) (new-is : new ≡ set_value (same_name name) old c) where
@@ -58,48 +53,14 @@ module _ (limits : LimitNumbers) (old new : Boards) (fs : List (ℕ × Seated)) 
   ok' : IsSoundBoard c.knows
   ok' = sound'.board (owns ∙ live.owns name b there)
 
-  here : lookup (same_name name) new ≡ Some c
-  here = ap (lookup (same_name name)) new-is ∙ seek_same same_name same_name_is is_same_name name old b c there
-
-  elsewhere : (q : List ℕ) → same_name name q ≡ false → lookup (same_name q) new ≡ lookup (same_name q) old
-  elsewhere q ne = ap (lookup (same_name q)) new-is ∙ seek_other same_name same_name_is is_same_name name q old c ne
-
   setup : c.knows.setup ≡ b.knows.setup
   setup = ap (λ (x : View). x.setup) sub.2 ∙ ap (λ (x : View). x.setup) shut.same
 
   bares : map holding_of c.knows.parts ≡ map holding_of b.knows.parts
   bares = ap (λ (x : View). map holding_of x.parts) sub.2 ∙ ap (λ (x : View). map holding_of x.parts) shut.same ∙ shut.held
 
-  -- what is at a board of the name q
-  at_name : (P : List ℕ → Option BoardSeat → Type 0) → ((q : List ℕ) → name ≡ q → P q (Some c)) → ((q : List ℕ) → same_name name q ≡ false → P q (lookup (same_name q) old)) → (q : List ℕ) → P q (lookup (same_name q) new)
-  at_name P mine others q = by (same_name name q) refl
-    where
-      by : (t : Bool) → same_name name q ≡ t → P q (lookup (same_name q) new)
-      by true e = let same = same_name_is name q e in subst (P q) (sym (ap (λ (x : List ℕ). lookup (same_name x) new) (sym same) ∙ here)) (mine q same)
-      by false e = subst (P q) (sym (elsewhere q e)) (others q e)
-
-  seated_here : (f : Seated) → IsSeated old f → name ≡ f.board → IsSeated new f
-  seated_here f s same =
-      let is : s.board ≡ b = same_Some _ _ (sym s.there ∙ ap (λ (x : List ℕ). lookup (same_name x) old) (sym same) ∙ there) in
-      let e : get_elem? b.knows.parts s.index ≡ some s.part = ap (λ (x : BoardSeat). get_elem? x.knows.parts s.index) (sym is) ∙ s.carried in
-      let q = same_part b.knows c.knows s.index s.part bares e in
-      record {
-        board = c;
-        there = ap (λ (x : List ℕ). lookup (same_name x) new) (sym same) ∙ here;
-        index = s.index;
-        part = q.0;
-        carried = q.1;
-        place_is = ap (λ (x : Holding). x.0) q.2 ∙ s.place_is;
-        joined_is = ap (λ (x : Holding). x.1) q.2 ∙ s.joined_is;
-        taken_is = ap (λ (x : Holding). length x.2) q.2 ∙ s.taken_is;
-      }
-
   seated_on : (f : Seated) → IsSeated old f → IsSeated new f
-  seated_on f s = by (same_name name f.board) refl
-    where
-      by : (t : Bool) → same_name name f.board ≡ t → IsSeated new f
-      by true e = seated_here f s (same_name_is name f.board e)
-      by false e = record { board = s.board; there = elsewhere f.board e ∙ s.there; index = s.index; part = s.part; carried = s.carried; place_is = s.place_is; joined_is = s.joined_is; taken_is = s.taken_is }
+  seated_on f s = seated_still old new name b c there new-is f s (λ same e. let q = same_part b.knows c.knows s.index s.part bares e in (s.index, q.0, q.1, q.2))
 
   offered_on : (f : Seated) → IsSeated old f → held_at limits.capacity new f ≡ offered name (length b.knows.log) m (held_at limits.capacity old f)
   offered_on f s = by (same_name name f.board) refl
@@ -107,13 +68,13 @@ module _ (limits : LimitNumbers) (old new : Boards) (fs : List (ℕ × Seated)) 
       by : (t : Bool) → same_name name f.board ≡ t → held_at limits.capacity new f ≡ offered name (length b.knows.log) m (held_at limits.capacity old f)
       by false e =
           let h = held_at limits.capacity old f in
-          ap (λ o. held_in limits.capacity (view_in o) f) (elsewhere f.board e)
+          ap (λ o. held_in limits.capacity (view_in o) f) (swapped_elsewhere old new name b c there new-is f.board e)
           ∙ sym (λ i. cond (e i && not (is_some h.cut)) (cond (length h.queue == h.capacity) (closed_at (length b.knows.log) h) (queued m h)) h)
       by true e =
           let same = same_name_is name f.board e in
-          let is : s.board ≡ b = same_Some _ _ (sym s.there ∙ ap (λ (x : List ℕ). lookup (same_name x) old) (sym same) ∙ there) in
-          let was : lookup (same_name f.board) old ≡ Some b = s.there ∙ ap (λ (x : BoardSeat). Some x) is in
-          let now : lookup (same_name f.board) new ≡ Some c = ap (λ (x : List ℕ). lookup (same_name x) new) (sym same) ∙ here in
+          let was = swapped_before old new name b c there new-is f.board same in
+          let now = swapped_here old new name b c there new-is f.board same in
+          let is : s.board ≡ b = same_Some _ _ (sym s.there ∙ was) in
           ap (λ o. held_in limits.capacity (view_in o) f) now
           ∙ offered_here limits.capacity f name m b.knows c.knows s.index s.part ok ok' (ap (λ (z : BoardSetup). z.limits.capacity) (live.setups name b there)) sub
           (ap (λ (x : BoardSeat). get_elem? x.knows.parts s.index) (sym is) ∙ s.carried) s.place_is s.joined_is s.taken_is e
@@ -126,18 +87,6 @@ module _ (limits : LimitNumbers) (old new : Boards) (fs : List (ℕ × Seated)) 
   moved : game c ≡ with_move (game b) m
   moved = ap game_of sub.2 ∙ ap (λ (u : View). game_of (published_view m (storing m u))) shut.same
 
-  updates : (q : List ℕ) → lookup (same_name q) (games new) ≡ cond (same_name name q) (option_map (λ g. with_move g m) (lookup (same_name name) (games old))) (lookup (same_name q) (games old))
-  updates q = lookup-map (same_name q) game new ∙ by (same_name name q) refl
-    where
-      by : (t : Bool) → same_name name q ≡ t → option_map game (lookup (same_name q) new) ≡ cond t (option_map (λ g. with_move g m) (lookup (same_name name) (games old))) (lookup (same_name q) (games old))
-      by true e =
-          ap (option_map game) (ap (λ (x : List ℕ). lookup (same_name x) new) (sym (same_name_is name q e)) ∙ here) ∙ ap (λ (g : GameRecord). Some g) moved
-          ∙ sym (ap (option_map (λ g. with_move g m)) (lookup-map (same_name name) game old ∙ ap (option_map game) there))
-      by false e = ap (option_map game) (elsewhere q e) ∙ sym (lookup-map (same_name q) game old)
-
-  counted : length (games new) ≡ length (games old)
-  counted = length-map new (λ e. (e.0, game e.1)) ∙ ap length new-is ∙ length-set_value (same_name name) old c ∙ sym (length-map old (λ e. (e.0, game e.1)))
-
   module _ (place : ℕ) (outcome : Option Outcome) (answer : Ok (place, outcome) ≡ play_answer_at m (option_map game (lookup (same_name name) old))) where
     place_is : place ≡ length b.knows.log
     place_is = by (play_answer (game b) m) (answer ∙ ap (λ o. play_answer_at m (option_map game o)) there)
@@ -148,27 +97,23 @@ module _ (limits : LimitNumbers) (old new : Boards) (fs : List (ℕ × Seated)) 
 
     pub goes : Goes (held_by limits old fs) (held_by limits new fs) (Submit name m) (Played place outcome)
     goes = submit_goes (held_by limits old fs) (games new) (holders limits.capacity new fs) name m place outcome
-        (answer ∙ ap (play_answer_at m) (sym (lookup-map (same_name name) game old))) updates counted
+        (answer ∙ ap (play_answer_at m) (sym (lookup-map (same_name name) game old)))
+        (games_changed old new name b c there new-is (λ g. with_move g m) moved) (games_counted old new name b c there new-is)
         (pushed fs live.seated ∙ ap (λ (x : ℕ). published name x m (holders limits.capacity old fs)) (sym place_is))
 
     pub lives : IsLive limits new fs
     lives = record {
       kept = keeps (held_by limits old fs) (held_by limits new fs) (Submit name m) (Played place outcome) live.kept refl goes;
-      setups = at_name (λ q o. (x : BoardSeat) → o ≡ Some x → x.knows.setup ≡ setup_of x.knows.setup.start limits)
-          (λ q same x e. subst (λ (y : BoardSeat). y.knows.setup ≡ setup_of y.knows.setup.start limits) (same_Some c x e) (setup ∙ live.setups name b there ∙ ap (λ (z : BoardSetup). setup_of z.start limits) (sym setup)))
-          (λ q ne. live.setups q);
-      owns = at_name (λ q o. (x : BoardSeat) → o ≡ Some x → x.knows.owns ≡ true) (λ q same x e. subst (λ (y : BoardSeat). y.knows.owns ≡ true) (same_Some c x e) (owns ∙ live.owns name b there)) (λ q ne. live.owns q);
-      sound = at_name (λ q o. (x : BoardSeat) → o ≡ Some x → IsSound x.knows) (λ q same x e. subst (λ (y : BoardSeat). IsSound y.knows) (same_Some c x e) sound') (λ q ne. live.sound q);
+      setups = each_on old new name b c there new-is (λ q v. v.setup ≡ setup_of v.setup.start limits) live.setups
+          (λ q same h. setup ∙ h ∙ ap (λ (z : BoardSetup). setup_of z.start limits) (sym setup));
+      owns = each_on old new name b c there new-is (λ q v. v.owns ≡ true) live.owns (λ q same h. owns ∙ h);
+      sound = each_on old new name b c there new-is (λ q v. IsSound v) live.sound (λ q same h. sound');
       seated = λ i e d. seated_on e.1 (live.seated i e d);
       apart = live.apart;
-      carried = at_name (λ q o. (x : BoardSeat) → o ≡ Some x → (k : ℕ) (n : Note) → get_elem? x.knows.notes k ≡ some n → n ≢ Vacant → Carries x.knows k)
-          (λ q same x e. subst (λ (y : BoardSeat). (k : ℕ) (n : Note) → get_elem? y.knows.notes k ≡ some n → n ≢ Vacant → Carries y.knows k) (same_Some c x e)
-          (carried_after m b.knows c.knows ok' sub ok.noted (live.carried name b there)))
-          (λ q ne. live.carried q);
-      counted = at_name (λ q o. (x : BoardSeat) → o ≡ Some x → count_by (λ e. same_name q e.1.board) fs + total vacancy x.knows.notes ≡ limits.followers)
-          (λ q same x e. subst (λ (y : BoardSeat). count_by (λ e. same_name q e.1.board) fs + total vacancy y.knows.notes ≡ limits.followers) (same_Some c x e)
-          (omega (arith, live.counted q b (ap (λ (y : List ℕ). lookup (same_name y) old) (sym same) ∙ there), vacancies m b.knows c.knows ok' sub ok.noted (live.carried name b there))))
-          (λ q ne. live.counted q);
+      carried = each_on old new name b c there new-is (λ q v. (k : ℕ) (n : Note) → get_elem? v.notes k ≡ some n → n ≢ Vacant → Carries v k) live.carried
+          (λ q same h. carried_after m b.knows c.knows ok' sub ok.noted h);
+      counted = each_on old new name b c there new-is (λ q v. count_by (λ e. same_name q e.1.board) fs + total vacancy v.notes ≡ limits.followers) live.counted
+          (λ q same h. omega (arith, h, vacancies m b.knows c.knows ok' sub ok.noted (live.carried name b there)));
     }
 
 -- a submit that the board refuses

@@ -22,7 +22,6 @@ use Rattle.relay_core.specs.Name.{same_name}
 use Rattle.relay_core.specs.Inner.Next.{next_of, next_by, take_answer, over_or_nothing}
 use Rattle.relay_core.specs.Replies.{taken_of}
 use Rattle.relay_core.proofs.Lists.{lookup-map, set_value-map, shown-shown, shown}
-use Rattle.relay_core.proofs.NameFacts.{same_name_is, is_same_name}
 use Rattle.relay_core.proofs.Standing.{Goes, keeps}
 use Rattle.relay_core.proofs.Stretches.{drop_past}
 use Rattle.relay_core.proofs.Takes.{take_goes}
@@ -31,7 +30,7 @@ use Rattle.live_steps.specs.declared.note.Note.{Note}
 use Rattle.live_steps.specs.declared.view.Part.{Part}
 use Rattle.live_steps.specs.declared.setup.BoardSetup.{BoardSetup}
 use Rattle.live_board.specs.Board.{setup_of}
-use Rattle.live_board.specs.Carried.{TookAt, Holding, with_taken, items_of, cut_at, due_at, closing_found, Carries, holding_of}
+use Rattle.live_board.specs.Carried.{TookAt, Holding, with_taken, items_of, cut_at, due_at, Carries, holding_of}
 use Rattle.live_board.specs.Seats.{BoardSeat}
 use Rattle.relay_live.specs.Live.{Boards, held_at, held_in, view_in, held_by, games, holders, with_one_more, IsSeated, IsLive, vacancy}
 use Rattle.live_steps.specs.Shows.{total}
@@ -40,7 +39,7 @@ use Rattle.std.specs.Prelude.{count_by}
 use Rattle.live_steps.proofs.Parts.{pick}
 use Rattle.live_steps.specs.declared.note.Note.TheVariants.{Vacant}
 use Rattle.relay_live.proofs.Maps.{seek_same, seek_other, written}
-use Rattle.relay_live.proofs.Submits.{game}
+use Rattle.relay_live.proofs.Swaps.{Each, each_on, each_turned, game, held_still, same_games, seated_still, swapped_here}
 use Rattle.live_steps.proofs.Totals.{at_map_back}
 
 abbrev pub after : Taken → Seated → Seated
@@ -57,35 +56,11 @@ module _ (limits : LimitNumbers) (old new : Boards) (fs fs' : List (ℕ × Seate
     (answer : Taken) (b c : BoardSeat) (there : lookup (same_name f.board) old ≡ Some b) (took : TookAt f.place answer b.knows c.knows) (ok' : IsSound c.knows)
     (told : answer ≡ taken_of (f.joined + f.taken) b.knows.outcome (cut_at b.knows f.place) (queue_of b f))
     (new-is : new ≡ set_value (same_name f.board) old c) (fs-is : fs' ≡ set_value (nat_eq who) fs (after answer f)) where
-  here : lookup (same_name f.board) new ≡ Some c
-  here = ap (lookup (same_name f.board)) new-is ∙ seek_same same_name same_name_is is_same_name f.board old b c there
-
-  elsewhere : (q : List ℕ) → same_name f.board q ≡ false → lookup (same_name q) new ≡ lookup (same_name q) old
-  elsewhere q ne = ap (lookup (same_name q)) new-is ∙ seek_other same_name same_name_is is_same_name f.board q old c ne
-
   same_game : game c ≡ game b
   same_game = λ i. record { start = (took.setup i).start; plies = (took.setup i).limits.plies; log = took.log i; outcome = took.outcome i }
 
-  same_games : games new ≡ games old
-  same_games = ap games new-is ∙ set_value-map (same_name f.board) game old b c there same_game
-
   same_held : (g : Seated) → held_at limits.capacity new g ≡ held_at limits.capacity old g
-  same_held g = by (same_name f.board g.board) refl
-    where
-      by : (t : Bool) → same_name f.board g.board ≡ t → held_at limits.capacity new g ≡ held_at limits.capacity old g
-      by false e = ap (λ o. held_in limits.capacity (view_in o) g) (elsewhere g.board e)
-      by true e =
-          let same = same_name_is f.board g.board e in
-          ap (λ o. held_in limits.capacity (view_in o) g) (ap (λ (x : List ℕ). lookup (same_name x) new) (sym same) ∙ here)
-          ∙ (λ i. record {
-            board = g.board;
-            joined = g.joined;
-            taken = g.taken;
-            cut = closing_found (get_elem? (took.notes i) g.place);
-            queue = drop (g.joined + g.taken) (take (unwrap_or (closing_found (get_elem? (took.notes i) g.place)) (length (took.log i))) (took.log i));
-            capacity = limits.capacity;
-          })
-          ∙ ap (λ o. held_in limits.capacity (view_in o) g) (sym (ap (λ (x : List ℕ). lookup (same_name x) old) (sym same) ∙ there))
+  same_held g = held_still old new f.board b c there new-is limits.capacity g took.log (λ same. ap (λ (l : List Note). get_elem? l g.place) took.notes)
 
   held-is : held_at limits.capacity old f ≡ held_in limits.capacity b.knows f
   held-is = ap (λ o. held_in limits.capacity (view_in o) f) there
@@ -169,7 +144,7 @@ module _ (limits : LimitNumbers) (old new : Boards) (fs fs' : List (ℕ × Seate
 
   pub goes : Goes (held_by limits old fs) (held_by limits new fs') (Take who) (Answered answer)
   goes = subst (λ (x : List (List ℕ × GameRecord) × Taken). Goes (held_by limits old fs) record { limits = limits; boards = x.0; followers = holders limits.capacity new fs' } (Take who) (Answered x.1))
-      (λ i. (sym same_games i, answered i))
+      (λ i. (sym (same_games old new f.board b c there new-is same_game) i, answered i))
       (take_goes (held_by limits old fs) (holders limits.capacity new fs') who (next_of (held_at limits.capacity old f)) found updates boards)
 
   -- ---- The parts.
@@ -177,26 +152,21 @@ module _ (limits : LimitNumbers) (old new : Boards) (fs fs' : List (ℕ × Seate
   setup : c.knows.setup ≡ b.knows.setup
   setup = took.setup
 
-  -- a follower of the board
-  part_now : (g : Seated) (s : IsSeated old g) → f.board ≡ g.board → (q : Part) × (get_elem? c.knows.parts s.index ≡ some q) × (holding_of q ≡ with_taken f.place (items_of answer) (holding_of s.part))
-  part_now g s same =
-      let is : s.board ≡ b = same_Some _ _ (sym s.there ∙ ap (λ (x : List ℕ). lookup (same_name x) old) (sym same) ∙ there) in
-      let e : get_elem? b.knows.parts s.index ≡ some s.part = ap (λ (x : BoardSeat). get_elem? x.knows.parts s.index) (sym is) ∙ s.carried in
-      at_map_back holding_of c.knows.parts s.index _ (ap (λ (l : List Holding). get_elem? l s.index) took.parts ∙ at_map (with_taken f.place (items_of answer)) (map holding_of b.knows.parts) s.index _ (at_map holding_of b.knows.parts s.index s.part e))
-
-  there_now : (g : Seated) → f.board ≡ g.board → lookup (same_name g.board) new ≡ Some c
-  there_now g same = ap (λ (x : List ℕ). lookup (same_name x) new) (sym same) ∙ here
+  -- what becomes of a part
+  part_now : (i : ℕ) (p : Part) → get_elem? b.knows.parts i ≡ some p → (q : Part) × (get_elem? c.knows.parts i ≡ some q) × (holding_of q ≡ with_taken f.place (items_of answer) (holding_of p))
+  part_now i p e = at_map_back holding_of c.knows.parts i _ (ap (λ (l : List Holding). get_elem? l i) took.parts ∙ at_map (with_taken f.place (items_of answer)) (map holding_of b.knows.parts) i _ (at_map holding_of b.knows.parts i p e))
 
   seated_mine : IsSeated old f → IsSeated new (after answer f)
   seated_mine s =
-      let q = part_now f s refl in
+      let at : s.board ≡ b = same_Some _ _ (sym s.there ∙ there) in
+      let q = part_now s.index s.part (ap (λ (x : BoardSeat). get_elem? x.knows.parts s.index) (sym at) ∙ s.carried) in
       let is : holding_of q.0 ≡ (s.part.place, s.part.joined, s.part.taken ++ items_of answer) = q.2 ∙ (λ i. cond (eq-eqb s.part.place f.place s.place_is i) (s.part.place, s.part.joined, s.part.taken ++ items_of answer) (holding_of s.part)) in
       let long = length-append s.part.taken (items_of answer) in
       let l = ap (λ (x : Holding). length x.2) is in
       let t = s.taken_is in
       record {
         board = c;
-        there = here;
+        there = swapped_here old new f.board b c there new-is f.board refl;
         index = s.index;
         part = q.0;
         carried = q.1;
@@ -206,36 +176,14 @@ module _ (limits : LimitNumbers) (old new : Boards) (fs fs' : List (ℕ × Seate
       }
 
   seated_other : (g : Seated) → IsSeated old g → (f.board ≡ g.board → g.place ≢ f.place) → IsSeated new g
-  seated_other g s far = by (same_name f.board g.board) refl
-    where
-      by : (t : Bool) → same_name f.board g.board ≡ t → IsSeated new g
-      by false e = record { board = s.board; there = elsewhere g.board e ∙ s.there; index = s.index; part = s.part; carried = s.carried; place_is = s.place_is; joined_is = s.joined_is; taken_is = s.taken_is }
-      by true e =
-          let same = same_name_is f.board g.board e in
-          let q = part_now g s same in
-          let is : holding_of q.0 ≡ holding_of s.part = q.2 ∙ (λ i. cond (ne_eqb s.part.place f.place (λ z. far same (sym s.place_is ∙ z)) i) (s.part.place, s.part.joined, s.part.taken ++ items_of answer) (holding_of s.part)) in
-          record {
-            board = c;
-            there = there_now g same;
-            index = s.index;
-            part = q.0;
-            carried = q.1;
-            place_is = ap (λ (x : Holding). x.0) is ∙ s.place_is;
-            joined_is = ap (λ (x : Holding). x.1) is ∙ s.joined_is;
-            taken_is = ap (λ (x : Holding). length x.2) is ∙ s.taken_is;
-          }
-
-  at_name : (P : List ℕ → Option BoardSeat → Type 0) → ((q : List ℕ) → P q (Some c)) → ((q : List ℕ) → P q (lookup (same_name q) old)) → (q : List ℕ) → P q (lookup (same_name q) new)
-  at_name P mine others q = by (same_name f.board q) refl
-    where
-      by : (t : Bool) → same_name f.board q ≡ t → P q (lookup (same_name q) new)
-      by true e = subst (P q) (sym (ap (λ (x : List ℕ). lookup (same_name x) new) (sym (same_name_is f.board q e)) ∙ here)) (mine q)
-      by false e = subst (P q) (sym (elsewhere q e)) (others q)
+  seated_other g s far = seated_still old new f.board b c there new-is g s (λ same e.
+      let q = part_now s.index s.part e in
+      (s.index, q.0, q.1, q.2 ∙ (λ i. cond (ne_eqb s.part.place f.place (λ z. far same (sym s.place_is ∙ z)) i) (s.part.place, s.part.joined, s.part.taken ++ items_of answer) (holding_of s.part))))
 
   carried_mine : (k : ℕ) (n : Note) → get_elem? c.knows.notes k ≡ some n → n ≢ Vacant → Carries c.knows k
   carried_mine k n e ne =
       let d = live.carried f.board b there k n (ap (λ (l : List Note). get_elem? l k) (sym took.notes) ∙ e) ne in
-      let q = at_map_back holding_of c.knows.parts d.0 _ (ap (λ (l : List Holding). get_elem? l d.0) took.parts ∙ at_map (with_taken f.place (items_of answer)) (map holding_of b.knows.parts) d.0 _ (at_map holding_of b.knows.parts d.0 d.1 d.2)) in
+      let q = part_now d.0 d.1 d.2 in
       let kept : (with_taken f.place (items_of answer) (holding_of d.1)).0 ≡ d.1.place = pick (λ (x : Holding). x.0 ≡ d.1.place) (eqb d.1.place f.place) (d.1.place, d.1.joined, d.1.taken ++ items_of answer) (holding_of d.1) (λ _. refl) (λ _. refl) in
       (d.0, q.0, q.1, ap (λ (x : Holding). x.0) q.2 ∙ kept ∙ d.3)
 
@@ -245,16 +193,10 @@ module _ (limits : LimitNumbers) (old new : Boards) (fs fs' : List (ℕ × Seate
       count_shown : (q : List ℕ) (l : List (ℕ × Seated)) → count_by (λ e. same_name q e.1.board) l ≡ count_by (λ e. same_name q e.1) (shown (λ (g : Seated). g.board) l)
       count_shown q l = fold_shown (λ a e. a + cond (same_name q e.1) 1 0) 0 l
 
-  counts_all : (q : List ℕ) (x : BoardSeat) → lookup (same_name q) new ≡ Some x → count_by (λ e. same_name q e.1.board) fs' + total vacancy x.knows.notes ≡ limits.followers
-  counts_all q x e = ap (λ (n : ℕ). n + total vacancy x.knows.notes) (same_count q) ∙ by (same_name f.board q) refl
-    where
-      by : (t : Bool) → same_name f.board q ≡ t → count_by (λ e. same_name q e.1.board) fs + total vacancy x.knows.notes ≡ limits.followers
-      by false d = live.counted q x (sym (elsewhere q d) ∙ e)
-      by true d =
-          let same = same_name_is f.board q d in
-          let is : c ≡ x = same_Some _ _ (sym (ap (λ (y : List ℕ). lookup (same_name y) new) (sym same) ∙ here) ∙ e) in
-          ap (λ (l : List Note). count_by (λ e. same_name q e.1.board) fs + total vacancy l) (ap (λ (y : BoardSeat). y.knows.notes) (sym is) ∙ took.notes)
-          ∙ live.counted q b (ap (λ (y : List ℕ). lookup (same_name y) old) (sym same) ∙ there)
+  counts_all : Each (λ q v. count_by (λ e. same_name q e.1.board) fs' + total vacancy v.notes ≡ limits.followers) new
+  counts_all = each_turned old new f.board b c there new-is (λ q v. count_by (λ e. same_name q e.1.board) fs + total vacancy v.notes ≡ limits.followers) (λ q v. count_by (λ e. same_name q e.1.board) fs' + total vacancy v.notes ≡ limits.followers) live.counted
+      (λ q same h. (λ i. same_count q i + total vacancy (took.notes i)) ∙ h)
+      (λ q v ne h. ap (λ (n : ℕ). n + total vacancy v.notes) (same_count q) ∙ h)
 
   pub lives : IsLive limits new fs'
   lives =
@@ -266,19 +208,16 @@ module _ (limits : LimitNumbers) (old new : Boards) (fs fs' : List (ℕ × Seate
       (λ (x : (i ≢ w.0) × (get_elem? fs i ≡ some e)). (e, x.1, refl, refl)) (at i e d) in
       record {
         kept = keeps (held_by limits old fs) (held_by limits new fs') (Take who) (Answered answer) live.kept refl goes;
-        setups = at_name (λ q o. (x : BoardSeat) → o ≡ Some x → x.knows.setup ≡ setup_of x.knows.setup.start limits)
-            (λ q x e. subst (λ (y : BoardSeat). y.knows.setup ≡ setup_of y.knows.setup.start limits) (same_Some c x e) (setup ∙ live.setups f.board b there ∙ ap (λ (z : BoardSetup). setup_of z.start limits) (sym setup)))
-            (λ q. live.setups q);
-        owns = at_name (λ q o. (x : BoardSeat) → o ≡ Some x → x.knows.owns ≡ true) (λ q x e. subst (λ (y : BoardSeat). y.knows.owns ≡ true) (same_Some c x e) (took.owns ∙ live.owns f.board b there)) (λ q. live.owns q);
-        sound = at_name (λ q o. (x : BoardSeat) → o ≡ Some x → IsSound x.knows) (λ q x e. subst (λ (y : BoardSeat). IsSound y.knows) (same_Some c x e) ok') (λ q. live.sound q);
+        setups = each_on old new f.board b c there new-is (λ q v. v.setup ≡ setup_of v.setup.start limits) live.setups
+            (λ q same h. setup ∙ h ∙ ap (λ (z : BoardSetup). setup_of z.start limits) (sym setup));
+        owns = each_on old new f.board b c there new-is (λ q v. v.owns ≡ true) live.owns (λ q same h. took.owns ∙ h);
+        sound = each_on old new f.board b c there new-is (λ q v. IsSound v) live.sound (λ q same h. ok');
         seated = λ i e d. ⊎_elim
             (λ (x : (i ≡ w.0) × (e ≡ (w.1, after answer f))). subst (λ (y : ℕ × Seated). IsSeated new y.1) (sym x.1) (seated_mine (live.seated w.0 (w.1, f) w.2)))
             (λ (x : (i ≢ w.0) × (get_elem? fs i ≡ some e)). seated_other e.1 (live.seated i e x.1) (λ same place. x.0 (live.apart i w.0 e (w.1, f) x.1 w.2 (sym same) place)))
             (at i e d);
         apart = λ i j e d x y same place. let p = was i e x in let q = was j d y in live.apart i j p.0 q.0 p.1 q.1 (p.2 ∙ same ∙ sym q.2) (p.3 ∙ place ∙ sym q.3);
-        carried = at_name (λ q o. (x : BoardSeat) → o ≡ Some x → (k : ℕ) (n : Note) → get_elem? x.knows.notes k ≡ some n → n ≢ Vacant → Carries x.knows k)
-            (λ q x e. subst (λ (y : BoardSeat). (k : ℕ) (n : Note) → get_elem? y.knows.notes k ≡ some n → n ≢ Vacant → Carries y.knows k) (same_Some c x e) carried_mine)
-            (λ q. live.carried q);
+        carried = each_on old new f.board b c there new-is (λ q v. (k : ℕ) (n : Note) → get_elem? v.notes k ≡ some n → n ≢ Vacant → Carries v k) live.carried (λ q same h. carried_mine);
         counted = counts_all;
       }
 

@@ -15,7 +15,7 @@ use Rattle.relay_live.specs.declared.seated.Seated.{Seated}
 use Rattle.relay_live.specs.Live.{held_of, held_by}
 use Rattle.relay_live.proofs.Follows.{exists, goes, joins, lives, no_memory, not_yet, nowhere, too_far, too_many}
 use Rattle.relay_live.proofs.Opens.{nothing}
-use Rattle.relay_live.proofs.Submits.{game}
+use Rattle.relay_live.proofs.Swaps.{game}
 use Rattle.relay_live.proofs.relay.LiveRelay.follow.Goals as goal
 
 pub returns-in_default-clause-stands : goal.returns-in_default-clause-stands

@@ -3,7 +3,7 @@ use Rattle.std.specs.Map.{lookup}
 use Rattle.relay_core.specs.Name.{same_name}
 use Rattle.relay_core.specs.State.{RelayRecord}
 use Rattle.relay_core.proofs.Lists.{lookup-map}
-use Rattle.relay_live.proofs.Submits.{game}
+use Rattle.relay_live.proofs.Swaps.{game}
 use Rattle.relay_live.proofs.relay.LiveRelay.into_board.Goals as goal
 
 pub returns : goal.returns
