@@ -5,6 +5,7 @@ use Rattle.std.proofs.Math.Seq.{take-append_seam}
 use Rattle.std.proofs.lemmas.List.{drop-replicate}
 use Rattle.std.proofs.lemmas.Cmp.{nat_list_eq_equiv}
 use Rattle.std.proofs.lemmas.Bool.{and_from, and_parts, eqb-true}
+use Rattle.relay_core.specs.Inner.NameFields.{is_short}
 use Rattle.relay_core.specs.Name.{IsName, filled, same_name}
 
 -- the text is read back from in front of the zeros
@@ -31,4 +32,4 @@ zeros_behind text = ap (λ zeros. text ++ zeros) (drop-replicate (length text) 3
 -- the fields that a name has
 pub fields_of_name : (text : List ℕ) → IsName text
     → (length text ≤ 32) × IsName (take (length text) (filled text)) × (filled text ≡ filled (take (length text) (filled text)))
-fields_of_name text name = rw (take-append_seam text (replicate {A = ℕ} (32 - length text) 0)) (name.short, name, refl)
+fields_of_name text name = rw (take-append_seam text (replicate {A = ℕ} (32 - length text) 0)) (is_short text name, name, refl)

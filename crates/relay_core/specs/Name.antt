@@ -1,5 +1,5 @@
 -- Names of boards.
-use Rattle.std.specs.Prelude.{ℕ, ◌-◌, ◌≤◌, ◌==◌, nat_le, nat_eq, List, ◌++◌, length, replicate, Bool, ◌&&◌, ◌||◌, IsTrue}
+use Rattle.std.specs.Prelude.{ℕ, ◌-◌, ◌==◌, nat_le, nat_eq, List, ◌++◌, length, replicate, Bool, ◌&&◌, ◌||◌, IsTrue}
 use Rattle.std.specs.Cmp.Lexicographic.{pointwise}
 use Rattle.std.specs.List.{list_all}
 
@@ -9,10 +9,12 @@ is_name_byte b =
     (nat_le 65 b && nat_le b 90) || ((nat_le 97 b && nat_le b 122) || ((nat_le 48 b && nat_le b 57) || ((b == 95) || (b == 45))))
 
 -- 1 to 32 such bytes
-pub record IsName (text : List ℕ) : Type 0 where
-  pub some : 1 ≤ length text
-  pub short : length text ≤ 32
-  pub bytes : IsTrue (list_all is_name_byte text)
+abbrev pub is_name : List ℕ → Bool
+is_name text = nat_le 1 (length text) && (nat_le (length text) 32 && list_all is_name_byte text)
+
+-- the text is a name
+abbrev pub IsName : List ℕ → Type 0
+IsName text = IsTrue (is_name text)
 
 -- the text with zeros behind it, 32 bytes for a name
 abbrev pub filled : List ℕ → List ℕ

@@ -102,10 +102,8 @@ impl Boards {
             return Err(Refusal::NoSuchBoard);
         };
         let place = game.len();
-        match game.play(m) {
-            Ok(outcome) => Ok((place, outcome)),
-            Err(refusal) => return Err(refusal),
-        }
+        let outcome = game.play(m)?;
+        Ok((place, outcome))
     }
 
     /// Ends the game of a board, and tells the outcome that the ending names. It takes no memory.
@@ -122,10 +120,7 @@ impl Boards {
         let Some(game) = self.games.get_mut(&board) else {
             return Err(Refusal::NoSuchBoard);
         };
-        match game.end(ending) {
-            Ok(outcome) => Ok(outcome),
-            Err(refusal) => return Err(refusal),
-        }
+        game.end(ending)
     }
 
     /// Adds a board that is not there.

@@ -1,8 +1,8 @@
 //! The names of boards.
 
-ghost use Rattle.std.specs.Prelude.{◌≡◌, ◌↔◌, ◌≤◌, IsSome, IfSome, length, true};
+ghost use Rattle.std.specs.Prelude.{◌≡◌, ◌↔◌, ◌≤◌, IsSome, IfSome, length};
 ghost use Rattle.std.specs.List.{list_all};
-ghost use Rattle.relay_core.specs.Name.{IsName, filled, is_name_byte as is_in_names};
+ghost use Rattle.relay_core.specs.Name.{IsName, filled, is_name, is_name_byte as is_in_names};
 
 use std::marker::Model;
 use std::{fmt, str};
@@ -18,7 +18,7 @@ impl Model for BoardName {
     ghost use Rattle.std.specs.Prelude.{ℕ, List, ◌≡◌, ◌≤◌, length as length_of, take};
     ghost use Rattle.std.proofs.Common.{sym};
     ghost use Rattle.relay_core.specs.Name.{IsName, filled};
-    ghost use Rattle.relay_core.specs.Inner.NameFields.{length-front};
+    ghost use Rattle.relay_core.specs.Inner.NameFields.{length-front, is_short};
 
     ghost Value = { List ℕ };
 
@@ -30,7 +30,7 @@ impl Model for BoardName {
     ghost inverse = { λ text. record { length = length_of text; bytes = filled text } };
 
     ghost inverse_ok = { λ n h i. record {
-      length = length-front n.length n.bytes h.0 h.1.short h.2 i;
+      length = length-front n.length n.bytes h.0 (is_short (take n.length n.bytes) h.1) h.2 i;
       bytes = sym h.2 i;
     } };
 }
@@ -92,7 +92,7 @@ fn with_zeros(text: &[u8]) -> [u8; 32]
 
 /// Whether the text is a name.
 fn is_name(text: &[u8]) -> bool
-    ensures value { (result ≡ true) ↔ IsName text.now }
+    ensures value { result ≡ is_name text.now }
 {
     (1..=32).contains(&text.len()) && are_name_bytes(text)
 }

@@ -1,7 +1,6 @@
 -- What the members of a JSON object say. `get` finds the member that serde_json's reading gives: where a key is repeated in
 -- the text, the last.
-use Rattle.std.specs.Prelude.{ℕ, ◌^◌, ◌&&◌, nat_le, nat_lt, Bool, cond, List, length, Option, Some, None, is_some, option_map, option_and_then, unwrap_or, codes}
-use Rattle.std.specs.List.{list_all}
+use Rattle.std.specs.Prelude.{ℕ, ◌^◌, nat_lt, Bool, cond, List, Option, Some, None, is_some, option_map, option_and_then, unwrap_or, codes}
 use Rattle.std.specs.Result.{result_ok}
 use Rattle.std.specs.Str.{bytes_eq}
 use Rattle.serde_json.specs.Data.{Data}
@@ -11,7 +10,7 @@ use Rattle.c960_board.specs.declared.piece.Colour.{Colour}
 use Rattle.c960_board.specs.declared.piece.Colour.TheVariants.{White, Black}
 use Rattle.c960_board.specs.MoveReading.{move_read}
 use Rattle.c960_board.specs.Moves.{Triple}
-use Rattle.relay_core.specs.Name.{is_name_byte}
+use Rattle.relay_core.specs.Name.{is_name}
 
 -- ---- A member of any form.
 
@@ -30,10 +29,6 @@ abbrev pub below : ℕ → ℕ → Option ℕ
 below bound n = cond (nat_lt n bound) (Some n) None
 
 -- ---- The members of commands.
-
--- 1 to 32 bytes of A to Z, a to z, 0 to 9, _ and -
-abbrev pub is_name : List ℕ → Bool
-is_name text = nat_le 1 (length text) && nat_le (length text) 32 && list_all is_name_byte text
 
 abbrev pub name_in : List ℕ → Option (List ℕ)
 name_in text = cond (is_name text) (Some text) None

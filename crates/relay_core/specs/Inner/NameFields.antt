@@ -1,8 +1,16 @@
 -- The length of a name is read back from its bytes.
-use Rattle.std.specs.Prelude.{ℕ, ◌-◌, ◌≤◌, ◌≡◌, List, length, take, replicate}
+use Rattle.std.specs.Prelude.{ℕ, ◌-◌, ◌≤◌, ◌≡◌, ◌&&◌, nat_le, List, length, take, replicate}
+use Rattle.std.specs.List.{list_all}
 use Rattle.std.proofs.Common.{◌∙◌, ap, arith}
 use Rattle.std.proofs.lemmas.List.{length-append, length-replicate, length-take}
-use Rattle.relay_core.specs.Name.{filled}
+use Rattle.std.proofs.lemmas.Bool.{and_parts, leb-true}
+use Rattle.relay_core.specs.Name.{IsName, filled, is_name_byte}
+
+-- a name has at most 32 bytes
+pub is_short : (text : List ℕ) → IsName text → length text ≤ 32
+is_short text name =
+    let rest = (and_parts (nat_le 1 (length text)) (nat_le (length text) 32 && list_all is_name_byte text) name).1 in
+    leb-true (length text) 32 (and_parts (nat_le (length text) 32) (list_all is_name_byte text) rest).0
 
 -- a text of at most 32 bytes is filled up to 32
 pub length-filled : (text : List ℕ) → length text ≤ 32 → length (filled text) ≡ 32

@@ -1,4 +1,5 @@
-use Rattle.std.proofs.Common.{◌≡◌, cond, length, option_map, Some, sym, ap, ◌∙◌, rules}
+use Rattle.std.proofs.Common.{◌≡◌, cond, length, option_map, Some, Err, sym, ap, ◌∙◌, rules}
+use Rattle.std.proofs.lemmas.Result.{err_from_is_err_and}
 use Rattle.std.specs.Map.{lookup}
 use Rattle.c960_game.specs.Record.{GameRecord, with_move}
 use Rattle.relay_core.specs.Inner.Boards.{play_answer_at, with_place}
@@ -6,16 +7,18 @@ use Rattle.relay_core.specs.Inner.Held.{HeldBoards}
 use Rattle.relay_core.specs.Name.{same_name}
 use Rattle.relay_core.proofs.boards.Boards.play.Goals as goal
 
-pub returns-in-Err-clause-answer : goal.returns-in-Err-clause-answer
-returns-in-Err-clause-answer c =
+pub returns-in_err-outcome-clause-answer : goal.returns-in_err-outcome-clause-answer
+returns-in_err-outcome-clause-answer c =
     let found : lookup (same_name c.args.board) c.args.self.now.entries ≡ Some c.in-Some.game.now = search rules in
-    ap (with_place (length c.in-Some.game.now.log)) (sym c.in-Err.is ∙ c.play.ensures.answer)
+    let told = err_from_is_err_and c.from_residual.result c.from_residual.ensures.1 in
+    told.1 ∙ ap Err told.2
+    ∙ ap (with_place (length c.in-Some.game.now.log)) (sym c.in_err-outcome.was ∙ c.play.ensures.answer)
     ∙ sym (ap (play_answer_at c.args.m) found)
 
 pub returns-clause-updates : goal.returns-clause-updates
 returns-clause-updates c =
     let found : lookup (same_name c.args.board) c.args.self.now.entries ≡ Some c.in-Some.game.now = search rules in
-    let e : c.play.new.self ≡ with_move c.in-Some.game.now c.args.m = rw c.in-Ok.is at c.play.ensures.game in
+    let e : c.play.new.self ≡ with_move c.in-Some.game.now c.args.m = rw c.in_ok-outcome.was at c.play.ensures.game in
     let written = ((c.get_mut.follows.holds c.play.new.self).3 (search rules)).0 in
     λ q. written q
     ∙ ap (λ o. cond (same_name c.args.board q) o (lookup (same_name q) c.self.inside.games.entries))
