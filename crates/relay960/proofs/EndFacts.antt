@@ -1,5 +1,5 @@
 -- How `moves` ends.
-use Rattle.std.proofs.Common.{◌≡◌, ◌⊎◌, ℕ, List, Bool, cond, inl, inr}
+use Rattle.std.proofs.Common.{◌≡◌, ℕ, List, Bool, cond, inl, inr}
 use Rattle.std.proofs.Common.{Result, Ok, Err, IfOk, IfErr, MatchResult}
 use Rattle.relay960_engines.specs.declared.fault.RunFault.{RunFault}
 use Rattle.relay960_engines.specs.Moves.{Answered, Failed}
