@@ -18,6 +18,16 @@ fn joined_noted(note: Note) -> u64
     }
 }
 
+/// Makes a note what it becomes where the cursor says this. Of a place that was vacant and still is nothing is written.
+pub fn renew(note: &mut Note, word: u64)
+    ensures { note.new ≡ note_after note.old word }
+{
+    match *note {
+        Note::Vacant if word == 0 => {}
+        known => *note = note_after(known, word),
+    }
+}
+
 /// What the note of a cursor becomes where the cursor says this.
 pub fn note_after(note: Note, word: u64) -> Note
     ensures { result ≡ note_after note word }

@@ -16,7 +16,7 @@ ghost use Rattle.live_steps.specs.Views.{finished, followed, kept_part, newcomer
 ghost use Rattle.live_board.specs.Desk.{Checked, CheckedBelow, Exchanged, FreeBelow, IsNotedFull, LoadedBelow, NoneVacant, Searched, Tried, TriedBelow, Unmoved};
 ghost use Rattle.live_board.specs.Meeting.{Met};
 
-use crate::cursor::{closing_in, note_after};
+use crate::cursor::{closing_in, note_after, renew};
 use crate::follower::{Follower, outcome_in};
 use atomic_table::{Seat, Table};
 use c960_board::Move;
@@ -127,8 +127,7 @@ impl Desk {
     {
         let shared = &self.table.shared;
         let word = shared.load::<Check>(&mut self.seat, place as usize + 2);
-        let note = self.notes[place as usize];
-        self.notes[place as usize] = note_after(note, word);
+        renew(&mut self.notes[place as usize], word);
     }
 
     /// Closes the follower at the place, whose cursor was open at `next` when it was last loaded, if it still is.
