@@ -44,13 +44,14 @@ pub struct Desk {
 
 impl Model for Desk {
     ghost use Rattle.std.specs.Arc.{arc_value};
+    ghost use Rattle.std.specs.Vec.{vec_capacity};
     ghost use Rattle.live_board.specs.Seats.{BoardSeat, IsDesk};
 
     ghost Value = { BoardSeat };
 
     ghost view = { λ d. record { table = d.seat.table_id; knows = d.seat.me.0 } };
 
-    ghost invariant = { λ d. IsDesk (arc_value d.table).shared.table_id (arc_value d.table).shared.key d.seat d.setup d.len d.notes.items };
+    ghost invariant = { λ d. IsDesk (arc_value d.table).shared.table_id (arc_value d.table).shared.key d.seat d.setup d.len d.notes.items (vec_capacity d.notes) };
 }
 
 impl Desk {
@@ -66,9 +67,9 @@ impl Desk {
         for _ in 0..setup.limits.followers + setup.limits.plies + 1 {
             words.push(0)?;
         }
-        let mut notes = Vec::new(alloc);
+        let mut notes = Vec::with_capacity(alloc, setup.limits.followers as usize)?;
         for _ in 0..setup.limits.followers {
-            notes.push(Note::Vacant)?;
+            notes.push_reserved(Note::Vacant);
         }
         let (table, seat) = Table::of_words(alloc, words.as_slice(), &setup)?;
         let table = Arc::new(alloc, table)?;
