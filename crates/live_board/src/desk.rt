@@ -10,7 +10,7 @@ ghost use Rattle.c960_game.specs.Ends.{own_outcome};
 ghost use Rattle.c960_game.specs.Ground.{Ground};
 ghost use Rattle.c960_game.specs.Positions.{last_position};
 ghost use Rattle.live_machine.specs.Limits.{AreBoardLimits};
-ghost use Rattle.live_steps.specs.declared.note.Note.TheVariants.{Vacant};
+ghost use Rattle.live_steps.specs.declared.note.Note.TheVariants.{Open, Vacant};
 ghost use Rattle.live_steps.specs.Sound.{IsSound, IsSoundPart};
 ghost use Rattle.live_steps.specs.Views.{finished, followed, kept_part, newcomer, published, starting, storing};
 ghost use Rattle.live_board.specs.Desk.{Checked, CheckedBelow, Exchanged, FreeBelow, IsNotedFull, LoadedBelow, NoneVacant, Searched, Tried, TriedBelow, Unmoved};
@@ -118,9 +118,11 @@ impl Desk {
 }
 
 impl Desk {
-    /// Loads the cursor at the place, and notes what it says.
-    pub fn check(&mut self, place: u64)
+    /// Loads the cursor at the place, and notes what it says: the new note.
+    pub fn check(&mut self, place: u64) -> Note
         requires { place < self.old.knows.setup.limits.followers }
+        ensures note { get_elem? self.new.knows.notes place ≡ some result }
+        ensures next { (joined next : ℕ) → result ≡ Open joined next → next < 4294967296 }
         ensures table { self.new.table ≡ self.old.table }
         ensures knows { Checked self.old.knows place self.new.knows }
         ensures before { IsSound self.old.knows }
@@ -128,7 +130,7 @@ impl Desk {
     {
         let shared = &self.table.shared;
         let word = shared.load::<Check>(&mut self.seat, place as usize + 2);
-        renew(&mut self.notes[place as usize], word);
+        renew(&mut self.notes[place as usize], word)
     }
 
     /// Closes the follower at the place, whose cursor was open at `next` when it was last loaded, if it still is.
@@ -160,8 +162,7 @@ impl Desk {
         ensures before { IsSound self.old.knows }
         ensures sound { IsSound self.new.knows }
     {
-        self.check(place);
-        if let Note::Open(_, next) = self.notes[place as usize] {
+        if let Note::Open(_, next) = self.check(place) {
             if next + self.setup.limits.capacity == self.len {
                 self.exchange(place, next);
             }
