@@ -16,10 +16,11 @@ pub(crate) fn same_colour(one: Colour, two: Colour) -> bool
     one == two
 }
 
+/// The squares that hold a piece are one word, and differ in most placements that do.
 fn same_placement(one: &Position, two: &Position) -> bool
     ensures { result ≡ pointwise (option_eq same_piece) one.now.placement two.now.placement }
 {
-    one.same_placement(two)
+    one.occupied() == two.occupied() && one.same_placement(two)
 }
 
 fn same_rights(one: &CastlingRights, two: &CastlingRights) -> bool

@@ -19,10 +19,10 @@ use Rattle.live_steps.proofs.SoundViews.{sound}
 use Rattle.live_board.specs.Carried.{Carries}
 use Rattle.live_board.specs.Seats.{IsDesk}
 
-pub desk_of : {id : TableId} {key : BoardSetup} {seat : Seat (Unit {0}) View} {setup : BoardSetup} {len : ℕ} {notes : List Note} (v : View) → seat.me.0 ≡ v → seat.table_id ≡ id → id.words ≡ word_count setup.limits → key ≡ setup
-    → v.owns ≡ true → v.setup ≡ setup → len ≡ length v.log → notes ≡ v.notes → seat.me.1 ≡ [] → IsSound seat.me.0
-    → IsDesk id key seat setup len notes
-desk_of v is table words key owns setup-is len-is notes-are none-held sound = record {
+pub desk_of : {id : TableId} {key : BoardSetup} {seat : Seat (Unit {0}) View} {setup : BoardSetup} {len : ℕ} {notes : List Note} {room : ℕ} (v : View) → seat.me.0 ≡ v → seat.table_id ≡ id → id.words ≡ word_count setup.limits → key ≡ setup
+    → v.owns ≡ true → v.setup ≡ setup → len ≡ length v.log → notes ≡ v.notes → room ≡ setup.limits.followers → seat.me.1 ≡ [] → IsSound seat.me.0
+    → IsDesk id key seat setup len notes room
+desk_of v is table words key owns setup-is len-is notes-are room-is none-held sound = record {
   table = table;
   words = words;
   key_is = key;
@@ -30,6 +30,7 @@ desk_of v is table words key owns setup-is len-is notes-are none-held sound = re
   setup_is = ap (λ (u : View). u.setup) is ∙ setup-is;
   len_is = len-is ∙ ap (λ (u : View). length u.log) (sym is);
   notes_are = notes-are ∙ ap (λ (u : View). u.notes) (sym is);
+  room_is = room-is;
   none_held = none-held;
   sound = sound;
 }
@@ -71,7 +72,7 @@ pub noted_is : (l : List Note) (k r : ℕ) (x : Note) → get_or l k Vacant ≡ 
 noted_is l k r x is = let here : k ≡ k + 2 - 2 = omega arith in λ i. set l (here i) (note_after ((sym is ∙ ap (λ (j : ℕ). get_or l j Vacant) here) i) r)
 
 -- the note that a desk has read
-pub noted_there : {id : TableId} {key : BoardSetup} {seat : Seat (Unit {0}) View} {setup : BoardSetup} {len : ℕ} {notes : List Note} → IsDesk id key seat setup len notes → (k : ℕ) (n : Note) (v : View) → seat.me.0 ≡ v → k < v.setup.limits.followers
+pub noted_there : {id : TableId} {key : BoardSetup} {seat : Seat (Unit {0}) View} {setup : BoardSetup} {len : ℕ} {notes : List Note} {room : ℕ} → IsDesk id key seat setup len notes room → (k : ℕ) (n : Note) (v : View) → seat.me.0 ≡ v → k < v.setup.limits.followers
     → n ≡ get_or notes k n → get_elem? v.notes k ≡ some n
 noted_there {notes = notes} i k n v is inside found =
     let b = i.sound.board i.owns in
@@ -80,7 +81,7 @@ noted_there {notes = notes} i k n v is inside found =
     ∙ ap (λ (l : List Note). get_elem? l k) (sym i.notes_are) ∙ at_index notes k n low found
 
 -- the place of a part that a desk carries
-pub carried_inside : {id : TableId} {key : BoardSetup} {seat : Seat (Unit {0}) View} {setup : BoardSetup} {len : ℕ} {notes : List Note} → IsDesk id key seat setup len notes → (v : View) (k : ℕ) → seat.me.0 ≡ v → Carries v k
+pub carried_inside : {id : TableId} {key : BoardSetup} {seat : Seat (Unit {0}) View} {setup : BoardSetup} {len : ℕ} {notes : List Note} {room : ℕ} → IsDesk id key seat setup len notes room → (v : View) (k : ℕ) → seat.me.0 ≡ v → Carries v k
     → k < v.setup.limits.followers
 carried_inside i v k is c =
     let inside = ((i.sound.board i.owns).inside c.0 c.1 (ap (λ (u : View). get_elem? u.parts c.0) is ∙ c.2)).0 in

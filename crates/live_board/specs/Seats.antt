@@ -32,8 +32,9 @@ first_part d (p ∷ ps) = p
 abbrev pub part_of : View → Part
 part_of v = first_part (nobody v.setup) v.parts
 
--- of a board: the table's identity and key, the seat, and the fields beside it
-pub record IsDesk (id : TableId) (key : BoardSetup) (seat : Seat (Unit {0}) View) (setup : BoardSetup) (len : ℕ) (notes : List Note) : Type 0 where
+-- Of a board: the table's identity and key, the seat, and the fields beside it. The notes have room for each follower from the opening
+-- on, and no other, so that no call takes memory for them.
+pub record IsDesk (id : TableId) (key : BoardSetup) (seat : Seat (Unit {0}) View) (setup : BoardSetup) (len : ℕ) (notes : List Note) (room : ℕ) : Type 0 where
   pub table : seat.table_id ≡ id
   pub words : id.words ≡ word_count setup.limits
   pub key_is : key ≡ setup
@@ -41,6 +42,7 @@ pub record IsDesk (id : TableId) (key : BoardSetup) (seat : Seat (Unit {0}) View
   pub setup_is : seat.me.0.setup ≡ setup
   pub len_is : len ≡ length seat.me.0.log
   pub notes_are : notes ≡ seat.me.0.notes
+  pub room_is : room ≡ setup.limits.followers
   pub none_held : seat.me.1 ≡ []
   pub sound : IsSound seat.me.0
 

@@ -10,13 +10,13 @@ ghost use Rattle.c960_game.specs.Ends.{own_outcome};
 ghost use Rattle.c960_game.specs.Ground.{Ground};
 ghost use Rattle.c960_game.specs.Positions.{last_position};
 ghost use Rattle.live_machine.specs.Limits.{AreBoardLimits};
-ghost use Rattle.live_steps.specs.declared.note.Note.TheVariants.{Vacant};
+ghost use Rattle.live_steps.specs.declared.note.Note.TheVariants.{Open, Vacant};
 ghost use Rattle.live_steps.specs.Sound.{IsSound, IsSoundPart};
 ghost use Rattle.live_steps.specs.Views.{finished, followed, kept_part, newcomer, published, starting, storing};
 ghost use Rattle.live_board.specs.Desk.{Checked, CheckedBelow, Exchanged, FreeBelow, IsNotedFull, LoadedBelow, NoneVacant, Searched, Tried, TriedBelow, Unmoved};
 ghost use Rattle.live_board.specs.Meeting.{Met};
 
-use crate::cursor::{closing_in, note_after};
+use crate::cursor::{closing_in, note_after, renew};
 use crate::follower::{Follower, outcome_in};
 use atomic_table::{Seat, Table};
 use c960_board::Move;
@@ -44,13 +44,14 @@ pub struct Desk {
 
 impl Model for Desk {
     ghost use Rattle.std.specs.Arc.{arc_value};
+    ghost use Rattle.std.specs.Vec.{vec_capacity};
     ghost use Rattle.live_board.specs.Seats.{BoardSeat, IsDesk};
 
     ghost Value = { BoardSeat };
 
     ghost view = { λ d. record { table = d.seat.table_id; knows = d.seat.me.0 } };
 
-    ghost invariant = { λ d. IsDesk (arc_value d.table).shared.table_id (arc_value d.table).shared.key d.seat d.setup d.len d.notes.items };
+    ghost invariant = { λ d. IsDesk (arc_value d.table).shared.table_id (arc_value d.table).shared.key d.seat d.setup d.len d.notes.items (vec_capacity d.notes) };
 }
 
 impl Desk {
@@ -66,9 +67,9 @@ impl Desk {
         for _ in 0..setup.limits.followers + setup.limits.plies + 1 {
             words.push(0)?;
         }
-        let mut notes = Vec::new(alloc);
+        let mut notes = Vec::with_capacity(alloc, setup.limits.followers as usize)?;
         for _ in 0..setup.limits.followers {
-            notes.push(Note::Vacant)?;
+            notes.push_reserved(Note::Vacant);
         }
         let (table, seat) = Table::of_words(alloc, words.as_slice(), &setup)?;
         let table = Arc::new(alloc, table)?;
@@ -117,9 +118,11 @@ impl Desk {
 }
 
 impl Desk {
-    /// Loads the cursor at the place, and notes what it says.
-    pub fn check(&mut self, place: u64)
+    /// Loads the cursor at the place, and notes what it says: the new note.
+    pub fn check(&mut self, place: u64) -> Note
         requires { place < self.old.knows.setup.limits.followers }
+        ensures note { get_elem? self.new.knows.notes place ≡ some result }
+        ensures next { (joined next : ℕ) → result ≡ Open joined next → next < 4294967296 }
         ensures table { self.new.table ≡ self.old.table }
         ensures knows { Checked self.old.knows place self.new.knows }
         ensures before { IsSound self.old.knows }
@@ -127,8 +130,7 @@ impl Desk {
     {
         let shared = &self.table.shared;
         let word = shared.load::<Check>(&mut self.seat, place as usize + 2);
-        let note = self.notes[place as usize];
-        self.notes[place as usize] = note_after(note, word);
+        renew(&mut self.notes[place as usize], word)
     }
 
     /// Closes the follower at the place, whose cursor was open at `next` when it was last loaded, if it still is.
@@ -160,8 +162,7 @@ impl Desk {
         ensures before { IsSound self.old.knows }
         ensures sound { IsSound self.new.knows }
     {
-        self.check(place);
-        if let Note::Open(_, next) = self.notes[place as usize] {
+        if let Note::Open(_, next) = self.check(place) {
             if next + self.setup.limits.capacity == self.len {
                 self.exchange(place, next);
             }

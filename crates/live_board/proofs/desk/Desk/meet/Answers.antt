@@ -108,6 +108,7 @@ invariant_of-self c =
     let there = noted_there i c.follower.inside.place c.index-note.result.now v refl (omega (arith, low, ap (λ (z : BoardSetup). z.limits.followers) i.setup_is)) c.index-note.ensures in
     desk_of (kept_part checked) (kept ∙ ap kept_part whole) (out.0 ∙ f.0 ∙ c.load-status.ensures.0 ∙ c.join_seat.ensures.0 ∙ c.split_seat-seat.ensures.0 ∙ i.table) i.words i.key_is i.owns i.setup_is i.len_is
     (ap (λ l. set l c.follower.inside.place c.note_after.result) i.notes_are ∙ ap (set v.notes c.follower.inside.place) c.note_after.ensures ∙ noted_is v.notes c.follower.inside.place n c.index-note.result.now (note_read v.notes c.follower.inside.place c.index-note.result.now there))
+    i.room_is
     (ap (λ m. m.1) out.2 ∙ f.2.0.0 ∙ c.load-status.ensures.2.0.0 ∙ ap (λ m. m.1) c.join_seat.ensures.2 ∙ ap (λ m. m.1) c.split_seat-seat.ensures.2 ∙ i.none_held) (subst IsSound (sym kept) (kept_sound c.load-cursor.new.seat.me.0 f.2.0.1))
 
 pub invariant_of-follower : goal.invariant_of-follower

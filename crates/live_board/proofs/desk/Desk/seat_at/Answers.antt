@@ -44,7 +44,7 @@ invariant_of-self c =
     let now = followed_is c.store.new.seat.me.0 c.self.inside.seat.me.0 c.args.place c.args.from _ c.store.ensures.2.1 c.open_cursor-cursor.ensures low in
     let f = c.store.ensures in
     desk_of (followed c.args.place c.args.from c.self.inside.seat.me.0) now (f.0 ∙ i.table) i.words i.key_is i.owns i.setup_is i.len_is (ap (λ l. set l c.args.place (Open c.args.from c.args.from)) i.notes_are)
-    (f.2.0.0 ∙ i.none_held) f.2.0.1
+    i.room_is (f.2.0.0 ∙ i.none_held) f.2.0.1
 
 pub returns-clause-knows : goal.returns-clause-knows
 returns-clause-knows c =

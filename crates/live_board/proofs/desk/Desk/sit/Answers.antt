@@ -52,7 +52,7 @@ invariant_of-self c =
     let sat = followed_is c.store.new.seat.me.0 v c.args.place c.args.from _ f.2.1 c.open_cursor-cursor.ensures low in
     let view = ap (λ m. m.0) e.2 in
     desk_of (kept_part (followed c.args.place c.args.from v)) (view ∙ ap kept_part sat) (e.0 ∙ f.0 ∙ i.table) i.words i.key_is i.owns i.setup_is i.len_is (ap (λ l. set l c.args.place (Open c.args.from c.args.from)) i.notes_are)
-    (ap (λ m. m.1) e.2 ∙ f.2.0.0 ∙ i.none_held) (subst IsSound (sym view) (kept_sound c.store.new.seat.me.0 f.2.0.1))
+    i.room_is (ap (λ m. m.1) e.2 ∙ f.2.0.0 ∙ i.none_held) (subst IsSound (sym view) (kept_sound c.store.new.seat.me.0 f.2.0.1))
 
 pub returns-clause-sound : goal.returns-clause-sound
 returns-clause-sound c = subst IsSound (sym (ap (λ m. m.0) c.split_seat-seat.ensures.2)) (kept_sound c.store.new.seat.me.0 c.store.ensures.2.0.1)
