@@ -31,6 +31,8 @@ TESTS = {
     ],
     "relay_pushing_tests": [
         "tests::connections::a_connection_may_what_its_boards_let_it",
+        "tests::live::cut_pushed_from_a_live_board",
+        "tests::live::who_was_closed_may_leave_with_nothing_taken",
         "tests::pushing::cut_pushed",
         "tests::pushing::nothing_is_waited_for_and_is_no_text",
     ],

@@ -2,4 +2,5 @@
 
 mod connections;
 mod fakes;
+mod live;
 mod pushing;

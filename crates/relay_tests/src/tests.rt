@@ -1,6 +1,7 @@
 //! Worked cases of both kinds of relay, and comparisons with a plain one.
 
 mod boards;
+mod callers;
 mod closing;
 mod endings;
 mod kinds;

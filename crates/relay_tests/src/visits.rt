@@ -1,16 +1,16 @@
-//! A small example of a caller: what a relay stands at after two steps.
+//! A small example of a caller: what a relay of either kind stands at after two steps.
 
 ghost use Rattle.std.specs.Prelude.{◌∷◌, None};
 ghost use Rattle.c960_game.specs.Limits.{LimitNumbers};
 ghost use Rattle.relay_core.specs.History.{History};
 ghost use Rattle.relay_core.specs.Stands.{Stands};
 
-use relay_core::{BoardName, Relay, Reply, Spectator, Step};
+use relay_core::{BoardName, Reply, Spectator, Step, Stepper};
 
 /// Lets a spectator follow a board and leave again, and gives both replies.
-pub fn visit(relay: &mut Relay, who: Spectator, board: BoardName) -> (Reply, Reply)
-    ensures { (limits : LimitNumbers) (h : History) → Stands limits relay.old h
-        → Stands limits relay.new ((Step.Leave who, result.1) ∷ (Step.Follow who board None, result.0) ∷ h) }
+pub fn visit<S: Stepper>(relay: &mut S, who: Spectator, board: BoardName) -> (Reply, Reply)
+    ensures { (limits : LimitNumbers) (h : History) → Stands limits (S.record_of relay.old) h
+        → Stands limits (S.record_of relay.new) ((Step.Leave who, result.1) ∷ (Step.Follow who board None, result.0) ∷ h) }
 {
     let following = relay.step(Step::Follow(who, board, None));
     let left = relay.step(Step::Leave(who));

@@ -6,7 +6,7 @@ use crate::tests::fakes::{Answers, Ringing, Seat, board, relay};
 use c960_board::{Move, read_move};
 use c960_game::{Outcome, Refusal};
 use relay_core::{Relay, Reply, Step, Taken};
-use relay_pushing::{PushEnd, SendFault, push_all};
+use relay_pushing::{PushEnd, SendFault, Source, push_all};
 use std::alloc::{AllocError, Global};
 use std::process::Abort;
 use std::sync::Wait;
@@ -15,7 +15,7 @@ const FIRST: &[u8] = b"{\"move\":\"e2e4\",\"place\":0,\"reply\":\"move\"}";
 
 const SECOND: &[u8] = b"{\"move\":\"e7e5\",\"place\":1,\"reply\":\"move\"}";
 
-const TEXTS_OF_CUT: [&[u8]; 3] = [FIRST, SECOND, b"{\"reply\":\"cut\"}"];
+pub const TEXTS_OF_CUT: [&[u8]; 3] = [FIRST, SECOND, b"{\"reply\":\"cut\"}"];
 
 const TEXTS_OF_OVER: [&[u8]; 3] = [
     FIRST,
@@ -23,11 +23,12 @@ const TEXTS_OF_OVER: [&[u8]; 3] = [
     b"{\"outcome\":\"agreed\",\"reply\":\"over\"}",
 ];
 
-const NO_MEMORY: PushEnd = PushEnd::Failed(SendFault::OutOfMemory);
+pub const NO_MEMORY: PushEnd = PushEnd::Failed(SendFault::OutOfMemory);
 
-const NO_DEVICE: PushEnd = PushEnd::Failed(SendFault::Device);
+pub const NO_DEVICE: PushEnd = PushEnd::Failed(SendFault::Device);
 
-fn move_of(rt: &impl Abort, text: &str) -> Move {
+/// The move of a text.
+pub fn move_of(rt: &impl Abort, text: &str) -> Move {
     match read_move(text.as_bytes()) {
         Ok(m) => m,
         Err(_) => panic!(rt; "no move"),
@@ -59,7 +60,7 @@ fn full_queue(rt: &impl Abort, alloc: Global) -> Seat {
 }
 
 /// Asserts that the outlet has the first of these texts.
-fn assert_first(rt: &impl Abort, outlet: &ListOutlet, wanted: &[&[u8]]) {
+pub fn assert_first(rt: &impl Abort, outlet: &ListOutlet, wanted: &[&[u8]]) {
     assert!(rt; outlet.texts.len() <= wanted.len());
     for (text, wanted) in outlet.texts.iter().zip(wanted) {
         assert_eq!(rt; text.as_slice(), *wanted);
@@ -67,12 +68,12 @@ fn assert_first(rt: &impl Abort, outlet: &ListOutlet, wanted: &[&[u8]]) {
 }
 
 /// Asserts that pushing goes on behind the text that was lost: to its end, where that was lost.
-fn assert_rest<R: Wait + Abort>(rt: &R, alloc: Global, seat: &mut Seat, sent: usize) {
+pub fn assert_rest<R: Wait + Abort, S: Source>(rt: &R, alloc: Global, source: &mut S, sent: usize) {
     let Some(wanted) = TEXTS_OF_CUT.get(sent.saturating_add(1).min(2)..) else {
         panic!(rt; "there is an end");
     };
     let mut outlet = ListOutlet::new(alloc, 9, 9);
-    let end = push_all(rt, alloc, &mut outlet, seat, &Ringing::new());
+    let end = push_all(rt, alloc, &mut outlet, source, &Ringing::new());
     assert_eq!(rt; end, PushEnd::Cut);
     assert_eq!(rt; outlet.texts.len(), wanted.len());
     assert_first(rt, &outlet, wanted);

@@ -1,9 +1,10 @@
 //! A board that a relay over live boards hands out.
 
+use crate::handing::play_and_hand_out;
 use crate::tests::closing::FULL_QUEUE;
 use crate::tests::table::{Asked, Told, board_of, case_of, limits_of};
 use c960_game::Refusal;
-use relay_live::{Board, LiveRelay};
+use relay_live::Board;
 use std::alloc::{AllocError, Global};
 use std::process::Abort;
 use std::test::Fail;
@@ -16,10 +17,11 @@ fn board_after(
     name: &str,
 ) -> Result<Option<Board>, AllocError> {
     let case = case_of(rt, alloc, rows)?;
-    let mut relay = LiveRelay::new(alloc, limits_of(rt, (2, 1, 2, 64)))?;
-    let replies = relay.run(case.steps.as_slice())?;
+    let limits = limits_of(rt, (2, 1, 2, 64));
+    let name = board_of(rt, name);
+    let (replies, board) = play_and_hand_out(alloc, limits, case.steps.as_slice(), &name)?;
     assert!(rt; replies.as_slice() == case.replies.as_slice());
-    Ok(relay.into_board(&board_of(rt, name)))
+    Ok(board)
 }
 
 #[test]

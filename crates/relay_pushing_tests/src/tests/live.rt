@@ -1,0 +1,118 @@
+//! What is pushed from a follower of a live board. The rows are written to hold with ample memory, and where one allocation is refused
+//! (`rt try --test --fail-alloc N`): then pushing ends behind the texts that were sent before.
+
+use crate::list_outlet::ListOutlet;
+use crate::tests::fakes::Ringing;
+use crate::tests::pushing::{
+    NO_DEVICE, NO_MEMORY, TEXTS_OF_CUT, assert_first, assert_rest, move_of,
+};
+use c960_game::{Limits, Refusal};
+use live_board::{Board, Follower};
+use relay_core::{Account, Taken};
+use relay_pushing::{PushEnd, Source, push_all};
+use std::alloc::Global;
+use std::process::Abort;
+
+/// A follower of a live board, which gives what the follower takes.
+#[derive(Drop)]
+struct Live {
+    follower: Follower,
+}
+
+impl Source for Live {
+    ghost use Rattle.live_board.specs.Takes.{Stays, Took};
+
+    ghost gives = { λ old taken new. Stays old.follower new.follower × Took old.follower new.follower taken };
+
+    fn take(&mut self) -> Taken {
+        self.follower.take()
+    }
+}
+
+/// A board that one may follow and whose queues hold two moves; it is opened again where it was refused for want of memory.
+fn open(rt: &impl Abort, alloc: Global) -> Board {
+    let limits = Limits::new(1, 1, 2, 64).expect(rt, "limits");
+    match Board::open(alloc, 518, limits) {
+        Ok(board) => board,
+        Err(refusal) => {
+            assert!(rt; refusal == Refusal::OutOfMemory);
+            let Ok(board) = Board::open(alloc, 518, limits) else {
+                panic!(rt; "one refusal at the most");
+            };
+            board
+        }
+    }
+}
+
+/// A follower from the present on, asked for again where it was refused for want of memory.
+fn follow(rt: &impl Abort, board: &mut Board) -> Live {
+    match board.follow(None) {
+        Ok(follower) => Live { follower },
+        Err(refusal) => {
+            assert!(rt; refusal == Refusal::OutOfMemory);
+            let Ok(follower) = board.follow(None) else {
+                panic!(rt; "one refusal at the most");
+            };
+            Live { follower }
+        }
+    }
+}
+
+/// A board, and its follower, which was closed when the third move was made.
+fn full_queue(rt: &impl Abort, alloc: Global) -> (Board, Live) {
+    let mut board = open(rt, alloc);
+    let live = follow(rt, &mut board);
+    assert!(rt; live.follower.joined() == 0);
+    let mut place = 0u16;
+    for text in ["e2e4", "e7e5", "g1f3"] {
+        assert!(rt; board.submit(move_of(rt, text)) == Ok((place, None)));
+        place = place.saturating_add(1);
+    }
+    (board, live)
+}
+
+/// Asserts that the follower leaves with that many moves taken, and that its place on the board is given back.
+fn assert_leaves(rt: &impl Abort, mut board: Board, live: Live, taken: u16) {
+    assert!(rt; matches!(board.follow(None), Err(Refusal::TooManyFollowers)));
+    let (account, _) = live.follower.leave();
+    assert!(rt;
+        account
+            == (Account {
+                joined: 0,
+                taken,
+                limit: 2,
+                cut: true
+            })
+    );
+    assert!(rt; follow(rt, &mut board).follower.joined() == 3);
+}
+
+#[test]
+fn cut_pushed_from_a_live_board(rt: HostRuntime) {
+    // How many texts the device takes, how pushing ends, and how many texts were sent.
+    for (room, wanted, texts) in [(9, PushEnd::Cut, 3), (1, NO_DEVICE, 1)] {
+        let (board, mut live) = full_queue(&rt, rt.alloc());
+        let mut outlet = ListOutlet::new(rt.alloc(), room, 9);
+        let bell = Ringing::new();
+        let end = push_all(&rt, rt.alloc(), &mut outlet, &mut live, &bell);
+        let sent = outlet.texts.len();
+        assert_first(&rt, &outlet, &TEXTS_OF_CUT);
+        assert!(rt; bell.waits.get() == 0);
+        if end == NO_MEMORY {
+            assert!(rt; outlet.failures == 0);
+            assert_rest(&rt, rt.alloc(), &mut live, sent);
+        } else {
+            assert!(rt; end == wanted);
+            assert!(rt; sent == texts);
+            assert!(rt; outlet.failures == u64::from(wanted == NO_DEVICE));
+        }
+        // A move whose text is not sent was taken all the same.
+        assert_leaves(&rt, board, live, 2);
+    }
+}
+
+#[test]
+fn who_was_closed_may_leave_with_nothing_taken(rt: HostRuntime) {
+    let (board, live) = full_queue(&rt, rt.alloc());
+    assert_leaves(&rt, board, live, 0);
+}
