@@ -5,10 +5,11 @@
     benches/refusals.py --tests       those of each test that is to hold then too, until a run meets no refusal
 
 The server has room for one board and one follower. In each run an owner opens the board, plays a move and closes; then three guests, one
-after another, follow from the first place. Where the owner was answered in full, at least two guests get the move, the end as abandoned
-and the close 1000; else all three find the same: the board with the move, the board alone, or none. A server that cannot start says
-`fault 12 OutOfMemory` and ends with status 4; every other run ends with all four connections accounted for. The last line counts what
-met the refusal, and the status is 1 where a run was otherwise. The tests are those that `rt test` built.
+after another, follow from the first place. Where the owner was answered in full, at least two guests get the move, the end as abandoned and
+the close 1000; else all three find the same: the board with the move, the board alone, or none. A server that cannot start says
+`fault 12 OutOfMemory` and ends with status 4; every other run ends with all four connections accounted for, and nobody is told that what
+it asks for was done before. The last line counts what met the refusal, and the status is 1 where a run was otherwise. The tests are those
+that `rt test` built.
 """
 import collections
 import itertools
@@ -48,7 +49,10 @@ OWNED = [b'{"reply":"opened"}', b'{"outcome":null,"place":0,"reply":"played"}', 
 FOLLOWING = b'{"fen":"rnbqkbnr/pppppppp/8/8/8/8/PPPPPPPP/RNBQKBNR w HAha - 0 1","joined":0,"reply":"following"}'
 END = [b'{"outcome":"abandoned","reply":"over"}', b"close 1000"]
 FOLLOWED = [FOLLOWING, b'{"move":"e2e4","place":0,"reply":"move"}', *END]
+NO_MEMORY = b'{"code":12,"name":"OutOfMemory","reply":"refused"}'
 NO_BOARD = [b'{"code":1,"name":"NoSuchBoard","reply":"refused"}', b"close 1000"]
+# None says that what was asked for had been done already, as a command that is made a second time would.
+ANSWERS = {*OWNED, *FOLLOWED, *NO_BOARD, NO_MEMORY}
 
 
 def frame(first, payload):
@@ -93,6 +97,8 @@ def met(refused, allocator):
         except ConnectionRefusedError:
             return "serving" if server.stderr.read() == b"served 0, failed 4\n" else None
         said = server.stderr.read().decode()
+    if not ANSWERS.issuperset(itertools.chain(owner, *guests)):
+        return None
     if said not in ("served 4, failed 0\n", "served 3, failed 1\n"):
         return None
     if owner == OWNED:

@@ -4,6 +4,7 @@ import resource
 import socket
 import subprocess
 import sys
+import time
 
 from runs import PROGRAM
 
@@ -75,6 +76,27 @@ def too_few_descriptors():
     compare("with five descriptors", (printed, complained, server.returncode), (b"", b"served 1, failed 2\n", 0))
 
 
+def a_descriptor_comes_back():
+    """Where there is none for the next connection it is tried again after a pause: once the one before has ended, there is."""
+    with listening() as free:
+        port = free.getsockname()[1]
+    few = (5, 5)
+    words = [PROGRAM, "serve", "--port", str(port), "--connections", "10000"]
+    with subprocess.Popen(words, stdout=subprocess.PIPE, preexec_fn=lambda: resource.setrlimit(resource.RLIMIT_NOFILE, few)) as server:
+        try:
+            compare("the port", server.stdout.readline(), f"listening {port}\n".encode())
+            with socket.create_connection(("127.0.0.1", port), timeout=20) as one:
+                with socket.create_connection(("127.0.0.1", port), timeout=20) as other:
+                    time.sleep(0.5)
+                    one.close()
+                    # It is told by its end that no request came; by a reset, that it was never met.
+                    other.shutdown(socket.SHUT_WR)
+                    compare("behind a descriptor that came back", other.recv(1), b"")
+            compare("the server's status while it serves", server.poll(), None)
+        finally:
+            server.kill()
+
+
 def default_port():
     """Without the word the port is the default one, unless another program of this machine has it."""
     with socket.socket() as probe:
@@ -97,4 +119,5 @@ def all_services():
     for count in (1, 3):
         connections(count)
     too_few_descriptors()
-    return 5 + default_port()
+    a_descriptor_comes_back()
+    return 6 + default_port()
