@@ -55,7 +55,7 @@ pub black_table_to : WHITE_PAWN ≡ map (λ t. where_set (λ s. is_pawn_hit Blac
 unfolding where_set
 black_table_to = refl
 
--- a row of a table of a function
-pub row_of : (f : ℕ → ℕ) (table : List ℕ) (s : ℕ) → table ≡ map f squares → s < 64 → get_or table s 0 ≡ f s
-row_of f table s e h =
-    ap (λ (l : List ℕ). get_or l s 0) e ∙ get_or-map-range_with_len f 0 64 s s 0 h (zero-add s)
+-- a row of a table of a function, at the square of a number
+pub row_of : {n s : ℕ} (f : ℕ → ℕ) (table : List ℕ) → table ≡ map f squares → n < 64 → n ≡ s → get_or table n 0 ≡ f s
+row_of {n = n} f table e h same =
+    ap (λ (l : List ℕ). get_or l n 0) e ∙ get_or-map-range_with_len f 0 64 n n 0 h (zero-add n) ∙ ap f same

@@ -1,4 +1,3 @@
-use Rattle.std.proofs.Common.{ℕ, ap, ◌∙◌}
 use Rattle.c960_board.specs.declared.piece.Colour.TheVariants.{Black}
 use Rattle.c960_rules.specs.declared.tables.TheConstants.{BLACK_PAWN}
 use Rattle.c960_rules.specs.Wheres.{where_set, is_pawn_hit}
@@ -6,6 +5,4 @@ use Rattle.c960_rules.proofs.LeapTables.{black_table, row_of}
 use Rattle.c960_rules.proofs.lookups.black_hits.Goals as goal
 
 pub returns : goal.returns
-returns c =
-    row_of (λ s. where_set (is_pawn_hit Black s)) BLACK_PAWN c.number.result black_table c.number.ensures.bound
-    ∙ ap (λ (s : ℕ). where_set (is_pawn_hit Black s)) c.number.ensures.value
+returns c = row_of (λ s. where_set (is_pawn_hit Black s)) BLACK_PAWN black_table c.number.ensures.bound c.number.ensures.value

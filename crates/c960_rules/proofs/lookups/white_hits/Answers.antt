@@ -1,4 +1,3 @@
-use Rattle.std.proofs.Common.{ℕ, ap, ◌∙◌}
 use Rattle.c960_board.specs.declared.piece.Colour.TheVariants.{White}
 use Rattle.c960_rules.specs.declared.tables.TheConstants.{WHITE_PAWN}
 use Rattle.c960_rules.specs.Wheres.{where_set, is_pawn_hit}
@@ -6,6 +5,4 @@ use Rattle.c960_rules.proofs.LeapTables.{white_table, row_of}
 use Rattle.c960_rules.proofs.lookups.white_hits.Goals as goal
 
 pub returns : goal.returns
-returns c =
-    row_of (λ s. where_set (is_pawn_hit White s)) WHITE_PAWN c.number.result white_table c.number.ensures.bound
-    ∙ ap (λ (s : ℕ). where_set (is_pawn_hit White s)) c.number.ensures.value
+returns c = row_of (λ s. where_set (is_pawn_hit White s)) WHITE_PAWN white_table c.number.ensures.bound c.number.ensures.value
