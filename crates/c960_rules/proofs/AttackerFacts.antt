@@ -7,8 +7,11 @@ use Rattle.c960_board.specs.declared.piece.Colour.TheVariants.{White, Black}
 use Rattle.c960_board.specs.declared.piece.Kind.{Kind}
 use Rattle.c960_board.specs.declared.piece.Kind.TheVariants.{Pawn, Knight, Bishop, Rook, Queen, King}
 use Rattle.c960_board.specs.Pieces.{Cell, same_colour, same_kind, is_of}
-use Rattle.c960_board.specs.Position.{cell_at}
-use Rattle.c960_board.specs.Sets.{is_kind, set_of, sets_of, colour_set, is_in}
+use Rattle.c960_board.specs.declared.parts.Parts.{Parts}
+use Rattle.c960_board.specs.declared.sets.Sets.{Sets}
+use Rattle.c960_board.specs.Position.{cell_at, IsPosition}
+use Rattle.c960_board.specs.Sets.{is_kind, sets_of, colour_set, kind_set, is_in}
+use Rattle.c960_board.proofs.SetFacts.{kind_is}
 use Rattle.c960_board.specs.Squares.{file_of, rank_of}
 use Rattle.c960_rules.specs.Lines.{distance, same_rank, same_file, same_diagonal, within, between}
 use Rattle.c960_rules.specs.Wheres.{where_set, is_free, is_knight_leap, is_king_step, is_pawn_hit, is_rook_line, is_bishop_line, is_leaper_on, is_slider_on, is_attacker_on, attacks_over, attacks_over_as}
@@ -21,9 +24,10 @@ side_where White cells a full e = e ∙ set_where (is_of White) cells full
 side_where Black cells a full e = e ∙ set_where (is_of Black) cells full
 
 -- the set of a kind
-pub kind_where : (k : Kind) (cells : List Cell) (a : ℕ) → length cells ≡ 64 → a ≡ set_of (is_kind k) cells
-    → a ≡ where_set (λ s. is_kind k (cell_at cells s))
-kind_where k cells a full e = e ∙ set_where (is_kind k) cells full
+pub kind_where : (p : Parts) (sets : Sets) → IsPosition p → sets ≡ sets_of p.placement → (k : Kind)
+    → kind_set k sets ≡ where_set (λ s. is_kind k (cell_at p.placement s))
+kind_where p sets valid e k =
+    ap (kind_set k) e ∙ kind_is k p.placement ∙ set_where (is_kind k) p.placement valid.placement.full
 
 pub and-false : (a : Bool) → (a && false) ≡ false
 and-false true = refl

@@ -1,6 +1,5 @@
-use Rattle.std.proofs.Common.{◌&&◌, ◌||◌, ap}
+use Rattle.std.proofs.Common.{◌&&◌, ◌||◌}
 use Rattle.c960_board.specs.declared.piece.Kind.TheVariants.{Pawn, Knight, King}
-use Rattle.c960_board.specs.declared.sets.Sets.{Sets}
 use Rattle.c960_board.specs.Pieces.{is_of}
 use Rattle.c960_board.specs.Position.{cell_at}
 use Rattle.c960_board.specs.Sets.{is_kind}
@@ -14,19 +13,10 @@ returns c =
     let p = c.args.position.now.placement in
     let by = c.args.by in
     let t = c.args.square in
-    let full = c.sets-sets.ensures.valid.placement.full in
-    let sets = c.sets-sets.ensures.value in
-    let s = c.sets-sets.result in
-    let side = c.squares_of-side.ensures in
-    let knights =
-    where_and (λ s. is_knight_leap s t) (λ s. is_kind Knight (cell_at p s)) c.knight_leaps.result s.knights c.knight_leaps.ensures.to
-    (kind_where Knight p s.knights full (ap (λ (x : Sets). x.knights) sets)) in
-    let kings =
-    where_and (λ s. is_king_step s t) (λ s. is_kind King (cell_at p s)) c.king_steps.result s.kings c.king_steps.ensures.to
-    (kind_where King p s.kings full (ap (λ (x : Sets). x.kings) sets)) in
-    let pawns =
-    where_and (λ s. is_pawn_hit by s t) (λ s. is_kind Pawn (cell_at p s)) c.pawn_hits_on.result s.pawns c.pawn_hits_on.ensures
-    (kind_where Pawn p s.pawns full (ap (λ (x : Sets). x.pawns) sets)) in
+    let kind = kind_where c.args.position.now c.sets-sets.result c.sets-sets.ensures.valid c.sets-sets.ensures.value in
+    let knights = where_and (λ s. is_knight_leap s t) (λ s. is_kind Knight (cell_at p s)) _ _ c.knight_leaps.ensures.to (kind Knight) in
+    let kings = where_and (λ s. is_king_step s t) (λ s. is_kind King (cell_at p s)) _ _ c.king_steps.ensures.to (kind King) in
+    let pawns = where_and (λ s. is_pawn_hit by s t) (λ s. is_kind Pawn (cell_at p s)) _ _ c.pawn_hits_on.ensures (kind Pawn) in
     let two =
     where_or (λ s. is_knight_leap s t && is_kind Knight (cell_at p s)) (λ s. is_king_step s t && is_kind King (cell_at p s)) _ _
     knights kings in
@@ -36,4 +26,4 @@ returns c =
     (λ s. is_pawn_hit by s t && is_kind Pawn (cell_at p s)) _ _ two pawns in
     where_and (λ s. is_of by (cell_at p s))
     (λ s. ((is_knight_leap s t && is_kind Knight (cell_at p s)) || (is_king_step s t && is_kind King (cell_at p s)))
-    || (is_pawn_hit by s t && is_kind Pawn (cell_at p s))) _ _ side three
+    || (is_pawn_hit by s t && is_kind Pawn (cell_at p s))) _ _ c.squares_of-side.ensures three

@@ -1,7 +1,6 @@
 use Rattle.std.proofs.Common.{sym, ◌∙◌, ap}
 use Rattle.c960_board.specs.declared.piece.Colour.{Colour}
 use Rattle.c960_board.specs.declared.piece.Kind.TheVariants.{King, Rook}
-use Rattle.c960_board.specs.declared.sets.Sets.{Sets}
 use Rattle.c960_board.specs.Pieces.{is_of}
 use Rattle.c960_board.specs.Position.{cell_at}
 use Rattle.c960_board.specs.Sets.{is_kind}
@@ -17,11 +16,10 @@ returns-then-holds c =
     let p = c.args.position.now in
     let s = c.args.from in
     let valid = c.sets-sets.ensures.valid in
-    let full = valid.placement.full in
     let side = c.squares_of.ensures ∙ ap (λ (d : Colour). where_set (λ u. is_of d (cell_at p.placement u))) c.turn-turn.ensures in
     let rooks =
     where_and (λ u. is_of p.turn (cell_at p.placement u)) (λ u. is_kind Rook (cell_at p.placement u)) _ _ side
-    (kind_where Rook p.placement c.sets-sets.result.rooks full (ap (λ (x : Sets). x.rooks) c.sets-sets.ensures.value)) in
+    (kind_where p c.sets-sets.result valid c.sets-sets.ensures.value Rook) in
     λ t k l e. no_castle p s t _ k valid rooks l e
 
 pub returns-else-holds : goal.returns-else-holds
