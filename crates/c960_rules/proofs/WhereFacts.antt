@@ -8,9 +8,10 @@ use Rattle.std.proofs.lemmas.Nat.Bits.{bit_at_and, bit_at_or, bit_at_not, bit_at
 use Rattle.std.proofs.lemmas.Simd.{bit_mask_l, mask_l-lt}
 use Rattle.std.specs.Prelude.{◌==◌, bit_and, bit_or}
 use Rattle.std.specs.Int.{bit_at, bit_not}
+use Rattle.c960_board.specs.declared.parts.Parts.{Parts}
 use Rattle.c960_board.specs.Pieces.{Cell}
-use Rattle.c960_board.specs.Position.{cell_at}
-use Rattle.c960_board.specs.Sets.{set_of, is_in}
+use Rattle.c960_board.specs.Position.{cell_at, IsPosition}
+use Rattle.c960_board.specs.Sets.{set_of, is_in, is_occupied}
 use Rattle.c960_rules.specs.Lines.{squares}
 use Rattle.c960_rules.specs.Wheres.{where_set, IsWithout}
 
@@ -99,11 +100,19 @@ where_only k h =
       | inr ne ↦ let f = ne_eqb i k ne in rw f (bit_at-pow_other k i ne)
     ]))
 
--- a bit as a test
-pub one_true : (b : Bool) → ◌≡◌ {A = ℕ} (cond b 1 0) 1 → b ≡ true
-one_true true e = refl
-one_true false e = absurd (omega arith)
+-- the set of a square that is known by another name
+pub only_at : {one j k : ℕ} → j ≡ k → one ≡ where_set (λ s. s == j) → one ≡ where_set (λ s. s == k)
+only_at e is = is ∙ ap (λ (i : ℕ). where_set (λ s. s == i)) e
 
+-- a set without two squares
+pub where_but : {a j k one two : ℕ} (test : ℕ → Bool) (s t : ℕ) → a ≡ where_set test → j ≡ s → one ≡ where_set (λ u. u == j)
+    → k ≡ t → two ≡ where_set (λ u. u == k)
+    → bit_and (bit_and a (bit_not w64 one)) (bit_not w64 two) ≡ where_set (λ u. (test u && not (u == s)) && not (u == t))
+where_but test s t all from one to two =
+    where_and (λ u. test u && not (u == s)) (λ u. not (u == t)) _ _
+    (where_and test (λ u. not (u == s)) _ _ all (where_not (λ u. u == s) _ (only_at from one))) (where_not (λ u. u == t) _ (only_at to two))
+
+-- a bit as a test
 pub zero_false : (b : Bool) → ◌≡◌ {A = ℕ} (cond b 1 0) 0 → b ≡ false
 zero_false true e = absurd (omega arith)
 zero_false false e = refl
@@ -139,6 +148,11 @@ set_where test cells full =
     where_is (λ s. test (cell_at cells s)) (set_of test cells)
     (let bound = mask_l-lt (map test cells) in let same = length-map cells test ∙ full in rw same at bound)
     (λ i l. bit_mask_l (map test cells) i ∙ ap (λ (b : Bool). cond b 1 0) (get_or-map test cells i None false (omega arith)))
+
+-- the occupied squares
+pub occupied_where : {a : ℕ} (p : Parts) → IsPosition p → a ≡ set_of is_occupied p.placement
+    → a ≡ where_set (λ s. is_occupied (cell_at p.placement s))
+occupied_where p valid e = e ∙ set_where is_occupied p.placement valid.placement.full
 
 none_bits : (a b : Bool) → ◌≡◌ {A = ℕ} 0 (cond ((a && not a) && b) 1 0)
 none_bits true b = refl

@@ -3,10 +3,9 @@ use Rattle.std.specs.Prelude.{◌==◌}
 use Rattle.c960_board.specs.declared.piece.Colour.{Colour}
 use Rattle.c960_board.specs.Moves.{Triple}
 use Rattle.c960_rules.specs.Castles.{king_goal, rook_goal}
-use Rattle.c960_rules.specs.Wheres.{where_set}
 use Rattle.c960_rules.proofs.PieceFacts.{piece_on}
 use Rattle.c960_rules.proofs.CastlingFacts.{castling}
-use Rattle.c960_rules.proofs.WhereFacts.{where_or}
+use Rattle.c960_rules.proofs.WhereFacts.{where_or, only_at}
 use Rattle.c960_rules.proofs.CastledSets.{castled_sets}
 use Rattle.c960_rules.proofs.after.sets_castled.Goals as goal
 
@@ -25,7 +24,7 @@ returns c =
     let rook = c.piece_at-rook.ensures ∙ ap (λ (u : ℕ). piece_on p u) to in
     let gone =
     where_or (λ u. u == m.from) (λ u. u == m.to) c.only.result c.only-2.result
-    (c.only.ensures ∙ ap (λ (k : ℕ). where_set (λ u. u == k)) from) (c.only-2.ensures ∙ ap (λ (k : ℕ). where_set (λ u. u == k)) to) in
+    (only_at from c.only.ensures) (only_at to c.only-2.ensures) in
     let left = c.taken_off-left.ensures in
     let with_king = c.put_on-with_king.ensures in
     c.put_on.ensures ∙ rw (with_king, left, sets, goal, place, king, rook) (castled_sets p m (castling p m valid c.requires) _ valid.placement.full gone)

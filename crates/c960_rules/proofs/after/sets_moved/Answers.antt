@@ -5,10 +5,9 @@ use Rattle.c960_board.specs.Moves.{Triple}
 use Rattle.c960_board.specs.Pieces.{Cell}
 use Rattle.c960_rules.specs.After.{landed}
 use Rattle.c960_rules.specs.Safety.{is_gone, is_passed_on}
-use Rattle.c960_rules.specs.Wheres.{where_set}
 use Rattle.c960_rules.proofs.PieceFacts.{piece_on}
 use Rattle.c960_rules.proofs.ListFacts.{goes_from_own}
-use Rattle.c960_rules.proofs.WhereFacts.{where_or}
+use Rattle.c960_rules.proofs.WhereFacts.{where_or, only_at}
 use Rattle.c960_rules.proofs.AfterSets.{moved_sets}
 use Rattle.c960_rules.proofs.after.sets_moved.Goals as goal
 
@@ -25,10 +24,10 @@ returns c =
     ∙ ap (λ (k : Option Kind). landed (piece_on p m.from) k) promotion in
     let gone =
     where_or (λ u. u == m.to) (λ u. is_passed_on p m u) c.only-2.result c.passed.result
-    (c.only-2.ensures ∙ ap (λ (k : ℕ). where_set (λ u. u == k)) to) c.passed.ensures in
+    (only_at to c.only-2.ensures) c.passed.ensures in
     let changed =
     where_or (λ u. u == m.from) (λ u. is_gone p m u) c.only.result _
-    (c.only.ensures ∙ ap (λ (k : ℕ). where_set (λ u. u == k)) from) gone in
+    (only_at from c.only.ensures) gone in
     let left = c.taken_off-left.ensures in
     c.put_on.ensures ∙ rw (left, sets, lands, to)
     (moved_sets p m _ (goes_from_own p m c.requires.legal.goes) c.requires.ordinary c.sets-sets.ensures.valid.placement.full
