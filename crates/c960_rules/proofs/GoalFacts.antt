@@ -1,7 +1,8 @@
 -- Where pieces go, as tests of the goal.
-use Rattle.std.proofs.Common.{◌≡◌, ◌≢◌, ℕ, ◌+◌, ◌<◌, Bool, true, false, not, ◌&&◌, ◌||◌, Option, Some, None, refl, ap, sym, ◌∙◌, arith}
-use Rattle.std.specs.Prelude.{◌==◌, is_none}
-use Rattle.std.proofs.lemmas.Bool.{and_parts, and_from, both_ways, eqb-true, eq-eqb, or_parts}
+use Rattle.std.proofs.Common.{◌≡◌, ◌≢◌, ℕ, ◌+◌, ◌<◌, Bool, true, false, not, ◌&&◌, ◌||◌, Option, Some, None, refl, ap, sym, ◌∙◌, inl, inr, arith, w64}
+use Rattle.std.specs.Prelude.{◌==◌, is_none, bit_and}
+use Rattle.std.specs.Int.{bit_not}
+use Rattle.std.proofs.lemmas.Bool.{and_parts, and_from, both_ways, eqb-true, eq-eqb, or_parts, false_from_ne_true}
 use Rattle.c960_board.specs.declared.piece.Colour.{Colour}
 use Rattle.c960_board.specs.declared.piece.Colour.TheVariants.{White, Black}
 use Rattle.c960_board.specs.declared.piece.Kind.{Kind}
@@ -16,14 +17,16 @@ use Rattle.c960_rules.specs.Lines.{same_file}
 use Rattle.c960_rules.specs.Attacks.{attacks, is_forward}
 use Rattle.c960_rules.specs.Reaches.{Reaches, pawn_rank, last_rank, is_empty, is_target, promotes_rightly, steps, steps_twice, takes, reaches}
 use Rattle.c960_rules.specs.Castles.{Castles}
-use Rattle.c960_rules.specs.Listing.{promotes, triple, pawn_goes, goes_to, NoneGoes}
+use Rattle.c960_rules.specs.Legal.{is_legal}
+use Rattle.c960_rules.specs.Listing.{promotes, triple, legal_one, legal_between, pawn_goes, goes_to, NoneGoes}
 use Rattle.c960_rules.specs.Wheres.{where_set, is_way, is_slider, is_pawn_hit, is_free, attacks_over, attacks_over_as}
 use Rattle.c960_rules.proofs.AttackAgree.{same_tests, attacks_agree}
 use Rattle.c960_rules.proofs.InnerRanks.{IsInner, pawn_inner}
 use Rattle.c960_rules.proofs.MoveTests.{reaches_tells, reaches_from}
+use Rattle.c960_rules.proofs.ListFacts.{none_or_some, goes_by_test, between_one}
 use Rattle.c960_rules.proofs.PieceFacts.{piece_on, is_holds, is_own}
 use Rattle.c960_rules.proofs.WayCandidates.{castle_rook}
-use Rattle.c960_rules.proofs.WhereFacts.{in_where, where_agree}
+use Rattle.c960_rules.proofs.WhereFacts.{in_where, where_agree, where_and, where_not, only_at, occupied_where}
 use Rattle.c960_rules.proofs.AttackerFacts.{and-false, and-true}
 
 -- ---- Pawns.
@@ -77,6 +80,14 @@ step_is p s t inner l =
     and_three (same_file s t) (is_forward p.turn s t) (is_empty p.placement t)
     ∙ ap (λ (b : Bool). b && is_empty p.placement t) (forward_one p.turn s t inner l)
     ∙ ap (λ (b : Bool). (t == ahead p.turn s) && b) (empty_free (piece_on p t))
+
+-- one square where it is empty, as sets that the code has read
+pub only_free : {k one occupied : ℕ} (p : Parts) (goal : ℕ) → IsPosition p → k ≡ goal → one ≡ where_set (λ t. t == k)
+    → occupied ≡ set_of is_occupied p.placement
+    → bit_and one (bit_not w64 occupied) ≡ where_set (λ t. (t == goal) && not (is_occupied (piece_on p t)))
+only_free p goal valid e is all =
+    where_and (λ t. t == goal) (λ t. not (is_occupied (piece_on p t))) _ _ (only_at e is)
+    (where_not (λ t. is_occupied (piece_on p t)) _ (occupied_where p valid all))
 
 -- the square ahead of a pawn on its first rank
 pub first_ahead : (c : Colour) (s : ℕ) → (rank_of s == pawn_rank c) ≡ true → IsInner (ahead c s)
@@ -319,3 +330,14 @@ none_goes p s t goals rooks set eg es castle l out =
       reaches = λ k w. both_ways (goes_to p s t) off (goes_from p s t k w);
       castles = λ k w. castle k either.1 w;
     }
+
+-- where the piece does not go, castling alone is left
+pub between_off : (p : Parts) (s t : ℕ) → goes_to p s t ≡ false → legal_between p s t ≡ legal_one p (triple s t None)
+between_off p s t h =
+    between_one p s t (λ k.
+    let m = triple s t (Some k) in
+    false_from_ne_true (is_legal p m) (λ e.
+    elim (goes_by_test p m e) [
+      | inl w ↦ both_ways (goes_to p s t) h (goes_from p s t (Some k) w)
+      | inr w ↦ none_or_some (Some k) w.no_promotion refl
+    ]))

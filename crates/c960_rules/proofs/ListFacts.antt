@@ -48,7 +48,7 @@ none_from_other p m h =
     (λ e. both_ways (is_of p.turn (piece_on p m.from)) h (goes_from_own p m (goes_by_test p m e)))
 
 -- an option is not both none and some
-none_or_some : {X : Type 0} (o : Option X) → o ≡ None → IsSome o → ⊥
+pub none_or_some : {X : Type 0} (o : Option X) → o ≡ None → IsSome o → ⊥
 none_or_some None e h = cc
 none_or_some (Some x) e h = cc
 
@@ -171,21 +171,23 @@ pub between_promoted : (p : Parts) (s t : ℕ) → promotes p s t ≡ true → l
 unfolding legal_between moves_between legal_promotions
 between_promoted p s t h = let plain = plain_fails p s t h in rw plain
 
--- every other move names none
-promotion_fails : (p : Parts) (s t : ℕ) (k : Kind) → promotes p s t ≡ false → is_legal p (triple s t (Some k)) ≡ false
-promotion_fails p s t k h =
-    let m = triple s t (Some k) in
-    false_from_ne_true (is_legal p m) (λ e. promoted_elsewhere p s t k h (goes_by_test p m e))
-
--- so the move without a promotion is all
-pub between_plain : (p : Parts) (s t : ℕ) → promotes p s t ≡ false → legal_between p s t ≡ legal_one p (triple s t None)
+-- where no promotion passes the test, the move without one is all
+pub between_one : (p : Parts) (s t : ℕ) → ((k : Kind) → is_legal p (triple s t (Some k)) ≡ false)
+    → legal_between p s t ≡ legal_one p (triple s t None)
 unfolding legal_between moves_between legal_one
-between_plain p s t h =
-    let knight = promotion_fails p s t Knight h in
-    let bishop = promotion_fails p s t Bishop h in
-    let rook = promotion_fails p s t Rook h in
-    let queen = promotion_fails p s t Queen h in
+between_one p s t h =
+    let knight = h Knight in
+    let bishop = h Bishop in
+    let rook = h Rook in
+    let queen = h Queen in
     rw (knight, bishop, rook, queen)
+
+-- so it is where no pawn reaches its last rank
+pub between_plain : (p : Parts) (s t : ℕ) → promotes p s t ≡ false → legal_between p s t ≡ legal_one p (triple s t None)
+between_plain p s t h =
+    between_one p s t (λ k.
+    let m = triple s t (Some k) in
+    false_from_ne_true (is_legal p m) (λ e. promoted_elsewhere p s t k h (goes_by_test p m e)))
 
 -- nothing is listed from a square without a piece of the side to move
 pub between_other : (p : Parts) (s t : ℕ) → is_of p.turn (piece_on p s) ≡ false → legal_between p s t ≡ []

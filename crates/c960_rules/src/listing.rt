@@ -1,6 +1,6 @@
 //! The list of all legal moves.
 
-ghost use Rattle.std.specs.Prelude.{◌≡◌, ◌++◌, IfOk, IsTrue};
+ghost use Rattle.std.specs.Prelude.{◌≡◌, ◌++◌, IfOk, IsTrue, IsFalse};
 ghost use Rattle.c960_board.specs.Moves.{is_promotion};
 ghost use Rattle.c960_rules.specs.Legal.{legal_list};
 ghost use Rattle.c960_rules.specs.Wheres.{where_set};
@@ -16,63 +16,6 @@ use crate::safety::exposes_king;
 use crate::sides::squares_of;
 use c960_board::{Kind, Move, Position, Sets, Square};
 use std::alloc::{AllocError, Global};
-
-/// Adds the move, if it is legal.
-fn push_legal(
-    moves: &mut Vec<Move>,
-    position: &Position,
-    from: Square,
-    to: Square,
-    promotion: Option<Kind>,
-) -> Result<(), AllocError>
-    requires { IsTrue (is_promotion promotion) }
-    ensures { IfOk result (λ _.
-        moves.new.items ≡ moves.old.items ++ legal_one position.now (triple from to promotion)) }
-{
-    let m = Move {
-        from,
-        to,
-        promotion,
-    };
-    prove!(m.code() < 20480);
-    if is_legal_in(position, &m) {
-        moves.push(m)?;
-    }
-    Ok(())
-}
-
-/// Adds the legal moves between two squares that name a promotion.
-fn push_promotions(
-    moves: &mut Vec<Move>,
-    position: &Position,
-    from: Square,
-    to: Square,
-) -> Result<(), AllocError>
-    ensures { IfOk result (λ _. moves.new.items ≡ moves.old.items ++ legal_promotions position.now from to) }
-{
-    push_legal(moves, position, from, to, Some(Kind::Knight))?;
-    push_legal(moves, position, from, to, Some(Kind::Bishop))?;
-    push_legal(moves, position, from, to, Some(Kind::Rook))?;
-    push_legal(moves, position, from, to, Some(Kind::Queen))?;
-    Ok(())
-}
-
-/// Adds the legal moves between two squares: only a pawn that reaches its last rank names a promotion, and it must.
-#[tactic(auto, using(crate::proofs::ListFacts::between_promoted, crate::proofs::ListFacts::between_plain))]
-fn push_between(
-    moves: &mut Vec<Move>,
-    position: &Position,
-    from: Square,
-    to: Square,
-) -> Result<(), AllocError>
-    ensures { IfOk result (λ _. moves.new.items ≡ moves.old.items ++ legal_between position.now from to) }
-{
-    if promotes(position, from, to) {
-        push_promotions(moves, position, from, to)
-    } else {
-        push_legal(moves, position, from, to, None)
-    }
-}
 
 /// Adds the move of a piece that goes there, if it leaves its own king safe.
 #[inline(always)]
@@ -137,6 +80,28 @@ fn push_reached(
     }
 }
 
+/// Adds castling, if it is legal: no other move goes between two squares where the piece does not go from one to the other.
+fn push_castling(
+    moves: &mut Vec<Move>,
+    position: &Position,
+    from: Square,
+    to: Square,
+) -> Result<(), AllocError>
+    requires { IsFalse (goes_to position.now from to) }
+    ensures { IfOk result (λ _. moves.new.items ≡ moves.old.items ++ legal_between position.now from to) }
+{
+    let m = Move {
+        from,
+        to,
+        promotion: None,
+    };
+    prove!(m.code() < 20480);
+    if is_legal_in(position, &m) {
+        moves.push(m)?;
+    }
+    Ok(())
+}
+
 /// Adds the legal moves between two squares, by the set of the squares to which the piece goes.
 #[inline(always)]
 fn push_at(
@@ -153,7 +118,7 @@ fn push_at(
     if Sets::is_in(goals, to) {
         push_reached(moves, position, from, to)
     } else {
-        push_between(moves, position, from, to)
+        push_castling(moves, position, from, to)
     }
 }
 
