@@ -5,8 +5,8 @@ use Rattle.c960_game.proofs.MilestoneFacts.{milestone_is}
 use Rattle.c960_game.proofs.StretchFacts.{legal_stretch, position_stretch, half_moves_stretch, number_stretch}
 use Rattle.c960_game.proofs.game.Game.replayed.Goals as goal
 
-pub replay-requires-clause-legal : goal.replay-requires-clause-legal
-replay-requires-clause-legal c =
+pub replay-requires : goal.replay-requires
+replay-requires c =
     let n = c.args.self.now.start in
     let l = c.args.self.now.log in
     let kept = milestones_are c.self.inside c.args.self.now c.self.invariant c.self.view_is in
@@ -14,31 +14,13 @@ replay-requires-clause-legal c =
     let read = rw c.from-mile.ensures at c.index.ensures in
     let begins = milestone_is n l c.self.inside.milestones.items c.args.place c.index.result.now kept c.requires read in
     let log = c.deref.ensures.value ∙ ap (λ (g : GameRecord). g.log) c.self.view_is in
-    rw (c.from-mile.ensures, begins, log) (legal_stretch n l (c.args.place / 64 * 64) _ game.legal)
-
-pub replay-requires-clause-half_moves : goal.replay-requires-clause-half_moves
-replay-requires-clause-half_moves c =
-    let n = c.args.self.now.start in
-    let l = c.args.self.now.log in
-    let kept = milestones_are c.self.inside c.args.self.now c.self.invariant c.self.view_is in
-    let game = game_is c.self.inside c.args.self.now c.self.invariant c.self.view_is in
-    let read = rw c.from-mile.ensures at c.index.ensures in
-    let begins = milestone_is n l c.self.inside.milestones.items c.args.place c.index.result.now kept c.requires read in
-    let log = c.deref.ensures.value ∙ ap (λ (g : GameRecord). g.log) c.self.view_is in
-    rw (c.from-mile.ensures, begins, log)
-    (half_moves_stretch n l (c.args.place / 64 * 64) _ (omega (arith, game.within, game.most_plies)))
-
-pub replay-requires-clause-number : goal.replay-requires-clause-number
-replay-requires-clause-number c =
-    let n = c.args.self.now.start in
-    let l = c.args.self.now.log in
-    let kept = milestones_are c.self.inside c.args.self.now c.self.invariant c.self.view_is in
-    let game = game_is c.self.inside c.args.self.now c.self.invariant c.self.view_is in
-    let read = rw c.from-mile.ensures at c.index.ensures in
-    let begins = milestone_is n l c.self.inside.milestones.items c.args.place c.index.result.now kept c.requires read in
-    let log = c.deref.ensures.value ∙ ap (λ (g : GameRecord). g.log) c.self.view_is in
-    rw (c.from-mile.ensures, begins, log)
-    (number_stretch n l (c.args.place / 64 * 64) _ (omega (arith, game.within, game.most_plies)))
+    let from = c.args.place / 64 * 64 in
+    let mile = c.from-mile.ensures in
+    record {
+      legal = rw (mile, begins, log) (legal_stretch n l from _ game.legal);
+      half_moves = rw (mile, begins, log) (half_moves_stretch n l from _ (omega (arith, game.within, game.most_plies)));
+      number = rw (mile, begins, log) (number_stretch n l from _ (omega (arith, game.within, game.most_plies)));
+    }
 
 pub returns : goal.returns
 returns c =
