@@ -1,14 +1,15 @@
 -- What the tests on cells say.
 use Rattle.std.proofs.Common.{◌≡◌, ◌≢◌, ℕ, Bool, true, refl, ap, Some, None, ◌⊎◌, inl, inr}
-use Rattle.std.proofs.lemmas.Bool.{and_parts, and_from}
 use Rattle.c960_board.specs.declared.piece.Colour.{Colour}
 use Rattle.c960_board.specs.declared.piece.Colour.TheVariants.{White, Black}
 use Rattle.c960_board.specs.declared.piece.Kind.{Kind}
 use Rattle.c960_board.specs.declared.piece.Kind.TheVariants.{Pawn, Knight, Bishop, Rook, Queen, King}
 use Rattle.c960_board.specs.declared.parts.Parts.{Parts}
-use Rattle.c960_board.specs.Pieces.{Cell, man, other, same_colour, same_kind, is_of, holds}
+use Rattle.c960_board.specs.Pieces.{Cell, man, other, is_of, holds}
 use Rattle.c960_board.specs.Position.{cell_at}
 use Rattle.c960_board.specs.Moves.{Triple}
+use Rattle.c960_board.proofs.Colours.{same_colour_is, same_colour_self}
+use Rattle.c960_board.proofs.SetFacts.{man_says}
 
 -- what a square of the position holds
 abbrev pub piece_on : Parts → ℕ → Cell
@@ -55,37 +56,6 @@ same_or_other Black Black = inl refl
 same_or_other White Black = inr refl
 same_or_other Black White = inr refl
 
--- what the test of colours says
-same_colour_is : (a b : Colour) → same_colour a b ≡ true → a ≡ b
-same_colour_is White White h = refl
-same_colour_is Black Black h = refl
-same_colour_is White Black h = cc
-same_colour_is Black White h = cc
-
--- what the test of kinds says
-same_kind_is : (a b : Kind) → same_kind a b ≡ true → a ≡ b
-same_kind_is Pawn Pawn h = refl
-same_kind_is Knight Knight h = refl
-same_kind_is Bishop Bishop h = refl
-same_kind_is Rook Rook h = refl
-same_kind_is Queen Queen h = refl
-same_kind_is King King h = refl
-same_kind_is _ _ h = cc
-
--- each colour passes its own test
-colour_itself : (c : Colour) → same_colour c c ≡ true
-colour_itself White = refl
-colour_itself Black = refl
-
--- each kind passes its own test
-kind_itself : (k : Kind) → same_kind k k ≡ true
-kind_itself Pawn = refl
-kind_itself Knight = refl
-kind_itself Bishop = refl
-kind_itself Rook = refl
-kind_itself Queen = refl
-kind_itself King = refl
-
 -- a kind is the king or it is not
 pub king_or_not : (k : Kind) → (k ≡ King) ⊎ (k ≢ King)
 king_or_not King = inl refl
@@ -101,20 +71,11 @@ no_man c k e = cc
 
 -- a piece, from its test
 pub holds_is : (c : Colour) (k : Kind) (o : Cell) → holds c k o ≡ true → o ≡ man c k
-holds_is c k None h = cc
-holds_is c k (Some p) h =
-    let w = and_parts (same_colour p.colour c) (same_kind p.kind k) h in
-    let colour = same_colour_is p.colour c w.0 in
-    let kind = same_kind_is p.kind k w.1 in
-    rw (← colour, ← kind) refl
-
--- each piece passes its own test
-holds_itself : (c : Colour) (k : Kind) → holds c k (man c k) ≡ true
-holds_itself c k = and_from (same_colour c c) (same_kind k k) (colour_itself c) (kind_itself k)
+holds_is c k o h = (man_says c k o).0 h
 
 -- and to its test
 pub is_holds : (c : Colour) (k : Kind) (o : Cell) → o ≡ man c k → holds c k o ≡ true
-is_holds c k o e = rw e (holds_itself c k)
+is_holds c k o e = (man_says c k o).1 e
 
 -- a piece of the colour
 pub record IsOwn (c : Colour) (o : Cell) : Type 0 where
@@ -128,4 +89,4 @@ own_is c (Some p) h = record { kind = p.kind; is = let colour = same_colour_is p
 
 -- and to its test
 pub is_own : (c : Colour) (k : Kind) (o : Cell) → o ≡ man c k → is_of c o ≡ true
-is_own c k o e = rw e (colour_itself c)
+is_own c k o e = rw e (same_colour_self c)

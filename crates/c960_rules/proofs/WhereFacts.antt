@@ -1,5 +1,5 @@
 -- Sets of squares by a test of each square.
-use Rattle.std.proofs.Common.{◌≡◌, ℕ, ◌-◌, ◌*◌, ◌%◌, ◌^◌, ◌<◌, min, max, Bool, true, false, not, ◌&&◌, ◌||◌, cond, List, None, length, map, refl, ap, sym, ◌∙◌, inl, inr, arith, w64, zero-add}
+use Rattle.std.proofs.Common.{◌≡◌, ℕ, ◌-◌, ◌*◌, ◌%◌, ◌^◌, ◌<◌, max, Bool, true, false, not, ◌&&◌, ◌||◌, cond, List, None, length, map, refl, ap, sym, ◌∙◌, inl, inr, arith, w64, zero-add}
 use Rattle.std.proofs.lemmas.Bool.{cases_eq, eqb-true, eq-eqb, ne_eqb}
 use Rattle.std.proofs.lemmas.List.{length-map, get_or-map}
 use Rattle.std.proofs.lemmas.List.FromFn.{get_or-map-range_with_len}
@@ -12,6 +12,7 @@ use Rattle.c960_board.specs.declared.parts.Parts.{Parts}
 use Rattle.c960_board.specs.Pieces.{Cell}
 use Rattle.c960_board.specs.Position.{cell_at, IsPosition}
 use Rattle.c960_board.specs.Sets.{set_of, is_in, is_occupied}
+use Rattle.c960_board.proofs.SetFacts.{or_bits, and_bits}
 use Rattle.c960_rules.specs.Lines.{squares}
 use Rattle.c960_rules.specs.Wheres.{where_set, IsWithout}
 
@@ -36,18 +37,6 @@ where_is test a fits h =
 pub where_agree : (t u : ℕ → Bool) → ((i : ℕ) → i < 64 → t i ≡ u i) → where_set t ≡ where_set u
 where_agree t u h =
     where_is u (where_set t) (where_fits t) (λ i l. where_bit t i l ∙ ap (λ (b : Bool). cond b 1 0) (h i l))
-
-or_bits : (a b : Bool) → max (cond a 1 0) (cond b 1 0) ≡ cond (a || b) 1 0
-or_bits true true = refl
-or_bits true false = refl
-or_bits false true = refl
-or_bits false false = refl
-
-and_bits : (a b : Bool) → min (cond a 1 0) (cond b 1 0) ≡ cond (a && b) 1 0
-and_bits true true = refl
-and_bits true false = refl
-and_bits false true = refl
-and_bits false false = refl
 
 not_bits : (a : Bool) → 1 - cond a 1 0 ≡ cond (not a) 1 0
 not_bits true = refl

@@ -1,43 +1,19 @@
 -- A side holds two rights at most: one on each side of its king.
 use Rattle.std.proofs.Common.{◌≡◌, ℕ, zero, suc, ◌+◌, ◌<◌, ◌≤◌, Bool, true, false, cond, List, [], ◌∷◌, length, get_or, Some, None, refl, sym, ap, ◌∙◌, arith, inl, inr, IsTrue}
 use Rattle.std.specs.Prelude.{count_by}
-use Rattle.std.proofs.lemmas.Bool.{and_parts, cases_lt, lt-ltb, le-ltb}
+use Rattle.std.proofs.lemmas.Bool.{cases_lt, lt-ltb, le-ltb}
 use Rattle.std.proofs.lemmas.List.Sums.{sum_by-cons}
 use Rattle.c960_board.specs.declared.piece.Colour.{Colour}
-use Rattle.c960_board.specs.declared.piece.Colour.TheVariants.{White, Black}
-use Rattle.c960_board.specs.declared.piece.Kind.{Kind}
-use Rattle.c960_board.specs.declared.piece.Kind.TheVariants.{Pawn, Knight, Bishop, Rook, Queen, King}
+use Rattle.c960_board.specs.declared.piece.Kind.TheVariants.{King}
 use Rattle.c960_board.specs.declared.rights.CastlingRights.{CastlingRights}
 use Rattle.c960_board.specs.Squares.{file_of}
-use Rattle.c960_board.specs.Pieces.{Cell, man, same_colour, same_kind, holds}
+use Rattle.c960_board.specs.Pieces.{Cell, man, holds}
 use Rattle.c960_board.specs.Position.{cell_at, has_right, IsPlacement, AreRights}
 use Rattle.c960_board.specs.Fen.Letters.{right_letter}
 use Rattle.c960_board.specs.Fen.Canonical.{side_text}
+use Rattle.c960_board.proofs.SetFacts.{man_says}
 
 -- ---- the king's square
-
--- the test of colours tells them apart
-same_colour_is : (a b : Colour) → same_colour a b ≡ true → a ≡ b
-same_colour_is White White e = refl
-same_colour_is Black Black e = refl
-same_colour_is White Black e = cc
-same_colour_is Black White e = cc
-
--- the test of kinds tells a king
-king_is : (k : Kind) → same_kind k King ≡ true → k ≡ King
-king_is King e = refl
-king_is Pawn e = cc
-king_is Knight e = cc
-king_is Bishop e = cc
-king_is Rook e = cc
-king_is Queen e = cc
-
--- the test of a square tells its king
-holds_king : (c : Colour) (x : Cell) → holds c King x ≡ true → x ≡ man c King
-holds_king c None e = cc
-holds_king c (Some p) e =
-    let both = and_parts (same_colour p.colour c) (same_kind p.kind King) e in
-    ap (λ (a : Colour). man a p.kind) (same_colour_is p.colour c both.0) ∙ ap (λ (k : Kind). man c k) (king_is p.kind both.1)
 
 -- a king that is counted stands somewhere
 some_place : (c : Colour) (cells : List Cell) → 0 < count_by (holds c King) cells
@@ -45,7 +21,7 @@ some_place : (c : Colour) (cells : List Cell) → 0 < count_by (holds c King) ce
 some_place c [] l = absurd (omega arith)
 some_place c (x ∷ xs) l =
     elim (holds c King x) as (λ (b : Bool). holds c King x ≡ b → (s : ℕ) × (s < length (x ∷ xs)) × (get_or (x ∷ xs) s None ≡ man c King)) [
-      | true ↦ λ e. (0, omega arith, holds_king c x e)
+      | true ↦ λ e. (0, omega arith, (man_says c King x).0 e)
       | false ↦ λ e.
           let step : count_by (holds c King) (x ∷ xs) ≡ cond {A = ℕ} (holds c King x) 1 0 + count_by (holds c King) xs =
           sum_by-cons (λ y. cond (holds c King y) 1 0) x xs in
