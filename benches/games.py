@@ -1,5 +1,5 @@
 #!/usr/bin/env python3
-"""Writes the games that play.sh plays: games.py FOLDER PLIES.
+"""Writes the games that all.sh and plays.py play: games.py FOLDER PLIES.
 
 FOLDER/chance has games of starts by chance, each move drawn from the legal ones, of at most 120 plies. FOLDER/shuffle has games of 148 plies
 in which nothing is captured, no pawn moves and no position comes for the fifth time, so that neither rule on draws without a claim ends one.

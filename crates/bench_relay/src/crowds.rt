@@ -10,8 +10,11 @@ use std::time::{Clock, Instant};
 /// How many boards there are, how many spectators follow each, and how many moves are made on each.
 #[derive(Clone, Copy)]
 pub struct Crowd {
+    /// 1 to 256.
     pub boards: u16,
+    /// 1 to 1,024 on each board.
     pub followers: u16,
+    /// 1 to 1,024 moves on each board.
     pub plies: u16,
 }
 

@@ -156,7 +156,7 @@ impl Position {
         self.sets.white | self.sets.black
     }
 
-    /// The squares that hold this piece, as a set.
+    /// The squares that hold this piece, as a set: bit s is 1 where the square s is in it.
     #[inline(always)]
     pub fn pieces(&self, piece: Piece) -> u64
         ensures set { result ≡ set_of (holds piece.colour piece.kind) self.now.placement }
@@ -204,7 +204,8 @@ impl Position {
         self.target
     }
 
-    /// The half-move counter: how many half-moves were made since the last capture or pawn move.
+    /// The half-move counter: how many plies were made since the last capture or pawn move (FIDE Laws, Articles 9.3 and 9.6.2),
+    /// 0 to 65,535.
     #[inline(always)]
     pub fn half_moves(&self) -> u16
         ensures { result ≡ self.now.half_moves }
@@ -212,7 +213,7 @@ impl Position {
         self.half_moves
     }
 
-    /// The move number, from 1.
+    /// The move number, 1 to 65,535: it rises after Black's move.
     #[inline(always)]
     pub fn number(&self) -> u16
         ensures { result ≡ self.now.number }

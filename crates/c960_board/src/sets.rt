@@ -9,8 +9,11 @@ use crate::square::Square;
 /// The squares of the pieces by their colour and by their kind.
 #[derive(Clone, Copy, PartialEq, Eq, Debug)]
 pub struct Sets {
+    /// The squares of White's pieces.
     pub white: u64,
+    /// The squares of Black's pieces.
     pub black: u64,
+    /// The squares of the pawns of both sides, and so for the other kinds.
     pub pawns: u64,
     pub knights: u64,
     pub bishops: u64,

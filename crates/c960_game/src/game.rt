@@ -138,7 +138,7 @@ impl Game {
         self.moves.len() as u16
     }
 
-    /// The move at a place of the log, counted from 0.
+    /// The move at a place of the log, counted from 0: None exactly from the log's length on.
     pub fn move_at(&self, place: u16) -> Option<Move>
         ensures { result ≡ slice_get self.now.log place }
     {

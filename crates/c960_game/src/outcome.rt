@@ -5,7 +5,7 @@ ghost use Rattle.c960_game.specs.Outcome.{outcome_code, outcome_text};
 
 use c960_board::Colour;
 
-/// How a game has ended. Each outcome has a number, 1 to 11 in the order of its text's description.
+/// How a game has ended. Each outcome has a number, 1 to 11 (`code`), and a text (`text`).
 #[derive(Clone, Copy, PartialEq, Eq, Debug)]
 pub enum Outcome {
     /// This side has mated the other (FIDE Laws, Article 5.1.1).

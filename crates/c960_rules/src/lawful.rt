@@ -1,4 +1,4 @@
-//! The positions that can arise in a game.
+//! The positions whose side not to move is not in check: after a legal move there is no other.
 
 ghost use Rattle.std.specs.Prelude.{◌≡◌, ◌↔◌, IsOk, MatchResult};
 

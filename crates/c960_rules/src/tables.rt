@@ -1,4 +1,5 @@
-//! Squares by squares, as sets.
+//! Tables by the number of a square: each row is the set of the squares that stand in a relation to it. What each table means is
+//! the contract of its function in lookups.rt.
 
 pub static KNIGHT: [u64; 64] = [
     0x0000000000020400,

@@ -7,5 +7,6 @@ use live_machine::BoardLimits;
 pub struct BoardSetup {
     /// 0 to 959.
     pub start: u64,
+    /// How many followers, how many moves to a queue, and how many plies it may have.
     pub limits: BoardLimits,
 }

@@ -10,6 +10,7 @@ use std::collections::LinkedList;
 
 /// What a follower knows: its part of a view.
 pub struct Part {
+    /// What its board was opened with.
     pub setup: BoardSetup,
     /// Its cursor place.
     pub place: u64,
@@ -33,8 +34,11 @@ pub struct Part {
 pub struct View {
     /// Whether it is the board's. The fields from the log to the closings are the board's alone.
     pub owns: bool,
+    /// What the board was opened with.
     pub setup: BoardSetup,
+    /// The moves that were made.
     pub log: LinkedList<Move>,
+    /// The outcome, once the game is over.
     pub outcome: Option<Outcome>,
     /// The move that was stored and not yet published.
     pub stored: Option<Move>,

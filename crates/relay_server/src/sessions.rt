@@ -32,14 +32,15 @@ pub enum SessionEnd {
 /// The close code after `Over`, and where as many messages were read as may be: a normal end (RFC 6455, section 7.4.1).
 const NORMAL: u16 = 1000;
 
-/// The close code after `Cut`: this server's own.
+/// The close code after `Cut`: this server's own, of those for private use (RFC 6455, section 7.4.2).
 const CUT_OFF: u16 = 4001;
 
 /// How many bytes one read of the stream asks for.
 const READ_BYTES: usize = 4096;
 
-/// One connection from its handshake to its end: it answers commands, and once it follows a board, pushes that board's moves.
-/// At its end each board that it opened and that has not ended is ended as abandoned, and its follower leaves.
+/// One connection from its handshake to its end: it answers commands, and once it follows a board, pushes that board's moves and is
+/// read no more. The request's head may have 8,192 bytes and take 10 seconds; at most 1,000,000 messages are read. At its end each board
+/// that it opened and that has not ended is ended as abandoned, and its follower leaves.
 pub fn session<'a, R: Wait + Clock, S: Stream + Drop, G: Gate>(
     rt: &'a R,
     alloc: Global,
