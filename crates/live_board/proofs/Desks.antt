@@ -56,11 +56,11 @@ pub closed_open : (c j b : ℕ) → Closed c ≡ Open j b → ⊥
 closed_open c j b e = cc
 
 -- the word of a cursor that is noted open
-pub open_back : (n : Note) (r j b : ℕ) → note_after n r ≡ Open j b → r ≡ b + 4294967296
-open_back n r j b = pick (λ (x : Note). x ≡ Open j b → r ≡ b + 4294967296) (eqb r 0) Vacant (cond (eqb (r / 4294967296) 1) (Open (joined_noted n) (r % 4294967296)) (Closed (r / 4294967296 - 2)))
+pub open_back : (n : Note) (r j b : ℕ) → note_after n r ≡ Open j b → (r / 4294967296 ≡ 1) × (r % 4294967296 ≡ b)
+open_back n r j b = pick (λ (x : Note). x ≡ Open j b → (r / 4294967296 ≡ 1) × (r % 4294967296 ≡ b)) (eqb r 0) Vacant (cond (eqb (r / 4294967296) 1) (Open (joined_noted n) (r % 4294967296)) (Closed (r / 4294967296 - 2)))
     (λ _ e. absurd (vacant_open j b e))
-    (λ _. pick (λ (x : Note). x ≡ Open j b → r ≡ b + 4294967296) (eqb (r / 4294967296) 1) (Open (joined_noted n) (r % 4294967296)) (Closed (r / 4294967296 - 2))
-    (λ q e. let x = eqb-true (r / 4294967296) 1 q in let y = same_open (joined_noted n) j (r % 4294967296) b e in omega arith)
+    (λ _. pick (λ (x : Note). x ≡ Open j b → (r / 4294967296 ≡ 1) × (r % 4294967296 ≡ b)) (eqb (r / 4294967296) 1) (Open (joined_noted n) (r % 4294967296)) (Closed (r / 4294967296 - 2))
+    (λ q e. (eqb-true (r / 4294967296) 1 q, same_open (joined_noted n) j (r % 4294967296) b e))
     (λ _ e. absurd (closed_open (r / 4294967296 - 2) j b e)))
 
 -- the note that a step at the cursor k sets
@@ -86,3 +86,7 @@ pub carried_inside : {id : TableId} {key : BoardSetup} {seat : Seat (Unit {0}) V
 carried_inside i v k is c =
     let inside = ((i.sound.board i.owns).inside c.0 c.1 (ap (λ (u : View). get_elem? u.parts c.0) is ∙ c.2)).0 in
     omega (arith, inside, c.3, ap (λ (u : View). u.setup.limits.followers) is)
+
+-- how many cursors a desk has, by its fields and by the view that callers see
+pub same_followers : {id : TableId} {key : BoardSetup} {seat : Seat (Unit {0}) View} {setup : BoardSetup} {len : ℕ} {notes : List Note} {room : ℕ} → IsDesk id key seat setup len notes room → (v : View) → seat.me.0 ≡ v → setup.limits.followers ≡ v.setup.limits.followers
+same_followers i v is = ap (λ (z : BoardSetup). z.limits.followers) (sym i.setup_is) ∙ ap (λ (u : View). u.setup.limits.followers) is

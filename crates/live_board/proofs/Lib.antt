@@ -1,8 +1,8 @@
 mod Steps
-mod Desks
+pub mod Desks
 mod Followers
 mod Hands
-mod Tries
+pub mod Tries
 mod Games
 mod Carrying
 mod Meetings

@@ -1,5 +1,5 @@
 -- What a board and a follower know once the follower's part was taken in, the status and its cursor loaded, and the part handed out.
-use Rattle.std.proofs.Common.{◌≡◌, ℕ, ◌+◌, ◌-◌, ◌/◌, ◌%◌, ◌<◌, ◌≤◌, [], ◌∷◌, length, get_or, Option, Some, None, true, sym, refl, ap, ◌∙◌, subst, arith, cond, eqb, lt-ltb, length-set}
+use Rattle.std.proofs.Common.{◌≡◌, ℕ, ◌+◌, ◌-◌, ◌/◌, ◌%◌, ◌<◌, ◌≤◌, [], ◌∷◌, length, Option, Some, None, true, sym, refl, ap, ◌∙◌, subst, arith, cond, eqb, lt-ltb}
 use Rattle.std.proofs.lemmas.Option.{none-some}
 use mathlib.Core.Logic.{dite}
 use mathlib.Core.Option.{some}
@@ -18,7 +18,7 @@ use Rattle.live_steps.proofs.Checking.{note_there}
 use Rattle.live_steps.proofs.Parts.{pick}
 use Rattle.live_board.specs.Meeting.{Met, closing_noted}
 use Rattle.live_board.proofs.Followers.{only_is}
-use Rattle.live_board.proofs.Tries.{loaded_note}
+use Rattle.live_board.proofs.Tries.{loaded_note, noted_long}
 
 same_closed : (c d : ℕ) → Closed c ≡ Closed d → c ≡ d
 same_closed c d e = cc
@@ -40,8 +40,18 @@ closed_at_none x n c is none = pick (λ (m : Note). m ≡ Closed c → c ≡ 0) 
     absurd (none-some (n / 4294967296 - 2) (sym none ∙ ap (λ b. cond b (Some (n / 4294967296 - 2)) None) (lt-ltb 1 (n / 4294967296) more))))))
     is
 
+-- the board's view that has taken in the part, then the status that was loaded, then the part's cursor
+abbrev pub joined_in : View → BoardSetup → Part → View
+joined_in v z p = taking_in v (carrying z (p ∷ []))
+
+abbrev pub looked_in : View → BoardSetup → Part → ℕ → View
+looked_in v z p r = each_part (sees r) (joined_in v z p)
+
+abbrev pub checked_in : View → BoardSetup → Part → ℕ → ℕ → ℕ → View
+checked_in v z p r k n = noted (k + 2) n (looked_in v z p r)
+
 -- the part that was taken in lies at one of the board's cursors, and has the board's setup
-pub looked_inside : (w v : View) (z : BoardSetup) (p : Part) (r : ℕ) → w ≡ each_part (sees r) (taking_in v (carrying z (p ∷ []))) → v.owns ≡ true → IsSound w → (p.place < v.setup.limits.followers) × (p.setup ≡ v.setup)
+pub looked_inside : (w v : View) (z : BoardSetup) (p : Part) (r : ℕ) → w ≡ looked_in v z p r → v.owns ≡ true → IsSound w → (p.place < v.setup.limits.followers) × (p.setup ≡ v.setup)
 looked_inside w v z p r is owns sound =
     let b = sound.board (ap (λ (u : View). u.owns) is ∙ owns) in
     let x = b.inside 0 (sees r p) (ap (λ (u : View). get_elem? u.parts 0) is) in
@@ -49,28 +59,19 @@ looked_inside w v z p r is owns sound =
     (subst (λ (y : BoardSetup). p.place < y.limits.followers) setup x.0, x.1 ∙ setup)
 
 module _ (v : View) (z : BoardSetup) (p : Part) (k r n : ℕ) where
-  abbrev pub joined_in : View
-  joined_in = taking_in v (carrying z (p ∷ []))
-
-  abbrev pub looked_in : View
-  looked_in = each_part (sees r) joined_in
-
-  abbrev pub checked_in : View
-  checked_in = noted (k + 2) n looked_in
-
-  pub meets : p.place ≡ k → v.owns ≡ true → IsSound checked_in → length_in r ≡ length v.log → outcome_in r ≡ v.outcome → Met v p (kept_part checked_in) (learns n (sees r p))
+  pub meets : p.place ≡ k → v.owns ≡ true → IsSound (checked_in v z p r k n) → length_in r ≡ length v.log → outcome_in r ≡ v.outcome → Met v p (kept_part (checked_in v z p r k n)) (learns n (sees r p))
   meets here owns sound len over =
+      let w = checked_in v z p r k n in
       let q = learns n (sees r p) in
       let b = sound.board owns in
-      let first : get_elem? checked_in.parts 0 ≡ some q = ap some (only_is (k + 2) (learns n) (sees r p) (ap (λ (x : ℕ). x + 2) here)) in
+      let first : get_elem? w.parts 0 ≡ some q = ap some (only_is (k + 2) (learns n) (sees r p) (ap (λ (x : ℕ). x + 2) here)) in
       let inside = b.inside 0 q first in
-      let long : length checked_in.notes ≡ length v.notes = length-set v.notes (k + 2 - 2) (note_after (get_or v.notes (k + 2 - 2) Vacant) n) in
+      let long : length w.notes ≡ length v.notes = noted_long (looked_in v z p r) k n in
       let low : k < length v.notes = let x = inside.0 in let y = b.noted in omega (arith, x, y, long, here) in
-      let old = (note_there v.notes k low).0 in
-      let note : Note = note_after old n in
-      let there : get_elem? checked_in.notes k ≡ some note = loaded_note looked_in k n low in
-      let at-place : get_elem? checked_in.notes p.place ≡ some note = ap (get_elem? checked_in.notes) here ∙ there in
-      let agreed : Agrees checked_in note q = b.agree 0 q first note at-place in
+      let old = note_there v.notes k low in
+      let note : Note = note_after old.0 n in
+      let at-place : get_elem? w.notes p.place ≡ some note = ap (get_elem? w.notes) here ∙ loaded_note (looked_in v z p r) k n old.0 old.1 in
+      let agreed : Agrees w note q = b.agree 0 q first note at-place in
       let within = next_within note agreed in
       record {
         setup = refl;
@@ -84,16 +85,16 @@ module _ (v : View) (z : BoardSetup) (p : Part) (k r n : ℕ) where
         has_stretch = is_stretch p.taken v.log p.joined (b.stretch 0 q first) within;
         note = note;
         noted = at-place;
-        there = λ e. subst (λ (m : Note). Agrees checked_in m q) e agreed;
-        closing = known old (let c = b.limits.some_capacity in c) note refl agreed;
+        there = λ e. subst (λ (m : Note). Agrees w m q) e agreed;
+        closing = known old.0 (let c = b.limits.some_capacity in c) note refl agreed;
       }
     where
-      next_within : (m : Note) → Agrees checked_in m (learns n (sees r p)) → next_of p ≤ length v.log
+      next_within : (m : Note) → Agrees (checked_in v z p r k n) m (learns n (sees r p)) → next_of p ≤ length v.log
       next_within Vacant a = absurd a
       next_within (Open j l) a = a.3
       next_within (Closed c) a = let x = a.0 in let y = a.1 in omega (arith, x, y)
 
-      known : (x : Note) → 1 ≤ v.setup.limits.capacity → (m : Note) → note_after x n ≡ m → Agrees checked_in m (learns n (sees r p)) → closing_in n ≡ closing_noted m
+      known : (x : Note) → 1 ≤ v.setup.limits.capacity → (m : Note) → note_after x n ≡ m → Agrees (checked_in v z p r k n) m (learns n (sees r p)) → closing_in n ≡ closing_noted m
       known x some-capacity Vacant is a = absurd a
       known x some-capacity (Open j l) is a = a.1
       known x some-capacity (Closed c) is a = by (closing_in n) refl

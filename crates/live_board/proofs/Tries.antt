@@ -10,17 +10,33 @@ use Rattle.live_steps.specs.declared.note.Note.{Note}
 use Rattle.live_steps.specs.declared.note.Note.TheVariants.{Vacant, Open, Closed}
 use Rattle.live_steps.specs.declared.view.Part.{Part}
 use Rattle.live_steps.specs.declared.view.View.{View}
-use Rattle.live_steps.specs.Words.{note_after}
+use Rattle.live_steps.specs.Words.{cursor_of, note_after}
 use Rattle.live_steps.specs.Views.{board, noted, cutting}
 use Rattle.live_steps.proofs.Checking.{note_there, note_read}
 use Rattle.live_board.specs.Desk.{NotedAs, Checked, IsNotedFull, Exchanged, Tried, TriedBelow, FreeBelow, CheckedBelow, LoadedBelow, Unmoved}
-use Rattle.live_board.proofs.Desks.{closed_open, open_back}
+use Rattle.live_board.proofs.Desks.{at_within, closed_open, open_back}
 
-at_place : (l : List Note) (k : ℕ) (n : Note) → k < length l → get_elem? (set l (k + 2 - 2) n) k ≡ some n
+-- ---- Notes.
+
+pub at_place : (l : List Note) (k : ℕ) (n : Note) → k < length l → get_elem? (set l (k + 2 - 2) n) k ≡ some n
 at_place l k n low = let here : k + 2 - 2 ≡ k = omega arith in ap (λ (x : ℕ). get_elem? (set l x n) k) here ∙ set_here l k n low
 
-at_other : (l : List Note) (k j : ℕ) (n : Note) → j ≢ k → get_elem? (set l (k + 2 - 2) n) j ≡ get_elem? l j
+pub at_other : (l : List Note) (k j : ℕ) (n : Note) → j ≢ k → get_elem? (set l (k + 2 - 2) n) j ≡ get_elem? l j
 at_other l k j n ne = let here : k + 2 - 2 ≡ k = omega arith in ap (λ (x : ℕ). get_elem? (set l x n) j) here ∙ set_else l k j n ne
+
+-- the note that a load of the cursor k sets
+pub loaded_note : (v : View) (k r : ℕ) (a : Note) → get_elem? v.notes k ≡ some a → get_elem? (noted (k + 2) r v).notes k ≡ some (note_after a r)
+loaded_note v k r a e =
+    let here : k + 2 - 2 ≡ k = omega arith in
+    let was : get_or v.notes (k + 2 - 2) Vacant ≡ a = ap (λ (x : ℕ). get_or v.notes x Vacant) here ∙ note_read v.notes k a e in
+    at_place v.notes k (note_after (get_or v.notes (k + 2 - 2) Vacant) r) (at_within v.notes k a e) ∙ ap (λ (n : Note). some (note_after n r)) was
+
+-- the notes of the other cursors
+noted_else : (v : View) (k r j : ℕ) → j ≢ k → get_elem? (noted (k + 2) r v).notes j ≡ get_elem? v.notes j
+noted_else v k r j = at_other v.notes k j (note_after (get_or v.notes (k + 2 - 2) Vacant) r)
+
+pub noted_long : (v : View) (k r : ℕ) → length (noted (k + 2) r v).notes ≡ length v.notes
+noted_long v k r = length-set v.notes (k + 2 - 2) (note_after (get_or v.notes (k + 2 - 2) Vacant) r)
 
 -- the view with other notes, counts, closings and parts
 abbrev pub beside : View → List Note → List ℕ → List ℕ → List Part → View
@@ -28,183 +44,137 @@ beside v notes checks closings parts = board v v.log v.outcome v.stored notes ch
 
 -- ---- A follower is closed, or not.
 
--- of the notes only that of the cursor k is another, and it is of no full follower
-pub record Tidied (v : View) (k : ℕ) (w : View) : Type 0 where
-  pub notes : List Note
-  pub checks : List ℕ
-  pub closings : List ℕ
-  pub parts : List Part
-  pub same : w ≡ beside v notes checks closings parts
-  pub long : length notes ≡ length v.notes
-  pub elsewhere : (j : ℕ) → j ≢ k → get_elem? notes j ≡ get_elem? v.notes j
-  pub free : (j b : ℕ) → get_elem? notes k ≡ some (Open j b) → length v.log < b + v.setup.limits.capacity
-
--- the note that a load of the cursor k sets
-pub loaded_note : (v : View) (k r : ℕ) (low : k < length v.notes) → get_elem? (noted (k + 2) r v).notes k ≡ some (note_after (note_there v.notes k low).0 r)
-loaded_note v k r low =
-    let here : k + 2 - 2 ≡ k = omega arith in
-    let old = note_there v.notes k low in
-    let was : get_or v.notes (k + 2 - 2) Vacant ≡ old.0 = ap (λ (x : ℕ). get_or v.notes x Vacant) here ∙ note_read v.notes k old.0 old.1 in
-    at_place v.notes k (note_after (get_or v.notes (k + 2 - 2) Vacant) r) low ∙ ap (λ (n : Note). some (note_after n r)) was
-
-pub tidied : (v w : View) (k : ℕ) → k < length v.notes → Tried v k w → Tidied v k w
-tidied v w k low (u, (r, is, told), tried) = ⊎_elim exchanged left tried
+-- What a try at the cursor k leads to. It was loaded; then it was left, since it is noted of no full follower; or the exchange closed the
+-- follower; or the exchange found another word.
+pub by_try : (P : View → Type 0) (v w : View) (k : ℕ) → Tried v k w
+    → ((r : ℕ) → NotedAs v k r → ((place : ℕ) → ¬ (IsNotedFull (noted (k + 2) r v) k place)) → P (noted (k + 2) r v))
+    → ((r place : ℕ) → NotedAs v k r → IsNotedFull (noted (k + 2) r v) k place → P (cutting (k + 2) (noted (k + 2) r v)))
+    → ((r place n : ℕ) → NotedAs v k r → IsNotedFull (noted (k + 2) r v) k place → NotedAs (noted (k + 2) r v) k n → (n ≡ 0) ⊎ (cursor_of place None < n) → P (noted (k + 2) n (noted (k + 2) r v)))
+    → P w
+by_try P v w k (u, (r, is, told), went) left hit miss =
+    ⊎_elim exchanged (λ (x : (w ≡ u') × ((place : ℕ) → ¬ (IsNotedFull u' k place))). subst P (sym x.0) (left r told x.1)) (subst Went is went)
   where
     u' : View
     u' = noted (k + 2) r v
 
-    old : (n : Note) × (get_elem? v.notes k ≡ some n)
-    old = note_there v.notes k low
+    Went : View → Type 0
+    Went x = ((place : ℕ) × IsNotedFull x k place × Exchanged x k place w) ⊎ ((w ≡ x) × ((place : ℕ) → ¬ (IsNotedFull x k place)))
 
-    cap : u.setup.limits.capacity ≡ v.setup.limits.capacity
-    cap = ap (λ (x : View). x.setup.limits.capacity) is
+    exchanged : ((place : ℕ) × IsNotedFull u' k place × Exchanged u' k place w) → P w
+    exchanged (place, full, e) = ⊎_elim
+        (λ (x : w ≡ cutting (k + 2) u'). subst P (sym x) (hit r place told full))
+        (λ (x : (n : ℕ) × (w ≡ noted (k + 2) n u') × NotedAs u' k n × ((n ≡ 0) ⊎ (cursor_of place None < n))). subst P (sym x.1) (miss r place x.0 told full x.2 x.3)) e
 
-    len : length u.log ≡ length v.log
-    len = ap (λ (x : View). length x.log) is
+-- of the notes only that of the cursor k is another, and it is of no full follower
+pub record Tidied (v : View) (k : ℕ) (w : View) : Type 0 where
+  pub same : w ≡ beside v w.notes w.checks w.closings w.parts
+  pub long : length w.notes ≡ length v.notes
+  pub elsewhere : (j : ℕ) → j ≢ k → get_elem? w.notes j ≡ get_elem? v.notes j
+  pub free : (j b : ℕ) → get_elem? w.notes k ≡ some (Open j b) → length v.log < b + v.setup.limits.capacity
 
-    long-u : length u'.notes ≡ length v.notes
-    long-u = length-set v.notes (k + 2 - 2) (note_after (get_or v.notes (k + 2 - 2) Vacant) r)
-
-    left : (w ≡ u) × ((place : ℕ) → ¬ (IsNotedFull u k place)) → Tidied v k w
-    left (stays, open-end) = record {
-      notes = u'.notes;
-      checks = u'.checks;
-      closings = v.closings;
-      parts = u'.parts;
-      same = stays ∙ is;
-      long = long-u;
-      elsewhere = λ j d. at_other v.notes k j (note_after (get_or v.notes (k + 2 - 2) Vacant) r) d;
+pub tidied : (v w : View) (k : ℕ) → Tried v k w → Tidied v k w
+tidied v w k t = by_try (Tidied v k) v w k t
+    (λ r told open-end. record {
+      same = refl;
+      long = noted_long v k r;
+      elsewhere = noted_else v k r;
       free = λ j b e.
-          let near = (told old.0 old.1).1 j b (some-injective _ _ (sym (loaded_note v k r low) ∙ e)) in
-          let ne : b + v.setup.limits.capacity ≢ length v.log = λ q. open-end b (j, ap (λ (x : View). get_elem? x.notes k) is ∙ e, omega (arith, q, cap, len)) in
+          let old = note_there v.notes k (omega (arith, at_within (noted (k + 2) r v).notes k (Open j b) e, noted_long v k r)) in
+          let near = (told old.0 old.1).1 j b (some-injective _ _ (sym (loaded_note v k r old.0 old.1) ∙ e)) in
+          let ne : b + v.setup.limits.capacity ≢ length v.log = λ q. open-end b (j, e, q) in
           omega arith;
-    }
+    })
+    (λ r place told full.
+    let u = noted (k + 2) r v in record {
+      same = refl;
+      long = length-set u.notes (k + 2 - 2) (Closed (length v.log)) ∙ noted_long v k r;
+      elsewhere = λ j d. at_other u.notes k j (Closed (length v.log)) d ∙ noted_else v k r j d;
+      free = λ j b e. absurd (closed_open (length v.log) j b (some-injective _ _ (sym (at_place u.notes k (Closed (length v.log)) (at_within _ _ _ full.1)) ∙ e)));
+    })
+    (λ r place n told full told' later.
+    let u = noted (k + 2) r v in record {
+      same = refl;
+      long = noted_long u k n ∙ noted_long v k r;
+      elsewhere = λ j d. noted_else u k n j d ∙ noted_else v k r j d;
+      free = λ j b e.
+          let word = open_back (Open full.0 place) n j b (some-injective _ _ (sym (loaded_note u k n (Open full.0 place) full.1) ∙ e)) in
+          ⊎_elim (λ (y : n ≡ 0). absurd (omega (arith, word.0, y))) (λ (y : place + 4294967296 * 1 < n). omega (arith, word.0, word.1, y, full.2)) later;
+    })
 
-    exchanged : ((place : ℕ) × IsNotedFull u k place × Exchanged u k place w) → Tidied v k w
-    exchanged (place, (joined, note-u, full), went) = ⊎_elim hit miss went
-      where
-        hit : w ≡ cutting (k + 2) u → Tidied v k w
-        hit e =
-            let w' = cutting (k + 2) u' in record {
-              notes = w'.notes;
-              checks = w'.checks;
-              closings = w'.closings;
-              parts = w'.parts;
-              same = e ∙ ap (cutting (k + 2)) is;
-              long = length-set u'.notes (k + 2 - 2) (Closed (length v.log)) ∙ long-u;
-              elsewhere = λ j d. at_other u'.notes k j (Closed (length v.log)) d ∙ at_other v.notes k j (note_after (get_or v.notes (k + 2 - 2) Vacant) r) d;
-              free = λ j b x. absurd (closed_open (length v.log) j b (some-injective _ _ (sym (at_place u'.notes k (Closed (length v.log)) (omega (arith, low, long-u))) ∙ x)));
-            }
-
-        miss : ((r' : ℕ) × (w ≡ noted (k + 2) r' u) × NotedAs u k r' × ((r' ≡ 0) ⊎ (place + 4294967296 * 1 < r'))) → Tidied v k w
-        miss (r', e, told', later) =
-            let w' = noted (k + 2) r' u' in
-            let n : Note = note_after (get_or u'.notes (k + 2 - 2) Vacant) r' in record {
-              notes = w'.notes;
-              checks = w'.checks;
-              closings = v.closings;
-              parts = w'.parts;
-              same = e ∙ ap (noted (k + 2) r') is;
-              long = length-set u'.notes (k + 2 - 2) n ∙ long-u;
-              elsewhere = λ j d. at_other u'.notes k j n d ∙ at_other v.notes k j (note_after (get_or v.notes (k + 2 - 2) Vacant) r) d;
-              free = λ j b x.
-                  let word = open_back (get_or u'.notes (k + 2 - 2) Vacant) r' j b (some-injective _ _ (sym (at_place u'.notes k n (omega (arith, low, long-u))) ∙ x)) in
-                  ⊎_elim (λ (y : r' ≡ 0). absurd (omega arith)) (λ (y : place + 4294967296 * 1 < r'). omega (arith, word, y, full, cap, len)) later;
-            }
-
--- the same of the first n cursors
+-- the notes below n are of no full follower, and the others as they were
 pub record TidiedBelow (n : ℕ) (v w : View) : Type 0 where
-  pub notes : List Note
-  pub checks : List ℕ
-  pub closings : List ℕ
-  pub parts : List Part
-  pub same : w ≡ beside v notes checks closings parts
-  pub long : length notes ≡ length v.notes
+  pub same : w ≡ beside v w.notes w.checks w.closings w.parts
+  pub long : length w.notes ≡ length v.notes
+  pub later : (k : ℕ) → n ≤ k → get_elem? w.notes k ≡ get_elem? v.notes k
   pub free : FreeBelow n w
 
-pub tidied_below : (n : ℕ) (v w : View) → n ≤ length v.notes → TriedBelow n v w → TidiedBelow n v w
-tidied_below zero v w within is = record {
-  notes = v.notes;
-  checks = v.checks;
-  closings = v.closings;
-  parts = v.parts;
-  same = is;
+pub tidied_below : (n : ℕ) (v w : View) → TriedBelow n v w → TidiedBelow n v w
+tidied_below zero v w is = subst (TidiedBelow 0 v) (sym is) record {
+  same = refl;
   long = refl;
+  later = λ k h. refl;
   free = λ k j b less e. absurd (omega arith);
 }
-tidied_below (suc n) v w within (u, before, last) =
-    let a = tidied_below n v u (omega arith) before in
-    let notes-u : length u.notes ≡ length v.notes = ap (λ (x : View). length x.notes) a.same ∙ a.long in
-    let b = tidied u w n (omega (arith, within, notes-u)) last in
+tidied_below (suc n) v w (u, before, last) =
+    let a = tidied_below n v u before in
+    let b = tidied u w n last in
     let len : length w.log ≡ length u.log = ap (λ (x : View). length x.log) b.same in
     let cap : w.setup.limits.capacity ≡ u.setup.limits.capacity = ap (λ (x : View). x.setup.limits.capacity) b.same in
     record {
-      notes = b.notes;
-      checks = b.checks;
-      closings = b.closings;
-      parts = b.parts;
-      same = b.same ∙ ap (λ (x : View). beside x b.notes b.checks b.closings b.parts) a.same;
-      long = b.long ∙ notes-u;
-      free = λ k j l less e.
-          let there : get_elem? b.notes k ≡ some (Open j l) = ap (λ (x : View). get_elem? x.notes k) (sym b.same) ∙ e in
-          dite (ℕ_discrete k n)
-          (λ (x : k ≡ n). omega (arith, b.free j l (ap (get_elem? b.notes) (sym x) ∙ there), len, cap))
-          (λ ne. omega (arith, a.free k j l (omega arith) (sym (b.elsewhere k ne) ∙ there), len, cap));
+      same = b.same ∙ ap (λ (x : View). beside x w.notes w.checks w.closings w.parts) a.same;
+      long = b.long ∙ a.long;
+      later = λ k h. b.elsewhere k (λ e. let x : k ≡ n = e in omega arith) ∙ a.later k (omega arith);
+      free = λ k j l less e. dite (ℕ_discrete k n)
+          (λ (x : k ≡ n). omega (arith, b.free j l (ap (get_elem? w.notes) (sym x) ∙ e), len, cap))
+          (λ ne. omega (arith, a.free k j l (omega arith) (sym (b.elsewhere k ne) ∙ e), len, cap));
     }
 
 -- ---- Cursors are loaded.
 
-pub record LookedBelow (n : ℕ) (v w : View) : Type 0 where
-  pub notes : List Note
-  pub checks : List ℕ
-  pub parts : List Part
-  pub same : w ≡ beside v notes checks v.closings parts
-  pub long : length notes ≡ length v.notes
-  pub counts : length checks ≡ length v.checks
-  pub loaded : (k : ℕ) → k < n → get_or v.checks k 0 < get_or checks k 0
-  pub kept : (k : ℕ) → get_or v.checks k 0 ≤ get_or checks k 0
+-- a count that is one higher
+module _ (l : List ℕ) (k : ℕ) (low : k < length l) where
+  abbrev one_more : List ℕ
+  one_more = set l (k + 2 - 2) (get_or l (k + 2 - 2) 0 + 1)
 
-pub looked_below : (n : ℕ) (v w : View) → n ≤ length v.checks → CheckedBelow n v w → LookedBelow n v w
-looked_below zero v w within is = record {
-  notes = v.notes;
-  checks = v.checks;
-  parts = v.parts;
-  same = is;
+  mine : get_or one_more k 0 ≡ get_or l k 0 + 1
+  mine = let here : k + 2 - 2 ≡ k = omega arith in ap (λ (x : ℕ). get_or (set l x (get_or l x 0 + 1)) k 0) here ∙ get_or-set_same l k (get_or l k 0 + 1) 0 low
+
+  no_less : (j : ℕ) → get_or l j 0 ≤ get_or one_more j 0
+  no_less j = dite (ℕ_discrete j k)
+      (λ (e : j ≡ k). subst (λ (x : ℕ). get_or l x 0 ≤ get_or one_more x 0) (sym e) (let x = mine in omega arith))
+      (λ d. let x = get_or-set_other l (k + 2 - 2) j (get_or l (k + 2 - 2) 0 + 1) 0 (λ e. d (omega arith)) in omega arith)
+
+-- the counts of loads of the first n cursors rose, and no other fell
+pub record CountedBelow (n : ℕ) (v w : View) : Type 0 where
+  pub long : length w.checks ≡ length v.checks
+  pub rose : LoadedBelow n v w
+  pub kept : (k : ℕ) → get_or v.checks k 0 ≤ get_or w.checks k 0
+
+pub counted_below : (n : ℕ) (v w : View) → n ≤ length v.checks → CheckedBelow n v w → CountedBelow n v w
+counted_below zero v w within is = subst (CountedBelow 0 v) (sym is) record {
   long = refl;
-  counts = refl;
-  loaded = λ k less. absurd (omega arith);
+  rose = λ k less. absurd (omega arith);
   kept = λ k. omega arith;
 }
-looked_below (suc n) v w within (u, before, (r, is, told)) =
-    let a = looked_below n v u (omega arith) before in
-    let here : n + 2 - 2 ≡ n = omega arith in
-    let l : List ℕ = a.checks in
-    let c : ℕ = get_or l (n + 2 - 2) 0 + 1 in
-    let new : List ℕ = set l (n + 2 - 2) c in
-    let low : n < length l = let x = a.counts in omega arith in
-    let mine : get_or new n 0 ≡ c = ap (λ (x : ℕ). get_or (set l x c) n 0) here ∙ get_or-set_same l n c 0 low in
-    let count : c ≡ get_or l n 0 + 1 = ap (λ (x : ℕ). get_or l x 0 + 1) here in
-    let other : (j : ℕ) → j ≢ n → get_or new j 0 ≡ get_or l j 0 = λ j d. get_or-set_other l (n + 2 - 2) j c 0 (λ e. d (omega arith)) in
-    let at-n : (j : ℕ) → j ≡ n → (get_or new j 0 ≡ c) × (get_or l j 0 + 1 ≡ c) = λ j e. (ap (λ (x : ℕ). get_or new x 0) e ∙ mine, ap (λ (x : ℕ). get_or l x 0 + 1) e ∙ sym count) in
-    let u' = beside v a.notes a.checks v.closings a.parts in
-    let w' = noted (n + 2) r u' in
-    record {
-      notes = w'.notes;
-      checks = new;
-      parts = w'.parts;
-      same = is ∙ ap (noted (n + 2) r) a.same;
-      long = length-set a.notes (n + 2 - 2) (note_after (get_or a.notes (n + 2 - 2) Vacant) r) ∙ a.long;
-      counts = length-set l (n + 2 - 2) c ∙ a.counts;
-      loaded = λ j less. dite (ℕ_discrete j n)
-          (λ (e : j ≡ n). let x = at-n j e in let y = a.kept j in omega arith)
-          (λ d. let x = other j d in let y = a.loaded j (omega arith) in omega arith);
-      kept = λ j. dite (ℕ_discrete j n)
-          (λ (e : j ≡ n). let x = at-n j e in let y = a.kept j in omega arith)
-          (λ d. let x = other j d in let y = a.kept j in omega arith);
+counted_below (suc n) v w within (u, before, (r, is, told)) =
+    let a = counted_below n v u (omega arith) before in
+    let low : n < length u.checks = let x = a.long in omega arith in
+    subst (CountedBelow (suc n) v) (sym is) record {
+      long = length-set u.checks (n + 2 - 2) (get_or u.checks (n + 2 - 2) 0 + 1) ∙ a.long;
+      rose = λ j less. dite (ℕ_discrete j n)
+          (λ (e : j ≡ n). subst (λ (x : ℕ). get_or v.checks x 0 < get_or (one_more u.checks n low) x 0) (sym e) (let x = a.kept n in let y = mine u.checks n low in omega arith))
+          (λ d. let x = a.rose j (omega arith) in let y = no_less u.checks n low j in omega arith);
+      kept = λ j. let x = a.kept j in let y = no_less u.checks n low j in omega arith;
     }
 
-pub counts_rose : (n : ℕ) (v w : View) → n ≤ length v.checks → CheckedBelow n v w → LoadedBelow n v w
-counts_rose n v w within h k less = let a = looked_below n v w within h in let is = ap (λ (x : View). get_or x.checks k 0) a.same in omega (arith, a.loaded k less, is)
+pub unmoved : (v : View) → Unmoved v v
+unmoved v = record { setup = refl; log = refl; outcome = refl; closings = refl }
+
+pub unmoved_below : (n : ℕ) (v w : View) → CheckedBelow n v w → Unmoved v w
+unmoved_below zero v w is = subst (Unmoved v) (sym is) (unmoved v)
+unmoved_below (suc n) v w (u, before, (r, is, told)) =
+    let a = unmoved_below n v u before in
+    subst (Unmoved v) (sym is) record { setup = a.setup; log = a.log; outcome = a.outcome; closings = a.closings }
 
 pub tried_more : (n : ℕ) (v u w : View) → TriedBelow n v u → Tried u n w → TriedBelow (n + 1) v w
 tried_more n v u w before last = let e : suc n ≡ n + 1 = omega arith in subst (λ (x : ℕ). TriedBelow x v w) e (u, before, last)
@@ -216,15 +186,3 @@ checked_more n v u w before last = let e : suc n ≡ n + 1 = omega arith in subs
 pub with_none : {A : Type 0} (o : Option A) (P Q : Type 0) (R : A → Type 0) → MatchOption o Q R → P → MatchOption o (P × Q) R
 with_none None P Q R h p = (p, h)
 with_none (Some x) P Q R h p = h
-
-pub unmoved_below : (n : ℕ) (v w : View) → n ≤ length v.checks → CheckedBelow n v w → Unmoved v w
-unmoved_below n v w within h =
-    let a = looked_below n v w within h in record {
-      setup = ap (λ (x : View). x.setup) a.same;
-      log = ap (λ (x : View). x.log) a.same;
-      outcome = ap (λ (x : View). x.outcome) a.same;
-      closings = ap (λ (x : View). x.closings) a.same;
-    }
-
-pub unmoved : (v : View) → Unmoved v v
-unmoved v = record { setup = refl; log = refl; outcome = refl; closings = refl }

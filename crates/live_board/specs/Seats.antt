@@ -32,8 +32,8 @@ first_part d (p ∷ ps) = p
 abbrev pub part_of : View → Part
 part_of v = first_part (nobody v.setup) v.parts
 
--- Of a board: the table's identity and key, the seat, and the fields beside it. The notes have room for each follower from the opening
--- on, and no other, so that no call takes memory for them.
+-- Of a board: the table's identity and key, the seat, and the fields beside it. After the opening and after each call the notes have room
+-- for each follower, and for no more; of memory that a call asks for and gives back within itself this says nothing.
 pub record IsDesk (id : TableId) (key : BoardSetup) (seat : Seat (Unit {0}) View) (setup : BoardSetup) (len : ℕ) (notes : List Note) (room : ℕ) : Type 0 where
   pub table : seat.table_id ≡ id
   pub words : id.words ≡ word_count setup.limits

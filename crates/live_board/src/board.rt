@@ -47,7 +47,8 @@ impl Model for Board {
 }
 
 impl Board {
-    /// A board with the game of a numbered start. All memory of the board is reserved here, but what `follow` may need.
+    /// A board with the game of a numbered start. All memory of the board is reserved here. `follow` asks for none, though its
+    /// contract leaves it `OutOfMemory`: it answers that only where the table has as many owners as can be counted.
     /// Refused: `BadStart` exactly from 960 on, and `OutOfMemory`.
     pub fn open(alloc: Global, start: u16, limits: Limits) -> Result<Board, Refusal>
         ensures bad_start { (result ≡ Err Refusal.BadStart) ↔ (960 ≤ start) }

@@ -21,7 +21,7 @@ use crate::follower::{Follower, outcome_in};
 use atomic_table::{Seat, Table};
 use c960_board::Move;
 use c960_game::{Ending, Outcome};
-use live_steps::plays::{Check, Cut, Finish, Follow, Hand, Look, Publish, Spare, Store};
+use live_steps::plays::{Check, Cut, Finish, Hand, Look, Publish, Spare, Store};
 use live_steps::words::{closed_cursor, header, open_cursor, status};
 use live_steps::{BoardSetup, LiveRule, Note, View};
 use std::alloc::{AllocError, Global};
@@ -264,15 +264,14 @@ impl Desk {
             return None;
         };
         let seen = self.len;
-        let cursor = open_cursor(from);
+        let setup = self.setup;
+        self.seat_at(place, from);
         let shared = &self.table.shared;
-        shared.store::<Follow>(&mut self.seat, place as usize + 2, cursor);
         let seat = shared.split_seat::<Hand>(&mut self.seat);
-        self.notes[place as usize] = Note::Open(from, from);
         Some(Follower {
             table,
             seat,
-            setup: self.setup,
+            setup,
             place,
             joined: from,
             taken: 0,

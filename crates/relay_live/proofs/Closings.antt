@@ -1,56 +1,28 @@
 -- What the tries to close followers make of a board's view.
-use Rattle.std.proofs.Common.{◌≡◌, ◌≢◌, ℕ, zero, suc, ◌+◌, ◌-◌, ◌*◌, ◌/◌, ◌%◌, ◌<◌, ◌≤◌, ◌⊎◌, List, [], ◌∷◌, map, set, length, get_or, nat_lt, Some, None, sym, refl, ap, ◌∙◌, subst, inl, inr, ⊎_elim, arith, cond, eqb, eqb-true, length-set}
+use Rattle.std.proofs.Common.{◌≡◌, ◌≢◌, ℕ, zero, suc, ◌+◌, ◌-◌, ◌<◌, ◌≤◌, ◌⊎◌, List, [], ◌∷◌, map, length, nat_lt, Some, None, sym, refl, ap, ◌∙◌, subst, inl, inr, ⊎_elim, arith, cond, eqb, eqb-true}
 use mathlib.Core.Logic.{dite}
-use mathlib.Core.Option.{some, some-injective, some-ne-none}
+use mathlib.Core.Option.{some, some-injective}
 use native.Mathlib.Decide.{ℕ_discrete}
 use lib.ListN.{get_elem?}
-use Rattle.atomic_table.proofs.Lists.{set_here, set_else}
 use Rattle.live_steps.specs.declared.note.Note.{Note}
 use Rattle.live_steps.specs.declared.note.Note.TheVariants.{Vacant, Open, Closed}
 use Rattle.live_steps.specs.declared.view.Part.{Part}
 use Rattle.live_steps.specs.declared.view.View.{View}
-use Rattle.live_steps.specs.Words.{closing_in, joined_noted, note_after}
-use Rattle.live_steps.specs.Views.{board, noted, cutting, learns, only_at}
+use Rattle.live_steps.specs.Words.{closing_in, note_after}
+use Rattle.live_steps.specs.Views.{noted, learns, only_at}
 use Rattle.live_steps.specs.Sound.{Follows}
-use Rattle.live_steps.proofs.Checking.{note_read}
 use Rattle.live_steps.proofs.Parts.{pick, not_there}
 use Rattle.live_steps.proofs.Totals.{at_map_back}
 use Rattle.live_board.specs.Carried.{holding_of}
-use Rattle.live_board.specs.Desk.{NotedAs, IsNotedFull, Exchanged, Tried, TriedBelow}
+use Rattle.live_board.specs.Desk.{Tried, TriedBelow}
+use Rattle.live_board.proofs.Desks.{at_within, closed_open, open_back, vacant_open}
+use Rattle.live_board.proofs.Tries.{at_place, by_try, loaded_note, tidied, tidied_below, TidiedBelow}
 
 -- ---- Notes.
 
-pub at_within : (l : List Note) (k : ℕ) (n : Note) → get_elem? l k ≡ some n → k < length l
-at_within [] k n e = absurd (some-ne-none n (sym e))
-at_within (x ∷ xs) zero n e = omega arith
-at_within (x ∷ xs) (suc k) n e = omega (arith, at_within xs k n e)
-
-pub at_place : (l : List Note) (k : ℕ) (n : Note) → k < length l → get_elem? (set l (k + 2 - 2) n) k ≡ some n
-at_place l k n low = let here : k + 2 - 2 ≡ k = omega arith in ap (λ (x : ℕ). get_elem? (set l x n) k) here ∙ set_here l k n low
-
-pub at_other : (l : List Note) (k j : ℕ) (n : Note) → j ≢ k → get_elem? (set l (k + 2 - 2) n) j ≡ get_elem? l j
-at_other l k j n ne = let here : k + 2 - 2 ≡ k = omega arith in ap (λ (x : ℕ). get_elem? (set l x n) j) here ∙ set_else l k j n ne
-
--- the note that a load of the cursor k sets
-loaded_note : (v : View) (k r : ℕ) (a : Note) → get_elem? v.notes k ≡ some a → get_elem? (noted (k + 2) r v).notes k ≡ some (note_after a r)
-loaded_note v k r a e =
-    let here : k + 2 - 2 ≡ k = omega arith in
-    let was : get_or v.notes (k + 2 - 2) Vacant ≡ a = ap (λ (x : ℕ). get_or v.notes x Vacant) here ∙ note_read v.notes k a e in
-    at_place v.notes k (note_after (get_or v.notes (k + 2 - 2) Vacant) r) (at_within v.notes k a e) ∙ ap (λ (n : Note). some (note_after n r)) was
-
-vacant_open : (j b : ℕ) → Vacant ≡ Open j b → ⊥
-vacant_open j b e = cc
-
-closed_open : (c j b : ℕ) → Closed c ≡ Open j b → ⊥
-closed_open c j b e = cc
-
 -- an open cursor says no closing
 open_none : (n : Note) (r j b : ℕ) → note_after n r ≡ Open j b → closing_in r ≡ None
-open_none n r j b = pick (λ (x : Note). x ≡ Open j b → closing_in r ≡ None) (eqb r 0) Vacant (cond (eqb (r / 4294967296) 1) (Open (joined_noted n) (r % 4294967296)) (Closed (r / 4294967296 - 2)))
-    (λ _ e. absurd (vacant_open j b e))
-    (λ _. pick (λ (x : Note). x ≡ Open j b → closing_in r ≡ None) (eqb (r / 4294967296) 1) (Open (joined_noted n) (r % 4294967296)) (Closed (r / 4294967296 - 2))
-    (λ q e. let x = eqb-true (r / 4294967296) 1 q in ap (λ (y : ℕ). cond (nat_lt 1 y) (Some (y - 2)) None) x)
-    (λ _ e. absurd (closed_open (r / 4294967296 - 2) j b e)))
+open_none n r j b e = ap (λ (y : ℕ). cond (nat_lt 1 y) (Some (y - 2)) None) (open_back n r j b e).0
 
 -- ---- Parts.
 
@@ -114,99 +86,45 @@ turns_closed len ps k (Open joined least) j b f none = inr (inr (refl, none))
 
 -- ---- One place.
 
-abbrev pub beside : View → List Note → List ℕ → List ℕ → List Part → View
-beside v notes checks closings parts = board v v.log v.outcome v.stored notes checks closings parts
-
--- the view after a try to close the follower at the place k
+-- what a try to close the follower at the place k leaves of the parts, and makes of its note
 pub record TriedOnce (v : View) (k : ℕ) (w : View) : Type 0 where
-  pub notes : List Note
-  pub checks : List ℕ
-  pub closings : List ℕ
-  pub parts : List Part
-  pub same : w ≡ beside v notes checks closings parts
-  pub long : length notes ≡ length v.notes
-  pub held : map holding_of parts ≡ map holding_of v.parts
-  pub elsewhere : (j : ℕ) → j ≢ k → get_elem? notes j ≡ get_elem? v.notes j
-  pub others : (j : ℕ) → j ≢ k → NoneNoticed v.parts j → NoneNoticed parts j
-  pub turns : (a n : Note) → get_elem? v.notes k ≡ some a → get_elem? notes k ≡ some n → Turns (length v.log) parts k a n
+  pub held : map holding_of w.parts ≡ map holding_of v.parts
+  pub others : (j : ℕ) → j ≢ k → NoneNoticed v.parts j → NoneNoticed w.parts j
+  pub turns : (a n : Note) → get_elem? v.notes k ≡ some a → get_elem? w.notes k ≡ some n → Turns (length v.log) w.parts k a n
 
-pub tried_once : (v w : View) (k : ℕ) → Tried v k w → TriedOnce v k w
-tried_once v w k (u, (r, is, told), tried) = ⊎_elim exchanged left tried
-  where
-    u' : View
-    u' = noted (k + 2) r v
-
-    long-u : length u'.notes ≡ length v.notes
-    long-u = length-set v.notes (k + 2 - 2) (note_after (get_or v.notes (k + 2 - 2) Vacant) r)
-
-    left : (w ≡ u) × ((place : ℕ) → ¬ (IsNotedFull u k place)) → TriedOnce v k w
-    left (stays, open-end) = record {
-      notes = u'.notes;
-      checks = u'.checks;
-      closings = v.closings;
-      parts = u'.parts;
-      same = stays ∙ is;
-      long = long-u;
+tried_once : (v w : View) (k : ℕ) → Tried v k w → TriedOnce v k w
+tried_once v w k t = by_try (TriedOnce v k) v w k t
+    (λ r told open-end. record {
       held = held_learned (k + 2) r v.parts;
-      elsewhere = λ j d. at_other v.notes k j (note_after (get_or v.notes (k + 2 - 2) Vacant) r) d;
       others = λ j d none. noticed_other k j r v.parts d none;
-      turns = λ a n e d. subst (Turns (length v.log) u'.parts k a) (some-injective _ _ (sym (loaded_note v k r a e) ∙ d)) (turns_by (length v.log) u'.parts k a (note_after a r) (told a e).0);
-    }
-
-    exchanged : ((place : ℕ) × IsNotedFull u k place × Exchanged u k place w) → TriedOnce v k w
-    exchanged (place, (joined, note-u, full), went) = ⊎_elim hit miss went
-      where
-        noted-u : get_elem? u'.notes k ≡ some (Open joined place)
-        noted-u = ap (λ (x : View). get_elem? x.notes k) (sym is) ∙ note-u
-
-        after : (a : Note) → get_elem? v.notes k ≡ some a → note_after a r ≡ Open joined place
-        after a e = some-injective _ _ (sym (loaded_note v k r a e) ∙ noted-u)
-
-        hit : w ≡ cutting (k + 2) u → TriedOnce v k w
-        hit e =
-            let w' = cutting (k + 2) u' in record {
-              notes = w'.notes;
-              checks = w'.checks;
-              closings = w'.closings;
-              parts = u'.parts;
-              same = e ∙ ap (cutting (k + 2)) is;
-              long = length-set u'.notes (k + 2 - 2) (Closed (length v.log)) ∙ long-u;
-              held = held_learned (k + 2) r v.parts;
-              elsewhere = λ j d. at_other u'.notes k j (Closed (length v.log)) d ∙ at_other v.notes k j (note_after (get_or v.notes (k + 2 - 2) Vacant) r) d;
-              others = λ j d none. noticed_other k j r v.parts d none;
-              turns = λ a n x d. subst (Turns (length v.log) u'.parts k a) (some-injective _ _ (sym (at_place u'.notes k (Closed (length v.log)) (at_within u'.notes k (Open joined place) noted-u)) ∙ d))
-                  (turns_closed (length v.log) u'.parts k a joined place (subst (Follows a) (after a x) (told a x).0) (noticed_none k r v.parts (open_none a r joined place (after a x))));
-            }
-
-        miss : ((r' : ℕ) × (w ≡ noted (k + 2) r' u) × NotedAs u k r' × ((r' ≡ 0) ⊎ (place + 4294967296 * 1 < r'))) → TriedOnce v k w
-        miss (r', e, told', later) =
-            let w' = noted (k + 2) r' u' in
-            let n' : Note = note_after (get_or u'.notes (k + 2 - 2) Vacant) r' in record {
-              notes = w'.notes;
-              checks = w'.checks;
-              closings = v.closings;
-              parts = w'.parts;
-              same = e ∙ ap (noted (k + 2) r') is;
-              long = length-set u'.notes (k + 2 - 2) n' ∙ long-u;
-              held = held_learned (k + 2) r' u'.parts ∙ held_learned (k + 2) r v.parts;
-              elsewhere = λ j d. at_other u'.notes k j n' d ∙ at_other v.notes k j (note_after (get_or v.notes (k + 2 - 2) Vacant) r) d;
-              others = λ j d none. noticed_other k j r' u'.parts d (noticed_other k j r v.parts d none);
-              turns = λ a n x d. subst (Turns (length v.log) w'.parts k a) (some-injective _ _ (sym (loaded_note u' k r' (Open joined place) noted-u) ∙ d))
-                  (turns_again (length v.log) w'.parts k a joined place (note_after (Open joined place) r') (subst (Follows a) (after a x) (told a x).0) (told' (Open joined place) note-u).0);
-            }
+      turns = λ a n e d. subst (Turns (length v.log) (noted (k + 2) r v).parts k a) (some-injective _ _ (sym (loaded_note v k r a e) ∙ d)) (turns_by (length v.log) (noted (k + 2) r v).parts k a (note_after a r) (told a e).0);
+    })
+    (λ r place told full.
+    let u = noted (k + 2) r v in record {
+      held = held_learned (k + 2) r v.parts;
+      others = λ j d none. noticed_other k j r v.parts d none;
+      turns = λ a n e d.
+          let after : note_after a r ≡ Open full.0 place = some-injective _ _ (sym (loaded_note v k r a e) ∙ full.1) in
+          subst (Turns (length v.log) u.parts k a) (some-injective _ _ (sym (at_place u.notes k (Closed (length v.log)) (at_within u.notes k (Open full.0 place) full.1)) ∙ d))
+          (turns_closed (length v.log) u.parts k a full.0 place (subst (Follows a) after (told a e).0) (noticed_none k r v.parts (open_none a r full.0 place after)));
+    })
+    (λ r place n told full told' later.
+    let u = noted (k + 2) r v in
+    let w' = noted (k + 2) n u in record {
+      held = held_learned (k + 2) n u.parts ∙ held_learned (k + 2) r v.parts;
+      others = λ j d none. noticed_other k j n u.parts d (noticed_other k j r v.parts d none);
+      turns = λ a b e d.
+          let after : note_after a r ≡ Open full.0 place = some-injective _ _ (sym (loaded_note v k r a e) ∙ full.1) in
+          subst (Turns (length v.log) w'.parts k a) (some-injective _ _ (sym (loaded_note u k n (Open full.0 place) full.1) ∙ d))
+          (turns_again (length v.log) w'.parts k a full.0 place (note_after (Open full.0 place) n) (subst (Follows a) after (told a e).0) (told' (Open full.0 place) full.1).0);
+    })
 
 -- ---- The places below n.
 
 pub record Closes (n : ℕ) (v w : View) : Type 0 where
-  pub notes : List Note
-  pub checks : List ℕ
-  pub closings : List ℕ
-  pub parts : List Part
-  pub same : w ≡ beside v notes checks closings parts
-  pub long : length notes ≡ length v.notes
-  pub held : map holding_of parts ≡ map holding_of v.parts
-  pub later : (k : ℕ) → n ≤ k → get_elem? notes k ≡ get_elem? v.notes k
-  pub turns : (k : ℕ) (a b : Note) → k < n → get_elem? v.notes k ≡ some a → get_elem? notes k ≡ some b → Turns (length v.log) parts k a b
+  pub tidied : TidiedBelow n v w
+  pub held : map holding_of w.parts ≡ map holding_of v.parts
+  pub turns : (k : ℕ) (a b : Note) → k < n → get_elem? v.notes k ≡ some a → get_elem? w.notes k ≡ some b → Turns (length v.log) w.parts k a b
 
 -- what has become of a note stays so where the other parts have not noticed more
 turns_on : (len : ℕ) (ps qs : List Part) (k : ℕ) (a b : Note) → (NoneNoticed ps k → NoneNoticed qs k) → Turns len ps k a b → Turns len qs k a b
@@ -217,35 +135,21 @@ turns_on len ps qs k (Open joined least) b on t = ⊎_elim (λ (x : b ≡ Vacant
 
 pub closes : (n : ℕ) (v w : View) → TriedBelow n v w → Closes n v w
 closes zero v w is = record {
-  notes = v.notes;
-  checks = v.checks;
-  closings = v.closings;
-  parts = v.parts;
-  same = is;
-  long = refl;
-  held = refl;
-  later = λ k h. refl;
+  tidied = tidied_below zero v w is;
+  held = ap (λ (x : View). map holding_of x.parts) is;
   turns = λ k a b less e d. absurd (omega arith);
 }
 closes (suc n) v w (u, before, last) =
     let a = closes n v u before in
     let b = tried_once u w n last in
-    let notes-u : u.notes ≡ a.notes = ap (λ (x : View). x.notes) a.same in
-    let parts-u : u.parts ≡ a.parts = ap (λ (x : View). x.parts) a.same in
-    let len : length u.log ≡ length v.log = ap (λ (x : View). length x.log) a.same in
+    let t = tidied u w n last in
+    let len : length u.log ≡ length v.log = ap (λ (x : View). length x.log) a.tidied.same in
     record {
-      notes = b.notes;
-      checks = b.checks;
-      closings = b.closings;
-      parts = b.parts;
-      same = b.same ∙ ap (λ (x : View). beside x b.notes b.checks b.closings b.parts) a.same;
-      long = b.long ∙ ap length notes-u ∙ a.long;
-      held = b.held ∙ ap (map holding_of) parts-u ∙ a.held;
-      later = λ k h. b.elsewhere k (λ e. let x : k ≡ n = e in omega arith) ∙ ap (λ (l : List Note). get_elem? l k) notes-u ∙ a.later k (omega arith);
+      tidied = tidied_below (suc n) v w (u, before, last);
+      held = b.held ∙ a.held;
       turns = λ k x y less e d. dite (ℕ_discrete k n)
           (λ (here : k ≡ n).
-          let was : get_elem? u.notes n ≡ some x = ap (λ (l : List Note). get_elem? l n) notes-u ∙ a.later n (omega arith) ∙ ap (get_elem? v.notes) (sym here) ∙ e in
-          subst (λ (j : ℕ). Turns (length v.log) b.parts j x y) (sym here) (subst (λ (z : ℕ). Turns z b.parts n x y) len (b.turns x y was (ap (get_elem? b.notes) (sym here) ∙ d))))
-          (λ ne. turns_on (length v.log) a.parts b.parts k x y (λ none. b.others k ne (subst (λ (l : List Part). NoneNoticed l k) (sym parts-u) none))
-          (a.turns k x y (omega arith) e (ap (λ (l : List Note). get_elem? l k) (sym notes-u) ∙ sym (b.elsewhere k ne) ∙ d)));
+          let was : get_elem? u.notes n ≡ some x = a.tidied.later n (omega arith) ∙ ap (get_elem? v.notes) (sym here) ∙ e in
+          subst (λ (j : ℕ). Turns (length v.log) w.parts j x y) (sym here) (subst (λ (z : ℕ). Turns z w.parts n x y) len (b.turns x y was (ap (get_elem? w.notes) (sym here) ∙ d))))
+          (λ ne. turns_on (length v.log) u.parts w.parts k x y (b.others k ne) (a.turns k x y (omega arith) e (sym (t.elsewhere k ne) ∙ d)));
     }

@@ -42,7 +42,7 @@ use Rattle.live_board.specs.Desk.{NoneVacant}
 use Rattle.live_board.specs.Seats.{BoardSeat}
 use Rattle.relay_live.specs.declared.seated.Seated.{Seated}
 use Rattle.relay_live.specs.Live.{Boards, held_at, held_in, view_in, held_by, games, holders, IsSeated, IsLive, Swapped, vacancy}
-use Rattle.relay_live.proofs.Closings.{at_within}
+use Rattle.live_board.proofs.Desks.{at_within}
 use Rattle.relay_live.proofs.Entries.{crowd, one_if_true, crowd_push, none_vacant}
 use Rattle.relay_live.proofs.Opens.{at_least}
 use Rattle.relay_live.proofs.Swaps.{Each, each_on, each_turned, flipped, game, held_still, holders_on, same_games, seated_still, swapped_here}

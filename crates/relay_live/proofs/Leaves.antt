@@ -34,7 +34,8 @@ use Rattle.live_board.specs.Meeting.{closing_noted}
 use Rattle.live_board.specs.Seats.{BoardSeat}
 use Rattle.relay_live.specs.declared.seated.Seated.{Seated}
 use Rattle.relay_live.specs.Live.{Boards, held_at, held_in, view_in, held_by, games, holders, IsSeated, IsLive, vacancy}
-use Rattle.relay_live.proofs.Closings.{at_other, at_place, at_within}
+use Rattle.live_board.proofs.Desks.{at_within}
+use Rattle.live_board.proofs.Tries.{at_other, at_place}
 use Rattle.relay_live.proofs.Entries.{crowd, one_if_true, crowd_removed, removed, taken, up, up_apart, up_one, without_keeps}
 use Rattle.relay_live.proofs.Swaps.{Each, each_on, each_turned, flipped, game, held_still, holders_on, same_games, seated_still}
 

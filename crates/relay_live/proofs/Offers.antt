@@ -24,7 +24,8 @@ use Rattle.live_steps.specs.Sound.{IsSoundBoard, Agrees}
 use Rattle.live_steps.specs.Views.{next_of}
 use Rattle.live_steps.proofs.Totals.{at_map_back}
 use Rattle.live_steps.proofs.Checking.{note_there}
-use Rattle.relay_live.proofs.Closings.{Closes, NoneNoticed, Turns, at_within, closes}
+use Rattle.live_board.proofs.Desks.{at_within}
+use Rattle.relay_live.proofs.Closings.{Closes, NoneNoticed, Turns, closes}
 
 -- ---- One follower.
 
@@ -92,11 +93,11 @@ offered_here k f name m v w i p ok ok' cap (u, tried, w-is) e at-place joined ta
     let inside : f.place < v.setup.limits.followers = let x = (ok.inside i p e).0 in omega arith in
     let old = note_there v.notes f.place (omega (arith, ok.noted, inside)) in
     let closes = closes v.setup.limits.followers v u tried in
-    let u-is = closes.same in
-    let notes : w.notes ≡ closes.notes = ap (λ (x : View). x.notes) w-is ∙ ap (λ (x : View). x.notes) u-is in
+    let u-is = closes.tidied.same in
+    let notes : w.notes ≡ u.notes = ap (λ (x : View). x.notes) w-is in
     let log : w.log ≡ v.log ++ m ∷ [] = ap (λ (x : View). x.log) w-is ∙ ap (λ (x : View). x.log ++ m ∷ []) u-is in
     let setup : w.setup ≡ v.setup = ap (λ (x : View). x.setup) w-is ∙ ap (λ (x : View). x.setup) u-is in
-    let parts-are : w.parts ≡ closes.parts = ap (λ (x : View). x.parts) w-is ∙ ap (λ (x : View). x.parts) u-is in
+    let parts-are : w.parts ≡ u.parts = ap (λ (x : View). x.parts) w-is in
     let new = note_there w.notes f.place (omega (arith, ok'.noted, inside, ap (λ (z : BoardSetup). z.limits.followers) setup)) in
     let parts : map holding_of w.parts ≡ map holding_of v.parts = ap (map holding_of) parts-are ∙ closes.held in
     let q = same_part v w i p parts e in
@@ -146,14 +147,14 @@ module _ (m : Triple) (v w : View) (ok' : IsSoundBoard w) (sub : Submitted m v w
   shut : Closes v.setup.limits.followers v sub.0
   shut = closes v.setup.limits.followers v sub.0 sub.1
 
-  notes-are : w.notes ≡ shut.notes
-  notes-are = ap (λ (x : View). x.notes) sub.2 ∙ ap (λ (x : View). x.notes) shut.same
+  notes-are : w.notes ≡ sub.0.notes
+  notes-are = ap (λ (x : View). x.notes) sub.2
 
   setup-is : w.setup ≡ v.setup
-  setup-is = ap (λ (x : View). x.setup) sub.2 ∙ ap (λ (x : View). x.setup) shut.same
+  setup-is = ap (λ (x : View). x.setup) sub.2 ∙ ap (λ (x : View). x.setup) shut.tidied.same
 
   bares : map holding_of w.parts ≡ map holding_of v.parts
-  bares = ap (λ (x : View). map holding_of x.parts) sub.2 ∙ ap (λ (x : View). map holding_of x.parts) shut.same ∙ shut.held
+  bares = ap (λ (x : View). map holding_of x.parts) sub.2 ∙ shut.held
 
   carried_on : (k : ℕ) → Carries v k → Carries w k
   carried_on k (i, p, e, here) = let q = same_part v w i p bares e in (i, q.0, q.1, ap (λ (x : Holding). x.0) q.2 ∙ here)
@@ -163,7 +164,7 @@ module _ (m : Triple) (v w : View) (ok' : IsSoundBoard w) (sub : Submitted m v w
       let d = carried_on k c in
       ok'.agree d.0 d.1 d.2 Vacant (ap (get_elem? w.notes) d.3 ∙ e ∙ ap some is)
 
-  goes_at : (k : ℕ) (a n : Note) → get_elem? v.notes k ≡ some a → get_elem? w.notes k ≡ some n → Turns (length v.log) shut.parts k a n
+  goes_at : (k : ℕ) (a n : Note) → get_elem? v.notes k ≡ some a → get_elem? w.notes k ≡ some n → Turns (length v.log) sub.0.parts k a n
   goes_at k a n e d = shut.turns k a n (let x = at_within v.notes k a e in omega arith) e (ap (λ (l : List Note). get_elem? l k) (sym notes-are) ∙ d)
 
   -- vacant before exactly where vacant after

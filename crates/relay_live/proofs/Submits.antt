@@ -48,16 +48,16 @@ module _ (limits : LimitNumbers) (old new : Boards) (fs : List (ℕ × Seated)) 
   shut = closes b.knows.setup.limits.followers b.knows sub.0 sub.1
 
   owns : c.knows.owns ≡ b.knows.owns
-  owns = ap (λ (x : View). x.owns) sub.2 ∙ ap (λ (x : View). x.owns) shut.same
+  owns = ap (λ (x : View). x.owns) sub.2 ∙ ap (λ (x : View). x.owns) shut.tidied.same
 
   ok' : IsSoundBoard c.knows
   ok' = sound'.board (owns ∙ live.owns name b there)
 
   setup : c.knows.setup ≡ b.knows.setup
-  setup = ap (λ (x : View). x.setup) sub.2 ∙ ap (λ (x : View). x.setup) shut.same
+  setup = ap (λ (x : View). x.setup) sub.2 ∙ ap (λ (x : View). x.setup) shut.tidied.same
 
   bares : map holding_of c.knows.parts ≡ map holding_of b.knows.parts
-  bares = ap (λ (x : View). map holding_of x.parts) sub.2 ∙ ap (λ (x : View). map holding_of x.parts) shut.same ∙ shut.held
+  bares = ap (λ (x : View). map holding_of x.parts) sub.2 ∙ shut.held
 
   seated_on : (f : Seated) → IsSeated old f → IsSeated new f
   seated_on f s = seated_still old new name b c there new-is f s (λ same e. let q = same_part b.knows c.knows s.index s.part bares e in (s.index, q.0, q.1, q.2))
@@ -85,7 +85,7 @@ module _ (limits : LimitNumbers) (old new : Boards) (fs : List (ℕ × Seated)) 
   pushed (x ∷ xs) all = λ i. (x.0, offered_on x.1 (all 0 x refl) i) ∷ pushed xs (λ k e d. all (suc k) e d) i
 
   moved : game c ≡ with_move (game b) m
-  moved = ap game_of sub.2 ∙ ap (λ (u : View). game_of (published_view m (storing m u))) shut.same
+  moved = ap game_of sub.2 ∙ ap (λ (u : View). game_of (published_view m (storing m u))) shut.tidied.same
 
   module _ (place : ℕ) (outcome : Option Outcome) (answer : Ok (place, outcome) ≡ play_answer_at m (option_map game (lookup (same_name name) old))) where
     place_is : place ≡ length b.knows.log

@@ -1,5 +1,6 @@
 use Rattle.std.proofs.Common.{arith, refl, sym, ap, ◌∙◌, subst, ◌≡◌, ◌≢◌, ◌<◌, ◌≤◌, [], ℕ, false, true≢false, eq-eqb, nat_eq, length, Option, Some, None}
 use Rattle.std.specs.Option.{option_eq}
+use mathlib.Core.Option.{some}
 use lib.ListN.{get_elem?}
 use Rattle.atomic_table.proofs.Lists.{at_map}
 use Rattle.c960_board.specs.Moves.{Triple}
@@ -10,10 +11,11 @@ use Rattle.relay_core.specs.Replies.{taken_of}
 use Rattle.live_machine.specs.Board.{move_at}
 use Rattle.live_steps.specs.declared.view.View.{View}
 use Rattle.live_steps.specs.Views.{sees}
+use Rattle.live_steps.specs.Sound.{IsSoundBoard}
 use Rattle.live_board.specs.Carried.{cut_at, due_at, TookAt}
 use Rattle.live_board.specs.Seats.{BoardSeat}
 use Rattle.live_board.proofs.Carrying.{before_closing, more_due, none_due, took_nothing, took_look, took_move}
-use Rattle.live_board.proofs.board.Board.take_at.Goals.{in-Some, in-None}
+use Rattle.live_board.proofs.board.Board.take_at.Goals.{After-look, in-Some, in-None}
 use Rattle.live_board.proofs.board.Board.take_at.Goals as goal
 
 not_closed : (v : View) (place next : ℕ) (o : Option ℕ) (n : ℕ) (b : _) → o ≡ cut_at v place → n ≡ next → b ≡ option_eq nat_eq o (Some n) → b ≡ false → cut_at v place ≢ Some next
@@ -26,37 +28,48 @@ closing_at-requires c = let q = c.requires in (q.0, q.1, ap (λ (h : BoardSeat).
 pub returns-then-eq-clause-knows : goal.returns-then-eq-clause-knows
 returns-then-eq-clause-knows c = took_nothing c.args.place c.args.self.now.knows Cut refl
 
+-- the part that takes, before and after the status was loaded, where it does not stand at its closing
+module _ (c : After-look) where
+  carried : get_elem? c.self.inside.desk.knows.parts c.requires.0 ≡ some c.requires.1
+  carried = ap (λ (h : BoardSeat). get_elem? h.knows.parts c.requires.0) c.self.view_is ∙ c.requires.2
+
+  looked : get_elem? c.look.new.self.knows.parts c.requires.0 ≡ some (sees c.look.ensures.knows.0 c.requires.1)
+  looked =
+      let s = c.look.ensures.knows in
+      ap (λ (u : View). get_elem? u.parts c.requires.0) s.1 ∙ at_map (sees s.0) c.self.inside.desk.knows.parts c.requires.0 c.requires.1 carried
+
+  sound : IsSoundBoard c.self.inside.desk.knows
+  sound = c.closing_at.ensures.sound.board c.closing_at.ensures.owns
+
+  uncut : cut_at c.self.inside.desk.knows c.args.place ≢ Some c.args.next
+  uncut = not_closed c.self.inside.desk.knows c.args.place c.args.next c.closing_at.result c.from.result c.eq.result c.closing_at.ensures.closing c.from.ensures c.eq.ensures c.if-eq.false
+
 pub gain_at-m-requires-clause-part : goal.gain_at-m-requires-clause-part
 gain_at-m-requires-clause-part c =
+    let at = (goal.at.gain_at-m-requires-clause-part c).After-look in
     let q = c.requires in
     let v = c.self.inside.desk.knows in
-    let x = ap (λ (h : BoardSeat). h.knows) c.self.view_is in
-    let e = ap (λ (u : View). get_elem? u.parts q.0) x ∙ q.2 in
-    let ok = c.closing_at.ensures.sound.board c.closing_at.ensures.owns in
     let s = c.look.ensures.knows in
-    let uncut = not_closed v c.args.place c.args.next c.closing_at.result c.from.result c.eq.result c.closing_at.ensures.closing c.from.ensures c.eq.ensures c.if-eq.false in
     let len = ap (λ (g : GameRecord). length g.log) c.self.invariant.game_is in (
       q.0,
       sees s.0 q.1,
-      ap (λ (u : View). get_elem? u.parts q.0) s.1 ∙ at_map (sees s.0) v.parts q.0 q.1 e,
+      looked at,
       q.3,
       q.4 ∙ sym c.from-then-next-len.ensures,
       omega (arith, q.4, s.2, len, c.len.ensures, c.if-next-len.true),
-      before_closing v c.args.place c.args.next q.0 q.1 ok e q.3 q.4 uncut,
+      before_closing v c.args.place c.args.next q.0 q.1 (sound at) (carried at) q.3 q.4 (uncut at),
     )
 
 pub returns-then-next-len-clause-answer : goal.returns-then-next-len-clause-answer
 returns-then-next-len-clause-answer c =
+    let at = (goal.at.returns-then-next-len-clause-answer c).After-look in
     let q = c.requires in
     let v = c.self.inside.desk.knows in
     let x = ap (λ (h : BoardSeat). h.knows) c.self.view_is in
-    let e = ap (λ (u : View). get_elem? u.parts q.0) x ∙ q.2 in
-    let ok = c.closing_at.ensures.sound.board c.closing_at.ensures.owns in
     let s = c.look.ensures.knows in
-    let uncut = not_closed v c.args.place c.args.next c.closing_at.result c.from.result c.eq.result c.closing_at.ensures.closing c.from.ensures c.eq.ensures c.if-eq.false in
     let len = ap (λ (g : GameRecord). length g.log) c.self.invariant.game_is in
     let less : c.args.next < length v.log = omega (arith, len, c.len.ensures, c.if-next-len.true) in
-    let t = more_due v c.args.place c.args.next q.0 q.1 ok e q.3 q.4 uncut less in
+    let t = more_due v c.args.place c.args.next q.0 q.1 (sound at) (carried at) q.3 q.4 (uncut at) less in
     let m : c.gain_at-m.result ≡ move_at v.log c.args.next = c.gain_at-m.ensures.move_is ∙ ap (λ (y : ℕ). move_at c.look.new.self.knows.log y) c.from-then-next-len.ensures ∙ ap (λ (u : View). move_at u.log c.args.next) s.1 in
     ap (λ (y : Triple). Move c.args.next y) m
     ∙ sym (ap (taken_of c.args.next v.outcome (cut_at v c.args.place)) t.1)
@@ -64,10 +77,10 @@ returns-then-next-len-clause-answer c =
 
 pub returns-then-next-len-clause-knows : goal.returns-then-next-len-clause-knows
 returns-then-next-len-clause-knows c =
+    let at = (goal.at.returns-then-next-len-clause-knows c).After-look in
     let q = c.requires in
     let v = c.self.inside.desk.knows in
     let x = ap (λ (h : BoardSeat). h.knows) c.self.view_is in
-    let e = ap (λ (u : View). get_elem? u.parts q.0) x ∙ q.2 in
     let s = c.look.ensures.knows in
     let owns = ap (λ (u : View). u.owns) s.1 ∙ c.closing_at.ensures.owns in
     let g = c.gain_at-m.ensures.knows in
@@ -76,21 +89,19 @@ returns-then-next-len-clause-knows c =
     let took : TookAt c.args.place (Move n c.gain_at-m.result) v c.gain_at-m.new.self.knows =
     took_move c.args.place n s.0 g.0 q.0 c.gain_at-m.result (sees s.0 q.1) v c.look.new.self.knows c.gain_at-m.new.self.knows (c.look.ensures.sound.board owns) s.1 s.2
     (omega (arith, len, c.len.ensures, c.if-next-len.true, c.from-then-next-len.ensures))
-    (ap (λ (u : View). get_elem? u.parts q.0) s.1 ∙ at_map (sees s.0) v.parts q.0 q.1 e) q.3 (q.4 ∙ sym c.from-then-next-len.ensures) g.1 in
+    (looked at) q.3 (q.4 ∙ sym c.from-then-next-len.ensures) g.1 in
     subst (λ (u : View). TookAt c.args.place (Move c.args.next c.gain_at-m.result) u c.gain_at-m.new.self.knows) x
     (subst (λ (y : ℕ). TookAt c.args.place (Move y c.gain_at-m.result) v c.gain_at-m.new.self.knows) c.from-then-next-len.ensures took)
 
 pub returns-clause-answer : goal.returns-clause-answer
 returns-clause-answer c =
+    let at = (goal.at.returns-clause-answer c).After-look in
     let q = c.requires in
     let v = c.self.inside.desk.knows in
     let x = ap (λ (h : BoardSeat). h.knows) c.self.view_is in
-    let e = ap (λ (u : View). get_elem? u.parts q.0) x ∙ q.2 in
-    let ok = c.closing_at.ensures.sound.board c.closing_at.ensures.owns in
-    let uncut = not_closed v c.args.place c.args.next c.closing_at.result c.from.result c.eq.result c.closing_at.ensures.closing c.from.ensures c.eq.ensures c.if-eq.false in
     let len = ap (λ (g : GameRecord). length g.log) c.self.invariant.game_is in
     let past : length v.log ≤ c.args.next = omega (arith, len, c.len.ensures, c.if-next-len.false) in
-    let t = none_due v c.args.place c.args.next q.0 q.1 ok e q.3 q.4 uncut past in
+    let t = none_due v c.args.place c.args.next q.0 q.1 (sound at) (carried at) q.3 q.4 (uncut at) past in
     let over : c.outcome.result ≡ v.outcome = c.outcome.ensures ∙ ap (λ (g : GameRecord). g.outcome) c.self.invariant.game_is in
     let rest = sym (λ k. taken_of c.args.next v.outcome (t.0 k) (t.1 k)) ∙ ap (λ (u : View). taken_of c.args.next u.outcome (cut_at u c.args.place) (due_at u c.args.place c.args.next)) x in
     elim c.match-outcome.branch [

@@ -1,4 +1,4 @@
-use Rattle.std.proofs.Common.{rules, arith, ap, ◌∙◌, ◌<◌, set, length}
+use Rattle.std.proofs.Common.{◌≡◌, rules, arith, ap, ◌∙◌, ◌<◌, set, length}
 use lib.ListN.{get_elem?}
 use Rattle.live_steps.specs.declared.setup.BoardSetup.{BoardSetup}
 use Rattle.live_steps.specs.declared.note.Note.TheVariants.{Open}
@@ -7,7 +7,18 @@ use Rattle.live_board.specs.Seats.{BoardSeat}
 use Rattle.live_board.proofs.Desks.{desk_of}
 use Rattle.live_board.proofs.Hands.{followed_is}
 use Rattle.live_board.proofs.Steps.{following}
+use Rattle.live_board.proofs.desk.Desk.seat_at.Goals.{After-store}
 use Rattle.live_board.proofs.desk.Desk.seat_at.Goals as goal
+
+-- the view once the cursor was stored
+seated : (c : After-store) → c.store.new.seat.me.0 ≡ followed c.args.place c.args.from c.self.inside.seat.me.0
+seated c =
+    let i = c.self.invariant in
+    let b = i.sound.board i.owns in
+    let room = b.room in
+    let plies = b.limits.most_plies in
+    followed_is c.store.new.seat.me.0 c.self.inside.seat.me.0 c.args.place c.args.from _ c.store.ensures.2.1 c.open_cursor-cursor.ensures
+    (omega (arith, c.requires.from.0, ap (λ (h : BoardSeat). length h.knows.log) c.self.view_is, room, plies))
 
 pub open_cursor-cursor-requires : goal.open_cursor-cursor-requires
 open_cursor-cursor-requires c =
@@ -37,21 +48,9 @@ store-requires c =
 pub invariant_of-self : goal.invariant_of-self
 invariant_of-self c =
     let i = c.self.invariant in
-    let b = i.sound.board i.owns in
-    let room = b.room in
-    let plies = b.limits.most_plies in
-    let low : c.args.from < 4294967296 = omega (arith, c.requires.from.0, ap (λ (h : BoardSeat). length h.knows.log) c.self.view_is, room, plies) in
-    let now = followed_is c.store.new.seat.me.0 c.self.inside.seat.me.0 c.args.place c.args.from _ c.store.ensures.2.1 c.open_cursor-cursor.ensures low in
     let f = c.store.ensures in
-    desk_of (followed c.args.place c.args.from c.self.inside.seat.me.0) now (f.0 ∙ i.table) i.words i.key_is i.owns i.setup_is i.len_is (ap (λ l. set l c.args.place (Open c.args.from c.args.from)) i.notes_are)
+    desk_of _ (seated (goal.at.invariant_of-self c).After-store) (f.0 ∙ i.table) i.words i.key_is i.owns i.setup_is i.len_is (ap (λ l. set l c.args.place (Open c.args.from c.args.from)) i.notes_are)
     i.room_is (f.2.0.0 ∙ i.none_held) f.2.0.1
 
 pub returns-clause-knows : goal.returns-clause-knows
-returns-clause-knows c =
-    let i = c.self.invariant in
-    let b = i.sound.board i.owns in
-    let room = b.room in
-    let plies = b.limits.most_plies in
-    let low : c.args.from < 4294967296 = omega (arith, c.requires.from.0, ap (λ (h : BoardSeat). length h.knows.log) c.self.view_is, room, plies) in
-    let now = followed_is c.store.new.seat.me.0 c.self.inside.seat.me.0 c.args.place c.args.from _ c.store.ensures.2.1 c.open_cursor-cursor.ensures low in
-    now ∙ ap (λ (h : BoardSeat). followed c.args.place c.args.from h.knows) c.self.view_is
+returns-clause-knows c = seated (goal.at.returns-clause-knows c).After-store ∙ ap (λ (h : BoardSeat). followed c.args.place c.args.from h.knows) c.self.view_is
