@@ -137,14 +137,15 @@ impl Board {
 
     /// A follower that takes from the place `from` of the log, or from the log's present length. Refused, in this order: `NotYet`
     /// where the log has not reached the place; `TooFarBack` where the log goes more than a capacity beyond it; `TooManyFollowers`
-    /// only where each cursor was loaded in this call and none is noted vacant; `OutOfMemory`. A refused call makes no step but
-    /// loads of cursors.
+    /// only where each cursor was loaded in this call and none is noted vacant; `OutOfMemory` only where one is. A refused call makes
+    /// no step but loads of cursors.
     pub fn follow(&mut self, from: Option<u16>) -> Result<Follower, Refusal>
         ensures table { self.new.table ≡ self.old.table }
         ensures not_yet { (result ≡ Err Refusal.NotYet) ↔ IsNotYet self.old.knows (from_place self.old.knows from) }
         ensures too_far_back { (result ≡ Err Refusal.TooFarBack) ↔ IsTooFarBack self.old.knows (from_place self.old.knows from) }
         ensures refusals { IfErr result (λ r. (r ≡ Refusal.NotYet) ⊎ (r ≡ Refusal.TooFarBack) ⊎ (r ≡ Refusal.TooManyFollowers) ⊎ (r ≡ Refusal.OutOfMemory)) }
         ensures too_many { (result ≡ Err Refusal.TooManyFollowers) → LoadedBelow self.old.knows.setup.limits.followers self.old.knows self.new.knows × NoneVacant self.new.knows }
+        ensures memory { (result ≡ Err Refusal.OutOfMemory) → (k : ℕ) × (get_elem? self.new.knows.notes k ≡ some Vacant) }
         ensures refused { OnErr result (Searched self.old.knows self.new.knows) }
         ensures follower { IfOk result (λ f. (f.table ≡ self.old.table) × (f.part ≡ newcomer f.part.place (from_place self.old.knows from) self.old.knows)) }
         ensures knows { IfOk result (λ f. Joined f.part.place (from_place self.old.knows from) self.old.knows self.new.knows) }
