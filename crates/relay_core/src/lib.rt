@@ -15,4 +15,4 @@ pub use name::BoardName;
 pub use relay::Relay;
 pub use reply::{Account, Reply, Taken};
 pub use step::{Spectator, Step};
-pub use stepper::Stepper;
+pub use stepper::{Stepper, run_steps};

@@ -11,8 +11,9 @@ ghost use Rattle.relay_core.specs.Stands.{Stands};
 use crate::boards::Boards;
 use crate::followers::Followers;
 use crate::name::BoardName;
-use crate::reply::{Reply, Taken};
+use crate::reply::Reply;
 use crate::step::{Spectator, Step};
+use crate::stepper::run_steps;
 use c960_board::Move;
 use c960_game::{Ending, Game, Limits, Refusal};
 use std::alloc::{AllocError, Global};
@@ -194,13 +195,6 @@ impl Relay {
         ensures all { IfOk result (λ replies. length replies.items ≡ length steps.now) }
         ensures unchanged { OnErr result (self.new ≡ self.old) }
     {
-        // A fault of rattle-kit-13b: it lays out a `Reply` in a `Vec` only where the body names the enum inside it.
-        let _named: Option<Taken> = None;
-        let mut replies = Vec::with_capacity(self.alloc, steps.len())?;
-        for step in steps {
-            let reply = self.step(*step);
-            replies.push_reserved(reply);
-        }
-        Ok(replies)
+        run_steps(self.alloc, self, steps)
     }
 }

@@ -1,8 +1,15 @@
-//! What makes the steps of a relay.
+//! What makes the steps of a relay, and how a list of them is made.
+
+ghost use Rattle.std.specs.Prelude.{◌≡◌, length, OnErr, IfOk};
+ghost use Rattle.c960_game.specs.Limits.{LimitNumbers};
+ghost use Rattle.relay_core.specs.Headline.{Headline};
+ghost use Rattle.relay_core.specs.History.{History, lived};
+ghost use Rattle.relay_core.specs.Stands.{Stands};
 
 use crate::relay::Relay;
-use crate::reply::Reply;
+use crate::reply::{Reply, Taken};
 use crate::step::Step;
+use std::alloc::{AllocError, Global};
 
 /// Whatever answers each step by the whole history before it, as a relay does. To a contract it is a `RelayRecord`, so that what is
 /// written over a stepper runs, proved once, over each kind of relay.
@@ -34,4 +41,26 @@ impl Stepper for Relay {
     fn step(&mut self, step: Step) -> Reply {
         self.step(step)
     }
+}
+
+/// Makes the steps in order, whatever makes them, and gives one reply for each. Their vector is reserved before the first step, so that
+/// want of memory means that no step was made. The clauses are those of `Relay::run`, of any stepper.
+pub fn run_steps<S: Stepper>(
+    alloc: Global,
+    relay: &mut S,
+    steps: &[Step],
+) -> Result<Vec<Reply>, AllocError>
+    ensures headline { IfOk result (λ replies. (limits : LimitNumbers) (h : History) → Stands limits (S.record_of relay.old) h
+        → Headline limits (S.record_of relay.new) (lived h steps.now replies.items)) }
+    ensures all { IfOk result (λ replies. length replies.items ≡ length steps.now) }
+    ensures unchanged { OnErr result (S.record_of relay.new ≡ S.record_of relay.old) }
+{
+    // A fault of rattle-kit-13b: it lays out a `Reply` in a `Vec` only where the body names the enum inside it.
+    let _named: Option<Taken> = None;
+    let mut replies = Vec::with_capacity(alloc, steps.len())?;
+    for step in steps {
+        let reply = relay.step(*step);
+        replies.push_reserved(reply);
+    }
+    Ok(replies)
 }

@@ -17,7 +17,7 @@ use c960_board::Move;
 use c960_game::{Ending, Limits, Refusal};
 use indexmap::IndexMap;
 use live_board::Board;
-use relay_core::{BoardName, Reply, Spectator, Step, Stepper, Taken};
+use relay_core::{BoardName, Reply, Spectator, Step, Stepper, Taken, run_steps};
 use std::alloc::{AllocError, Global};
 use std::marker::Model;
 
@@ -199,14 +199,7 @@ impl LiveRelay {
         ensures all { IfOk result (λ replies. length replies.items ≡ length steps.now) }
         ensures unchanged { OnErr result (self.new ≡ self.old) }
     {
-        // A fault of the kit: it lays out a `Reply` in a `Vec` only where the body names the enum inside it.
-        let _named: Option<Taken> = None;
-        let mut replies = Vec::with_capacity(self.alloc, steps.len())?;
-        for step in steps {
-            let reply = self.step(*step);
-            replies.push_reserved(reply);
-        }
-        Ok(replies)
+        run_steps(self.alloc, self, steps)
     }
 
     /// The live board of that name, None exactly where none was opened. Its followers are dropped, and their places there stay taken.

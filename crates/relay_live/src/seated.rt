@@ -1,6 +1,6 @@
 //! Where a spectator follows.
 
-ghost use Rattle.std.specs.Prelude.{◌≡◌, ℕ, ◌+◌, ◌<◌, Some, IfSome, is_some, nat_eq, unwrap_or};
+ghost use Rattle.std.specs.Prelude.{◌≡◌, ℕ, ◌+◌, ◌<◌, Some, None, IfSome, is_some, nat_eq, unwrap_or};
 ghost use Rattle.std.specs.HashMap.{spare};
 ghost use Rattle.std.specs.Map.{lookup, set_value};
 ghost use Rattle.relay_live.specs.Live.{with_one_more};
@@ -22,6 +22,7 @@ pub(crate) struct Seated {
 pub(crate) fn count_take(seats: &mut IndexMap<Spectator, Seated>, who: Spectator)
     requires { IfSome (lookup (nat_eq who) seats.old.entries) (λ f. f.taken < 65535) }
     ensures counted { IfSome (lookup (nat_eq who) seats.old.entries) (λ f. seats.new.entries ≡ set_value (nat_eq who) seats.old.entries (with_one_more f)) }
+    ensures nobody { lookup (nat_eq who) seats.old.entries ≡ None → seats.new.entries ≡ seats.old.entries }
     ensures room { spare seats.new ≡ spare seats.old }
 {
     let Some(seated) = seats.get_mut(&who) else {
