@@ -1,6 +1,7 @@
 //! The boards of a server, which all connections share.
 
-ghost use Rattle.std.specs.Prelude.{◌≡◌, ◌⊎◌, ◌++◌, ◌∷◌, [], Err, OnOk, OnErr};
+ghost use Rattle.std.specs.Prelude.{◌≡◌, ◌<◌, ◌⊎◌, ◌++◌, ◌∷◌, [], Ok, Err, OnOk, OnErr};
+ghost use Rattle.std.specs.HashMap.{spare};
 ghost use Rattle.relay_server.specs.Opening.{admission};
 
 use crate::broadcast::Broadcast;
@@ -105,7 +106,8 @@ fn enter(
     broadcast: Arc<Broadcast, Global>,
 ) -> Result<(), Refusal>
     ensures entered { OnOk result (boards.new.entries ≡ boards.old.entries ++ (name, broadcast) ∷ []) }
-    ensures answer { (result ≡ admission boards.old.entries limits.now.boards name start) ⊎ (result ≡ Err Refusal.OutOfMemory) }
+    ensures answer { (result ≡ admission boards.old.entries limits.now.boards name start) ⊎ ((admission boards.old.entries limits.now.boards name start ≡ Ok tt) × (result ≡ Err Refusal.OutOfMemory)) }
+    ensures room { 0 < spare boards.old → result ≡ admission boards.old.entries limits.now.boards name start }
     ensures refused { OnErr result (boards.new.entries ≡ boards.old.entries) }
 {
     admit(boards, limits, &name, start)?;
