@@ -1,6 +1,6 @@
 //! The head of a request (RFC 9112, section 2), gathered whole before it is read.
 
-ghost use Rattle.std.specs.Prelude.{◌≤◌, length};
+ghost use Rattle.std.specs.Prelude.{◌≤◌, length, IfOk, IfSome};
 
 use crate::deadline::Deadline;
 use crate::stream::Stream;
@@ -39,7 +39,9 @@ impl Head {
         clock: &C,
         alloc: Global,
         stream: &mut S,
-    ) -> io::Result<Head> {
+    ) -> io::Result<Head>
+        ensures { IfOk result (λ head. head.end ≤ 8192) }
+    {
         let deadline = Deadline::after(clock, Duration::from_secs(MOST_SECONDS))?;
         let mut bytes = Vec::new(alloc);
         for _ in 0..MOST_BYTES {
@@ -94,9 +96,12 @@ fn read_more<S: Stream>(stream: &mut S, bytes: &mut Vec<u8>) -> io::Result<usize
     }
 }
 
-/// Where the head ends: behind the first blank line, which does not end within the bytes seen before.
-fn end_of_head(bytes: &[u8], seen: usize) -> Option<usize> {
-    for at in seen.max(3)..bytes.len() {
+/// Where the head ends: behind the first blank line, which does not end within the bytes seen before. One that ends beyond the
+/// greatest number of bytes is none.
+fn end_of_head(bytes: &[u8], seen: usize) -> Option<usize>
+    ensures { IfSome result (λ end. end ≤ 8192) }
+{
+    for at in seen.max(3)..bytes.len().min(MOST_BYTES) {
         if &bytes[at - 3..at + 1] == BLANK_LINE.as_slice() {
             return Some(at + 1);
         }
