@@ -5,6 +5,7 @@ ghost use Rattle.std.specs.HashMap.{spare};
 ghost use Rattle.relay_server.specs.Opening.{admission};
 
 use crate::broadcast::Broadcast;
+use crate::chime::Chime;
 use c960_game::{Limits, Refusal};
 use indexmap::IndexMap;
 use relay_core::BoardName;
@@ -21,6 +22,9 @@ pub struct Registry {
     boards: Mutex<Boards>,
     limits: Limits,
     alloc: Global,
+    /// Rung as a session's thread ends. It stands here, made before anybody is listened for, so that serving needs no memory before
+    /// it accepts.
+    pub(crate) ended: Chime,
 }
 
 impl Registry {
@@ -34,6 +38,7 @@ impl Registry {
             boards: Mutex::new(Boards::with_capacity(alloc, usize::from(limits.boards()))?),
             limits,
             alloc,
+            ended: Chime::new(),
         })
     }
 
