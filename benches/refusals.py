@@ -94,7 +94,7 @@ def free_port():
 
 
 def met(refused, allocator):
-    """What met the refusal of this allocation: the start, serving, the owner, a guest or nothing; None where something is wrong."""
+    """What met the refusal of this allocation: the start, the owner, a guest or nothing; None where something is wrong."""
     port = free_port()
     words = [PROGRAM, "serve", "--port", str(port), "--connections", "4", "--boards", "1", "--followers", "1", "--capacity", "2"]
     env = {**os.environ, "LD_PRELOAD": allocator, "REFUSED": str(refused)}
@@ -105,7 +105,7 @@ def met(refused, allocator):
         try:
             owner, guests = talk(port, OWNER), [talk(port, GUEST) for _ in range(3)]
         except ConnectionRefusedError:
-            return "serving" if server.stderr.read() == b"served 0, failed 4\n" else None
+            return None  # it said that it listens, and accepted nobody
         said = server.stderr.read().decode()
     if not ANSWERS.issuperset(itertools.chain(owner, *guests)):
         return None
