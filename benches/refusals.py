@@ -1,15 +1,17 @@
-#!/usr/bin/env python3
-"""Refuses each allocation of the built server in turn, and looks at what is left.
+#!/usr/bin/env -S python3 -B
+"""Refuses each allocation of the built program in turn, and looks at what is left.
 
-    benches/refusals.py [MOST]        the allocations 1 to MOST (600) of the program, its start included
+    benches/refusals.py [MOST]        those of its jobs, until a run meets no refusal; then 1 to MOST (600) of the server, its start included
     benches/refusals.py --tests       those of each test that is to hold then too, until a run meets no refusal
+
+What a job may do then is told in refused_jobs.py.
 
 The server has room for one board and one follower. In each run an owner opens the board, plays a move and closes; then three guests, one
 after another, follow from the first place. Where the owner was answered in full, at least two guests get the move, the end as abandoned and
-the close 1000; else all three find the same: the board with the move, the board alone, or none. A server that cannot start says
-`fault 12 OutOfMemory` and ends with status 4; every other run ends with all four connections accounted for, and nobody is told that what
-it asks for was done before. The last line counts what met the refusal, and the status is 1 where a run was otherwise. The tests are those
-that `rt test` built.
+the close 1000; else all three find the same: the board with the move, the board alone, or none. A server that cannot start says `fault 12
+OutOfMemory` and ends with status 4; every other run ends with all four connections accounted for, and nobody is told that what it asks for
+was done before. The last line counts what met the refusal, and the status is 1 where a run was otherwise. The tests are those that `rt
+test` built.
 """
 import collections
 import itertools
@@ -21,10 +23,18 @@ import subprocess
 import sys
 import tempfile
 
+from refused_jobs import refuse_in_jobs
+
 HERE = pathlib.Path(__file__).resolve().parent
 CRATES = HERE.parent / "crates"
 PROGRAM = CRATES / "relay960/out/relay960"
 TESTS = {
+    "c960_game_tests": ["tests::opening::each_start_opens_a_game_without_moves"],
+    "relay_messages_tests": [
+        "tests::decoders::a_decoder_reads_texts_one_after_another",
+        "tests::decoders::behind_want_of_memory_a_decoder_goes_on",
+    ],
+    "live_board_tests": ["tests::memory::one_allocation_may_be_refused"],
     "relay_tests": [
         "tests::memory::a_refused_run_makes_no_step",
         "tests::memory::a_refused_step_is_accepted_when_made_again",
@@ -84,7 +94,7 @@ def free_port():
 
 
 def met(refused, allocator):
-    """What met the refusal of this allocation: the start, serving, the owner, a guest or nothing; None where something is wrong."""
+    """What met the refusal of this allocation: the start, the owner, a guest or nothing; None where something is wrong."""
     port = free_port()
     words = [PROGRAM, "serve", "--port", str(port), "--connections", "4", "--boards", "1", "--followers", "1", "--capacity", "2"]
     env = {**os.environ, "LD_PRELOAD": allocator, "REFUSED": str(refused)}
@@ -95,7 +105,7 @@ def met(refused, allocator):
         try:
             owner, guests = talk(port, OWNER), [talk(port, GUEST) for _ in range(3)]
         except ConnectionRefusedError:
-            return "serving" if server.stderr.read() == b"served 0, failed 4\n" else None
+            return None  # it said that it listens, and accepted nobody
         said = server.stderr.read().decode()
     if not ANSWERS.issuperset(itertools.chain(owner, *guests)):
         return None
@@ -133,8 +143,10 @@ def main():
     with tempfile.TemporaryDirectory() as room:
         allocator = f"{room}/refuse.so"
         subprocess.run(["cc", "-O2", "-shared", "-fPIC", "-o", allocator, str(HERE / "refuse.c")], check=True)
+        mark = pathlib.Path(room, "met")
         if tests:
-            return refuse_in_tests(allocator, pathlib.Path(room, "met"))
+            return refuse_in_tests(allocator, mark)
+        wrong = refuse_in_jobs(allocator, mark)
         for refused in range(1, most + 1):
             who = met(refused, allocator)
             counts[who] += 1
@@ -143,7 +155,7 @@ def main():
             if who != "nothing":
                 last = refused
     print(", ".join(f"{who}: {count}" for who, count in counts.items()), f"(the last that was met: {last} of {most})")
-    return 1 if counts[None] else 0
+    return 1 if wrong or counts[None] else 0
 
 
 if __name__ == "__main__":

@@ -15,6 +15,10 @@ MATE = [
 STALEMATE = "e2e3 a7a5 d1h5 a8a6 h5a5 h7h5 h2h4 a6h6 a5c7 f7f6 c7d7 e8f7 d7b7 d8d3 b7b8 d3h7 b8c8 f7g6 c8e6".split()
 STALEMATE_END = b"5bnr/4p1pq/4Qpkr/7p/7P/4P3/PPPP1PP1/RNB1KBNR b HA - 2 10\nover stalemate\n"
 
+# Both knights out and home four times: the start has appeared five times.
+FIVEFOLD = ["g1f3", "g8f6", "f3g1", "f6g8"] * 4
+FIVEFOLD_END = b"rnbqkbnr/pppppppp/8/8/8/8/PPPPPPPP/RNBQKBNR w HAha - 16 9\nover fivefold\n"
+
 # The king castles by the move to its own rook, and the move of two squares is no legal one.
 CASTLING = "g1f3 g8f6 g2g3 g7g6 f1g2 f8g7 e1g1 e1h1".split()
 CASTLING_END = b"refused 6 Illegal\nrnbqk2r/ppppppbp/5np1/8/8/5NP1/PPPPPPBP/RNBQ1RK1 b ha - 3 4\n"
@@ -41,6 +45,7 @@ RUNS = [
     Run(PLAY, reads=lines(move for move, _ in MATE), prints=lines(answer for _, answer in MATE)),
     Run(PLAY, reads=lines(move for move, _ in MATE)[:-1], prints=lines(answer for _, answer in MATE)),
     Run(PLAY, reads=lines(STALEMATE), prints=STALEMATE_END, at_the_end=True),
+    Run(PLAY, reads=lines(FIVEFOLD), prints=FIVEFOLD_END, at_the_end=True),
     Run(PLAY, reads=lines(CASTLING), prints=CASTLING_END, at_the_end=True),
     *[Run(PLAY, reads=given, prints=answers) for given, answers in FAULTY],
 ]

@@ -1,6 +1,6 @@
 //! The head of a request (RFC 9112, section 2), gathered whole before it is read.
 
-ghost use Rattle.std.specs.Prelude.{◌≤◌, length};
+ghost use Rattle.std.specs.Prelude.{◌≤◌, length, IfOk, IfSome};
 
 use crate::deadline::Deadline;
 use crate::stream::Stream;
@@ -34,12 +34,14 @@ impl Head {
     ///
     /// # Errors
     ///
-    /// The stream failed or ended, the head is too long or took too long, or there was no memory.
+    /// The stream failed or ended, the head begins with an empty line, is too long or took too long, or there was no memory.
     pub(crate) fn read<C: Clock, S: Stream>(
         clock: &C,
         alloc: Global,
         stream: &mut S,
-    ) -> io::Result<Head> {
+    ) -> io::Result<Head>
+        ensures { IfOk result (λ head. head.end ≤ 8192) }
+    {
         let deadline = Deadline::after(clock, Duration::from_secs(MOST_SECONDS))?;
         let mut bytes = Vec::new(alloc);
         for _ in 0..MOST_BYTES {
@@ -47,6 +49,11 @@ impl Head {
             let seen = bytes.len();
             if read_more(stream, &mut bytes)? == 0 {
                 return Err(io::Error::from(ErrorKind::UnexpectedEof));
+            }
+            // RFC 9112 (section 2.2) would have empty lines before a request passed over, and who reads this head does so: he would
+            // find none in it, and read on without these bounds.
+            if matches!(bytes.first(), Some(b'\r' | b'\n')) {
+                break;
             }
             if let Some(end) = end_of_head(bytes.as_slice(), seen) {
                 stream.bound_reads(None)?;
@@ -94,9 +101,12 @@ fn read_more<S: Stream>(stream: &mut S, bytes: &mut Vec<u8>) -> io::Result<usize
     }
 }
 
-/// Where the head ends: behind the first blank line, which does not end within the bytes seen before.
-fn end_of_head(bytes: &[u8], seen: usize) -> Option<usize> {
-    for at in seen.max(3)..bytes.len() {
+/// Where the head ends: behind the first blank line, which does not end within the bytes seen before. One that ends beyond the
+/// greatest number of bytes is none.
+fn end_of_head(bytes: &[u8], seen: usize) -> Option<usize>
+    ensures { IfSome result (λ end. end ≤ 8192) }
+{
+    for at in seen.max(3)..bytes.len().min(MOST_BYTES) {
         if &bytes[at - 3..at + 1] == BLANK_LINE.as_slice() {
             return Some(at + 1);
         }

@@ -1,9 +1,11 @@
 //! The boards of a server, which all connections share.
 
-ghost use Rattle.std.specs.Prelude.{◌≡◌, ◌⊎◌, ◌++◌, ◌∷◌, [], Err, OnOk, OnErr};
+ghost use Rattle.std.specs.Prelude.{◌≡◌, ◌<◌, ◌⊎◌, ◌++◌, ◌∷◌, [], Ok, Err, OnOk, OnErr};
+ghost use Rattle.std.specs.HashMap.{spare};
 ghost use Rattle.relay_server.specs.Opening.{admission};
 
 use crate::broadcast::Broadcast;
+use crate::chime::Chime;
 use c960_game::{Limits, Refusal};
 use indexmap::IndexMap;
 use relay_core::BoardName;
@@ -20,6 +22,9 @@ pub struct Registry {
     boards: Mutex<Boards>,
     limits: Limits,
     alloc: Global,
+    /// Rung as a session's thread ends. It stands here, made before anybody is listened for, so that serving needs no memory before
+    /// it accepts.
+    pub(crate) ended: Chime,
 }
 
 impl Registry {
@@ -33,6 +38,7 @@ impl Registry {
             boards: Mutex::new(Boards::with_capacity(alloc, usize::from(limits.boards()))?),
             limits,
             alloc,
+            ended: Chime::new(),
         })
     }
 
@@ -105,7 +111,8 @@ fn enter(
     broadcast: Arc<Broadcast, Global>,
 ) -> Result<(), Refusal>
     ensures entered { OnOk result (boards.new.entries ≡ boards.old.entries ++ (name, broadcast) ∷ []) }
-    ensures answer { (result ≡ admission boards.old.entries limits.now.boards name start) ⊎ (result ≡ Err Refusal.OutOfMemory) }
+    ensures answer { (result ≡ admission boards.old.entries limits.now.boards name start) ⊎ ((admission boards.old.entries limits.now.boards name start ≡ Ok tt) × (result ≡ Err Refusal.OutOfMemory)) }
+    ensures room { 0 < spare boards.old → result ≡ admission boards.old.entries limits.now.boards name start }
     ensures refused { OnErr result (boards.new.entries ≡ boards.old.entries) }
 {
     admit(boards, limits, &name, start)?;

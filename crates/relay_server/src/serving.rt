@@ -2,7 +2,6 @@
 
 ghost use Rattle.std.specs.Prelude.{◌≡◌, ◌+◌};
 
-use crate::chime::Chime;
 use crate::registry::Registry;
 use crate::sessions::session;
 use crate::threads::{Running, join_all, join_ended};
@@ -52,24 +51,18 @@ where
     G: Gate + Send + Sync + Drop + 'static,
     ensures { result.served + result.failed ≡ connections }
 {
-    let Ok(ended) = Arc::new(alloc, Chime::new()) else {
-        return ServeEnd {
-            served: 0,
-            failed: connections,
-        };
-    };
     let mut running: Vec<Running> = Vec::new(alloc);
     let mut accepted: u32 = 0;
     let mut failed: u32 = 0;
     for done in 0..connections {
-        let heard = ended.count();
+        let heard = registry.ended.count();
         if done % BETWEEN_JOINS == 0 {
             join_ended(rt, &mut running);
         }
         let started = match listener.accept() {
             Ok((stream, _)) => {
                 accepted = accepted.saturating_add(1);
-                start(rt, alloc, stream, accepted, registry, gate, &ended)
+                start(rt, alloc, stream, accepted, registry, gate)
             }
             Err(_) => None,
         };
@@ -81,7 +74,9 @@ where
             }
             None => {
                 failed += 1;
-                ended.doze(rt, heard, Duration::from_millis(PAUSE_MILLIS));
+                registry
+                    .ended
+                    .doze(rt, heard, Duration::from_millis(PAUSE_MILLIS));
                 join_ended(rt, &mut running);
             }
         }
@@ -101,7 +96,6 @@ fn start<R, G>(
     connection: u32,
     registry: &Arc<Registry, Global>,
     gate: &Arc<G, Global>,
-    ended: &Arc<Chime, Global>,
 ) -> Option<Running>
 where
     R: Threads + Wait + Clock + Clone + Send + Drop + 'static,
@@ -112,7 +106,6 @@ where
     let own = rt.clone().ok()?;
     let registry = Arc::try_clone(registry).ok()?;
     let gate = Arc::try_clone(gate).ok()?;
-    let ended = Arc::try_clone(ended).ok()?;
     let has_ended = Arc::new(alloc, AtomicBool::new(false)).ok()?;
     let flag = Arc::try_clone(&has_ended).ok()?;
     let handle = Builder::new()
@@ -120,7 +113,7 @@ where
         .spawn(rt, move || {
             let end = session(&own, alloc, &registry, connection, stream, &*gate);
             flag.store(true, Ordering::SeqCst);
-            ended.ring();
+            registry.ended.ring();
             end
         })
         .ok()?;

@@ -38,6 +38,10 @@ const CUT_OFF: u16 = 4001;
 /// How many bytes one read of the stream asks for.
 const READ_BYTES: usize = 4096;
 
+/// The greatest number of bytes of a message. A command has at most 1,024, and one that is longer is answered so; but a message is
+/// taken into memory first.
+const MOST_MESSAGE_BYTES: usize = 65_536;
+
 /// One connection from its handshake to its end: it answers commands, and once it follows a board, pushes that board's moves and is
 /// read no more. The request's head may have 8,192 bytes and take 10 seconds; at most 1,000,000 messages are read. At its end each board
 /// that it opened and that has not ended is ended as abandoned, and its follower leaves.
@@ -102,7 +106,11 @@ fn shake_hands<C: Clock, S: Stream + Drop>(
     let line = Line::new(alloc, stream, head, registry.most_wakes());
     match tungstenite::accept(alloc, line) {
         Ok(mut socket) => {
-            socket.set_config(WebSocketConfig::default().read_buffer_size(READ_BYTES));
+            let config = WebSocketConfig::default()
+                .read_buffer_size(READ_BYTES)
+                .max_frame_size(Some(MOST_MESSAGE_BYTES))
+                .max_message_size(Some(MOST_MESSAGE_BYTES));
+            socket.set_config(config);
             Ok(SocketOutlet::new(alloc, socket))
         }
         Err(HandshakeError::Failure(Error::OutOfMemory)) => Err(SessionEnd::Failed),

@@ -40,3 +40,17 @@ fn follow_from(rt: HostRuntime) -> Result<(), Fail> {
     ];
     assert_case(&rt, rt.alloc(), with_capacity(2), &rows)
 }
+
+#[test]
+fn a_place_too_far_back_is_told_before_that_every_place_is_taken(
+    rt: HostRuntime,
+) -> Result<(), Fail> {
+    let rows = [
+        (Open("b1", 518), Opened),
+        (SubmitLine("b1", "e2e4 e7e5 g1f3"), Played(0)),
+        (FollowFrom(1, "b1", 1), Following(1, ONE_PLY)),
+        (FollowFrom(2, "b1", 0), Refused(Refusal::TooFarBack)),
+        (FollowFrom(2, "b1", 2), Refused(Refusal::TooManyFollowers)),
+    ];
+    assert_case(&rt, rt.alloc(), (16, 1, 2, 1024), &rows)
+}

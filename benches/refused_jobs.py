@@ -1,0 +1,84 @@
+"""What a job of the built program may do where one allocation is refused, for refusals.py.
+
+It does what it does with memory; or it answers one line with 12, and every other line as a relay does that never had that line; or it
+ends with status 4 and `fault 12 OutOfMemory`, behind whole answers to the lines before.
+"""
+
+import itertools
+import os
+import pathlib
+import subprocess
+import sys
+from dataclasses import dataclass
+
+CRATE = pathlib.Path(__file__).resolve().parent.parent / "crates/relay960"
+sys.path.insert(0, str(CRATE / "replays"))
+
+from games import MATE, PLAY  # noqa: E402
+from relays import OPENED, played_last, refused  # noqa: E402
+from runs import PROGRAM, lines  # noqa: E402
+
+NO_MEMORY, NO_BOARD, NO_FOLLOWER = refused(12, "OutOfMemory"), refused(1, "NoSuchBoard"), refused(9, "NoSuchFollower")
+GAME_OVER = refused(5, "GameOver")
+
+# The stored script of fourteen lines: an Open, a Follow, a Submit, two Takes, three Submits, four Takes, a Submit behind the end, a Leave.
+STORED = (CRATE / "stdin").read_bytes()
+STORED_ANSWERS = (CRATE / "stdout").read_bytes()
+WITHOUT_THE_BOARD = [NO_MEMORY, NO_BOARD, NO_BOARD, *[NO_FOLLOWER] * 2, *[NO_BOARD] * 3, *[NO_FOLLOWER] * 4, NO_BOARD, NO_FOLLOWER]
+WITHOUT_THE_FOLLOWER = [
+    *[OPENED, NO_MEMORY, played_last(0, None), *[NO_FOLLOWER] * 2],
+    *[played_last(1, None), played_last(2, None), played_last(3, "black mates"), *[NO_FOLLOWER] * 4, GAME_OVER, NO_FOLLOWER],
+]
+
+
+@dataclass(frozen=True)
+class Job:
+    words: tuple
+    reads: bytes
+    prints: bytes
+    # What it prints where it answers one line with 12. Each of these is to come.
+    with_12: tuple = ()
+
+    def met(self, ended):
+        """What met the refusal: the job as a whole, one line, or nothing; None where something is wrong."""
+        if ended.returncode == 4 and ended.stderr.endswith(b"fault 12 OutOfMemory\n"):
+            whole = ended.stdout.endswith(b"\n") or not ended.stdout
+            return "job" if whole and self.prints.startswith(ended.stdout) else None
+        if ended.returncode or ended.stderr:
+            return None
+        if ended.stdout == self.prints:
+            return "nothing"
+        return "line" if ended.stdout in self.with_12 else None
+
+
+JOBS = [
+    Job(("start", "0"), b"", b"bbqnnrkr/pppppppp/8/8/8/8/PPPPPPPP/BBQNNRKR w HFhf - 0 1\n"),
+    Job(("moves", "4k3/8/8/8/8/8/8/qRK5 w B - 0 1"), b"", b"b1a1 c1d1 c1c2 c1d2\ngoing\n"),
+    Job(PLAY, lines(move for move, _ in MATE), lines(answer for _, answer in MATE)),
+    Job(("script",), STORED, STORED_ANSWERS, (lines(WITHOUT_THE_BOARD), lines(WITHOUT_THE_FOLLOWER))),
+]
+
+
+def refuse_in_job(job, allocator, mark):
+    """Runs the job with each allocation refused, until none is; tells what met the refusals, and whether a run was wrong."""
+    met, printed = [], set()
+    for number in itertools.count(1):
+        mark.unlink(missing_ok=True)
+        env = {**os.environ, "LD_PRELOAD": allocator, "REFUSED": str(number), "MARK": str(mark)}
+        ended = subprocess.run([PROGRAM, *job.words], input=job.reads, env=env, capture_output=True)
+        if not mark.exists():
+            break
+        met.append(job.met(ended))
+        printed.add(ended.stdout)
+        if met[-1] is None:
+            print(f"{job.words[0]}, allocation {number}: status {ended.returncode}, printed {ended.stdout}, complained {ended.stderr}")
+    if not printed.issuperset(job.with_12):
+        print(f"{job.words[0]}: a line that ought to be answered with 12 where its allocation is refused was not")
+        met.append(None)
+    print(f"{job.words[0]}, {len(met)} allocations refused:", ", ".join(f"{who}: {met.count(who)}" for who in sorted({*met}, key=str)))
+    return None in met
+
+
+def refuse_in_jobs(allocator, mark):
+    """Refuses each allocation of each job; tells whether a run was wrong."""
+    return any([refuse_in_job(job, allocator, mark) for job in JOBS])
