@@ -91,10 +91,13 @@ const Words = (() => {
     return [side("w"), side("b")];
   }
 
-  /** The name under which a board is opened anew: b1, b1-2, b1-3 and so on, at most 32 letters long. */
+  /**
+   * The name under which a board is opened anew: r1-1, r1-1_2, r1-1_3 and so on, at most 32 letters long. It is counted behind "_",
+   * since tables are counted behind "-": the game of r1-1 that is opened anew must not have the name of the next table.
+   */
   function nextName(name) {
-    const found = /^(.*)-(\d{1,3})$/.exec(name);
-    const tail = found ? `-${Number(found[2]) + 1}` : "-2";
+    const found = /^(.+)_(\d{1,3})$/.exec(name);
+    const tail = found ? `_${Number(found[2]) + 1}` : "_2";
     return (found ? found[1] : name).slice(0, 32 - tail.length) + tail;
   }
 

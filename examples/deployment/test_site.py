@@ -51,6 +51,21 @@ async def try_strangers():
             assert refused.status_code == 401, refused
 
 
+async def try_origins():
+    """With the password, programs and the site's own pages reach the relay, and pages from elsewhere do not."""
+    own = [None, SITE, "HTTPS://LocalHost:9443"]
+    foreign = ["https://localhost", "http://localhost:9443", "https://localhost:9444", "https://elsewhere.example", "https://elsewhere.example:9443",
+               "https://localhost:9443.elsewhere.example", "https://elsewhere.localhost:9443", "https://elsewhere.example/localhost:9443",
+               "https://localhost:9443/", f"{SITE} {SITE}", "https://127.0.0.1:9443", "null", "file://"]
+    for origin in [*own, *foreign]:
+        try:
+            async with websockets.connect(f"{WIRE}/operators/relay", ssl=TLS, extra_headers=LOGIN, origin=origin, compression=None):
+                had = 101
+        except websockets.InvalidStatusCode as refused:
+            had = refused.status_code
+        assert had == (101 if origin in own else 403), (origin, had)
+
+
 async def try_game():
     """An operator plays over TLS; a spectator has every place from the channel."""
     async with websockets.connect(f"{WIRE}/operators/relay", ssl=TLS, extra_headers=LOGIN, compression=None) as operator:
@@ -88,7 +103,7 @@ async def try_browser():
 async def main():
     try_paths()
     print("ok      paths", flush=True)
-    for each in (try_strangers, try_game, try_browser):
+    for each in (try_strangers, try_origins, try_game, try_browser):
         await each()
         print(f"ok      {each.__name__[4:]}", flush=True)
 

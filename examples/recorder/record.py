@@ -5,8 +5,10 @@
 
 The file has one JSON text a line: first {"board":..,"record":1,"start":..}, then the relay's texts. It is written through to the
 disk after each move, so it is whole up to the last move that came, and web/table.html opens the game anew from it. It waits for a
-board that is not open yet, and comes back after a lost connection from its next place. It ends with the game (status 0), where
-moves were missed (1), where the file is there already (1), or after so many tries in a row (2).
+board that is not open yet. After a lost connection it follows from the first move again and compares what it is told with what it
+has: where the relay was started anew, another game may have the board's name, and nothing of that is added. It ends with the game
+(status 0), where the relay no longer gives the first moves (1), where the file is there already (1), after so many tries in a row
+that brought nothing new (2), or where the board has another game than the record (3).
 """
 import argparse
 import asyncio
@@ -17,6 +19,7 @@ import sys
 import websockets
 
 KNIGHTS = [(0, 1), (0, 2), (0, 3), (0, 4), (1, 2), (1, 3), (1, 4), (2, 3), (2, 4), (3, 4)]
+LATER = ["NoSuchBoard", "TooManyFollowers", "OutOfMemory"]
 
 
 def array(number):
@@ -40,63 +43,101 @@ def start_number(fen):
     return next(number for number in range(960) if array(number) == rank)
 
 
+class Broken(Exception):
+    """Why a record cannot go on, and the status that says so."""
+
+    def __init__(self, status, words):
+        super().__init__(words)
+        self.status = status
+
+
 class Record:
-    """A record's file and the next place that it needs."""
+    """A record's file, and how many of its moves the present connection has told."""
 
     def __init__(self, path, board):
         self.file = open(path, "x", encoding="ascii")
         self.board = board
-        self.next = 0
-        self.begun = False
+        self.first = None
+        self.moves = []
+        self.told = 0
 
     def write(self, value):
         self.file.write(json.dumps(value, separators=(",", ":"), sort_keys=True) + "\n")
         self.file.flush()
         os.fsync(self.file.fileno())
 
+    def size(self):
+        """Grows with each text that is kept."""
+        return len(self.moves) + (self.first is not None)
+
     def take(self, text):
-        """Keeps a text; answers whether the record is still without a gap."""
-        if text["reply"] == "following":
-            if not self.begun:
-                self.write({"board": self.board, "record": 1, "start": start_number(text["fen"])})
-                self.write(text)
-                self.begun = True
-            return text["joined"] == self.next
-        if text["reply"] == "move":
-            self.next += 1
+        """Keeps a text that is new, and compares one that is told again with the record."""
+        {"following": self.following, "move": self.move, "over": self.over}[text["reply"]](text)
+
+    def following(self, text):
+        self.told = 0
+        if self.first is None:
+            self.write({"board": self.board, "record": 1, "start": start_number(text["fen"])})
+            self.write(text)
+            self.first = text["fen"]
+        elif text["fen"] != self.first:
+            raise self.another(f"it begins with {text['fen']}, the record with {self.first}")
+
+    def move(self, text):
+        place, move = text["place"], text["move"]
+        if place != self.told:
+            raise Broken(1, f"place {self.told} is missing: the relay told {place}")
+        if place == len(self.moves):
+            self.write(text)
+            self.moves.append(move)
+        elif move != self.moves[place]:
+            raise self.another(f"its move of place {place} is {move}, the record's is {self.moves[place]}")
+        self.told += 1
+
+    def over(self, text):
+        if self.told < len(self.moves):
+            raise self.another(f"it ended after {self.told} moves, the record has {len(self.moves)}")
         self.write(text)
-        return True
+
+    def another(self, words):
+        return Broken(3, f"{self.board} has another game: {words}; nothing of it is in the record")
 
 
 async def follow(server, record):
-    """Follows the board until the connection ends; answers the status to end with, or None where it is to be tried again."""
+    """Follows the board until the connection ends. Answers whether the game has."""
     async with websockets.connect(server, ping_interval=None, compression=None, open_timeout=10) as socket:
-        await socket.send(json.dumps({"cmd": "follow", "board": record.board, "spectator": 0, "from": record.next}))
+        await socket.send(json.dumps({"cmd": "follow", "board": record.board, "spectator": 0, "from": 0}))
         async for message in socket:
             text = json.loads(message)
             if text["reply"] == "refused":
-                print(f"refused: {text['code']} {text['name']}", file=sys.stderr)
-                return None if text["name"] in ("NoSuchBoard", "NotYet", "TooManyFollowers", "OutOfMemory") else 1
+                why = f"refused: {text['code']} {text['name']}"
+                if text["name"] not in LATER:
+                    raise Broken(1, why)
+                print(why, file=sys.stderr)
+                return False
             if text["reply"] == "cut":
-                return None
-            if not record.take(text):
-                return 1
+                return False
+            record.take(text)
             if text["reply"] == "over":
-                return 0
-    return None
+                return True
+    return False
 
 
 async def keep(server, record, tries, wait):
-    for _ in range(tries):
-        had = record.next
+    """Follows the board until its game is over, or so many tries in a row brought nothing new. Answers the status to end with."""
+    failed = 0
+    while failed < tries:
+        had = record.size()
         try:
-            status = await follow(server, record)
+            if await follow(server, record):
+                return 0
         except (OSError, asyncio.TimeoutError, websockets.WebSocketException) as fault:
             print(f"no connection: {fault}", file=sys.stderr)
-            status = None
-        if status is not None:
-            return status
-        if record.next == had:
+        except Broken as fault:
+            print(fault, file=sys.stderr)
+            return fault.status
+        failed = failed + 1 if record.size() == had else 0
+        if failed > 0:
             await asyncio.sleep(wait)
     return 2
 
@@ -106,7 +147,7 @@ def main():
     words.add_argument("server", help="the relay, as ws://127.0.0.1:9600")
     words.add_argument("board")
     words.add_argument("file", help="a new file")
-    words.add_argument("--tries", type=int, default=3600, help="how often it tries to connect or to follow (3600)")
+    words.add_argument("--tries", type=int, default=3600, help="tries in a row that bring nothing new (3600)")
     words.add_argument("--wait", type=float, default=1, help="seconds between two tries (1)")
     given = words.parse_args()
     try:

@@ -276,6 +276,22 @@ async def try_mate(browser):
         await page.close()
 
 
+async def try_names(browser):
+    """The names of games that are opened anew: none is the name of another table, and none is too long."""
+    page = await browser.open(url("watch.html"))
+    chain = ["r1-1"]
+    while len(chain) < 120:
+        chain.append(await page.run(f"Words.nextName({json.dumps(chain[-1])})"))
+    assert chain == ["r1-1"] + [f"r1-1_{count}" for count in range(2, 121)], chain
+    for name, following in [("b", "b_2"), ("b-9", "b-9_2"), ("b_9", "b_10"), ("b_x", "b_x_2"), ("_2", "_2_2"), ("b_", "b__2"), ("b_999", "b_1000"),
+                            (28 * "n", 28 * "n" + "_2"), (32 * "n", 30 * "n" + "_2"), (30 * "n" + "_2", 30 * "n" + "_3"),
+                            (30 * "n" + "_9", 29 * "n" + "_10")]:
+        had = await page.run(f"Words.nextName({json.dumps(name)})")
+        assert had == following, (name, had)
+    assert not page.faults, page.faults
+    await page.close()
+
+
 async def try_access(browser):
     """Narrow or wide, nothing stands beside the window, and each control of both pages has a name for a screen reader."""
     relay = await Relay().start()
@@ -462,7 +478,7 @@ async def try_wire(browser):
     await client.close()
     await until_state(seer, "over")
     assert "Ended without a result" in await text(seer, "#outcome")
-    assert await text(seer, "#anew") == "Watch b1-2"
+    assert await text(seer, "#anew") == "Watch b1_2"
     await seer.close()
     await wire.cut()
 
@@ -537,12 +553,12 @@ async def try_crash(browser):
     await until_state(seer, "lost")
     began = time.monotonic()
     await relay.start()
-    await table.until('document.querySelector("#state").textContent === "Board b1-2 is open"')
+    await table.until('document.querySelector("#state").textContent === "Board b1_2 is open"')
     await until_moves(table, 6)
     print(f"    play went on {time.monotonic() - began:.1f} s after the relay was back")
     assert await listed(table) == [[place, move] for place, move in enumerate(moves)]
     await until_state(seer, "refused")
-    second = await watch(browser, relay, "b1-2")
+    second = await watch(browser, relay, "b1_2")
     await until_moves(second, 6)
     await enter(table, "c2c3", "drag")
     final = fens(start, [*moves, "c2c3"])[-1]
@@ -577,7 +593,7 @@ async def try_table_wire(browser):
     await until_state(seer, "over")
     assert "abandoned" in await text(seer, "#outcome")
     await wire.mend()
-    await table.until('document.querySelector("#state").textContent === "Board b1-2 is open"')
+    await table.until('document.querySelector("#state").textContent === "Board b1_2 is open"')
     await until_moves(table, 12)
     await seer.click("#anew")
     await until_moves(seer, 12)
@@ -652,15 +668,15 @@ async def try_records(browser):
         await again.choose("#kept", kept)
         await again.click("#anew button[type=submit]")
         await until_moves(again, 5)
-        assert await text(again, "#state") == "Board hall-2 is open"
+        assert await text(again, "#state") == "Board hall_2 is open"
         await say_end(again, "#ending [data-how=abandoned]")
         await until_state(again, "over")
         await again.fill("#count", "0")
         await again.give_file("#file", file)
-        await again.until('document.querySelector("#count").value === "5" && document.querySelector("#new-name").value === "hall-2"')
+        await again.until('document.querySelector("#count").value === "5" && document.querySelector("#new-name").value === "hall_2"')
         await again.fill("#count", "4")
         await again.click("#anew button[type=submit]")
-        await again.until('document.querySelector("#state").textContent === "Board hall-3 is open"')
+        await again.until('document.querySelector("#state").textContent === "Board hall_3 is open"')
         await shows(again, 4, fens(start, moves[:4])[-1], "without the last move")
         assert not again.faults, again.faults
         await again.close()
