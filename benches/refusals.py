@@ -29,7 +29,10 @@ HERE = pathlib.Path(__file__).resolve().parent
 CRATES = HERE.parent / "crates"
 PROGRAM = CRATES / "relay960/out/relay960"
 TESTS = {
-    "c960_game_tests": ["tests::opening::each_start_opens_a_game_without_moves"],
+    "c960_game_tests": [
+        "tests::opening::each_start_opens_a_game_without_moves",
+        "tests::memory::no_call_after_the_opening_takes_memory",
+    ],
     "relay_messages_tests": [
         "tests::decoders::a_decoder_reads_texts_one_after_another",
         "tests::decoders::behind_want_of_memory_a_decoder_goes_on",
