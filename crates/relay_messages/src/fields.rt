@@ -12,20 +12,14 @@ use relay_core::{BoardName, Spectator};
 pub fn board_field<O: Object>(object: &O) -> Option<BoardName>
     ensures { result ≡ board_at (O.said object.now) }
 {
-    match object.text("board") {
-        Some(text) => BoardName::new(text.as_bytes()),
-        None => None,
-    }
+    BoardName::new(object.text("board")?.as_bytes())
 }
 
 /// The whole number of a member, 0 to 65,535.
 fn small_field<O: Object>(object: &O, key: &str) -> Option<u16>
     ensures { result ≡ small_at key.now (O.said object.now) }
 {
-    match object.number(key) {
-        Some(number) => u16::try_from(number).ok(),
-        None => None,
-    }
+    u16::try_from(object.number(key)?).ok()
 }
 
 /// The number of a start.
@@ -53,20 +47,14 @@ pub fn from_field<O: Object>(object: &O) -> Option<u16>
 pub fn spectator_field<O: Object>(object: &O) -> Option<Spectator>
     ensures { result ≡ spectator_at (O.said object.now) }
 {
-    match object.number("spectator") {
-        Some(number) => u32::try_from(number).ok(),
-        None => None,
-    }
+    u32::try_from(object.number("spectator")?).ok()
 }
 
 /// A move.
 pub fn move_field<O: Object>(object: &O) -> Option<Move>
     ensures { result ≡ move_at (O.said object.now) }
 {
-    match object.text("move") {
-        Some(text) => read_move(text.as_bytes()).ok(),
-        None => None,
-    }
+    read_move(object.text("move")?.as_bytes()).ok()
 }
 
 /// The side of a text.
@@ -84,8 +72,5 @@ fn side_of(text: &str) -> Option<Colour>
 pub fn side_field<O: Object>(object: &O) -> Option<Colour>
     ensures { result ≡ side_at (O.said object.now) }
 {
-    match object.text("side") {
-        Some(text) => side_of(text),
-        None => None,
-    }
+    side_of(object.text("side")?)
 }

@@ -81,9 +81,7 @@ impl Conn {
         let Step::Open(board, _) = *step else {
             return Ok(keeper.step(*step));
         };
-        if self.opened.reserve(1).is_err() {
-            return Err(AllocError);
-        }
+        self.opened.reserve(1)?;
         let reply = keeper.step(*step);
         if !matches!(reply, Reply::Refused(_)) {
             self.opened.push_reserved(board);
@@ -97,10 +95,7 @@ impl Conn {
         ensures err { OnErr result (IsUnmoved self.old keeper.old self.new keeper.new) }
     {
         match decode(self.alloc, text) {
-            Ok(step) => match self.reply(&step, keeper) {
-                Ok(reply) => Ok(Answer::Reply(reply)),
-                Err(fault) => Err(fault),
-            },
+            Ok(step) => Ok(Answer::Reply(self.reply(&step, keeper)?)),
             Err(fault) => Ok(Answer::Fault(fault)),
         }
     }
@@ -119,10 +114,8 @@ impl Conn {
         ensures ok { IfOk result (λ s. Answered (K.tells keeper.old) K.makes self.old keeper.old text.now (string_bytes s) self.new keeper.new) }
         ensures err { OnErr result (Stopped K.makes self.old keeper.old text.now self.new keeper.new) }
     {
-        match self.answer_to(text, keeper) {
-            Ok(answer) => encode(self.alloc, &answer),
-            Err(fault) => Err(fault),
-        }
+        let answer = self.answer_to(text, keeper)?;
+        encode(self.alloc, &answer)
     }
 
     /// Ends each board that the connection opened as abandoned, in the order of opening. A game that has ended stays as it ended.

@@ -16,7 +16,7 @@ const BLANK_LINE: &[u8; 4] = b"\r\n\r\n";
 const MOST_BYTES: usize = 8192;
 
 /// How many seconds a peer may take to send its head.
-const MOST_SECONDS: u64 = 10;
+const MOST_HEAD_SECONDS: u64 = 10;
 
 /// A request's head, and what came behind it in the same pieces. It gives them in two parts, so that who reads the head reads
 /// nothing else.
@@ -42,7 +42,7 @@ impl Head {
     ) -> io::Result<Head>
         ensures { IfOk result (λ head. head.end ≤ 8192) }
     {
-        let deadline = Deadline::after(clock, Duration::from_secs(MOST_SECONDS))?;
+        let deadline = Deadline::after(clock, Duration::from_secs(MOST_HEAD_SECONDS))?;
         let mut bytes = Vec::new(alloc);
         for _ in 0..MOST_BYTES {
             stream.bound_reads(Some(deadline.left(clock)?))?;

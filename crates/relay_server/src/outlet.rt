@@ -19,7 +19,7 @@ use tungstenite::{CloseCode, CloseFrame, Error, Message, NoMask, Utf8Bytes, WebS
 const MOST_DRAINED: u32 = 4096;
 
 /// How many seconds a peer's output is read on behind a close.
-const MOST_SECONDS: u64 = 10;
+const MOST_DRAIN_SECONDS: u64 = 10;
 
 /// An outlet over a WebSocket. It tells no texts: what a socket holds is not known.
 #[derive(Drop)]
@@ -99,7 +99,7 @@ impl<S: Stream + Drop> SocketOutlet<S> {
 /// Ends the output, and reads until the end, an error or the bound.
 fn drained<C: Clock, S: Stream>(clock: &C, line: &mut Line<S>) -> io::Result<()> {
     line.end_output()?;
-    let deadline = Deadline::after(clock, Duration::from_secs(MOST_SECONDS))?;
+    let deadline = Deadline::after(clock, Duration::from_secs(MOST_DRAIN_SECONDS))?;
     let mut bytes = [0; 4096];
     for _ in 0..MOST_DRAINED {
         line.bound_reads(Some(deadline.left(clock)?))?;
@@ -125,10 +125,8 @@ impl<S: Read + Write + Drop> Outlet for SocketOutlet<S> {
 
     fn flush(&mut self) -> Result<(), SendFault> {
         let done = self.socket.flush();
-        match self.counted(done) {
-            Ok(()) => self.send_kept(),
-            Err(fault) => Err(fault),
-        }
+        self.counted(done)?;
+        self.send_kept()
     }
 
     fn close(&mut self, code: u16) -> Result<(), SendFault> {
@@ -137,9 +135,7 @@ impl<S: Read + Write + Drop> Outlet for SocketOutlet<S> {
             reason: Utf8Bytes::from_static(""),
         };
         let done = self.socket.close(Some(frame));
-        match self.counted(done) {
-            Ok(()) => self.send_kept(),
-            Err(fault) => Err(fault),
-        }
+        self.counted(done)?;
+        self.send_kept()
     }
 }

@@ -26,7 +26,7 @@ pub struct ServeEnd {
 const STACK_BYTES: usize = 256 * 1024;
 
 /// How many seconds a write may make no way before its session ends as failed.
-const MOST_SECONDS: u64 = 30;
+const MOST_WRITE_SECONDS: u64 = 30;
 
 /// How many connections are accepted from one look for threads that have ended to the next. Joining one whose last act is still
 /// under way would hold up the next connection, and each look goes over all threads.
@@ -62,23 +62,16 @@ where
         let started = match listener.accept() {
             Ok((stream, _)) => {
                 accepted = accepted.saturating_add(1);
-                start(rt, alloc, stream, accepted, registry, gate)
+                start(rt, alloc, stream, accepted, registry, gate, &mut running)
             }
             Err(_) => None,
         };
-        match started {
-            Some(one) => {
-                if let Err(full) = running.push(one) {
-                    let _ = full.value.handle.join(rt);
-                }
-            }
-            None => {
-                failed += 1;
-                registry
-                    .ended
-                    .doze(rt, heard, Duration::from_millis(PAUSE_MILLIS));
-                join_ended(rt, &mut running);
-            }
+        if started.is_none() {
+            failed += 1;
+            registry
+                .ended
+                .doze(rt, heard, Duration::from_millis(PAUSE_MILLIS));
+            join_ended(rt, &mut running);
         }
     }
     join_all(rt, running);
@@ -88,7 +81,8 @@ where
     }
 }
 
-/// Starts the session of a connection on a thread of its own.
+/// Starts the session of a connection on a thread of its own, which joins those that run. Room for it there is asked for before it is
+/// started, so that no accept waits for a session.
 fn start<R, G>(
     rt: &R,
     alloc: Global,
@@ -96,13 +90,15 @@ fn start<R, G>(
     connection: u32,
     registry: &Arc<Registry, Global>,
     gate: &Arc<G, Global>,
-) -> Option<Running>
+    running: &mut Vec<Running>,
+) -> Option<()>
 where
     R: Threads + Wait + Clock + Clone + Send + Drop + 'static,
     G: Gate + Send + Sync + Drop + 'static,
 {
     let _ = stream.set_nodelay(true);
-    let _ = stream.set_write_timeout(Some(Duration::from_secs(MOST_SECONDS)));
+    let _ = stream.set_write_timeout(Some(Duration::from_secs(MOST_WRITE_SECONDS)));
+    running.reserve(1).ok()?;
     let own = rt.clone().ok()?;
     let registry = Arc::try_clone(registry).ok()?;
     let gate = Arc::try_clone(gate).ok()?;
@@ -117,5 +113,6 @@ where
             end
         })
         .ok()?;
-    Some(Running { handle, has_ended })
+    running.push_reserved(Running { handle, has_ended });
+    Some(())
 }
