@@ -33,13 +33,13 @@ pub struct LiveRelay {
 
 impl Model for LiveRelay {
     ghost use Rattle.relay_core.specs.State.{RelayRecord};
-    ghost use Rattle.relay_live.specs.Live.{IsLive, view_of};
+    ghost use Rattle.relay_live.specs.Live.{HasRoom, IsLive, view_of};
 
     ghost Value = { RelayRecord };
 
     ghost view = { view_of };
 
-    ghost invariant = { λ r. IsLive r.limits r.boards.entries r.followers.entries };
+    ghost invariant = { λ r. IsLive r.limits r.boards.entries r.followers.entries × HasRoom r };
 }
 
 impl LiveRelay {
@@ -73,7 +73,7 @@ impl LiveRelay {
             return Reply::Refused(Refusal::OutOfMemory);
         };
         let Ok(_) = self.boards.insert(board, live) else {
-            return Reply::Refused(Refusal::OutOfMemory);
+            unreachable!();
         };
         Reply::Opened
     }
