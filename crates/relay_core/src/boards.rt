@@ -1,6 +1,6 @@
 //! The boards, by their names.
 
-ghost use Rattle.std.specs.Prelude.{◌≡◌, ◌≤◌, ℕ, List, None, is_some, length, option_copied, option_map, cond, IfOk, OnErr, OnOk, [], ◌∷◌, ◌++◌};
+ghost use Rattle.std.specs.Prelude.{◌≡◌, ◌≤◌, ◌<◌, ◌+◌, ℕ, List, None, is_some, length, option_copied, option_map, cond, IfOk, OnErr, OnOk, [], ◌∷◌, ◌++◌};
 ghost use Rattle.std.specs.Map.{lookup};
 ghost use Rattle.c960_game.specs.Record.{with_move};
 ghost use Rattle.relay_core.specs.Inner.Boards.{end_answer_at, ended_by, length_at, outcome_at, play_answer_at};
@@ -123,14 +123,16 @@ impl Boards {
         game.end(ending)
     }
 
-    /// Adds a board that is not there.
-    pub(crate) fn add(&mut self, board: BoardName, game: Game) -> Result<(), AllocError>
-        requires { lookup (same_name board) self.old.entries ≡ None }
-        ensures ok { OnOk result (self.new.entries ≡ self.old.entries ++ (board, game) ∷ []) }
-        ensures err { OnErr result (self.new.entries ≡ self.old.entries) }
+    /// Adds a board that is not there, where there is room for it. It takes no memory.
+    pub(crate) fn add(&mut self, board: BoardName, game: Game)
+        requires absent { lookup (same_name board) self.old.entries ≡ None }
+        requires room { 0 < self.old.room }
+        ensures added { self.new.entries ≡ self.old.entries ++ (board, game) ∷ [] }
+        ensures room { self.old.room ≤ self.new.room + 1 }
     {
-        self.games.insert(board, game)?;
-        Ok(())
+        let Ok(_) = self.games.insert(board, game) else {
+            unreachable!();
+        };
     }
 
     /// What a take answers to one who meets this.

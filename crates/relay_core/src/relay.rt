@@ -29,14 +29,14 @@ pub struct Relay {
 }
 
 impl Model for Relay {
-    ghost use Rattle.relay_core.specs.Inner.Kept.{IsKept, held_of, view_of};
+    ghost use Rattle.relay_core.specs.Inner.Kept.{HasRoom, IsKept, held_of, view_of};
     ghost use Rattle.relay_core.specs.State.{RelayRecord};
 
     ghost Value = { RelayRecord };
 
     ghost view = { view_of };
 
-    ghost invariant = { λ r. IsKept (held_of r) };
+    ghost invariant = { λ r. IsKept (held_of r) × HasRoom r };
 }
 
 impl Relay {
@@ -69,9 +69,7 @@ impl Relay {
         let Ok(game) = Game::open(self.alloc, start, self.limits.plies()) else {
             return Reply::Refused(Refusal::OutOfMemory);
         };
-        let Ok(()) = self.boards.add(board, game) else {
-            return Reply::Refused(Refusal::OutOfMemory);
-        };
+        self.boards.add(board, game);
         Reply::Opened
     }
 

@@ -124,5 +124,8 @@ module _ (old new : Boards) (name : List ℕ) (b c : BoardSeat) (there : lookup 
           ∙ sym (ap (option_map change) (lookup-map (same_name name) game old ∙ ap (option_map game) there))
       by false e = ap (option_map game) (swapped_elsewhere q e) ∙ sym (lookup-map (same_name q) game old)
 
+  pub boards_counted : length new ≡ length old
+  boards_counted = ap length new-is ∙ length-set_value (same_name name) old c
+
   pub games_counted : length (games new) ≡ length (games old)
-  games_counted = length-map new (λ e. (e.0, game e.1)) ∙ ap length new-is ∙ length-set_value (same_name name) old c ∙ sym (length-map old (λ e. (e.0, game e.1)))
+  games_counted = length-map new (λ e. (e.0, game e.1)) ∙ boards_counted ∙ sym (length-map old (λ e. (e.0, game e.1)))

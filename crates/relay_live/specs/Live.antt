@@ -1,5 +1,6 @@
 -- What a live relay keeps, and what its contracts see of it.
-use Rattle.std.specs.Prelude.{ℕ, ◌≡◌, ◌≢◌, ◌+◌, count_by, List, length, map, true, Option, Some, None}
+use Rattle.std.specs.Prelude.{ℕ, ◌≡◌, ◌≢◌, ◌≤◌, ◌+◌, count_by, List, length, map, true, Option, Some, None}
+use Rattle.std.specs.HashMap.{spare}
 use Rattle.std.specs.Map.{lookup, set_value}
 use lib.ListN.{get_elem?}
 use mathlib.Core.Option.{some}
@@ -95,6 +96,10 @@ pub record IsLive (limits : LimitNumbers) (boards : Boards) (fs : List (ℕ × S
   -- a place that is not noted vacant has a part here, and as many places are noted vacant as the followers leave
   pub carried : (q : List ℕ) (b : BoardSeat) → lookup (same_name q) boards ≡ Some b → (k : ℕ) (n : Note) → get_elem? b.knows.notes k ≡ some n → n ≢ Vacant → Carries b.knows k
   pub counted : (q : List ℕ) (b : BoardSeat) → lookup (same_name q) boards ≡ Some b → count_by (λ e. same_name q e.1.board) fs + total vacancy b.knows.notes ≡ limits.followers
+
+-- as many boards as the limits allow fit without memory
+abbrev pub HasRoom : Inside → Type 0
+HasRoom a = a.limits.boards ≤ length a.boards.entries + spare a.boards
 
 -- ---- What a step changes.
 

@@ -82,7 +82,8 @@ pub(crate) fn seat(boards: &mut IndexMap<BoardName, Board>, board: BoardName, pl
     requires { (b : BoardSeat) × (lookup (same_name board) boards.old.entries ≡ Some b)
         × (place < b.knows.setup.limits.followers) × (get_elem? b.knows.notes place ≡ some Vacant)
         × (from ≤ length b.knows.log) × (length b.knows.log ≤ from + b.knows.setup.limits.capacity) }
-    ensures { Swapped (λ b c. (c.knows ≡ followed place from b.knows) × IsSound c.knows) board boards.old.entries boards.new.entries }
+    ensures swapped { Swapped (λ b c. (c.knows ≡ followed place from b.knows) × IsSound c.knows) board boards.old.entries boards.new.entries }
+    ensures room { spare boards.new ≡ spare boards.old }
 {
     let Some(live) = boards.get_mut(&board) else {
         unreachable!();

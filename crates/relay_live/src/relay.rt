@@ -34,13 +34,13 @@ pub struct LiveRelay {
 
 impl Model for LiveRelay {
     ghost use Rattle.relay_core.specs.State.{RelayRecord};
-    ghost use Rattle.relay_live.specs.Live.{IsLive, view_of};
+    ghost use Rattle.relay_live.specs.Live.{HasRoom, IsLive, view_of};
 
     ghost Value = { RelayRecord };
 
     ghost view = { view_of };
 
-    ghost invariant = { λ r. IsLive r.limits r.boards.entries r.followers.entries };
+    ghost invariant = { λ r. IsLive r.limits r.boards.entries r.followers.entries × HasRoom r };
 }
 
 impl LiveRelay {
@@ -74,7 +74,7 @@ impl LiveRelay {
             return Reply::Refused(Refusal::OutOfMemory);
         };
         let Ok(_) = self.boards.insert(board, live) else {
-            return Reply::Refused(Refusal::OutOfMemory);
+            unreachable!();
         };
         Reply::Opened
     }

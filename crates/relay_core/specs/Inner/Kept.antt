@@ -1,5 +1,5 @@
--- What a relay on one thread keeps: it holds just what some history says.
-use Rattle.std.specs.Prelude.{◌≡◌, ℕ, nat_eq, List, length, map, option_map}
+-- What a relay on one thread keeps: it holds just what some history says, and its map of boards has room.
+use Rattle.std.specs.Prelude.{◌≡◌, ℕ, ◌+◌, ◌≤◌, nat_eq, List, length, map, option_map}
 use Rattle.std.specs.Map.{lookup}
 use Rattle.c960_game.specs.Limits.{LimitNumbers}
 use Rattle.relay_core.specs.declared.relay.Relay.TheInside.{Inside}
@@ -40,3 +40,7 @@ view_of a = plain (held_of a)
 pub record IsKept (r : Held) : Type 0 where
   pub history : History
   pub stands : HeldStands r.limits r history
+
+-- as many boards as the limits allow fit without memory
+abbrev pub HasRoom : Inside → Type 0
+HasRoom a = a.limits.boards ≤ length a.boards.entries + a.boards.room

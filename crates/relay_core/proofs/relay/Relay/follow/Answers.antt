@@ -6,14 +6,14 @@ use Rattle.relay_core.proofs.relay.Relay.follow.Goals as goal
 
 pub returns-then-contains-clause-stands : goal.returns-then-contains-clause-stands
 returns-then-contains-clause-stands c =
-    stays (held_of c.self.inside) _ _ c.self.invariant _ c.self.view_is
+    stays (held_of c.self.inside) _ _ c.self.invariant.0 _ c.self.view_is
     (follow_exists (held_of c.self.inside) c.args.who c.args.board c.args.from c.in-Some.game.now (search rules) (search rules))
 
 pub returns-then-joined-len-clause-stands : goal.returns-then-joined-len-clause-stands
 returns-then-joined-len-clause-stands c =
     let at : c.unwrap_or-joined.result ≡ place_in c.args.from c.in-Some.game.now =
     c.unwrap_or-joined.ensures ∙ ap (unwrap_or c.args.from) c.len.ensures in
-    stays (held_of c.self.inside) _ _ c.self.invariant _ c.self.view_is
+    stays (held_of c.self.inside) _ _ c.self.invariant.0 _ c.self.view_is
     (follow_not_yet (held_of c.self.inside) c.args.who c.args.board c.args.from c.in-Some.game.now (search rules) (search rules)
     (omega (arith, at, c.len-2.ensures)))
 
@@ -21,7 +21,7 @@ pub returns-then-len-joined-clause-stands : goal.returns-then-len-joined-clause-
 returns-then-len-joined-clause-stands c =
     let at : c.unwrap_or-joined.result ≡ place_in c.args.from c.in-Some.game.now =
     c.unwrap_or-joined.ensures ∙ ap (unwrap_or c.args.from) c.len.ensures in
-    stays (held_of c.self.inside) _ _ c.self.invariant _ c.self.view_is
+    stays (held_of c.self.inside) _ _ c.self.invariant.0 _ c.self.view_is
     (follow_too_far (held_of c.self.inside) c.args.who c.args.board c.args.from c.in-Some.game.now (search rules) (search rules)
     (omega (arith, at, c.len-2.ensures)) (omega (arith, at, c.len-3.ensures, c.capacity-capacity.ensures.value)))
 
@@ -29,7 +29,7 @@ pub returns-then-count-from-clause-stands : goal.returns-then-count-from-clause-
 returns-then-count-from-clause-stands c =
     let at : c.unwrap_or-joined.result ≡ place_in c.args.from c.in-Some.game.now =
     c.unwrap_or-joined.ensures ∙ ap (unwrap_or c.args.from) c.len.ensures in
-    stays (held_of c.self.inside) _ _ c.self.invariant _ c.self.view_is
+    stays (held_of c.self.inside) _ _ c.self.invariant.0 _ c.self.view_is
     (follow_too_many (held_of c.self.inside) c.args.who c.args.board c.args.from c.in-Some.game.now (search rules) (search rules)
     (omega (arith, at, c.len-2.ensures)) (omega (arith, at, c.len-3.ensures, c.capacity-capacity.ensures.value)) (search rules))
 
@@ -37,7 +37,7 @@ pub returns-in_default-admit-clause-stands : goal.returns-in_default-admit-claus
 returns-in_default-admit-clause-stands c =
     let at : c.unwrap_or-joined.result ≡ place_in c.args.from c.in-Some.game.now =
     c.unwrap_or-joined.ensures ∙ ap (unwrap_or c.args.from) c.len.ensures in
-    stands (held_of c.self.inside) _ _ _ c.self.invariant _ c.self.view_is
+    stands (held_of c.self.inside) _ _ _ c.self.invariant.0 _ c.self.view_is
     (follow_no_memory (held_of c.self.inside) c.args.who c.args.board c.args.from c.in-Some.game.now (search rules) (search rules)
     (omega (arith, at, c.len-2.ensures)) (omega (arith, at, c.len-3.ensures, c.capacity-capacity.ensures.value))
     (omega (arith, c.count.ensures, c.from.ensures, c.followers.ensures.value)) c.admit.new.self.entries (search rules))
@@ -45,19 +45,21 @@ returns-in_default-admit-clause-stands c =
 pub invariant_of-self-2 : goal.invariant_of-self-2
 invariant_of-self-2 c =
     let at : c.unwrap_or-joined.result ≡ place_in c.args.from c.in-Some.game.now =
-    c.unwrap_or-joined.ensures ∙ ap (unwrap_or c.args.from) c.len.ensures in
-    keeps (held_of c.self.inside) _ _ _ c.self.invariant refl
-    (follow_goes (held_of c.self.inside) c.args.who c.args.board c.args.from c.in-Some.game.now (search rules) (search rules)
-    (omega (arith, at, c.len-2.ensures)) (omega (arith, at, c.len-3.ensures, c.capacity-capacity.ensures.value))
-    (omega (arith, c.count.ensures, c.from.ensures, c.followers.ensures.value)) c.admit.new.self.entries
-    c.unwrap_or-joined.result c.in-Some-position_at.position at (sym c.in-Some-position_at.is ∙ c.position_at.ensures)
-    (search rules))
+    c.unwrap_or-joined.ensures ∙ ap (unwrap_or c.args.from) c.len.ensures in (
+      keeps (held_of c.self.inside) _ _ _ c.self.invariant.0 refl
+          (follow_goes (held_of c.self.inside) c.args.who c.args.board c.args.from c.in-Some.game.now (search rules) (search rules)
+          (omega (arith, at, c.len-2.ensures)) (omega (arith, at, c.len-3.ensures, c.capacity-capacity.ensures.value))
+          (omega (arith, c.count.ensures, c.from.ensures, c.followers.ensures.value)) c.admit.new.self.entries
+          c.unwrap_or-joined.result c.in-Some-position_at.position at (sym c.in-Some-position_at.is ∙ c.position_at.ensures)
+          (search rules)),
+      c.self.invariant.1,
+    )
 
 pub returns-clause-stands : goal.returns-clause-stands
 returns-clause-stands c =
     let at : c.unwrap_or-joined.result ≡ place_in c.args.from c.in-Some.game.now =
     c.unwrap_or-joined.ensures ∙ ap (unwrap_or c.args.from) c.len.ensures in
-    stands (held_of c.self.inside) _ _ _ c.self.invariant _ c.self.view_is
+    stands (held_of c.self.inside) _ _ _ c.self.invariant.0 _ c.self.view_is
     (follow_goes (held_of c.self.inside) c.args.who c.args.board c.args.from c.in-Some.game.now (search rules) (search rules)
     (omega (arith, at, c.len-2.ensures)) (omega (arith, at, c.len-3.ensures, c.capacity-capacity.ensures.value))
     (omega (arith, c.count.ensures, c.from.ensures, c.followers.ensures.value)) c.admit.new.self.entries

@@ -7,22 +7,24 @@ use Rattle.relay_core.proofs.relay.Relay.take.Goals as goal
 pub take-requires : goal.take-requires
 take-requires c =
     places_fit c.self.inside.limits
-    (held_of c.self.inside) c.self.invariant.history c.args.who c.self.invariant.stands c.plies.ensures.valid.most_plies
+    (held_of c.self.inside) c.self.invariant.0.history c.args.who c.self.invariant.0.stands c.plies.ensures.valid.most_plies
 
 pub returns-in_default-clause-stands : goal.returns-in_default-clause-stands
 returns-in_default-clause-stands c =
-    stands (held_of c.self.inside) _ _ _ c.self.invariant _ c.self.view_is
+    stands (held_of c.self.inside) _ _ _ c.self.invariant.0 _ c.self.view_is
     (take_nobody (held_of c.self.inside) c.take.new.self.entries c.args.who (search rules) (search rules))
 
 pub invariant_of-self-2 : goal.invariant_of-self-2
-invariant_of-self-2 c =
-    keeps (held_of c.self.inside) _ _ _ c.self.invariant refl
-    (take_goes (held_of c.self.inside) c.take.new.self.entries c.args.who c.in-Some.next
-    (sym c.in-Some.is ∙ c.take.ensures.next) c.take.ensures.updates c.take.ensures.boards)
+invariant_of-self-2 c = (
+  keeps (held_of c.self.inside) _ _ _ c.self.invariant.0 refl
+      (take_goes (held_of c.self.inside) c.take.new.self.entries c.args.who c.in-Some.next
+      (sym c.in-Some.is ∙ c.take.ensures.next) c.take.ensures.updates c.take.ensures.boards),
+  c.self.invariant.1,
+)
 
 pub returns-clause-stands : goal.returns-clause-stands
 returns-clause-stands c =
     rw c.answer.ensures
-    (stands (held_of c.self.inside) _ _ _ c.self.invariant _ c.self.view_is
+    (stands (held_of c.self.inside) _ _ _ c.self.invariant.0 _ c.self.view_is
     (take_goes (held_of c.self.inside) c.take.new.self.entries c.args.who c.in-Some.next
     (sym c.in-Some.is ∙ c.take.ensures.next) c.take.ensures.updates c.take.ensures.boards))

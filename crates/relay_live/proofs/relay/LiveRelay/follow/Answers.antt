@@ -15,13 +15,13 @@ use Rattle.relay_live.specs.declared.seated.Seated.{Seated}
 use Rattle.relay_live.specs.Live.{held_of, held_by}
 use Rattle.relay_live.proofs.Follows.{exists, goes, joins, lives, no_memory, not_yet, nowhere, too_far, too_many}
 use Rattle.relay_live.proofs.Opens.{nothing}
-use Rattle.relay_live.proofs.Swaps.{game}
+use Rattle.relay_live.proofs.Swaps.{boards_counted, game}
 use Rattle.relay_live.proofs.relay.LiveRelay.follow.Goals as goal
 
 pub returns-in_default-clause-stands : goal.returns-in_default-clause-stands
 returns-in_default-clause-stands c =
     let a = c.self.inside in
-    stays (held_of a) _ _ c.self.invariant.kept _ c.self.view_is
+    stays (held_of a) _ _ c.self.invariant.0.kept _ c.self.view_is
     (nowhere a.limits a.boards.entries a.followers.entries c.args.who c.args.board c.args.from (sym c.get.ensures.value ∙ ap option_copied c.in_default.is))
 
 pub returns-then-contains_key-clause-stands : goal.returns-then-contains_key-clause-stands
@@ -29,7 +29,7 @@ returns-then-contains_key-clause-stands c =
     let a = c.self.inside in
     let b = c.in-Some.live.now in
     let there : lookup (same_name c.args.board) a.boards.entries ≡ Some b = sym c.get.ensures.value ∙ ap option_copied c.in-Some.is in
-    stays (held_of a) _ _ c.self.invariant.kept _ c.self.view_is
+    stays (held_of a) _ _ c.self.invariant.0.kept _ c.self.view_is
     (exists a.limits a.boards.entries a.followers.entries c.args.who c.args.board c.args.from b there (sym c.contains_key.ensures ∙ c.if-contains_key.true))
 
 pub returns-then-joined-len-clause-stands : goal.returns-then-joined-len-clause-stands
@@ -39,7 +39,7 @@ returns-then-joined-len-clause-stands c =
     let there : lookup (same_name c.args.board) a.boards.entries ≡ Some b = sym c.get.ensures.value ∙ ap option_copied c.in-Some.is in
     let nobody = nothing (lookup (nat_eq c.args.who) a.followers.entries) (sym c.contains_key.ensures ∙ c.if-contains_key.false) in
     let at : c.unwrap_or-joined.result ≡ place_in c.args.from (game b) = c.unwrap_or-joined.ensures ∙ ap (unwrap_or c.args.from) c.len.ensures in
-    stays (held_of a) _ _ c.self.invariant.kept _ c.self.view_is
+    stays (held_of a) _ _ c.self.invariant.0.kept _ c.self.view_is
     (not_yet a.limits a.boards.entries a.followers.entries c.args.who c.args.board c.args.from b there nobody (omega (arith, at, c.len-2.ensures)))
 
 pub returns-then-len-joined-clause-stands : goal.returns-then-len-joined-clause-stands
@@ -50,7 +50,7 @@ returns-then-len-joined-clause-stands c =
     let nobody = nothing (lookup (nat_eq c.args.who) a.followers.entries) (sym c.contains_key.ensures ∙ c.if-contains_key.false) in
     let at : c.unwrap_or-joined.result ≡ place_in c.args.from (game b) = c.unwrap_or-joined.ensures ∙ ap (unwrap_or c.args.from) c.len.ensures in
     let low : place_in c.args.from (game b) ≤ length b.knows.log = omega (arith, at, c.len-2.ensures) in
-    stays (held_of a) _ _ c.self.invariant.kept _ c.self.view_is
+    stays (held_of a) _ _ c.self.invariant.0.kept _ c.self.view_is
     (too_far a.limits a.boards.entries a.followers.entries c.args.who c.args.board c.args.from b there nobody low (omega (arith, at, c.len-3.ensures, c.capacity.ensures.value)))
 
 pub returns-in_default-vacant_place-clause-stands : goal.returns-in_default-vacant_place-clause-stands
@@ -62,8 +62,8 @@ returns-in_default-vacant_place-clause-stands c =
     let at : c.unwrap_or-joined.result ≡ place_in c.args.from (game b) = c.unwrap_or-joined.ensures ∙ ap (unwrap_or c.args.from) c.len.ensures in
     let low : place_in c.args.from (game b) ≤ length b.knows.log = omega (arith, at, c.len-2.ensures) in
     let near : length b.knows.log - place_in c.args.from (game b) ≤ a.limits.capacity = omega (arith, at, c.len-3.ensures, c.capacity.ensures.value) in
-    stays (held_of a) _ _ c.self.invariant.kept _ c.self.view_is
-    (too_many a.limits a.boards.entries a.followers.entries c.args.who c.args.board c.args.from b there nobody low near c.self.invariant c.in_default-vacant_place.ensures.place)
+    stays (held_of a) _ _ c.self.invariant.0.kept _ c.self.view_is
+    (too_many a.limits a.boards.entries a.followers.entries c.args.who c.args.board c.args.from b there nobody low near c.self.invariant.0 c.in_default-vacant_place.ensures.place)
 
 pub unreachable-requires : goal.unreachable-requires
 unreachable-requires c =
@@ -78,9 +78,9 @@ returns-in_default-insert-clause-stands c =
     let at : c.unwrap_or-joined.result ≡ place_in c.args.from (game b) = c.unwrap_or-joined.ensures ∙ ap (unwrap_or c.args.from) c.len.ensures in
     let low : place_in c.args.from (game b) ≤ length b.knows.log = omega (arith, at, c.len-2.ensures) in
     let near : length b.knows.log - place_in c.args.from (game b) ≤ a.limits.capacity = omega (arith, at, c.len-3.ensures, c.capacity.ensures.value) in
-    stands (held_of a) (held_by a.limits a.boards.entries c.insert.new.self.entries) _ _ c.self.invariant.kept _ c.self.view_is
+    stands (held_of a) (held_by a.limits a.boards.entries c.insert.new.self.entries) _ _ c.self.invariant.0.kept _ c.self.view_is
     (subst (λ (l : List (ℕ × Seated)). Goes (held_of a) (held_by a.limits a.boards.entries l) (Follow c.args.who c.args.board c.args.from) (Refused OutOfMemory)) (sym c.in_default-insert.ensures.err)
-    (no_memory a.limits a.boards.entries a.followers.entries c.args.who c.args.board c.args.from b there nobody low near c.self.invariant c.in-Some-vacant_place.place c.in-Some-vacant_place.ensures.place.1))
+    (no_memory a.limits a.boards.entries a.followers.entries c.args.who c.args.board c.args.from b there nobody low near c.self.invariant.0 c.in-Some-vacant_place.place c.in-Some-vacant_place.ensures.place.1))
 
 pub seat-requires : goal.seat-requires
 seat-requires c =
@@ -88,7 +88,7 @@ seat-requires c =
     let b = c.in-Some.live.now in
     let there : lookup (same_name c.args.board) a.boards.entries ≡ Some b = sym c.get.ensures.value ∙ ap option_copied c.in-Some.is in
     let v = c.in-Some-vacant_place.ensures.place in
-    let capacity : b.knows.setup.limits.capacity ≡ a.limits.capacity = ap (λ (s : BoardSetup). s.limits.capacity) (c.self.invariant.setups c.args.board b there) in
+    let capacity : b.knows.setup.limits.capacity ≡ a.limits.capacity = ap (λ (s : BoardSetup). s.limits.capacity) (c.self.invariant.0.setups c.args.board b there) in
     (b, there, v.0, v.1, omega (arith, c.len-2.ensures), omega (arith, capacity, c.len-2.ensures, c.len-3.ensures, c.capacity.ensures.value))
 
 pub invariant_of-self-2 : goal.invariant_of-self-2
@@ -99,11 +99,13 @@ invariant_of-self-2 c =
     let nobody = nothing (lookup (nat_eq c.args.who) a.followers.entries) (sym c.contains_key.ensures ∙ c.if-contains_key.false) in
     let at : c.unwrap_or-joined.result ≡ place_in c.args.from (game b) = c.unwrap_or-joined.ensures ∙ ap (unwrap_or c.args.from) c.len.ensures in
     let s : Seated = record { board = c.args.board; place = c.in-Some-vacant_place.place; joined = c.unwrap_or-joined.result; taken = 0 } in
-    let t = joins c.args.board a.boards.entries c.seat.new.boards.entries c.in-Some-vacant_place.place c.unwrap_or-joined.result b there c.seat.ensures in
-    lives a.limits a.boards.entries c.seat.new.boards.entries a.followers.entries c.insert.new.self.entries c.args.who c.args.board c.in-Some-vacant_place.place c.unwrap_or-joined.result c.self.invariant nobody
-    b t.0 there c.in-Some-vacant_place.ensures.place.1 (omega (arith, c.len-2.ensures)) t.1 t.2 t.3
-    s refl refl refl refl (c.in-Ok.ensures.entries ∙ insert_entry-new nat_eq a.followers c.args.who s nobody)
-    c.args.from c.in-Some-position_at.position at (omega (arith, c.len-3.ensures, c.capacity.ensures.value)) (sym c.in-Some-position_at.is ∙ c.position_at.ensures)
+    let t = joins c.args.board a.boards.entries c.seat.new.boards.entries c.in-Some-vacant_place.place c.unwrap_or-joined.result b there c.seat.ensures.swapped in (
+      lives a.limits a.boards.entries c.seat.new.boards.entries a.followers.entries c.insert.new.self.entries c.args.who c.args.board c.in-Some-vacant_place.place c.unwrap_or-joined.result c.self.invariant.0 nobody
+          b t.0 there c.in-Some-vacant_place.ensures.place.1 (omega (arith, c.len-2.ensures)) t.1 t.2 t.3
+          s refl refl refl refl (c.in-Ok.ensures.entries ∙ insert_entry-new nat_eq a.followers c.args.who s nobody)
+          c.args.from c.in-Some-position_at.position at (omega (arith, c.len-3.ensures, c.capacity.ensures.value)) (sym c.in-Some-position_at.is ∙ c.position_at.ensures),
+      rw (boards_counted a.boards.entries c.seat.new.boards.entries c.args.board b t.0 there t.3, c.seat.ensures.room) c.self.invariant.1,
+    )
 
 pub returns-clause-stands : goal.returns-clause-stands
 returns-clause-stands c =
@@ -113,9 +115,9 @@ returns-clause-stands c =
     let nobody = nothing (lookup (nat_eq c.args.who) a.followers.entries) (sym c.contains_key.ensures ∙ c.if-contains_key.false) in
     let at : c.unwrap_or-joined.result ≡ place_in c.args.from (game b) = c.unwrap_or-joined.ensures ∙ ap (unwrap_or c.args.from) c.len.ensures in
     let s : Seated = record { board = c.args.board; place = c.in-Some-vacant_place.place; joined = c.unwrap_or-joined.result; taken = 0 } in
-    let t = joins c.args.board a.boards.entries c.seat.new.boards.entries c.in-Some-vacant_place.place c.unwrap_or-joined.result b there c.seat.ensures in
-    stands (held_of a) (held_by a.limits c.seat.new.boards.entries c.insert.new.self.entries) _ _ c.self.invariant.kept _ c.self.view_is
-    (goes a.limits a.boards.entries c.seat.new.boards.entries a.followers.entries c.insert.new.self.entries c.args.who c.args.board c.in-Some-vacant_place.place c.unwrap_or-joined.result c.self.invariant nobody
+    let t = joins c.args.board a.boards.entries c.seat.new.boards.entries c.in-Some-vacant_place.place c.unwrap_or-joined.result b there c.seat.ensures.swapped in
+    stands (held_of a) (held_by a.limits c.seat.new.boards.entries c.insert.new.self.entries) _ _ c.self.invariant.0.kept _ c.self.view_is
+    (goes a.limits a.boards.entries c.seat.new.boards.entries a.followers.entries c.insert.new.self.entries c.args.who c.args.board c.in-Some-vacant_place.place c.unwrap_or-joined.result c.self.invariant.0 nobody
     b t.0 there c.in-Some-vacant_place.ensures.place.1 (omega (arith, c.len-2.ensures)) t.1 t.2 t.3
     s refl refl refl refl (c.in-Ok.ensures.entries ∙ insert_entry-new nat_eq a.followers c.args.who s nobody)
     c.args.from c.in-Some-position_at.position at (omega (arith, c.len-3.ensures, c.capacity.ensures.value)) (sym c.in-Some-position_at.is ∙ c.position_at.ensures))

@@ -1,62 +1,54 @@
-use Rattle.std.proofs.Common.{sym, subst, ◌∙◌, arith}
+use Rattle.std.proofs.Common.{length-append, sym, ◌∙◌, arith}
 use Rattle.std.specs.Map.{lookup}
 use Rattle.indexmap.proofs.CallerLemmas.{insert_entry-new}
-use Rattle.c960_game.specs.declared.refusal.Refusal.TheVariants.{OutOfMemory}
-use Rattle.relay_core.specs.declared.reply.Reply.TheVariants.{Refused}
-use Rattle.relay_core.specs.declared.step.Step.TheVariants.{Open}
 use Rattle.relay_core.specs.Name.{same_name}
-use Rattle.relay_core.proofs.Standing.{Goes, stands, stays}
-use Rattle.relay_live.specs.Live.{Boards, held_of, held_by}
+use Rattle.relay_core.proofs.Standing.{stands, stays}
+use Rattle.relay_live.specs.Live.{held_of, held_by}
 use Rattle.relay_live.proofs.Opens.{bad_start, exists, goes, lives, no_memory, nothing, too_many}
 use Rattle.relay_live.proofs.relay.LiveRelay.open.Goals as goal
 
 pub returns-then-contains_key-clause-stands : goal.returns-then-contains_key-clause-stands
 returns-then-contains_key-clause-stands c =
     let a = c.self.inside in
-    stays (held_of a) _ _ c.self.invariant.kept _ c.self.view_is
+    stays (held_of a) _ _ c.self.invariant.0.kept _ c.self.view_is
     (exists a.limits a.boards.entries a.followers.entries c.args.board c.args.start (sym c.contains_key.ensures ∙ c.if-contains_key.true))
 
 pub returns-then-start-ge960-clause-stands : goal.returns-then-start-ge960-clause-stands
 returns-then-start-ge960-clause-stands c =
     let a = c.self.inside in
-    stays (held_of a) _ _ c.self.invariant.kept _ c.self.view_is
+    stays (held_of a) _ _ c.self.invariant.0.kept _ c.self.view_is
     (bad_start a.limits a.boards.entries a.followers.entries c.args.board c.args.start (sym c.contains_key.ensures ∙ c.if-contains_key.false) (omega arith))
 
 pub returns-then-len-from-clause-stands : goal.returns-then-len-from-clause-stands
 returns-then-len-from-clause-stands c =
     let a = c.self.inside in
-    stays (held_of a) _ _ c.self.invariant.kept _ c.self.view_is
+    stays (held_of a) _ _ c.self.invariant.0.kept _ c.self.view_is
     (too_many a.limits a.boards.entries a.followers.entries c.args.board c.args.start (sym c.contains_key.ensures ∙ c.if-contains_key.false) (omega arith)
     (omega (arith, c.len.ensures.len, c.from.ensures, c.boards.ensures.value)))
 
 pub returns-in_default-clause-stands : goal.returns-in_default-clause-stands
 returns-in_default-clause-stands c =
     let a = c.self.inside in
-    stays (held_of a) _ _ c.self.invariant.kept _ c.self.view_is
+    stays (held_of a) _ _ c.self.invariant.0.kept _ c.self.view_is
     (no_memory a.limits a.boards.entries a.followers.entries c.args.board c.args.start (sym c.contains_key.ensures ∙ c.if-contains_key.false) (omega arith)
     (omega (arith, c.len.ensures.len, c.from.ensures, c.boards.ensures.value)))
 
-pub returns-in_default-insert-clause-stands : goal.returns-in_default-insert-clause-stands
-returns-in_default-insert-clause-stands c =
-    let a = c.self.inside in
-    stands (held_of a) (held_by a.limits c.insert.new.self.entries a.followers.entries) _ _ c.self.invariant.kept _ c.self.view_is
-    (subst (λ (b : Boards). Goes (held_of a) (held_by a.limits b a.followers.entries) (Open c.args.board c.args.start) (Refused OutOfMemory)) (sym c.in_default-insert.ensures.err)
-    (no_memory a.limits a.boards.entries a.followers.entries c.args.board c.args.start (sym c.contains_key.ensures ∙ c.if-contains_key.false) (omega arith)
-    (omega (arith, c.len.ensures.len, c.from.ensures, c.boards.ensures.value))))
-
-pub invariant_of-self-2 : goal.invariant_of-self-2
-invariant_of-self-2 c =
+pub invariant_of-self : goal.invariant_of-self
+invariant_of-self c =
     let a = c.self.inside in
     let none = nothing (lookup (same_name c.args.board) a.boards.entries) (sym c.contains_key.ensures ∙ c.if-contains_key.false) in
-    lives a.limits a.boards.entries c.insert.new.self.entries a.followers.entries c.args.board c.args.start c.self.invariant c.in-Ok.live none c.in-Ok.ensures.knows c.in-Ok.ensures.sound
-    (c.in-Ok-insert.ensures.entries ∙ insert_entry-new same_name a.boards c.args.board c.in-Ok.live none) (omega arith)
-    (omega (arith, c.len.ensures.len, c.from.ensures, c.boards.ensures.value))
+    let last = c.in-Ok-insert.ensures.entries ∙ insert_entry-new same_name a.boards c.args.board c.in-Ok.live none in (
+      lives a.limits a.boards.entries c.insert.new.self.entries a.followers.entries c.args.board c.args.start c.self.invariant.0 c.in-Ok.live none c.in-Ok.ensures.knows c.in-Ok.ensures.sound
+          last (omega arith)
+          (omega (arith, c.len.ensures.len, c.from.ensures, c.boards.ensures.value)),
+      grind (arith, length-append, last, c.insert.ensures.spare, c.self.invariant.1),
+    )
 
 pub returns-clause-stands : goal.returns-clause-stands
 returns-clause-stands c =
     let a = c.self.inside in
     let none = nothing (lookup (same_name c.args.board) a.boards.entries) (sym c.contains_key.ensures ∙ c.if-contains_key.false) in
-    stands (held_of a) (held_by a.limits c.insert.new.self.entries a.followers.entries) _ _ c.self.invariant.kept _ c.self.view_is
-    (goes a.limits a.boards.entries c.insert.new.self.entries a.followers.entries c.args.board c.args.start c.self.invariant c.in-Ok.live none c.in-Ok.ensures.knows c.in-Ok.ensures.sound
+    stands (held_of a) (held_by a.limits c.insert.new.self.entries a.followers.entries) _ _ c.self.invariant.0.kept _ c.self.view_is
+    (goes a.limits a.boards.entries c.insert.new.self.entries a.followers.entries c.args.board c.args.start c.self.invariant.0 c.in-Ok.live none c.in-Ok.ensures.knows c.in-Ok.ensures.sound
     (c.in-Ok-insert.ensures.entries ∙ insert_entry-new same_name a.boards c.args.board c.in-Ok.live none) (omega arith)
     (omega (arith, c.len.ensures.len, c.from.ensures, c.boards.ensures.value)))
