@@ -16,7 +16,7 @@ use crate::desk::Desk;
 use c960_board::Move;
 use live_steps::Note;
 use live_steps::plays::{Follow, Leave, Look, Read, Take};
-use live_steps::words::open_cursor;
+use live_steps::words::{STATUS, open_cursor};
 
 impl Desk {
     /// The closing of the follower at the place.
@@ -44,7 +44,10 @@ impl Desk {
         let shared = &self.table.shared;
         let cursor = open_cursor(from);
         shared.store::<Follow>(&mut self.seat, place as usize + 2, cursor);
-        self.notes[place as usize] = Note::Open(from, from);
+        self.notes[place as usize] = Note::Open {
+            joined: from,
+            next: from,
+        };
     }
 
     /// Loads the status.
@@ -54,7 +57,7 @@ impl Desk {
         ensures sound { IsSound self.new.knows }
     {
         let shared = &self.table.shared;
-        let _status = shared.load::<Look>(&mut self.seat, 1);
+        let _status = shared.load::<Look>(&mut self.seat, STATUS);
     }
 
     /// Takes the move at the place `next` of the log for the follower at the cursor place, whose part has seen a length beyond it.

@@ -16,13 +16,16 @@ ghost use Rattle.live_steps.specs.Views.{finished, followed, kept_part, newcomer
 ghost use Rattle.live_board.specs.Desk.{Checked, CheckedBelow, Exchanged, FreeBelow, IsNotedFull, LoadedBelow, NoneVacant, Searched, Tried, TriedBelow, Unmoved};
 ghost use Rattle.live_board.specs.Meeting.{Met};
 
-use crate::cursor::{closing_in, note_after, renew};
-use crate::follower::{Follower, outcome_in};
+use crate::cursor::{note_after, renew};
+use crate::follower::Follower;
 use atomic_table::{Seat, Table};
 use c960_board::Move;
 use c960_game::{Ending, Outcome};
 use live_steps::plays::{Check, Cut, Finish, Hand, Look, Publish, Spare, Store};
-use live_steps::words::{closed_cursor, header, open_cursor, status};
+use live_steps::words::{
+    STATUS, closed_cursor, closing_in, header, length_in, open_cursor, outcome_in, status,
+    word_count,
+};
 use live_steps::{BoardSetup, LiveRule, Note, View};
 use std::alloc::{AllocError, Global};
 use std::marker::Model;
@@ -98,7 +101,7 @@ impl Desk {
         let code = m.code();
         let shared = &self.table.shared;
         shared.store::<Store>(&mut self.seat, word, code);
-        shared.store::<Publish>(&mut self.seat, 1, status);
+        shared.store::<Publish>(&mut self.seat, STATUS, status);
         self.len += 1;
     }
 
@@ -113,7 +116,7 @@ impl Desk {
     {
         let status = status(self.len, Some(outcome));
         let shared = &self.table.shared;
-        shared.store::<Finish>(&mut self.seat, 1, status);
+        shared.store::<Finish>(&mut self.seat, STATUS, status);
     }
 }
 
@@ -162,7 +165,7 @@ impl Desk {
         ensures before { IsSound self.old.knows }
         ensures sound { IsSound self.new.knows }
     {
-        if let Note::Open(_, next) = self.check(place) {
+        if let Note::Open { next, .. } = self.check(place) {
             if next + self.setup.limits.capacity == self.len {
                 self.exchange(place, next);
             }
@@ -197,7 +200,7 @@ impl Desk {
     pub fn word(&self, place: u64) -> Option<u64>
         ensures { IsSome result ↔ (place < self.now.knows.setup.limits.followers + 2 + self.now.knows.setup.limits.plies) }
     {
-        if place < self.setup.limits.followers + 2 + self.setup.limits.plies {
+        if place < word_count(self.setup.limits) {
             Some(self.table.shared.peek(place as usize))
         } else {
             None
@@ -294,11 +297,11 @@ impl Desk {
         let mut seat = shared.split_seat::<Spare>(&mut self.seat);
         swap(&mut seat, &mut follower.seat);
         shared.join_seat::<Hand>(&mut self.seat, seat);
-        let status = shared.load::<Look>(&mut self.seat, 1);
+        let status = shared.load::<Look>(&mut self.seat, STATUS);
         let cursor = shared.load::<Check>(&mut self.seat, place + 2);
         let out = shared.split_seat::<Hand>(&mut self.seat);
         follower.seat = out;
-        follower.seen = status % 65536;
+        follower.seen = length_in(status);
         follower.outcome = outcome_in(status);
         follower.closing = closing_in(cursor);
         let note = self.notes[place];

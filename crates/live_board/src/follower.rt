@@ -3,17 +3,17 @@
 ghost use Rattle.std.specs.Prelude.{◌≡◌, ◌≢◌, ℕ, ◌+◌, ◌<◌, ◌≤◌, [], ◌∷◌, length, Some, None, unwrap_or, is_some};
 ghost use Rattle.live_steps.specs.Sound.{IsSoundPart};
 ghost use Rattle.live_steps.specs.Views.{gains, holding, learns, next_of, sees};
-ghost use Rattle.live_steps.specs.Words.{length_in, outcome_in};
+ghost use Rattle.live_steps.specs.Words.{length_in};
 ghost use Rattle.live_board.specs.Accounts.{account_of};
 ghost use Rattle.live_board.specs.Takes.{Stays, Took};
 
-use crate::cursor::closing_in;
 use crate::desk::LiveTable;
 use crate::gone::Gone;
 use atomic_table::Seat;
 use c960_board::Move;
 use c960_game::Outcome;
 use live_steps::plays::{Leave, Look, Read, Take};
+use live_steps::words::{STATUS, closing_in, length_in, outcome_in};
 use live_steps::{BoardSetup, View};
 use relay_core::{Account, Taken};
 use std::alloc::Global;
@@ -45,13 +45,6 @@ impl Model for Follower {
     ghost view = { λ f. record { table = f.seat.table_id; part = part_of f.seat.me.0 } };
 
     ghost invariant = { λ f. IsFollower (arc_value f.table).shared.table_id (arc_value f.table).shared.key f.seat f.setup f.place f.joined f.taken f.seen f.outcome f.closing };
-}
-
-/// The outcome that a status says.
-pub(crate) fn outcome_in(status: u64) -> Option<Outcome>
-    ensures { result ≡ outcome_in status }
-{
-    Outcome::of_code(status / 65536)
 }
 
 /// What a follower that joined there and has taken so many moves has had, where it was closed at that length if it was, and has
@@ -111,8 +104,8 @@ impl Follower {
         ensures sound { IsSoundPart self.new.part }
     {
         let shared = &self.table.shared;
-        let status = shared.load::<Look>(&mut self.seat, 1);
-        self.seen = status % 65536;
+        let status = shared.load::<Look>(&mut self.seat, STATUS);
+        self.seen = length_in(status);
         self.outcome = outcome_in(status);
     }
 

@@ -111,7 +111,7 @@ invariant_of-follower c =
     let late = (goal.at.invariant_of-follower c).After-split_seat-out in
     let out = c.split_seat-out.ensures in
     let table = out.3 ∙ c.load-cursor.ensures.0 ∙ c.load-status.ensures.0 ∙ c.join_seat.ensures.0 ∙ c.split_seat-seat.ensures.0 ∙ ap (λ (h : BoardSeat). h.table) c.self.view_is ∙ sym c.requires ∙ ap (λ (h : FollowerSeat). h.table) (sym c.follower.view_is) ∙ j.table in
-    follower_of _ (handed late) (handed_sound late) (ap (λ m. m.1) out.4) table j.words j.key_is j.setup_is j.place_is j.joined_is j.taken_is refl c.outcome_in-follower-inside.ensures c.closing_in-follower-inside.ensures
+    follower_of _ (handed late) (handed_sound late) (ap (λ m. m.1) out.4) table j.words j.key_is j.setup_is j.place_is j.joined_is j.taken_is c.length_in-follower-inside.ensures c.outcome_in-follower-inside.ensures c.closing_in-follower-inside.ensures
 
 pub returns-clause-met : goal.returns-clause-met
 returns-clause-met c =
