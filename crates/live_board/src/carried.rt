@@ -16,7 +16,7 @@ use crate::desk::Desk;
 use c960_board::Move;
 use live_steps::Note;
 use live_steps::plays::{Follow, Leave, Look, Read, Take};
-use live_steps::words::{STATUS, open_cursor};
+use live_steps::words::{STATUS, cursor_at, move_word_at, open_cursor};
 
 impl Desk {
     /// The closing of the follower at the place.
@@ -43,7 +43,7 @@ impl Desk {
     {
         let shared = &self.table.shared;
         let cursor = open_cursor(from);
-        shared.store::<Follow>(&mut self.seat, place as usize + 2, cursor);
+        shared.store::<Follow>(&mut self.seat, cursor_at(place), cursor);
         self.notes[place as usize] = Note::Open {
             joined: from,
             next: from,
@@ -70,13 +70,13 @@ impl Desk {
         ensures knows { (cursor : ℕ) × (self.new.knows ≡ each_part (only_at (place + 2) (gains cursor)) (each_part (finds (move_word_at self.old.knows.setup.limits next) result) self.old.knows)) }
         ensures sound { IsSound self.new.knows }
     {
-        let word = (self.setup.limits.followers + 2 + next) as usize;
+        let word = move_word_at(self.setup.limits, next);
         let shared = &self.table.shared;
         let code = shared.load::<Read>(&mut self.seat, word);
         let Some(m) = Move::of_code(code) else {
             unreachable!();
         };
-        let _cursor = shared.fetch_add::<Take>(&mut self.seat, place as usize + 2, 1);
+        let _cursor = shared.fetch_add::<Take>(&mut self.seat, cursor_at(place), 1);
         m
     }
 
@@ -88,7 +88,7 @@ impl Desk {
         ensures sound { IsSound self.new.knows }
     {
         let shared = &self.table.shared;
-        let _cursor = shared.swap::<Leave>(&mut self.seat, place as usize + 2, 0);
+        let _cursor = shared.swap::<Leave>(&mut self.seat, cursor_at(place), 0);
         self.notes[place as usize] = Note::Vacant;
     }
 }

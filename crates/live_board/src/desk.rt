@@ -23,8 +23,8 @@ use c960_board::Move;
 use c960_game::{Ending, Outcome};
 use live_steps::plays::{Check, Cut, Finish, Hand, Look, Publish, Spare, Store};
 use live_steps::words::{
-    STATUS, closed_cursor, closing_in, header, length_in, open_cursor, outcome_in, status,
-    word_count,
+    STATUS, closed_cursor, closing_in, cursor_at, header, length_in, move_word_at, open_cursor,
+    outcome_in, status, word_count,
 };
 use live_steps::{BoardSetup, LiveRule, Note, View};
 use std::alloc::{AllocError, Global};
@@ -96,7 +96,7 @@ impl Desk {
         ensures knows { self.new.knows ≡ published m (storing m self.old.knows) }
         ensures sound { IsSound self.new.knows }
     {
-        let word = (self.setup.limits.followers + 2 + self.len) as usize;
+        let word = move_word_at(self.setup.limits, self.len);
         let status = status(self.len + 1, outcome);
         let code = m.code();
         let shared = &self.table.shared;
@@ -132,7 +132,7 @@ impl Desk {
         ensures sound { IsSound self.new.knows }
     {
         let shared = &self.table.shared;
-        let word = shared.load::<Check>(&mut self.seat, place as usize + 2);
+        let word = shared.load::<Check>(&mut self.seat, cursor_at(place));
         renew(&mut self.notes[place as usize], word)
     }
 
@@ -148,7 +148,7 @@ impl Desk {
         let open = open_cursor(next);
         let closed = closed_cursor(next, len);
         let shared = &self.table.shared;
-        let word = shared.compare_exchange::<Cut>(&mut self.seat, place as usize + 2, open, closed);
+        let word = shared.compare_exchange::<Cut>(&mut self.seat, cursor_at(place), open, closed);
         let note = if word == open {
             Note::Closed(len)
         } else {
@@ -293,12 +293,13 @@ impl Desk {
         ensures sound_part { IsSoundPart follower.new.part }
     {
         let place = follower.place as usize;
+        let word = cursor_at(follower.place);
         let shared = &self.table.shared;
         let mut seat = shared.split_seat::<Spare>(&mut self.seat);
         swap(&mut seat, &mut follower.seat);
         shared.join_seat::<Hand>(&mut self.seat, seat);
         let status = shared.load::<Look>(&mut self.seat, STATUS);
-        let cursor = shared.load::<Check>(&mut self.seat, place + 2);
+        let cursor = shared.load::<Check>(&mut self.seat, word);
         let out = shared.split_seat::<Hand>(&mut self.seat);
         follower.seat = out;
         follower.seen = length_in(status);

@@ -13,7 +13,7 @@ use atomic_table::Seat;
 use c960_board::Move;
 use c960_game::Outcome;
 use live_steps::plays::{Leave, Look, Read, Take};
-use live_steps::words::{STATUS, closing_in, length_in, outcome_in};
+use live_steps::words::{STATUS, closing_in, cursor_at, length_in, move_word_at, outcome_in};
 use live_steps::{BoardSetup, View};
 use relay_core::{Account, Taken};
 use std::alloc::Global;
@@ -117,13 +117,13 @@ impl Follower {
         ensures part { (cursor : ℕ) × (self.new.part ≡ gains cursor (holding (Some result) self.old.part)) }
         ensures sound { IsSoundPart self.new.part }
     {
-        let word = (self.setup.limits.followers + 2 + (self.joined + self.taken)) as usize;
+        let word = move_word_at(self.setup.limits, self.joined + self.taken);
         let shared = &self.table.shared;
         let code = shared.load::<Read>(&mut self.seat, word);
         let Some(m) = Move::of_code(code) else {
             unreachable!()
         };
-        let cursor = shared.fetch_add::<Take>(&mut self.seat, self.place as usize + 2, 1);
+        let cursor = shared.fetch_add::<Take>(&mut self.seat, cursor_at(self.place), 1);
         self.taken += 1;
         self.closing = closing_in(cursor);
         m
@@ -173,7 +173,7 @@ impl Follower {
             outcome: _,
             closing: _,
         } = follower;
-        let cursor = table.shared.swap::<Leave>(&mut seat, place as usize + 2, 0);
+        let cursor = table.shared.swap::<Leave>(&mut seat, cursor_at(place), 0);
         (
             account(joined, taken, seen, closing_in(cursor)),
             Gone { seat },

@@ -1,7 +1,8 @@
-use Rattle.std.proofs.Common.{◌≡◌, rules, arith, ap, ◌∙◌, ◌<◌, set, length}
+use Rattle.std.proofs.Common.{◌≡◌, rules, arith, ap, ◌∙◌, ◌<◌, ◌-◌, set, length, ℕ}
 use lib.ListN.{get_elem?}
 use Rattle.live_steps.specs.declared.setup.BoardSetup.{BoardSetup}
 use Rattle.live_steps.specs.declared.note.Note.TheVariants.{Open}
+use Rattle.live_steps.specs.Words.{place_in}
 use Rattle.live_steps.specs.Views.{followed}
 use Rattle.live_board.specs.Seats.{BoardSeat}
 use Rattle.live_board.proofs.Desks.{desk_of}
@@ -17,7 +18,7 @@ seated c =
     let b = i.sound.board i.owns in
     let room = b.room in
     let plies = b.limits.most_plies in
-    followed_is c.store.new.seat.me.0 c.self.inside.seat.me.0 c.args.place c.args.from _ c.store.ensures.2.1 c.open_cursor-cursor.ensures
+    followed_is c.store.new.seat.me.0 c.self.inside.seat.me.0 c.args.place c.args.from _ (c.store.ensures.2.1 ∙ ap (λ (y : ℕ). followed (y - 2) (place_in c.open_cursor-cursor.result) c.self.inside.seat.me.0) c.cursor_at.ensures) c.open_cursor-cursor.ensures
     (omega (arith, c.requires.from.0, ap (λ (h : BoardSeat). length h.knows.log) c.self.view_is, room, plies))
 
 pub open_cursor-cursor-requires : goal.open_cursor-cursor-requires
@@ -38,8 +39,8 @@ store-requires c =
     let same = c.deref.ensures in
     let inside : c.args.place < c.self.inside.setup.limits.followers = omega (arith, c.requires.inside, ap (λ (h : BoardSeat). h.knows.setup.limits.followers) is, ap (λ (z : BoardSetup). z.limits.followers) i.setup_is) in (
       search rules,
-      omega (arith, inside, i.words, ap (λ t. t.shared.table_id.words) same),
-      following _ _ _ _ c.args.place c.args.from _ c.open_cursor-cursor.ensures (omega (arith, inside, ap (λ (z : BoardSetup). z.limits.followers) i.key_is, ap (λ t. t.shared.key.limits.followers) same)) i.owns
+      omega (arith, c.cursor_at.ensures, inside, i.words, ap (λ t. t.shared.table_id.words) same),
+      following _ _ _ _ c.args.place c.args.from _ _ c.cursor_at.ensures c.open_cursor-cursor.ensures (omega (arith, inside, ap (λ (z : BoardSetup). z.limits.followers) i.key_is, ap (λ t. t.shared.key.limits.followers) same)) i.owns
           (ap (λ (h : BoardSeat). get_elem? h.knows.notes c.args.place) is ∙ c.requires.vacant) (omega (arith, c.requires.from.0, ap (λ (h : BoardSeat). length h.knows.log) is))
           (omega (arith, c.requires.from.1, ap (λ (h : BoardSeat). length h.knows.log) is, ap (λ (h : BoardSeat). h.knows.setup.limits.capacity) is, ap (λ (z : BoardSetup). z.limits.capacity) i.setup_is, ap (λ (z : BoardSetup). z.limits.capacity) i.key_is, ap (λ t. t.shared.key.limits.capacity) same))
           (omega (arith, c.requires.from.0, ap (λ (h : BoardSeat). length h.knows.log) is, room, plies)),
