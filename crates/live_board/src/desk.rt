@@ -38,10 +38,15 @@ pub type LiveTable = Table<(), View, BoardSetup, LiveRule, Global>;
 /// To a contract it is its table and the view of its seat.
 #[derive(Drop)]
 pub struct Desk {
+    /// The board's words, which its followers hold too.
     pub(crate) table: Arc<LiveTable, Global>,
+    /// The board's seat there.
     pub(crate) seat: Seat<(), View>,
+    /// The number of its start, and its limits.
     pub(crate) setup: BoardSetup,
+    /// The length of the log: how many moves were published.
     pub(crate) len: u64,
+    /// What is noted of each cursor place, by its number.
     pub(crate) notes: Vec<Note>,
 }
 
@@ -137,24 +142,29 @@ impl Desk {
     }
 
     /// Closes the follower at the place, whose cursor was open at `next` when it was last loaded, if it still is.
-    fn exchange(&mut self, place: u64, next: u64)
-        requires inside { place < self.old.knows.setup.limits.followers }
-        requires full { IsNotedFull self.old.knows place next }
+    fn exchange(&mut self, cursor_place: u64, next: u64)
+        requires inside { cursor_place < self.old.knows.setup.limits.followers }
+        requires full { IsNotedFull self.old.knows cursor_place next }
         ensures table { self.new.table ≡ self.old.table }
-        ensures knows { Exchanged self.old.knows place next self.new.knows }
+        ensures knows { Exchanged self.old.knows cursor_place next self.new.knows }
         ensures sound { IsSound self.new.knows }
     {
         let len = self.len;
         let open = open_cursor(next);
         let closed = closed_cursor(next, len);
         let shared = &self.table.shared;
-        let word = shared.compare_exchange::<Cut>(&mut self.seat, cursor_at(place), open, closed);
+        let word = shared.compare_exchange::<Cut>(
+            &mut self.seat,
+            cursor_at(cursor_place),
+            open,
+            closed,
+        );
         let note = if word == open {
             Note::Closed(len)
         } else {
-            note_after(self.notes[place as usize], word)
+            note_after(self.notes[cursor_place as usize], word)
         };
-        self.notes[place as usize] = note;
+        self.notes[cursor_place as usize] = note;
     }
 
     /// Loads the cursor at the place, and closes the follower there if it is full.
@@ -253,14 +263,19 @@ impl Desk {
 
     /// A follower joins at a vacant cursor place, and takes from the place `from` of the log. None where the table has too many
     /// owners; then nothing has changed.
-    pub fn sit(&mut self, place: u64, from: u64, outcome: Option<Outcome>) -> Option<Follower>
-        requires inside { place < self.old.knows.setup.limits.followers }
-        requires vacant { get_elem? self.old.knows.notes place ≡ some Vacant }
+    pub fn sit(
+        &mut self,
+        cursor_place: u64,
+        from: u64,
+        outcome: Option<Outcome>,
+    ) -> Option<Follower>
+        requires inside { cursor_place < self.old.knows.setup.limits.followers }
+        requires vacant { get_elem? self.old.knows.notes cursor_place ≡ some Vacant }
         requires from { (from ≤ length self.old.knows.log) × (length self.old.knows.log ≤ from + self.old.knows.setup.limits.capacity) }
         requires outcome { outcome ≡ self.old.knows.outcome }
         ensures table { self.new.table ≡ self.old.table }
         ensures answer { MatchOption result (self.new ≡ self.old)
-            (λ f. (self.new.knows ≡ kept_part (followed place from self.old.knows)) × (f.table ≡ self.old.table) × (f.part ≡ newcomer place from self.old.knows)) }
+            (λ f. (self.new.knows ≡ kept_part (followed cursor_place from self.old.knows)) × (f.table ≡ self.old.table) × (f.part ≡ newcomer cursor_place from self.old.knows)) }
         ensures sound { IsSound self.new.knows }
     {
         let Ok(table) = Arc::try_clone(&self.table) else {
@@ -268,14 +283,14 @@ impl Desk {
         };
         let seen = self.len;
         let setup = self.setup;
-        self.seat_at(place, from);
+        self.seat_at(cursor_place, from);
         let shared = &self.table.shared;
         let seat = shared.split_seat::<Hand>(&mut self.seat);
         Some(Follower {
             table,
             seat,
             setup,
-            place,
+            place: cursor_place,
             joined: from,
             taken: 0,
             seen,

@@ -25,14 +25,23 @@ use std::sync::Arc;
 /// keeps its place on the board taken.
 #[derive(Drop)]
 pub struct Follower {
+    /// The words of its board.
     pub(crate) table: Arc<LiveTable, Global>,
+    /// Its seat there.
     pub(crate) seat: Seat<(), View>,
+    /// The number of its board's start, and the board's limits.
     pub(crate) setup: BoardSetup,
+    /// Its cursor place.
     pub(crate) place: u64,
+    /// The place of the log at which it joined.
     pub(crate) joined: u64,
+    /// How many moves it has taken.
     pub(crate) taken: u64,
+    /// The length of the log that it saw last.
     pub(crate) seen: u64,
+    /// The outcome that it saw last.
     pub(crate) outcome: Option<Outcome>,
+    /// The length of the log at which it was closed, once it has noticed that.
     pub(crate) closing: Option<u64>,
 }
 

@@ -3,7 +3,6 @@ use Rattle.std.proofs.lemmas.Option.{same_Some}
 use Rattle.atomic_table.proofs.Lists.{at_map}
 use mathlib.Core.Option.{some}
 use lib.ListN.{get_elem?}
-use Rattle.c960_board.specs.Moves.{Triple}
 use Rattle.live_machine.specs.Board.{move_at}
 use Rattle.live_steps.specs.declared.setup.BoardSetup.{BoardSetup}
 use Rattle.live_steps.specs.declared.view.View.{View}
@@ -54,7 +53,7 @@ unreachable-requires c =
     let t = c.load-code.ensures.2.1 q.0 q.1 e (omega (arith, c.move_word_at-word.ensures, q.4, ap (λ (z : BoardSetup). z.limits.followers) setup)) q.5 in
     c.in_default.not-Some t.0 (c.of_code.ensures.only t.0 t.1 (sym t.2))
 
-now : (c : goal.After-fetch_add-cursor) → c.fetch_add-cursor.new.seat.me.0 ≡ each_part (only_at (c.args.place + 2) (gains c.fetch_add-cursor.result)) (each_part (finds (c.self.inside.setup.limits.followers + 2 + c.args.next) c.in-Some.m) c.self.inside.seat.me.0)
+now : (c : goal.After-fetch_add-cursor) → c.fetch_add-cursor.new.seat.me.0 ≡ each_part (only_at (c.args.cursor_place + 2) (gains c.fetch_add-cursor.result)) (each_part (finds (c.self.inside.setup.limits.followers + 2 + c.args.next) c.in-Some.m) c.self.inside.seat.me.0)
 now c =
     let i = c.self.invariant in
     let q = c.requires.part in
@@ -88,4 +87,4 @@ returns-clause-knows c =
     let is = c.self.view_is in
     let x : c.self.inside.seat.me.0 ≡ c.args.self.now.knows = ap (λ (h : BoardSeat). h.knows) is in
     let z = sym i.setup_is ∙ ap (λ (h : BoardSeat). h.knows.setup) is in
-    (c.fetch_add-cursor.result, now c ∙ (λ k. each_part (only_at (c.args.place + 2) (gains c.fetch_add-cursor.result)) (each_part (finds ((z k).limits.followers + 2 + c.args.next) c.in-Some.m) (x k))))
+    (c.fetch_add-cursor.result, now c ∙ (λ k. each_part (only_at (c.args.cursor_place + 2) (gains c.fetch_add-cursor.result)) (each_part (finds ((z k).limits.followers + 2 + c.args.next) c.in-Some.m) (x k))))
