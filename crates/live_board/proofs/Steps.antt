@@ -11,14 +11,14 @@ use Rattle.live_steps.specs.declared.view.Part.{Part}
 use Rattle.live_steps.specs.Words.{move_word_at, cursor_of}
 use Rattle.live_steps.specs.Views.{next_of}
 use Rattle.live_steps.specs.Rule.{Kept}
-use Rattle.live_steps.specs.Plays.{Seat, follows, stores, reads, takes, cuts, leaves}
-use Rattle.live_steps.proofs.Allowed.{allows_following, allows_storing, allows_reading, allows_taking, allows_cutting, allows_leaving}
+use Rattle.live_steps.specs.Plays.{Seat, follows, stores, reads, takes, checks, cuts, leaves}
+use Rattle.live_steps.proofs.Allowed.{allows_following, allows_storing, allows_reading, allows_taking, allows_checking, allows_cutting, allows_leaving}
 
-pub following : (z : BoardSetup) (slots id : ℕ) (m : Seat) (k p n : ℕ) → n ≡ cursor_of p None → k < z.limits.followers → m.0.owns ≡ true → get_elem? m.0.notes k ≡ some Vacant → p ≤ length m.0.log → length m.0.log ≤ p + z.limits.capacity
+pub following : (z : BoardSetup) (slots id : ℕ) (m : Seat) (k p word n : ℕ) → word ≡ k + 2 → n ≡ cursor_of p None → k < z.limits.followers → m.0.owns ≡ true → get_elem? m.0.notes k ≡ some Vacant → p ≤ length m.0.log → length m.0.log ≤ p + z.limits.capacity
     → p < 4294967296
-    → Allows (Kept z) slots id m (k + 2) (λ _. n) (λ _. follows (step slots (k + 2) n 0 none) m n)
-following z slots id m k p n is inside owns note low close small =
-    subst (λ (x : ℕ). Allows (Kept z) slots id m (k + 2) (λ _. x) (λ _. follows (step slots (k + 2) x 0 none) m x)) (sym is) (allows_following z slots id m k p inside owns note low close small)
+    → Allows (Kept z) slots id m word (λ _. n) (λ _. follows (step slots word n 0 none) m n)
+following z slots id m k p word n at is inside owns note low close small =
+    subst (λ (y : ℕ × ℕ). Allows (Kept z) slots id m y.0 (λ _. y.1) (λ _. follows (step slots y.0 y.1 0 none) m y.1)) (λ i. (sym at i, sym is i)) (allows_following z slots id m k p inside owns note low close small)
 
 pub storing_move : (z : BoardSetup) (slots id : ℕ) (m : Seat) (x : Triple) (word n : ℕ) → word ≡ move_word_at z.limits (length m.0.log) → n ≡ move_code x → m.0.owns ≡ true → IsMove x → length m.0.log < z.limits.plies
     → Allows (Kept z) slots id m word (λ _. n) (λ _. stores (step slots word n 0 none) m n)
@@ -34,11 +34,15 @@ pub taking : (z : BoardSetup) (slots id : ℕ) (m : Seat) (i : ℕ) (p : Part) (
 taking z slots id m i p x word at mine known unclosed =
     subst (λ (y : ℕ). Allows (Kept z) slots id m y (λ n. (n + 1) % 2 ^ 64) (takes (step slots y 1 0 none) m)) (sym at) (allows_taking z slots id m i p x mine known unclosed)
 
-pub closing : (z : BoardSetup) (slots id : ℕ) (m : Seat) (k joined p old new : ℕ) → old ≡ cursor_of p None → new ≡ cursor_of p (Some (length m.0.log)) → k < z.limits.followers → m.0.owns ≡ true → get_elem? m.0.notes k ≡ some (Open joined p)
+pub checking : (z : BoardSetup) (slots id : ℕ) (m : Seat) (k word : ℕ) → word ≡ k + 2 → k < z.limits.followers → Allows (Kept z) slots id m word (λ n. n) (checks (step slots word 0 0 none) m)
+checking z slots id m k word at inside =
+    subst (λ (y : ℕ). Allows (Kept z) slots id m y (λ n. n) (checks (step slots y 0 0 none) m)) (sym at) (allows_checking z slots id m k inside)
+
+pub closing : (z : BoardSetup) (slots id : ℕ) (m : Seat) (k joined p word old new : ℕ) → word ≡ k + 2 → old ≡ cursor_of p None → new ≡ cursor_of p (Some (length m.0.log)) → k < z.limits.followers → m.0.owns ≡ true → get_elem? m.0.notes k ≡ some (Open joined p)
     → p + z.limits.capacity ≡ length m.0.log
-    → Allows (Kept z) slots id m (k + 2) (λ n. either (eqb n old) new n) (cuts (step slots (k + 2) old new none) m)
-closing z slots id m k joined p old new old-is new-is inside owns note full =
-    subst (λ (y : ℕ × ℕ). Allows (Kept z) slots id m (k + 2) (λ n. either (eqb n y.0) y.1 n) (cuts (step slots (k + 2) y.0 y.1 none) m)) (λ i. (sym old-is i, sym new-is i))
+    → Allows (Kept z) slots id m word (λ n. either (eqb n old) new n) (cuts (step slots word old new none) m)
+closing z slots id m k joined p word old new at old-is new-is inside owns note full =
+    subst (λ (y : ℕ × ℕ × ℕ). Allows (Kept z) slots id m y.0 (λ n. either (eqb n y.1) y.2 n) (cuts (step slots y.0 y.1 y.2 none) m)) (λ i. (sym at i, sym old-is i, sym new-is i))
     (allows_cutting z slots id m k joined p inside owns note full)
 
 pub leaving : (z : BoardSetup) (slots id : ℕ) (m : Seat) (i : ℕ) (p : Part) (word : ℕ) → word ≡ p.place + 2 → get_elem? m.0.parts i ≡ some p → Allows (Kept z) slots id m word (λ _. 0) (leaves (step slots word 0 0 none) m)

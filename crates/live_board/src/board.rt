@@ -31,7 +31,9 @@ use std::marker::Model;
 /// A game that one thread plays while its followers take in the moves. To a contract it is its table and what its seat there knows.
 #[derive(Drop)]
 pub struct Board {
+    /// The board's side of its table.
     desk: Desk,
+    /// The game that the table shows.
     game: Game,
 }
 
@@ -183,31 +185,31 @@ impl Board {
     }
 
     /// A follower joins at a vacant cursor place, and takes from the place `from` of the log. It takes no memory.
-    pub fn seat_at(&mut self, place: u64, from: u16)
-        requires inside { place < self.old.knows.setup.limits.followers }
-        requires vacant { get_elem? self.old.knows.notes place ≡ some Vacant }
+    pub fn seat_at(&mut self, cursor_place: u64, from: u16)
+        requires inside { cursor_place < self.old.knows.setup.limits.followers }
+        requires vacant { get_elem? self.old.knows.notes cursor_place ≡ some Vacant }
         requires from { (from ≤ length self.old.knows.log) × (length self.old.knows.log ≤ from + self.old.knows.setup.limits.capacity) }
         ensures table { self.new.table ≡ self.old.table }
-        ensures knows { self.new.knows ≡ followed place from self.old.knows }
+        ensures knows { self.new.knows ≡ followed cursor_place from self.old.knows }
         ensures sound { IsSound self.new.knows }
     {
-        self.desk.seat_at(place, u64::from(from));
+        self.desk.seat_at(cursor_place, u64::from(from));
     }
 
     /// Takes for the follower at the cursor place, which takes the move at the place `next` of the log next. It takes no memory.
-    pub fn take_at(&mut self, place: u64, next: u16) -> Taken
-        requires { CarriesAt self.old.knows place next }
-        ensures answer { result ≡ taken_of next self.old.knows.outcome (cut_at self.old.knows place) (due_at self.old.knows place next) }
+    pub fn take_at(&mut self, cursor_place: u64, next: u16) -> Taken
+        requires { CarriesAt self.old.knows cursor_place next }
+        ensures answer { result ≡ taken_of next self.old.knows.outcome (cut_at self.old.knows cursor_place) (due_at self.old.knows cursor_place next) }
         ensures table { self.new.table ≡ self.old.table }
-        ensures knows { TookAt place result self.old.knows self.new.knows }
+        ensures knows { TookAt cursor_place result self.old.knows self.new.knows }
         ensures sound { IsSound self.new.knows }
     {
-        if self.desk.closing_at(place) == Some(u64::from(next)) {
+        if self.desk.closing_at(cursor_place) == Some(u64::from(next)) {
             return Taken::Cut;
         }
         self.desk.look();
         if next < self.game.len() {
-            let m = self.desk.gain_at(place, u64::from(next));
+            let m = self.desk.gain_at(cursor_place, u64::from(next));
             return Taken::Move(next, m);
         }
         match self.game.outcome() {

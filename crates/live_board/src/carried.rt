@@ -16,7 +16,7 @@ use crate::desk::Desk;
 use c960_board::Move;
 use live_steps::Note;
 use live_steps::plays::{Follow, Leave, Look, Read, Take};
-use live_steps::words::open_cursor;
+use live_steps::words::{STATUS, cursor_at, move_word_at, open_cursor};
 
 impl Desk {
     /// The closing of the follower at the place.
@@ -33,18 +33,21 @@ impl Desk {
     }
 
     /// A follower joins at a vacant cursor place, and takes from the place `from` of the log. Its part stays here.
-    pub(crate) fn seat_at(&mut self, place: u64, from: u64)
-        requires inside { place < self.old.knows.setup.limits.followers }
-        requires vacant { get_elem? self.old.knows.notes place ≡ some Vacant }
+    pub(crate) fn seat_at(&mut self, cursor_place: u64, from: u64)
+        requires inside { cursor_place < self.old.knows.setup.limits.followers }
+        requires vacant { get_elem? self.old.knows.notes cursor_place ≡ some Vacant }
         requires from { (from ≤ length self.old.knows.log) × (length self.old.knows.log ≤ from + self.old.knows.setup.limits.capacity) }
         ensures table { self.new.table ≡ self.old.table }
-        ensures knows { self.new.knows ≡ followed place from self.old.knows }
+        ensures knows { self.new.knows ≡ followed cursor_place from self.old.knows }
         ensures sound { IsSound self.new.knows }
     {
         let shared = &self.table.shared;
         let cursor = open_cursor(from);
-        shared.store::<Follow>(&mut self.seat, place as usize + 2, cursor);
-        self.notes[place as usize] = Note::Open(from, from);
+        shared.store::<Follow>(&mut self.seat, cursor_at(cursor_place), cursor);
+        self.notes[cursor_place as usize] = Note::Open {
+            joined: from,
+            next: from,
+        };
     }
 
     /// Loads the status.
@@ -54,26 +57,26 @@ impl Desk {
         ensures sound { IsSound self.new.knows }
     {
         let shared = &self.table.shared;
-        let _status = shared.load::<Look>(&mut self.seat, 1);
+        let _status = shared.load::<Look>(&mut self.seat, STATUS);
     }
 
     /// Takes the move at the place `next` of the log for the follower at the cursor place, whose part has seen a length beyond it.
-    pub(crate) fn gain_at(&mut self, place: u64, next: u64) -> Move
-        requires part { (i : ℕ) × (p : Part) × (get_elem? self.old.knows.parts i ≡ some p) × (p.place ≡ place) × (next_of p ≡ next)
+    pub(crate) fn gain_at(&mut self, cursor_place: u64, next: u64) -> Move
+        requires part { (i : ℕ) × (p : Part) × (get_elem? self.old.knows.parts i ≡ some p) × (p.place ≡ cursor_place) × (next_of p ≡ next)
             × (next_of p < p.seen) × ((c : ℕ) → p.closing ≡ Some c → next_of p < c) }
         requires within { next < length self.old.knows.log }
         ensures table { self.new.table ≡ self.old.table }
         ensures move_is { result ≡ move_at self.old.knows.log next }
-        ensures knows { (cursor : ℕ) × (self.new.knows ≡ each_part (only_at (place + 2) (gains cursor)) (each_part (finds (move_word_at self.old.knows.setup.limits next) result) self.old.knows)) }
+        ensures knows { (cursor : ℕ) × (self.new.knows ≡ each_part (only_at (cursor_place + 2) (gains cursor)) (each_part (finds (move_word_at self.old.knows.setup.limits next) result) self.old.knows)) }
         ensures sound { IsSound self.new.knows }
     {
-        let word = (self.setup.limits.followers + 2 + next) as usize;
+        let word = move_word_at(self.setup.limits, next);
         let shared = &self.table.shared;
         let code = shared.load::<Read>(&mut self.seat, word);
         let Some(m) = Move::of_code(code) else {
             unreachable!();
         };
-        let _cursor = shared.fetch_add::<Take>(&mut self.seat, place as usize + 2, 1);
+        let _cursor = shared.fetch_add::<Take>(&mut self.seat, cursor_at(cursor_place), 1);
         m
     }
 
@@ -85,7 +88,7 @@ impl Desk {
         ensures sound { IsSound self.new.knows }
     {
         let shared = &self.table.shared;
-        let _cursor = shared.swap::<Leave>(&mut self.seat, place as usize + 2, 0);
+        let _cursor = shared.swap::<Leave>(&mut self.seat, cursor_at(place), 0);
         self.notes[place as usize] = Note::Vacant;
     }
 }

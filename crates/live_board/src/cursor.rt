@@ -1,20 +1,18 @@
-//! What a cursor's word says.
+//! What the board notes of a cursor, once its word was loaded.
 
 ghost use Rattle.std.specs.Prelude.{◌≡◌, ℕ, ◌<◌};
 ghost use Rattle.live_steps.specs.declared.note.Note.TheVariants.{Open};
-ghost use Rattle.live_steps.specs.Words.{closing_in, joined_noted, note_after};
+ghost use Rattle.live_steps.specs.Words.{joined_noted, note_after};
 
 use live_steps::Note;
-
-/// What a cursor's word holds beside the next place is counted in these.
-const MARK: u64 = 4_294_967_296;
+use live_steps::words::{closing_in, is_open, place_in};
 
 /// The joining place that is noted, 0 where none is.
 fn joined_noted(note: Note) -> u64
     ensures { result ≡ joined_noted note }
 {
     match note {
-        Note::Open(joined, _) => joined,
+        Note::Open { joined, .. } => joined,
         _ => 0,
     }
 }
@@ -28,7 +26,10 @@ pub fn renew(note: &mut Note, word: u64) -> Note
 {
     match *note {
         Note::Vacant if word == 0 => return Note::Vacant,
-        Note::Open(joined, _) if word / MARK == 1 => *note = Note::Open(joined, word % MARK),
+        Note::Open { joined, .. } if is_open(word) => *note = Note::Open {
+            joined,
+            next: place_in(word),
+        },
         known => *note = note_after(known, word),
     }
     *note
@@ -40,20 +41,12 @@ pub fn note_after(note: Note, word: u64) -> Note
 {
     if word == 0 {
         Note::Vacant
-    } else if word / MARK == 1 {
-        Note::Open(joined_noted(note), word % MARK)
+    } else if is_open(word) {
+        Note::Open {
+            joined: joined_noted(note),
+            next: place_in(word),
+        }
     } else {
-        Note::Closed((word / MARK).saturating_sub(2))
-    }
-}
-
-/// The closing that a cursor says.
-pub fn closing_in(word: u64) -> Option<u64>
-    ensures { result ≡ closing_in word }
-{
-    if 1 < word / MARK {
-        Some(word / MARK - 2)
-    } else {
-        None
+        Note::Closed(closing_in(word).unwrap_or(0))
     }
 }

@@ -16,13 +16,16 @@ ghost use Rattle.live_steps.specs.Views.{finished, followed, kept_part, newcomer
 ghost use Rattle.live_board.specs.Desk.{Checked, CheckedBelow, Exchanged, FreeBelow, IsNotedFull, LoadedBelow, NoneVacant, Searched, Tried, TriedBelow, Unmoved};
 ghost use Rattle.live_board.specs.Meeting.{Met};
 
-use crate::cursor::{closing_in, note_after, renew};
-use crate::follower::{Follower, outcome_in};
+use crate::cursor::{note_after, renew};
+use crate::follower::Follower;
 use atomic_table::{Seat, Table};
 use c960_board::Move;
 use c960_game::{Ending, Outcome};
 use live_steps::plays::{Check, Cut, Finish, Hand, Look, Publish, Spare, Store};
-use live_steps::words::{closed_cursor, header, open_cursor, status};
+use live_steps::words::{
+    STATUS, closed_cursor, closing_in, cursor_at, header, length_in, move_word_at, open_cursor,
+    outcome_in, status, word_count,
+};
 use live_steps::{BoardSetup, LiveRule, Note, View};
 use std::alloc::{AllocError, Global};
 use std::marker::Model;
@@ -35,10 +38,15 @@ pub type LiveTable = Table<(), View, BoardSetup, LiveRule, Global>;
 /// To a contract it is its table and the view of its seat.
 #[derive(Drop)]
 pub struct Desk {
+    /// The board's words, which its followers hold too.
     pub(crate) table: Arc<LiveTable, Global>,
+    /// The board's seat there.
     pub(crate) seat: Seat<(), View>,
+    /// The number of its start, and its limits.
     pub(crate) setup: BoardSetup,
+    /// The length of the log: how many moves were published.
     pub(crate) len: u64,
+    /// What is noted of each cursor place, by its number.
     pub(crate) notes: Vec<Note>,
 }
 
@@ -93,12 +101,12 @@ impl Desk {
         ensures knows { self.new.knows ≡ published m (storing m self.old.knows) }
         ensures sound { IsSound self.new.knows }
     {
-        let word = (self.setup.limits.followers + 2 + self.len) as usize;
+        let word = move_word_at(self.setup.limits, self.len);
         let status = status(self.len + 1, outcome);
         let code = m.code();
         let shared = &self.table.shared;
         shared.store::<Store>(&mut self.seat, word, code);
-        shared.store::<Publish>(&mut self.seat, 1, status);
+        shared.store::<Publish>(&mut self.seat, STATUS, status);
         self.len += 1;
     }
 
@@ -113,7 +121,7 @@ impl Desk {
     {
         let status = status(self.len, Some(outcome));
         let shared = &self.table.shared;
-        shared.store::<Finish>(&mut self.seat, 1, status);
+        shared.store::<Finish>(&mut self.seat, STATUS, status);
     }
 }
 
@@ -129,29 +137,34 @@ impl Desk {
         ensures sound { IsSound self.new.knows }
     {
         let shared = &self.table.shared;
-        let word = shared.load::<Check>(&mut self.seat, place as usize + 2);
+        let word = shared.load::<Check>(&mut self.seat, cursor_at(place));
         renew(&mut self.notes[place as usize], word)
     }
 
     /// Closes the follower at the place, whose cursor was open at `next` when it was last loaded, if it still is.
-    fn exchange(&mut self, place: u64, next: u64)
-        requires inside { place < self.old.knows.setup.limits.followers }
-        requires full { IsNotedFull self.old.knows place next }
+    fn exchange(&mut self, cursor_place: u64, next: u64)
+        requires inside { cursor_place < self.old.knows.setup.limits.followers }
+        requires full { IsNotedFull self.old.knows cursor_place next }
         ensures table { self.new.table ≡ self.old.table }
-        ensures knows { Exchanged self.old.knows place next self.new.knows }
+        ensures knows { Exchanged self.old.knows cursor_place next self.new.knows }
         ensures sound { IsSound self.new.knows }
     {
         let len = self.len;
         let open = open_cursor(next);
         let closed = closed_cursor(next, len);
         let shared = &self.table.shared;
-        let word = shared.compare_exchange::<Cut>(&mut self.seat, place as usize + 2, open, closed);
+        let word = shared.compare_exchange::<Cut>(
+            &mut self.seat,
+            cursor_at(cursor_place),
+            open,
+            closed,
+        );
         let note = if word == open {
             Note::Closed(len)
         } else {
-            note_after(self.notes[place as usize], word)
+            note_after(self.notes[cursor_place as usize], word)
         };
-        self.notes[place as usize] = note;
+        self.notes[cursor_place as usize] = note;
     }
 
     /// Loads the cursor at the place, and closes the follower there if it is full.
@@ -162,7 +175,7 @@ impl Desk {
         ensures before { IsSound self.old.knows }
         ensures sound { IsSound self.new.knows }
     {
-        if let Note::Open(_, next) = self.check(place) {
+        if let Note::Open { next, .. } = self.check(place) {
             if next + self.setup.limits.capacity == self.len {
                 self.exchange(place, next);
             }
@@ -197,7 +210,7 @@ impl Desk {
     pub fn word(&self, place: u64) -> Option<u64>
         ensures { IsSome result ↔ (place < self.now.knows.setup.limits.followers + 2 + self.now.knows.setup.limits.plies) }
     {
-        if place < self.setup.limits.followers + 2 + self.setup.limits.plies {
+        if place < word_count(self.setup.limits) {
             Some(self.table.shared.peek(place as usize))
         } else {
             None
@@ -250,14 +263,19 @@ impl Desk {
 
     /// A follower joins at a vacant cursor place, and takes from the place `from` of the log. None where the table has too many
     /// owners; then nothing has changed.
-    pub fn sit(&mut self, place: u64, from: u64, outcome: Option<Outcome>) -> Option<Follower>
-        requires inside { place < self.old.knows.setup.limits.followers }
-        requires vacant { get_elem? self.old.knows.notes place ≡ some Vacant }
+    pub fn sit(
+        &mut self,
+        cursor_place: u64,
+        from: u64,
+        outcome: Option<Outcome>,
+    ) -> Option<Follower>
+        requires inside { cursor_place < self.old.knows.setup.limits.followers }
+        requires vacant { get_elem? self.old.knows.notes cursor_place ≡ some Vacant }
         requires from { (from ≤ length self.old.knows.log) × (length self.old.knows.log ≤ from + self.old.knows.setup.limits.capacity) }
         requires outcome { outcome ≡ self.old.knows.outcome }
         ensures table { self.new.table ≡ self.old.table }
         ensures answer { MatchOption result (self.new ≡ self.old)
-            (λ f. (self.new.knows ≡ kept_part (followed place from self.old.knows)) × (f.table ≡ self.old.table) × (f.part ≡ newcomer place from self.old.knows)) }
+            (λ f. (self.new.knows ≡ kept_part (followed cursor_place from self.old.knows)) × (f.table ≡ self.old.table) × (f.part ≡ newcomer cursor_place from self.old.knows)) }
         ensures sound { IsSound self.new.knows }
     {
         let Ok(table) = Arc::try_clone(&self.table) else {
@@ -265,14 +283,14 @@ impl Desk {
         };
         let seen = self.len;
         let setup = self.setup;
-        self.seat_at(place, from);
+        self.seat_at(cursor_place, from);
         let shared = &self.table.shared;
         let seat = shared.split_seat::<Hand>(&mut self.seat);
         Some(Follower {
             table,
             seat,
             setup,
-            place,
+            place: cursor_place,
             joined: from,
             taken: 0,
             seen,
@@ -290,15 +308,16 @@ impl Desk {
         ensures sound_part { IsSoundPart follower.new.part }
     {
         let place = follower.place as usize;
+        let word = cursor_at(follower.place);
         let shared = &self.table.shared;
         let mut seat = shared.split_seat::<Spare>(&mut self.seat);
         swap(&mut seat, &mut follower.seat);
         shared.join_seat::<Hand>(&mut self.seat, seat);
-        let status = shared.load::<Look>(&mut self.seat, 1);
-        let cursor = shared.load::<Check>(&mut self.seat, place + 2);
+        let status = shared.load::<Look>(&mut self.seat, STATUS);
+        let cursor = shared.load::<Check>(&mut self.seat, word);
         let out = shared.split_seat::<Hand>(&mut self.seat);
         follower.seat = out;
-        follower.seen = status % 65536;
+        follower.seen = length_in(status);
         follower.outcome = outcome_in(status);
         follower.closing = closing_in(cursor);
         let note = self.notes[place];

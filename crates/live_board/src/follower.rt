@@ -3,17 +3,17 @@
 ghost use Rattle.std.specs.Prelude.{◌≡◌, ◌≢◌, ℕ, ◌+◌, ◌<◌, ◌≤◌, [], ◌∷◌, length, Some, None, unwrap_or, is_some};
 ghost use Rattle.live_steps.specs.Sound.{IsSoundPart};
 ghost use Rattle.live_steps.specs.Views.{gains, holding, learns, next_of, sees};
-ghost use Rattle.live_steps.specs.Words.{length_in, outcome_in};
+ghost use Rattle.live_steps.specs.Words.{length_in};
 ghost use Rattle.live_board.specs.Accounts.{account_of};
 ghost use Rattle.live_board.specs.Takes.{Stays, Took};
 
-use crate::cursor::closing_in;
 use crate::desk::LiveTable;
 use crate::gone::Gone;
 use atomic_table::Seat;
 use c960_board::Move;
 use c960_game::Outcome;
 use live_steps::plays::{Leave, Look, Read, Take};
+use live_steps::words::{STATUS, closing_in, cursor_at, length_in, move_word_at, outcome_in};
 use live_steps::{BoardSetup, View};
 use relay_core::{Account, Taken};
 use std::alloc::Global;
@@ -25,14 +25,23 @@ use std::sync::Arc;
 /// keeps its place on the board taken.
 #[derive(Drop)]
 pub struct Follower {
+    /// The words of its board.
     pub(crate) table: Arc<LiveTable, Global>,
+    /// Its seat there.
     pub(crate) seat: Seat<(), View>,
+    /// The number of its board's start, and the board's limits.
     pub(crate) setup: BoardSetup,
+    /// Its cursor place.
     pub(crate) place: u64,
+    /// The place of the log at which it joined.
     pub(crate) joined: u64,
+    /// How many moves it has taken.
     pub(crate) taken: u64,
+    /// The length of the log that it saw last.
     pub(crate) seen: u64,
+    /// The outcome that it saw last.
     pub(crate) outcome: Option<Outcome>,
+    /// The length of the log at which it was closed, once it has noticed that.
     pub(crate) closing: Option<u64>,
 }
 
@@ -45,13 +54,6 @@ impl Model for Follower {
     ghost view = { λ f. record { table = f.seat.table_id; part = part_of f.seat.me.0 } };
 
     ghost invariant = { λ f. IsFollower (arc_value f.table).shared.table_id (arc_value f.table).shared.key f.seat f.setup f.place f.joined f.taken f.seen f.outcome f.closing };
-}
-
-/// The outcome that a status says.
-pub(crate) fn outcome_in(status: u64) -> Option<Outcome>
-    ensures { result ≡ outcome_in status }
-{
-    Outcome::of_code(status / 65536)
 }
 
 /// What a follower that joined there and has taken so many moves has had, where it was closed at that length if it was, and has
@@ -111,8 +113,8 @@ impl Follower {
         ensures sound { IsSoundPart self.new.part }
     {
         let shared = &self.table.shared;
-        let status = shared.load::<Look>(&mut self.seat, 1);
-        self.seen = status % 65536;
+        let status = shared.load::<Look>(&mut self.seat, STATUS);
+        self.seen = length_in(status);
         self.outcome = outcome_in(status);
     }
 
@@ -124,13 +126,13 @@ impl Follower {
         ensures part { (cursor : ℕ) × (self.new.part ≡ gains cursor (holding (Some result) self.old.part)) }
         ensures sound { IsSoundPart self.new.part }
     {
-        let word = (self.setup.limits.followers + 2 + (self.joined + self.taken)) as usize;
+        let word = move_word_at(self.setup.limits, self.joined + self.taken);
         let shared = &self.table.shared;
         let code = shared.load::<Read>(&mut self.seat, word);
         let Some(m) = Move::of_code(code) else {
             unreachable!()
         };
-        let cursor = shared.fetch_add::<Take>(&mut self.seat, self.place as usize + 2, 1);
+        let cursor = shared.fetch_add::<Take>(&mut self.seat, cursor_at(self.place), 1);
         self.taken += 1;
         self.closing = closing_in(cursor);
         m
@@ -180,7 +182,7 @@ impl Follower {
             outcome: _,
             closing: _,
         } = follower;
-        let cursor = table.shared.swap::<Leave>(&mut seat, place as usize + 2, 0);
+        let cursor = table.shared.swap::<Leave>(&mut seat, cursor_at(place), 0);
         (
             account(joined, taken, seen, closing_in(cursor)),
             Gone { seat },

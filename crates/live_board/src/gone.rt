@@ -7,6 +7,7 @@ use std::marker::Model;
 /// The seat of a follower that left, kept for its view alone. It has no calls.
 #[derive(Drop)]
 pub struct Gone {
+    /// Its view has the part that left.
     pub(crate) seat: Seat<(), View>,
 }
 

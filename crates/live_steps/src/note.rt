@@ -5,9 +5,13 @@
 pub enum Note {
     /// Nobody follows there.
     Vacant,
-    /// A follower that joined at the first place and takes a move at the second place, or a later one, next, and that nobody has
-    /// closed; or nobody since it left.
-    Open(u64, u64),
+    /// A follower that nobody has closed; or nobody since it left.
+    Open {
+        /// The place of the log at which it joined.
+        joined: u64,
+        /// It takes the move at this place of the log next, or one at a later place.
+        next: u64,
+    },
     /// A follower that was closed at this length, or nobody since it left.
     Closed(u64),
 }

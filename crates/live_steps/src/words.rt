@@ -1,8 +1,48 @@
-//! The words of a live board: each has a function that makes it.
-ghost use Rattle.std.specs.Prelude.{◌≡◌, ◌<◌, Some, None};
-ghost use Rattle.live_steps.specs.Words.{cursor_of, header_word, status_word};
+//! The words of a live board: where each stands in its table, how it is made, and what is read off it.
+
+ghost use Rattle.std.specs.Prelude.{◌≡◌, ◌<◌, ◌/◌, ◌==◌, Some, None};
+ghost use Rattle.live_steps.specs.Words.{closing_in, cursor_at, cursor_of, header_word, length_in, move_word_at, outcome_in, place_in, status_word, word_count};
 
 use c960_game::Outcome;
+use live_machine::BoardLimits;
+
+/// The number of the status word. The header is word 0.
+pub const STATUS: usize = 1;
+
+/// What a status holds beside the length is counted in these, and what a header holds beside the start.
+const FIELD: u64 = 65536;
+
+/// What a cursor's word holds beside the next place is counted in these.
+const MARK: u64 = 4_294_967_296;
+
+/// The number of the cursor word of a cursor place.
+#[inline(always)]
+pub fn cursor_at(cursor_place: u64) -> usize
+    requires { cursor_place < 65536 }
+    ensures { result ≡ cursor_at cursor_place }
+{
+    cursor_place as usize + 2
+}
+
+/// The number of the word of the move at a place of the log.
+#[inline(always)]
+pub fn move_word_at(limits: BoardLimits, place: u64) -> usize
+    requires followers { limits.followers < 65536 }
+    requires place { place < 65536 }
+    ensures { result ≡ move_word_at limits place }
+{
+    (limits.followers + 2 + place) as usize
+}
+
+/// How many words a table has.
+#[inline(always)]
+pub fn word_count(limits: BoardLimits) -> u64
+    requires followers { limits.followers < 65536 }
+    requires plies { limits.plies < 65536 }
+    ensures { result ≡ word_count limits }
+{
+    limits.followers + 2 + limits.plies
+}
 
 /// The header of a board with this start, whose queues hold so many moves.
 pub fn header(start: u64, capacity: u64) -> u64
@@ -10,7 +50,7 @@ pub fn header(start: u64, capacity: u64) -> u64
     requires capacity { capacity < 65536 }
     ensures { result ≡ header_word start capacity }
 {
-    start + 65536 * capacity
+    start + FIELD * capacity
 }
 
 /// The status of a board with so many moves and this outcome, if the game is over.
@@ -22,7 +62,7 @@ pub fn status(len: u64, outcome: Option<Outcome>) -> u64
         None => 0,
         Some(outcome) => outcome.code(),
     };
-    len + 65536 * number
+    len + FIELD * number
 }
 
 /// The cursor of an open follower that takes the move at this place next.
@@ -30,7 +70,7 @@ pub fn open_cursor(place: u64) -> u64
     requires { place < 65536 }
     ensures { result ≡ cursor_of place None }
 {
-    place + 4294967296
+    place + MARK
 }
 
 /// The cursor of a follower that takes the move at this place next and was closed at this length.
@@ -39,5 +79,49 @@ pub fn closed_cursor(place: u64, closing: u64) -> u64
     requires closing { closing < 65536 }
     ensures { result ≡ cursor_of place (Some closing) }
 {
-    place + 4294967296 * (closing + 2)
+    place + MARK * (closing + 2)
+}
+
+/// The length of the log that a status says.
+#[inline(always)]
+pub fn length_in(status: u64) -> u64
+    ensures { result ≡ length_in status }
+{
+    status % FIELD
+}
+
+/// The outcome that a status says.
+#[inline(always)]
+pub fn outcome_in(status: u64) -> Option<Outcome>
+    ensures { result ≡ outcome_in status }
+{
+    Outcome::of_code(status / FIELD)
+}
+
+/// The place of the move that is taken next, as a cursor says it.
+#[inline(always)]
+pub fn place_in(cursor: u64) -> u64
+    ensures { result ≡ place_in cursor }
+{
+    cursor % MARK
+}
+
+/// Whether a cursor says that someone follows there who was not closed.
+#[inline(always)]
+pub fn is_open(cursor: u64) -> bool
+    ensures { result ≡ (cursor / 4294967296 == 1) }
+{
+    cursor / MARK == 1
+}
+
+/// The closing that a cursor says.
+#[inline(always)]
+pub fn closing_in(cursor: u64) -> Option<u64>
+    ensures { result ≡ closing_in cursor }
+{
+    if 1 < cursor / MARK {
+        Some(cursor / MARK - 2)
+    } else {
+        None
+    }
 }

@@ -26,9 +26,13 @@ use std::marker::Model;
 /// reads their replies off what that seat knows. Contracts see a `RelayRecord`, as they do of a `Relay`.
 #[derive(Drop)]
 pub struct LiveRelay {
+    /// How much the relay and each of its boards may hold.
     limits: Limits,
+    /// The boards that were opened.
     boards: IndexMap<BoardName, Board>,
+    /// Who follows, and where.
     followers: IndexMap<Spectator, Seated>,
+    /// What memory is asked of.
     alloc: Global,
 }
 

@@ -8,13 +8,16 @@ ghost use Rattle.relay_live.specs.Live.{with_one_more};
 use indexmap::IndexMap;
 use relay_core::{Account, BoardName, Spectator};
 
-/// A spectator's board, its cursor place there, the place of the log at which it joined, and how many moves it has taken. All else of it
-/// stands in what the board knows.
+/// Where a spectator follows, and how far it is. All else of it stands in what the board knows.
 #[derive(Clone, Copy, PartialEq, Eq, Debug)]
 pub(crate) struct Seated {
+    /// The board that it follows.
     pub(crate) board: BoardName,
+    /// Its cursor place there.
     pub(crate) place: u64,
+    /// The place of the log at which it joined.
     pub(crate) joined: u16,
+    /// How many moves it has taken.
     pub(crate) taken: u16,
 }
 

@@ -1,4 +1,4 @@
-use Rattle.std.proofs.Common.{rules, arith, ap, refl, sym, ◌∙◌, ◌<◌, length, List}
+use Rattle.std.proofs.Common.{rules, arith, ap, refl, sym, ◌∙◌, ◌<◌, length, List, ℕ}
 use mathlib.Core.Option.{some}
 use lib.ListN.{get_elem?}
 use Rattle.atomic_table.proofs.Lists.{set_here}
@@ -6,10 +6,11 @@ use Rattle.live_steps.specs.declared.note.Note.{Note}
 use Rattle.live_steps.specs.declared.view.View.{View}
 use Rattle.live_board.proofs.Desks.{noted_is, noted_there}
 use Rattle.live_steps.specs.Words.{note_after}
+use Rattle.live_steps.specs.Views.{noted}
 use Rattle.live_steps.proofs.Checking.{note_read}
 use Rattle.live_steps.specs.declared.setup.BoardSetup.{BoardSetup}
 use Rattle.live_board.specs.Seats.{BoardSeat}
-use Rattle.live_steps.proofs.Allowed.{allows_checking}
+use Rattle.live_board.proofs.Steps.{checking}
 use Rattle.live_board.proofs.desk.Desk.check.Goals as goal
 
 pub load-word-requires : goal.load-word-requires
@@ -18,8 +19,8 @@ load-word-requires c =
     let same = c.deref.ensures in
     let inside : c.args.place < c.self.inside.setup.limits.followers = omega (arith, c.requires, ap (λ (h : BoardSeat). h.knows.setup.limits.followers) c.self.view_is, ap (λ (z : BoardSetup). z.limits.followers) i.setup_is) in (
       search rules,
-      omega (arith, inside, i.words, ap (λ t. t.shared.table_id.words) same),
-      allows_checking _ _ _ _ c.args.place (omega (arith, inside, ap (λ (z : BoardSetup). z.limits.followers) i.key_is, ap (λ t. t.shared.key.limits.followers) same)),
+      omega (arith, c.cursor_at.ensures, inside, i.words, ap (λ t. t.shared.table_id.words) same),
+      checking _ _ _ _ c.args.place _ c.cursor_at.ensures (omega (arith, inside, ap (λ (z : BoardSetup). z.limits.followers) i.key_is, ap (λ t. t.shared.key.limits.followers) same)),
     )
 
 -- the note that was made stands at its place
@@ -32,7 +33,7 @@ returns-clause-note c =
     let low : c.args.place < length v.notes = omega (arith, inside, b.noted, ap (λ (z : BoardSetup). z.limits.followers) i.setup_is) in
     let x = c.index_mut.result.now in
     let there = noted_there i c.args.place x v refl (omega (arith, inside, ap (λ (z : BoardSetup). z.limits.followers) i.setup_is)) c.index_mut.ensures.value in
-    ap (λ (u : View). get_elem? u.notes c.args.place) c.load-word.ensures.2.1
+    ap (λ (u : View). get_elem? u.notes c.args.place) (c.load-word.ensures.2.1 ∙ ap (λ (y : ℕ). noted y c.load-word.result v) c.cursor_at.ensures)
     ∙ ap (λ (l : List Note). get_elem? l c.args.place) (sym (noted_is v.notes c.args.place c.load-word.result x (note_read v.notes c.args.place x there)))
     ∙ set_here v.notes c.args.place (note_after x c.load-word.result) low
     ∙ ap some (sym c.renew.ensures.result)

@@ -10,14 +10,14 @@ exchange-requires-clause-full c =
     let there = c.check.ensures.note in
     let cap : c.check.new.self.knows.setup.limits.capacity ≡ c.self.inside.setup.limits.capacity = ap (λ (h : BoardSeat). h.knows.setup.limits.capacity) (sym c.self.view_is) ∙ ap (λ (z : BoardSetup). z.limits.capacity) c.self.invariant.setup_is in
     let len : length c.check.new.self.knows.log ≡ c.self.inside.len = ap (λ (h : BoardSeat). length h.knows.log) (sym c.self.view_is) ∙ sym c.self.invariant.len_is in
-    (c.in-Open.field-0, there ∙ ap some c.in-Open.is, omega (arith, c.if-next-self.true, cap, len))
+    (c.in-Open.joined, there ∙ ap some c.in-Open.is, omega (arith, c.if-next-self.true, cap, len))
 
 pub returns-then-next-self-clause-knows : goal.returns-then-next-self-clause-knows
 returns-then-next-self-clause-knows c =
     let there = c.check.ensures.note in
     let cap : c.check.new.self.knows.setup.limits.capacity ≡ c.self.inside.setup.limits.capacity = ap (λ (h : BoardSeat). h.knows.setup.limits.capacity) (sym c.self.view_is) ∙ ap (λ (z : BoardSetup). z.limits.capacity) c.self.invariant.setup_is in
     let len : length c.check.new.self.knows.log ≡ c.self.inside.len = ap (λ (h : BoardSeat). length h.knows.log) (sym c.self.view_is) ∙ sym c.self.invariant.len_is in
-    (c.check.new.self.knows, c.check.ensures.knows, inl (c.in-Open.next, (c.in-Open.field-0, there ∙ ap some c.in-Open.is, omega (arith, c.if-next-self.true, cap, len)), c.exchange.ensures.knows))
+    (c.check.new.self.knows, c.check.ensures.knows, inl (c.in-Open.next, (c.in-Open.joined, there ∙ ap some c.in-Open.is, omega (arith, c.if-next-self.true, cap, len)), c.exchange.ensures.knows))
 
 pub returns-else-next-self-clause-knows : goal.returns-else-next-self-clause-knows
 returns-else-next-self-clause-knows c =

@@ -20,11 +20,11 @@ compare_exchange-word-requires c =
     let is = c.self.view_is in
     let same = c.deref.ensures in
     let full = c.requires.full in
-    let inside : c.args.place < c.self.inside.setup.limits.followers = omega (arith, c.requires.inside, ap (λ (h : BoardSeat). h.knows.setup.limits.followers) is, ap (λ (z : BoardSetup). z.limits.followers) i.setup_is) in (
+    let inside : c.args.cursor_place < c.self.inside.setup.limits.followers = omega (arith, c.requires.inside, ap (λ (h : BoardSeat). h.knows.setup.limits.followers) is, ap (λ (z : BoardSetup). z.limits.followers) i.setup_is) in (
       search rules,
-      omega (arith, inside, i.words, ap (λ t. t.shared.table_id.words) same),
-      closing _ _ _ _ c.args.place full.0 c.args.next _ _ c.open_cursor-open.ensures (c.closed_cursor-closed.ensures ∙ ap (λ (x : _). cursor_of c.args.next (Some x)) i.len_is)
+      omega (arith, c.cursor_at.ensures, inside, i.words, ap (λ t. t.shared.table_id.words) same),
+      closing _ _ _ _ c.args.cursor_place full.0 c.args.next _ _ _ c.cursor_at.ensures c.open_cursor-open.ensures (c.closed_cursor-closed.ensures ∙ ap (λ (x : _). cursor_of c.args.next (Some x)) i.len_is)
           (omega (arith, inside, ap (λ (z : BoardSetup). z.limits.followers) i.key_is, ap (λ t. t.shared.key.limits.followers) same)) i.owns
-          (ap (λ (h : BoardSeat). get_elem? h.knows.notes c.args.place) is ∙ full.1)
+          (ap (λ (h : BoardSeat). get_elem? h.knows.notes c.args.cursor_place) is ∙ full.1)
           (omega (arith, full.2, ap (λ (h : BoardSeat). h.knows.setup.limits.capacity) is, ap (λ (h : BoardSeat). length h.knows.log) is, ap (λ (z : BoardSetup). z.limits.capacity) i.setup_is, ap (λ (z : BoardSetup). z.limits.capacity) i.key_is, ap (λ t. t.shared.key.limits.capacity) same)),
     )

@@ -3,7 +3,6 @@ use Rattle.std.proofs.lemmas.Option.{same_Some}
 use Rattle.atomic_table.proofs.Lists.{at_map}
 use mathlib.Core.Option.{some}
 use lib.ListN.{get_elem?}
-use Rattle.c960_board.specs.Moves.{Triple}
 use Rattle.live_machine.specs.Board.{move_at}
 use Rattle.live_steps.specs.declared.setup.BoardSetup.{BoardSetup}
 use Rattle.live_steps.specs.declared.view.View.{View}
@@ -21,8 +20,8 @@ load-code-requires c =
     let room = b.room in
     let same = c.deref.ensures in (
       search rules,
-      omega (arith, c.requires.within, ap (λ (h : BoardSeat). length h.knows.log) c.self.view_is, room, ap (λ (z : BoardSetup). z.limits.plies) i.setup_is, i.words, ap (λ t. t.shared.table_id.words) same),
-      reading _ _ _ _ c.args.next _ (omega (arith, ap (λ (z : BoardSetup). z.limits.followers) i.key_is, ap (λ t. t.shared.key.limits.followers) same)),
+      omega (arith, c.move_word_at-word.ensures, c.requires.within, ap (λ (h : BoardSeat). length h.knows.log) c.self.view_is, room, ap (λ (z : BoardSetup). z.limits.plies) i.setup_is, i.words, ap (λ t. t.shared.table_id.words) same),
+      reading _ _ _ _ c.args.next _ (omega (arith, c.move_word_at-word.ensures, ap (λ (z : BoardSetup). z.limits.followers) i.key_is, ap (λ t. t.shared.key.limits.followers) same)),
     )
 
 pub fetch_add-cursor-requires : goal.fetch_add-cursor-requires
@@ -34,15 +33,15 @@ fetch_add-cursor-requires c =
     let e = ap (λ (h : BoardSeat). get_elem? h.knows.parts q.0) is ∙ q.2 in
     let place = (i.sound.board i.owns).inside q.0 p e in
     let setup = place.1 ∙ i.setup_is in
-    let t = c.load-code.ensures.2.1 q.0 p e (omega (arith, q.4, ap (λ (z : BoardSetup). z.limits.followers) setup)) q.5 in
+    let t = c.load-code.ensures.2.1 q.0 p e (omega (arith, c.move_word_at-word.ensures, q.4, ap (λ (z : BoardSetup). z.limits.followers) setup)) q.5 in
     let x = t.0 in
-    let word = c.self.inside.setup.limits.followers + 2 + c.args.next in
-    let there : next_word p ≡ word = omega (arith, q.4, ap (λ (z : BoardSetup). z.limits.followers) setup) in
+    let word = c.move_word_at-word.result in
+    let there : next_word p ≡ word = omega (arith, c.move_word_at-word.ensures, q.4, ap (λ (z : BoardSetup). z.limits.followers) setup) in
     let mine : get_elem? c.load-code.new.seat.me.0.parts q.0 ≡ some (holding (Some x) p) =
     ap (λ (u : View). get_elem? u.parts q.0) t.3 ∙ at_map (finds word x) c.self.inside.seat.me.0.parts q.0 p e ∙ ap some (found_is word x p q.5 there) in (
       search rules,
-      omega (arith, place.0, q.3, ap (λ (z : BoardSetup). z.limits.followers) i.setup_is, i.words, ap (λ t. t.shared.table_id.words) c.deref.ensures),
-      taking _ _ _ _ q.0 (holding (Some x) p) x _ (ap (λ (y : ℕ). y + 2) (sym q.3)) mine refl q.6,
+      omega (arith, c.cursor_at.ensures, place.0, q.3, ap (λ (z : BoardSetup). z.limits.followers) i.setup_is, i.words, ap (λ t. t.shared.table_id.words) c.deref.ensures),
+      taking _ _ _ _ q.0 (holding (Some x) p) x _ (c.cursor_at.ensures ∙ ap (λ (y : ℕ). y + 2) (sym q.3)) mine refl q.6,
     )
 
 pub unreachable-requires : goal.unreachable-requires
@@ -51,18 +50,19 @@ unreachable-requires c =
     let q = c.requires.part in
     let e = ap (λ (h : BoardSeat). get_elem? h.knows.parts q.0) c.self.view_is ∙ q.2 in
     let setup = ((i.sound.board i.owns).inside q.0 q.1 e).1 ∙ i.setup_is in
-    let t = c.load-code.ensures.2.1 q.0 q.1 e (omega (arith, q.4, ap (λ (z : BoardSetup). z.limits.followers) setup)) q.5 in
+    let t = c.load-code.ensures.2.1 q.0 q.1 e (omega (arith, c.move_word_at-word.ensures, q.4, ap (λ (z : BoardSetup). z.limits.followers) setup)) q.5 in
     c.in_default.not-Some t.0 (c.of_code.ensures.only t.0 t.1 (sym t.2))
 
-now : (c : goal.After-fetch_add-cursor) → c.fetch_add-cursor.new.seat.me.0 ≡ each_part (only_at (c.args.place + 2) (gains c.fetch_add-cursor.result)) (each_part (finds (c.self.inside.setup.limits.followers + 2 + c.args.next) c.in-Some.m) c.self.inside.seat.me.0)
+now : (c : goal.After-fetch_add-cursor) → c.fetch_add-cursor.new.seat.me.0 ≡ each_part (only_at (c.args.cursor_place + 2) (gains c.fetch_add-cursor.result)) (each_part (finds (c.self.inside.setup.limits.followers + 2 + c.args.next) c.in-Some.m) c.self.inside.seat.me.0)
 now c =
     let i = c.self.invariant in
     let q = c.requires.part in
     let e = ap (λ (h : BoardSeat). get_elem? h.knows.parts q.0) c.self.view_is ∙ q.2 in
     let setup = ((i.sound.board i.owns).inside q.0 q.1 e).1 ∙ i.setup_is in
-    let t = c.load-code.ensures.2.1 q.0 q.1 e (omega (arith, q.4, ap (λ (z : BoardSetup). z.limits.followers) setup)) q.5 in
+    let t = c.load-code.ensures.2.1 q.0 q.1 e (omega (arith, c.move_word_at-word.ensures, q.4, ap (λ (z : BoardSetup). z.limits.followers) setup)) q.5 in
     let same : t.0 ≡ c.in-Some.m = same_Some _ _ (sym (c.of_code.ensures.only t.0 t.1 (sym t.2)) ∙ c.in-Some.is) in
-    c.fetch_add-cursor.ensures.2.1 ∙ ap (each_part (only_at (c.args.place + 2) (gains c.fetch_add-cursor.result))) (t.3 ∙ ap (λ (x : Triple). each_part (finds (c.self.inside.setup.limits.followers + 2 + c.args.next) x) c.self.inside.seat.me.0) same)
+    c.fetch_add-cursor.ensures.2.1
+    ∙ (λ k. each_part (only_at (c.cursor_at.ensures k) (gains c.fetch_add-cursor.result)) ((t.3 ∙ (λ j. each_part (finds (c.move_word_at-word.ensures j) (same j)) c.self.inside.seat.me.0)) k))
 
 pub invariant_of-self : goal.invariant_of-self
 invariant_of-self c =
@@ -77,7 +77,7 @@ returns-clause-move_is c =
     let q = c.requires.part in
     let e = ap (λ (h : BoardSeat). get_elem? h.knows.parts q.0) c.self.view_is ∙ q.2 in
     let setup = ((i.sound.board i.owns).inside q.0 q.1 e).1 ∙ i.setup_is in
-    let t = c.load-code.ensures.2.1 q.0 q.1 e (omega (arith, q.4, ap (λ (z : BoardSetup). z.limits.followers) setup)) q.5 in
+    let t = c.load-code.ensures.2.1 q.0 q.1 e (omega (arith, c.move_word_at-word.ensures, q.4, ap (λ (z : BoardSetup). z.limits.followers) setup)) q.5 in
     let same : t.0 ≡ c.in-Some.m = same_Some _ _ (sym (c.of_code.ensures.only t.0 t.1 (sym t.2)) ∙ c.in-Some.is) in
     sym same ∙ t.4 i.owns ∙ ap (move_at c.self.inside.seat.me.0.log) q.4 ∙ ap (λ (h : BoardSeat). move_at h.knows.log c.args.next) c.self.view_is
 
@@ -87,4 +87,4 @@ returns-clause-knows c =
     let is = c.self.view_is in
     let x : c.self.inside.seat.me.0 ≡ c.args.self.now.knows = ap (λ (h : BoardSeat). h.knows) is in
     let z = sym i.setup_is ∙ ap (λ (h : BoardSeat). h.knows.setup) is in
-    (c.fetch_add-cursor.result, now c ∙ (λ k. each_part (only_at (c.args.place + 2) (gains c.fetch_add-cursor.result)) (each_part (finds ((z k).limits.followers + 2 + c.args.next) c.in-Some.m) (x k))))
+    (c.fetch_add-cursor.result, now c ∙ (λ k. each_part (only_at (c.args.cursor_place + 2) (gains c.fetch_add-cursor.result)) (each_part (finds ((z k).limits.followers + 2 + c.args.next) c.in-Some.m) (x k))))

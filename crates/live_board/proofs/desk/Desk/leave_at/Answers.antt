@@ -13,6 +13,6 @@ swap-cursor-requires c =
     let b = i.sound.board i.owns in
     let inside = (b.inside q.0 q.1 e).0 in (
       search rules,
-      omega (arith, inside, q.3, ap (λ (z : BoardSetup). z.limits.followers) i.setup_is, i.words, ap (λ t. t.shared.table_id.words) c.deref.ensures),
-      leaving _ _ _ _ q.0 q.1 _ (ap (λ (y : ℕ). y + 2) (sym q.3)) e,
+      omega (arith, c.cursor_at.ensures, inside, q.3, ap (λ (z : BoardSetup). z.limits.followers) i.setup_is, i.words, ap (λ t. t.shared.table_id.words) c.deref.ensures),
+      leaving _ _ _ _ q.0 q.1 _ (c.cursor_at.ensures ∙ ap (λ (y : ℕ). y + 2) (sym q.3)) e,
     )

@@ -4,7 +4,7 @@ use Rattle.live_steps.specs.declared.view.Part.{Part}
 use Rattle.live_steps.specs.declared.view.View.{View}
 use Rattle.live_steps.specs.Sound.{IsSound}
 use Rattle.live_steps.specs.Views.{carrying, taking_in, each_part, sees, learns, noted, kept_part, given_part}
-use Rattle.live_steps.proofs.Allowed.{allows_sparing, allows_splitting, allows_joining, allows_looking, allows_checking}
+use Rattle.live_steps.proofs.Allowed.{allows_sparing, allows_splitting, allows_joining, allows_looking}
 use Rattle.live_steps.proofs.Checking.{note_read}
 use Rattle.live_steps.proofs.Steps.{off}
 use Rattle.live_board.specs.Meeting.{Met}
@@ -12,6 +12,7 @@ use Rattle.live_board.specs.Seats.{BoardSeat, FollowerSeat, part_of}
 use Rattle.live_board.proofs.Desks.{desk_of, noted_is, noted_there}
 use Rattle.live_board.proofs.Followers.{follower_of, only_is, part_sound}
 use Rattle.live_board.proofs.Hands.{kept_sound, given_sound}
+use Rattle.live_board.proofs.Steps.{checking}
 use Rattle.live_board.proofs.Meetings.{checked_in, joined_in, looked_in, looked_inside, meets}
 use Rattle.live_board.proofs.desk.Desk.meet.Goals.{After-load-status, After-split_seat-out}
 use Rattle.live_board.proofs.desk.Desk.meet.Goals as goal
@@ -42,7 +43,7 @@ module _ (c : After-split_seat-out) where
   early = c.before.before.before.before
 
   whole : c.load-cursor.new.seat.me.0 ≡ checked_in c.self.inside.seat.me.0 c.follower.inside.setup (part_of c.follower.inside.seat.me.0) c.load-status.result c.follower.inside.place c.load-cursor.result
-  whole = c.load-cursor.ensures.2.1 ∙ ap (noted (c.follower.inside.place + 2) c.load-cursor.result) (looked early)
+  whole = c.load-cursor.ensures.2.1 ∙ (λ k. noted (c.cursor_at-word.ensures k) c.load-cursor.result (looked early k))
 
   handed : c.split_seat-out.result.me.0 ≡ carrying c.follower.inside.setup (learns c.load-cursor.result (sees c.load-status.result (part_of c.follower.inside.seat.me.0)) ∷ [])
   handed =
@@ -76,8 +77,8 @@ load-cursor-requires c =
     let i = c.self.invariant in
     let low = low (goal.at.load-cursor-requires c).After-load-status in (
       search rules,
-      omega (arith, low, i.words, ap (λ t. t.shared.table_id.words) c.deref.ensures),
-      allows_checking _ _ _ _ c.follower.inside.place (omega (arith, low, ap (λ (z : BoardSetup). z.limits.followers) i.key_is, ap (λ t. t.shared.key.limits.followers) c.deref.ensures)),
+      omega (arith, c.cursor_at-word.ensures, low, i.words, ap (λ t. t.shared.table_id.words) c.deref.ensures),
+      checking _ _ _ _ c.follower.inside.place _ c.cursor_at-word.ensures (omega (arith, low, ap (λ (z : BoardSetup). z.limits.followers) i.key_is, ap (λ t. t.shared.key.limits.followers) c.deref.ensures)),
     )
 
 pub split_seat-out-requires : goal.split_seat-out-requires
@@ -111,7 +112,7 @@ invariant_of-follower c =
     let late = (goal.at.invariant_of-follower c).After-split_seat-out in
     let out = c.split_seat-out.ensures in
     let table = out.3 ∙ c.load-cursor.ensures.0 ∙ c.load-status.ensures.0 ∙ c.join_seat.ensures.0 ∙ c.split_seat-seat.ensures.0 ∙ ap (λ (h : BoardSeat). h.table) c.self.view_is ∙ sym c.requires ∙ ap (λ (h : FollowerSeat). h.table) (sym c.follower.view_is) ∙ j.table in
-    follower_of _ (handed late) (handed_sound late) (ap (λ m. m.1) out.4) table j.words j.key_is j.setup_is j.place_is j.joined_is j.taken_is refl c.outcome_in-follower-inside.ensures c.closing_in-follower-inside.ensures
+    follower_of _ (handed late) (handed_sound late) (ap (λ m. m.1) out.4) table j.words j.key_is j.setup_is j.place_is j.joined_is j.taken_is c.length_in-follower-inside.ensures c.outcome_in-follower-inside.ensures c.closing_in-follower-inside.ensures
 
 pub returns-clause-met : goal.returns-clause-met
 returns-clause-met c =

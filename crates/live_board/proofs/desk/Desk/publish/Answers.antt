@@ -22,8 +22,8 @@ store-requires c =
     let same = c.deref.ensures in
     let key = ap (λ t. t.shared.key) same ∙ i.key_is ∙ sym i.setup_is ∙ ap (λ (h : BoardSeat). h.knows.setup) is in (
       search rules,
-      omega (arith, c.requires.within, ap (λ (h : BoardSeat). length h.knows.log) is, i.len_is, i.words, ap (λ t. t.shared.table_id.words) same, ap (λ (h : BoardSeat). h.knows.setup.limits.plies) is, ap (λ (z : BoardSetup). z.limits.plies) i.setup_is),
-      storing_move _ _ _ _ c.args.m _ _ (omega (arith, i.len_is, ap (λ (z : BoardSetup). z.limits.followers) i.key_is, ap (λ t. t.shared.key.limits.followers) same)) c.code-code.ensures.value i.owns c.code-code.ensures.valid
+      omega (arith, c.move_word_at-word.ensures, c.requires.within, ap (λ (h : BoardSeat). length h.knows.log) is, i.len_is, i.words, ap (λ t. t.shared.table_id.words) same, ap (λ (h : BoardSeat). h.knows.setup.limits.plies) is, ap (λ (z : BoardSetup). z.limits.plies) i.setup_is),
+      storing_move _ _ _ _ c.args.m _ _ (omega (arith, c.move_word_at-word.ensures, i.len_is, ap (λ (z : BoardSetup). z.limits.followers) i.key_is, ap (λ t. t.shared.key.limits.followers) same)) c.code-code.ensures.value i.owns c.code-code.ensures.valid
           (omega (arith, c.requires.within, ap (λ (h : BoardSeat). length h.knows.log) is, ap (λ (z : BoardSetup). z.limits.plies) key)),
     )
 

@@ -1,7 +1,8 @@
-use Rattle.std.proofs.Common.{◌≡◌, rules, arith, ap, ◌∙◌, ◌<◌, set, length}
+use Rattle.std.proofs.Common.{◌≡◌, rules, arith, ap, ◌∙◌, ◌<◌, ◌-◌, set, length, ℕ}
 use lib.ListN.{get_elem?}
 use Rattle.live_steps.specs.declared.setup.BoardSetup.{BoardSetup}
 use Rattle.live_steps.specs.declared.note.Note.TheVariants.{Open}
+use Rattle.live_steps.specs.Words.{place_in}
 use Rattle.live_steps.specs.Views.{followed}
 use Rattle.live_board.specs.Seats.{BoardSeat}
 use Rattle.live_board.proofs.Desks.{desk_of}
@@ -11,13 +12,13 @@ use Rattle.live_board.proofs.desk.Desk.seat_at.Goals.{After-store}
 use Rattle.live_board.proofs.desk.Desk.seat_at.Goals as goal
 
 -- the view once the cursor was stored
-seated : (c : After-store) → c.store.new.seat.me.0 ≡ followed c.args.place c.args.from c.self.inside.seat.me.0
+seated : (c : After-store) → c.store.new.seat.me.0 ≡ followed c.args.cursor_place c.args.from c.self.inside.seat.me.0
 seated c =
     let i = c.self.invariant in
     let b = i.sound.board i.owns in
     let room = b.room in
     let plies = b.limits.most_plies in
-    followed_is c.store.new.seat.me.0 c.self.inside.seat.me.0 c.args.place c.args.from _ c.store.ensures.2.1 c.open_cursor-cursor.ensures
+    followed_is c.store.new.seat.me.0 c.self.inside.seat.me.0 c.args.cursor_place c.args.from _ (c.store.ensures.2.1 ∙ ap (λ (y : ℕ). followed (y - 2) (place_in c.open_cursor-cursor.result) c.self.inside.seat.me.0) c.cursor_at.ensures) c.open_cursor-cursor.ensures
     (omega (arith, c.requires.from.0, ap (λ (h : BoardSeat). length h.knows.log) c.self.view_is, room, plies))
 
 pub open_cursor-cursor-requires : goal.open_cursor-cursor-requires
@@ -36,11 +37,11 @@ store-requires c =
     let room = b.room in
     let plies = b.limits.most_plies in
     let same = c.deref.ensures in
-    let inside : c.args.place < c.self.inside.setup.limits.followers = omega (arith, c.requires.inside, ap (λ (h : BoardSeat). h.knows.setup.limits.followers) is, ap (λ (z : BoardSetup). z.limits.followers) i.setup_is) in (
+    let inside : c.args.cursor_place < c.self.inside.setup.limits.followers = omega (arith, c.requires.inside, ap (λ (h : BoardSeat). h.knows.setup.limits.followers) is, ap (λ (z : BoardSetup). z.limits.followers) i.setup_is) in (
       search rules,
-      omega (arith, inside, i.words, ap (λ t. t.shared.table_id.words) same),
-      following _ _ _ _ c.args.place c.args.from _ c.open_cursor-cursor.ensures (omega (arith, inside, ap (λ (z : BoardSetup). z.limits.followers) i.key_is, ap (λ t. t.shared.key.limits.followers) same)) i.owns
-          (ap (λ (h : BoardSeat). get_elem? h.knows.notes c.args.place) is ∙ c.requires.vacant) (omega (arith, c.requires.from.0, ap (λ (h : BoardSeat). length h.knows.log) is))
+      omega (arith, c.cursor_at.ensures, inside, i.words, ap (λ t. t.shared.table_id.words) same),
+      following _ _ _ _ c.args.cursor_place c.args.from _ _ c.cursor_at.ensures c.open_cursor-cursor.ensures (omega (arith, inside, ap (λ (z : BoardSetup). z.limits.followers) i.key_is, ap (λ t. t.shared.key.limits.followers) same)) i.owns
+          (ap (λ (h : BoardSeat). get_elem? h.knows.notes c.args.cursor_place) is ∙ c.requires.vacant) (omega (arith, c.requires.from.0, ap (λ (h : BoardSeat). length h.knows.log) is))
           (omega (arith, c.requires.from.1, ap (λ (h : BoardSeat). length h.knows.log) is, ap (λ (h : BoardSeat). h.knows.setup.limits.capacity) is, ap (λ (z : BoardSetup). z.limits.capacity) i.setup_is, ap (λ (z : BoardSetup). z.limits.capacity) i.key_is, ap (λ t. t.shared.key.limits.capacity) same))
           (omega (arith, c.requires.from.0, ap (λ (h : BoardSeat). length h.knows.log) is, room, plies)),
     )
@@ -49,8 +50,8 @@ pub invariant_of-self : goal.invariant_of-self
 invariant_of-self c =
     let i = c.self.invariant in
     let f = c.store.ensures in
-    desk_of _ (seated (goal.at.invariant_of-self c).After-store) (f.0 ∙ i.table) i.words i.key_is i.owns i.setup_is i.len_is (ap (λ l. set l c.args.place (Open c.args.from c.args.from)) i.notes_are)
+    desk_of _ (seated (goal.at.invariant_of-self c).After-store) (f.0 ∙ i.table) i.words i.key_is i.owns i.setup_is i.len_is (ap (λ l. set l c.args.cursor_place (Open c.args.from c.args.from)) i.notes_are)
     i.room_is (f.2.0.0 ∙ i.none_held) f.2.0.1
 
 pub returns-clause-knows : goal.returns-clause-knows
-returns-clause-knows c = seated (goal.at.returns-clause-knows c).After-store ∙ ap (λ (h : BoardSeat). followed c.args.place c.args.from h.knows) c.self.view_is
+returns-clause-knows c = seated (goal.at.returns-clause-knows c).After-store ∙ ap (λ (h : BoardSeat). followed c.args.cursor_place c.args.from h.knows) c.self.view_is

@@ -18,25 +18,25 @@ near c = subst (λ (q : Part). next_of q < q.seen) (sym (ap (λ (h : FollowerSea
 
 -- the move that was loaded
 found : (c : After-load-code) → (x : Triple) × IsMove x × (c.load-code.result ≡ move_code x) × (c.load-code.new.seat.me.0 ≡ carrying c.self.inside.setup (holding (Some x) (part_of c.self.inside.seat.me.0) ∷ []))
-found c = read_part c.self.invariant c.deref.result.now.shared.table_id.slots (c.self.inside.setup.limits.followers + 2 + (c.self.inside.joined + c.self.inside.taken)) c.load-code.result c.load-code.new.seat.me c.load-code.ensures.2 refl (near c.before.before)
+found c = read_part c.self.invariant c.deref.result.now.shared.table_id.slots c.move_word_at-word.result c.load-code.result c.load-code.new.seat.me c.load-code.ensures.2 c.move_word_at-word.ensures (near c.before.before)
 
 -- the view that has taken it
 gained : (c : After-fetch_add-cursor) → c.fetch_add-cursor.new.seat.me.0 ≡ carrying c.self.inside.setup (gains c.fetch_add-cursor.result (holding (Some c.in-Some.m) (part_of c.self.inside.seat.me.0)) ∷ [])
 gained c =
     let i = c.self.invariant in
     let p = part_of c.self.inside.seat.me.0 in
-    let x = found c.before.before.before.before in
+    let x = found c.before.before.before.before.before in
     let same : x.0 ≡ c.in-Some.m = same_Some _ _ (sym (c.of_code.ensures.only x.0 x.1 (sym x.2)) ∙ c.in-Some.is) in
     taken_part c.fetch_add-cursor.new.seat.me.0 c.self.inside.setup _ c.fetch_add-cursor.result (holding (Some c.in-Some.m) p) _ c.fetch_add-cursor.ensures.2.1
-    (x.3 ∙ ap (λ (y : Triple). carrying c.self.inside.setup (holding (Some y) p ∷ [])) same) (ap (λ (y : ℕ). y + 2) (sym i.place_is))
+    (x.3 ∙ ap (λ (y : Triple). carrying c.self.inside.setup (holding (Some y) p ∷ [])) same) (ap (λ (y : ℕ). y + 2) (sym i.place_is) ∙ sym c.cursor_at.ensures)
 
 pub load-code-requires : goal.load-code-requires
 load-code-requires c =
     let i = c.self.invariant in
     let room = i.sound.room in (
       search rules,
-      omega (arith, near (goal.at.load-code-requires c).After-deref, room, i.joined_is, i.taken_is, ap (λ (z : BoardSetup). z.limits.plies) i.setup_is, i.words, ap (λ t. t.shared.table_id.words) c.deref.ensures),
-      reading _ _ _ _ (c.self.inside.joined + c.self.inside.taken) _ (omega (arith, ap (λ (z : BoardSetup). z.limits.followers) i.key_is, ap (λ t. t.shared.key.limits.followers) c.deref.ensures)),
+      omega (arith, c.move_word_at-word.ensures, near (goal.at.load-code-requires c).After-deref, room, i.joined_is, i.taken_is, ap (λ (z : BoardSetup). z.limits.plies) i.setup_is, i.words, ap (λ t. t.shared.table_id.words) c.deref.ensures),
+      reading _ _ _ _ (c.self.inside.joined + c.self.inside.taken) _ (omega (arith, c.move_word_at-word.ensures, ap (λ (z : BoardSetup). z.limits.followers) i.key_is, ap (λ t. t.shared.key.limits.followers) c.deref.ensures)),
     )
 
 pub unreachable-requires : goal.unreachable-requires
@@ -51,8 +51,8 @@ fetch_add-cursor-requires c =
     let x = found (goal.at.fetch_add-cursor-requires c).After-load-code in
     let inside = i.sound.inside in (
       search rules,
-      omega (arith, inside, i.place_is, ap (λ (z : BoardSetup). z.limits.followers) i.setup_is, i.words, ap (λ t. t.shared.table_id.words) c.deref.ensures),
-      taking _ _ _ _ 0 (holding (Some x.0) (part_of c.self.inside.seat.me.0)) x.0 _ (ap (λ (y : ℕ). y + 2) i.place_is) (ap (λ (u : View). get_elem? u.parts 0) x.3) refl
+      omega (arith, c.cursor_at.ensures, inside, i.place_is, ap (λ (z : BoardSetup). z.limits.followers) i.setup_is, i.words, ap (λ t. t.shared.table_id.words) c.deref.ensures),
+      taking _ _ _ _ 0 (holding (Some x.0) (part_of c.self.inside.seat.me.0)) x.0 _ (c.cursor_at.ensures ∙ ap (λ (y : ℕ). y + 2) i.place_is) (ap (λ (u : View). get_elem? u.parts 0) x.3) refl
           (λ d e. subst (λ (q : Part). next_of q < d) (sym now) (c.requires.unclosed d (ap (λ (q : Part). q.closing) (sym now) ∙ e))),
     )
 
