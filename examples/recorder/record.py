@@ -14,6 +14,7 @@ import argparse
 import asyncio
 import json
 import os
+import signal
 import sys
 
 import websockets
@@ -156,6 +157,7 @@ def main():
     words.add_argument("--tries", type=int, default=3600, help="tries in a row that bring nothing new (3600)")
     words.add_argument("--wait", type=float, default=1, help="seconds between two tries (1)")
     given = words.parse_args()
+    signal.signal(signal.SIGTERM, lambda *_: sys.exit(128 + signal.SIGTERM))
     try:
         record = Record(given.file, given.board)
     except FileExistsError:

@@ -166,8 +166,14 @@ async def try_capacity(folder):
 
 
 async def try_nothing(folder):
-    """A run that brought nothing leaves no file, and the same command then does."""
+    """A run that brought nothing, by itself or told to end, leaves no file, and the same command then does."""
     relay = Relay()
+    recorder = await Recorder.start(folder, relay.address)
+    while not recorder.file.exists():
+        await asyncio.sleep(0.05)
+    recorder.process.terminate()
+    await asyncio.wait_for(recorder.process.communicate(), PATIENCE)
+    assert not recorder.file.exists()
     recorder = await Recorder.start(folder, relay.address, "--tries", "2")
     _, said = await asyncio.wait_for(recorder.process.communicate(), PATIENCE)
     assert recorder.process.returncode == 2 and said.count(b"no connection") == 2, said
