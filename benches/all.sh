@@ -8,9 +8,15 @@ here=$(cd "$(dirname "$0")" && pwd)
 folder=$1
 mkdir -p "$folder"
 cd "$folder"
-[ -d games/chance ] || "$here/games.py" games 100000 >&2
+if [ ! -d games ]; then
+    rm -rf games.part
+    "$here/games.py" games.part 100000 >&2
+    mv games.part games
+fi
 for followers in 0 1 64; do
-    [ -f "lines-$followers" ] || "$here/lines.py" "$followers" > "lines-$followers"
+    [ ! -f "lines-$followers" ] || continue
+    "$here/lines.py" "$followers" > lines.part
+    mv lines.part "lines-$followers"
 done
 
 # timed WHAT WHICH COMMAND..

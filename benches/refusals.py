@@ -10,8 +10,8 @@ The server has room for one board and one follower. In each run an owner opens t
 after another, follow from the first place. Where the owner was answered in full, at least two guests get the move, the end as abandoned and
 the close 1000; else all three find the same: the board with the move, the board alone, or none. A server that cannot start says `fault 12
 OutOfMemory` and ends with status 4; every other run ends with all four connections accounted for, and nobody is told that what it asks for
-was done before. The last line counts what met the refusal, and the status is 1 where a run was otherwise. The tests are those that `rt
-test` built.
+was done before. The last line counts what met the refusal, and the status is 1 where a run was otherwise; one that does not end is the
+last. The tests are those that `rt test` built.
 """
 import collections
 import itertools
@@ -23,11 +23,12 @@ import subprocess
 import sys
 import tempfile
 
-from refused_jobs import refuse_in_jobs
+from refused_jobs import refuse_in_jobs, run_refused
+from runs import PATIENCE
+from server import REQUEST, NotListening, Server, frame
 
 HERE = pathlib.Path(__file__).resolve().parent
 CRATES = HERE.parent / "crates"
-PROGRAM = CRATES / "relay960/out/relay960"
 TESTS = {
     "c960_game_tests": [
         "tests::opening::each_start_opens_a_game_without_moves",
@@ -52,12 +53,8 @@ TESTS = {
     ],
     "relay_server_tests": ["tests::refusals::a_refusal_ends_the_boards_and_leaves_no_seat_taken"],
 }
-REQUEST = (
-    b"GET / HTTP/1.1\r\nHost: a\r\nConnection: upgrade\r\nUpgrade: websocket\r\nSec-WebSocket-Version: 13\r\n"
-    b"Sec-WebSocket-Key: dGhlIHNhbXBsZSBub25jZQ==\r\n\r\n"
-)
-OWNER = [b'{"cmd":"open","board":"b1","start":518}', b'{"cmd":"submit","board":"b1","move":"e2e4"}']
-GUEST = [b'{"cmd":"follow","board":"b1","spectator":9,"from":0}']
+OWNER = ['{"cmd":"open","board":"b1","start":518}', '{"cmd":"submit","board":"b1","move":"e2e4"}']
+GUEST = ['{"cmd":"follow","board":"b1","spectator":9,"from":0}']
 OWNED = [b'{"reply":"opened"}', b'{"outcome":null,"place":0,"reply":"played"}', b"close 1000"]
 FOLLOWING = b'{"fen":"rnbqkbnr/pppppppp/8/8/8/8/PPPPPPPP/RNBQKBNR w HAha - 0 1","joined":0,"reply":"following"}'
 END = [b'{"outcome":"abandoned","reply":"over"}', b"close 1000"]
@@ -68,17 +65,12 @@ NO_BOARD = [b'{"code":1,"name":"NoSuchBoard","reply":"refused"}', b"close 1000"]
 ANSWERS = {*OWNED, *FOLLOWED, *NO_BOARD, NO_MEMORY}
 
 
-def frame(first, payload):
-    """A frame with a mask of zeros."""
-    return bytes([first, 0x80 | len(payload)]) + bytes(4) + payload
-
-
 def talk(port, texts):
     """What a connection is told that sends these texts and a close."""
     told, data = [], b""
-    with socket.create_connection(("127.0.0.1", port), timeout=10) as peer:
+    with socket.create_connection(("127.0.0.1", port), timeout=PATIENCE) as peer:
         try:
-            peer.sendall(REQUEST + b"".join(frame(0x81, it) for it in texts) + frame(0x88, struct.pack(">H", 1000)))
+            peer.sendall(REQUEST + b"".join(map(frame, [*texts, "close 1000"])))
             while more := peer.recv(65536):
                 data += more
         except (ConnectionResetError, BrokenPipeError):
@@ -91,28 +83,23 @@ def talk(port, texts):
     return told
 
 
-def free_port():
-    with socket.create_server(("127.0.0.1", 0)) as probe:
-        return probe.getsockname()[1]
-
-
 def met(refused, allocator):
     """What met the refusal of this allocation: the start, the owner, a guest or nothing; None where something is wrong."""
-    port = free_port()
-    words = [PROGRAM, "serve", "--port", str(port), "--connections", "4", "--boards", "1", "--followers", "1", "--capacity", "2"]
-    env = {**os.environ, "LD_PRELOAD": allocator, "REFUSED": str(refused)}
-    with subprocess.Popen(words, env=env, stdout=subprocess.PIPE, stderr=subprocess.PIPE) as server:
-        if not server.stdout.readline():
-            said = server.stderr.read()
-            return "start" if server.wait() == 4 and said.endswith(b"fault 12 OutOfMemory\n") else None
-        try:
-            owner, guests = talk(port, OWNER), [talk(port, GUEST) for _ in range(3)]
-        except ConnectionRefusedError:
-            return None  # it said that it listens, and accepted nobody
-        said = server.stderr.read().decode()
+    words = ["--connections", "4", "--boards", "1", "--followers", "1", "--capacity", "2"]
+    try:
+        with Server(*words, env={**os.environ, "LD_PRELOAD": allocator, "REFUSED": str(refused)}) as server:
+            owner, guests = talk(server.port, OWNER), [talk(server.port, GUEST) for _ in range(3)]
+            _, said, _ = server.ended()
+    except NotListening as fault:
+        _, said, status = fault.args
+        return "start" if status == 4 and said.endswith(b"fault 12 OutOfMemory\n") else None
+    except (ConnectionRefusedError, struct.error):
+        return None  # it said that it listens, and accepted nobody; or it sent a close without a code
+    except (TimeoutError, subprocess.TimeoutExpired) as fault:
+        sys.exit(f"allocation {refused}: the server does not answer, or does not end: {fault}")
     if not ANSWERS.issuperset(itertools.chain(owner, *guests)):
         return None
-    if said not in ("served 4, failed 0\n", "served 3, failed 1\n"):
+    if said not in (b"served 4, failed 0\n", b"served 3, failed 1\n"):
         return None
     if owner == OWNED:
         return {3: "nothing", 2: "guest"}.get(guests.count(FOLLOWED))
@@ -126,11 +113,9 @@ def refuse_in_tests(allocator, mark):
     for crate, names in TESTS.items():
         for name in names:
             for refused in itertools.count(1):
-                mark.unlink(missing_ok=True)
-                env = {**os.environ, "LD_PRELOAD": allocator, "REFUSED": str(refused), "MARK": str(mark)}
-                run = subprocess.run([CRATES / crate / "out" / f"{crate}_tests", name], env=env, capture_output=True, text=True)
+                run = run_refused(refused, [CRATES / crate / "out" / f"{crate}_tests", name], allocator, mark)
                 if run.returncode:
-                    print(f"{name}, allocation {refused}: status {run.returncode} {run.stderr.strip()}")
+                    print(f"{name}, allocation {refused}: status {run.returncode} {run.stderr.decode().strip()}")
                     failed += 1
                 if not mark.exists():
                     print(f"{name}: {refused - 1} allocations refused")

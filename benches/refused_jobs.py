@@ -16,7 +16,7 @@ sys.path.insert(0, str(CRATE / "replays"))
 
 from games import MATE, PLAY  # noqa: E402
 from relays import OPENED, played_last, refused  # noqa: E402
-from runs import PROGRAM, lines  # noqa: E402
+from runs import PATIENCE, PROGRAM, lines  # noqa: E402
 
 NO_MEMORY, NO_BOARD, NO_FOLLOWER = refused(12, "OutOfMemory"), refused(1, "NoSuchBoard"), refused(9, "NoSuchFollower")
 GAME_OVER = refused(5, "GameOver")
@@ -59,13 +59,21 @@ JOBS = [
 ]
 
 
+def run_refused(number, words, allocator, mark, reads=b""):
+    """How a run ended of which the allocation of this number was refused; the mark tells whether it came to that."""
+    mark.unlink(missing_ok=True)
+    env = {**os.environ, "LD_PRELOAD": allocator, "REFUSED": str(number), "MARK": str(mark)}
+    try:
+        return subprocess.run(words, input=reads, env=env, capture_output=True, timeout=PATIENCE)
+    except subprocess.TimeoutExpired as fault:
+        sys.exit(f"allocation {number}: {fault}")
+
+
 def refuse_in_job(job, allocator, mark):
     """Runs the job with each allocation refused, until none is; tells what met the refusals, and whether a run was wrong."""
     met, printed = [], set()
     for number in itertools.count(1):
-        mark.unlink(missing_ok=True)
-        env = {**os.environ, "LD_PRELOAD": allocator, "REFUSED": str(number), "MARK": str(mark)}
-        ended = subprocess.run([PROGRAM, *job.words], input=job.reads, env=env, capture_output=True)
+        ended = run_refused(number, [PROGRAM, *job.words], allocator, mark, job.reads)
         if not mark.exists():
             break
         met.append(job.met(ended))

@@ -6,18 +6,24 @@
 It follows each board from its first move and publishes the relay's texts, as they are, to the channel of the board's name: one after
 another for each board, each answered before the next, so their places come in order. It begins by reading what the channel has
 had and publishes only what is missing there, so it can be killed and started anew at any moment. It waits for boards that are
-not open yet, and ends when the games of all its boards have ended.
+not open yet, and ends when the games of all its boards have ended. A board that the relay refuses for good, as for its name, is given up
+with a line on standard error; the others go on, and the status is 1.
 """
 import argparse
 import asyncio
 import http.client
 import json
 import sys
+import urllib.parse
 
 import websockets
 
 LATER = ("NoSuchBoard", "NotYet", "TooManyFollowers", "OutOfMemory")
 FAULTS = (OSError, asyncio.TimeoutError, websockets.WebSocketException, http.client.HTTPException)
+
+
+class Refused(Exception):
+    """Why a board cannot be followed."""
 
 
 class Channel:
@@ -43,7 +49,8 @@ class Channel:
         if self.link is None:
             self.link = http.client.HTTPConnection(self.server, timeout=10)
         try:
-            self.link.request(method, f"/publish/{self.board}", body, {"Accept": "application/json", "Content-Type": "text/plain"})
+            path = f"/publish/{urllib.parse.quote(self.board)}"
+            self.link.request(method, path, body, {"Accept": "application/json", "Content-Type": "text/plain"})
             answer = self.link.getresponse()
             return answer.status, answer.read()
         except (OSError, http.client.HTTPException):
@@ -104,7 +111,7 @@ async def follow(relay, channel):
                 await socket.send(command(channel.board, place))
             elif text["reply"] == "refused":
                 if text["name"] not in LATER:
-                    raise SystemExit(f"{channel.board}: refused {text['code']} {text['name']}")
+                    raise Refused(f"{text['code']} {text['name']}")
                 return False
             elif text["reply"] == "cut":
                 return False
@@ -130,6 +137,9 @@ async def feed(relay, channel, tries, wait):
             if await follow(relay, channel):
                 print(f"{channel.board}: over, {channel.next} moves", flush=True)
                 return True
+        except Refused as fault:
+            print(f"{channel.board}: refused {fault}", file=sys.stderr, flush=True)
+            return False
         except FAULTS as fault:
             print(f"{channel.board}: {type(fault).__name__} {fault}", file=sys.stderr, flush=True)
         failed = failed + 1 if had == (channel.next, channel.origin) else 0

@@ -16,12 +16,14 @@ run="${RUN:-$(mktemp -d)}"
 chmod 755 "$run"
 pids=""
 stop() {
+    status=$?
     trap - EXIT INT TERM
     for pid in $pids; do kill "$pid" 2> /dev/null || true; done
     wait
-    exit 0
+    exit "$status"
 }
-trap stop EXIT INT TERM
+trap stop EXIT
+trap 'exit 0' INT TERM
 begin() {
     name=$1
     shift

@@ -1,5 +1,6 @@
 """The test of the channels; test.sh starts it. Every subscriber must have each place of its board once, in order, then the outcome."""
 import asyncio
+import contextlib
 import json
 import os
 import pathlib
@@ -86,8 +87,20 @@ async def play(board, start, game, half):
         await ask(cmd="end", board=board, how="agreed")
 
 
-async def start_feed():
-    return await asyncio.create_subprocess_exec("./feed.py", "--relay", RELAY, *BOARDS, cwd=HERE, stdout=subprocess.DEVNULL)
+@contextlib.asynccontextmanager
+async def running(*words, **options):
+    """A process that has ended when the block has."""
+    process = await asyncio.create_subprocess_exec(*words, cwd=HERE, **options)
+    try:
+        yield process
+    finally:
+        with contextlib.suppress(ProcessLookupError):
+            process.terminate()
+        await process.wait()
+
+
+def feed(*boards, **options):
+    return running("./feed.py", "--relay", RELAY, *boards, **options)
 
 
 async def subscribe_all(subscribers):
@@ -118,7 +131,7 @@ async def until(test, seconds=60):
 
 
 async def disturb(run, subscribers, half):
-    """Kills the feed while the games go on, goes on with the games without it, starts it anew, and kills it once more as it publishes."""
+    """Kills the feed while the games go on, goes on with the games without it, starts it anew, and kills it as it publishes."""
     def had():
         return sum(len(it.places) for it in subscribers)
     await until(lambda: had() > 10 * len(subscribers))
@@ -126,11 +139,17 @@ async def disturb(run, subscribers, half):
     half.set()
     await asyncio.sleep(0.3)
     before = had()
-    second = await start_feed()
-    await until(lambda: had() > before + len(subscribers))
-    second.kill()
-    await second.wait()
-    return await start_feed()
+    async with feed(*BOARDS, stdout=subprocess.DEVNULL) as second:
+        await until(lambda: had() > before + len(subscribers))
+        second.kill()
+        await second.wait()
+
+
+async def refuses_one_board():
+    """Whether a name that the relay refuses ends no feed but its own, and is told."""
+    async with feed("no/name", BOARDS[0], stdout=subprocess.PIPE, stderr=subprocess.PIPE) as process:
+        printed, said = await asyncio.wait_for(process.communicate(), 120)
+    return process.returncode == 1 and printed.startswith(b"t1: over") and said == b"no/name: refused 24 BadField\n"
 
 
 async def main():
@@ -138,15 +157,11 @@ async def main():
     starts = [chance.randrange(960) for _ in BOARDS]
     games = {board: whole_game(start, chance) for board, start in zip(BOARDS, starts)}
     with tempfile.TemporaryDirectory(ignore_cleanup_errors=True) as run:
-        everything = await asyncio.create_subprocess_exec(
-            "./start.sh", *BOARDS, cwd=HERE, env={**os.environ, "RUN": run, "RELAY_PORT": RELAY_PORT}, stdout=subprocess.PIPE)
-        line = await asyncio.wait_for(everything.stdout.readline(), 30)
-        assert line.startswith(b"relay at"), line
-        try:
+        env = {**os.environ, "RUN": run, "RELAY_PORT": RELAY_PORT}
+        async with running("./start.sh", *BOARDS, env=env, stdout=subprocess.PIPE) as everything:
+            line = await asyncio.wait_for(everything.stdout.readline(), 120)
+            assert line.startswith(b"relay at"), line
             return await tried(games, starts, run)
-        finally:
-            everything.terminate()
-            await everything.wait()
 
 
 async def tried(games, starts, run):
@@ -155,19 +170,22 @@ async def tried(games, starts, run):
     half = asyncio.Event()
     began = time.monotonic()
     operators = [asyncio.create_task(play(board, start, games[board], half)) for board, start in zip(BOARDS, starts)]
-    feed = await disturb(run, subscribers, half)
-    await asyncio.wait_for(asyncio.gather(*operators), 120)
-    await asyncio.wait(tasks, timeout=60)
-    took = time.monotonic() - began
-    late = [Subscriber(BOARDS[index % 4], PORTS[index // 4 % 2]) for index in range(LATE)]
-    await asyncio.wait(await subscribe_all(late), timeout=30)
-    status = await asyncio.wait_for(feed.wait(), 60)
+    await disturb(run, subscribers, half)
+    async with feed(*BOARDS, stdout=subprocess.DEVNULL) as third:
+        await asyncio.wait_for(asyncio.gather(*operators), 120)
+        await asyncio.wait(tasks, timeout=60)
+        took = time.monotonic() - began
+        late = [Subscriber(BOARDS[index % 4], PORTS[index // 4 % 2]) for index in range(LATE)]
+        await asyncio.wait(await subscribe_all(late), timeout=30)
+        status = await asyncio.wait_for(third.wait(), 60)
+    refused = await refuses_one_board()
     right = sum(it.right(games[it.board]) for it in subscribers)
     came_late = sum(it.right(games[it.board]) for it in late)
     moves = ", ".join(f"{len(games[it])}" for it in BOARDS)
-    passed = right == SUBSCRIBERS and came_late == LATE and status == 0
+    passed = right == SUBSCRIBERS and came_late == LATE and status == 0 and refused
     print(f"{'passed' if passed else 'failed'}: {right} of {SUBSCRIBERS} subscribers and {came_late} of {LATE} late ones had every place "
-          f"once and in order; games of {moves} moves in {took:.1f} s; the feed was killed twice")
+          f"once and in order; games of {moves} moves in {took:.1f} s; the feed was killed twice, and "
+          f"{'told' if refused else 'did not tell'} of a board that is refused")
     return 0 if passed else 1
 
 

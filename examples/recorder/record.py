@@ -8,12 +8,13 @@ disk after each move, so it is whole up to the last move that came, and web/tabl
 board that is not open yet. After a lost connection it follows from the first move again and compares what it is told with what it
 has: where the relay was started anew, another game may have the board's name, and nothing of that is added. It ends with the game
 (status 0), where the relay no longer gives the first moves (1), where the file is there already (1), after so many tries in a row
-that brought nothing new (2), or where the board has another game than the record (3).
+that brought nothing new (2), or where the board has another game than the record (3). Where nothing came, it leaves no file.
 """
 import argparse
 import asyncio
 import json
 import os
+import signal
 import sys
 
 import websockets
@@ -65,6 +66,12 @@ class Record:
         self.file.write(json.dumps(value, separators=(",", ":"), sort_keys=True) + "\n")
         self.file.flush()
         os.fsync(self.file.fileno())
+
+    def close(self):
+        """Ends the file. One in which nothing was written is removed, so that the same command may be given again."""
+        if os.fstat(self.file.fileno()).st_size == 0:
+            os.remove(self.file.name)
+        self.file.close()
 
     def size(self):
         """Grows with each text that is kept."""
@@ -150,12 +157,16 @@ def main():
     words.add_argument("--tries", type=int, default=3600, help="tries in a row that bring nothing new (3600)")
     words.add_argument("--wait", type=float, default=1, help="seconds between two tries (1)")
     given = words.parse_args()
+    signal.signal(signal.SIGTERM, lambda *_: sys.exit(128 + signal.SIGTERM))
     try:
         record = Record(given.file, given.board)
     except FileExistsError:
         print(f"{given.file} is there already", file=sys.stderr)
         return 1
-    return asyncio.run(keep(given.server, record, given.tries, given.wait))
+    try:
+        return asyncio.run(keep(given.server, record, given.tries, given.wait))
+    finally:
+        record.close()
 
 
 if __name__ == "__main__":

@@ -165,6 +165,27 @@ async def try_capacity(folder):
     wire.server.close()
 
 
+async def try_nothing(folder):
+    """A run that brought nothing, by itself or told to end, leaves no file, and the same command then does."""
+    relay = Relay()
+    recorder = await Recorder.start(folder, relay.address)
+    while not recorder.file.exists():
+        await asyncio.sleep(0.05)
+    recorder.process.terminate()
+    await asyncio.wait_for(recorder.process.communicate(), PATIENCE)
+    assert not recorder.file.exists()
+    recorder = await Recorder.start(folder, relay.address, "--tries", "2")
+    _, said = await asyncio.wait_for(recorder.process.communicate(), PATIENCE)
+    assert recorder.process.returncode == 2 and said.count(b"no connection") == 2, said
+    assert not recorder.file.exists()
+    await relay.start()
+    client = await Client.to(relay.address)
+    await client.open("b1", 518)
+    await client.ask(cmd="end", board="b1", how="agreed")
+    recorder = await Recorder.start(folder, relay.address, "--tries", "2")
+    await recorder.ended(0, 518, [], "agreed")
+
+
 async def try_file(folder):
     """A file that is there already is left as it is."""
     file = pathlib.Path(folder, "b1.record")

@@ -6,6 +6,8 @@ import sys
 from dataclasses import dataclass
 
 PROGRAM = pathlib.Path(__file__).resolve().parent.parent / "out/relay960"
+# Seconds: more than any run takes, on a slow machine too.
+PATIENCE = 300
 
 
 @dataclass(frozen=True)
@@ -20,7 +22,7 @@ class Run:
     at_the_end: bool = False
 
     def try_it(self):
-        ended = subprocess.run([PROGRAM, *self.words], input=self.reads, capture_output=True)
+        ended = subprocess.run([PROGRAM, *self.words], input=self.reads, capture_output=True, timeout=PATIENCE)
         printed = ended.stdout[-len(self.prints):] if self.at_the_end else ended.stdout
         self.compare("standard output", printed, self.prints)
         if self.complains is not None:

@@ -6,17 +6,10 @@ import subprocess
 import sys
 import time
 
-from runs import PROGRAM
+from runs import PATIENCE, PROGRAM
+from server import Server, first_line, free_port
 
 DEFAULT_PORT = 9600
-
-
-def listening():
-    """A socket that listens on a free port."""
-    taken = socket.socket()
-    taken.bind(("127.0.0.1", 0))
-    taken.listen()
-    return taken
 
 
 def compare(what, found, wanted):
@@ -26,75 +19,55 @@ def compare(what, found, wanted):
 
 def a_taken_port():
     """Where another program listens, nothing is served."""
-    with listening() as taken:
-        ended = subprocess.run([PROGRAM, "serve", "--port", str(taken.getsockname()[1])], capture_output=True, timeout=60)
+    with socket.create_server(("127.0.0.1", 0)) as taken:
+        words = [PROGRAM, "serve", "--port", str(taken.getsockname()[1])]
+        ended = subprocess.run(words, capture_output=True, timeout=PATIENCE)
     compare("on a taken port", (ended.stdout, ended.stderr, ended.returncode), (b"", b"fault 41 Device\n", 3))
 
 
 def a_full_output():
     """Where it cannot be told that it listens, nothing is served."""
-    with listening() as free:
-        port = free.getsockname()[1]
     with open("/dev/full", "wb") as full:
-        ended = subprocess.run([PROGRAM, "serve", "--port", str(port)], stdout=full, stderr=subprocess.PIPE, timeout=60)
+        words = [PROGRAM, "serve", "--port", str(free_port())]
+        ended = subprocess.run(words, stdout=full, stderr=subprocess.PIPE, timeout=PATIENCE)
     compare("on a device without room", (ended.stderr, ended.returncode), (b"fault 32 Write\n", 3))
+
+
+def connection(server):
+    return socket.create_connection(("127.0.0.1", server.port), timeout=PATIENCE)
 
 
 def connections(count):
     """As many connections as are asked for, each of which ends without a word, and then no more."""
-    with listening() as free:
-        port = free.getsockname()[1]
-    words = [PROGRAM, "serve", "--port", str(port), "--connections", str(count)]
-    with subprocess.Popen(words, stdout=subprocess.PIPE, stderr=subprocess.PIPE) as server:
-        try:
-            compare("the port", server.stdout.readline(), f"listening {port}\n".encode())
-            for _ in range(count):
-                socket.create_connection(("127.0.0.1", port), timeout=20).close()
-            printed, complained = server.communicate(timeout=60)
-        finally:
-            server.kill()
-    compare(f"after {count} connections", (printed, complained, server.returncode), (b"", f"served {count}, failed 0\n".encode(), 0))
+    with Server("--connections", str(count)) as server:
+        for _ in range(count):
+            connection(server).close()
+        server.has_served(count)
+
+
+def few_descriptors():
+    """The three standard streams, the listener and one connection."""
+    resource.setrlimit(resource.RLIMIT_NOFILE, (5, 5))
 
 
 def too_few_descriptors():
     """A connection that there is no descriptor for counts as failed, each time that it is tried, and the one before it is served."""
-    with listening() as free:
-        port = free.getsockname()[1]
-    # The three standard streams, the listener and one connection.
-    few = (5, 5)
-    words = [PROGRAM, "serve", "--port", str(port), "--connections", "3"]
-    with subprocess.Popen(
-        words, stdout=subprocess.PIPE, stderr=subprocess.PIPE, preexec_fn=lambda: resource.setrlimit(resource.RLIMIT_NOFILE, few)
-    ) as server:
-        try:
-            compare("the port", server.stdout.readline(), f"listening {port}\n".encode())
-            # The first says nothing, so that its session lasts as long as a handshake may, and keeps its descriptor meanwhile.
-            with socket.create_connection(("127.0.0.1", port), timeout=20), socket.create_connection(("127.0.0.1", port), timeout=20):
-                printed, complained = server.communicate(timeout=60)
-        finally:
-            server.kill()
-    compare("with five descriptors", (printed, complained, server.returncode), (b"", b"served 1, failed 2\n", 0))
+    with Server("--connections", "3", preexec_fn=few_descriptors) as server:
+        # The first says nothing, so that its session lasts as long as a handshake may, and keeps its descriptor meanwhile.
+        with connection(server), connection(server):
+            server.has_served(1, failed=2)
 
 
 def a_descriptor_comes_back():
     """Where there is none for the next connection it is tried again after a pause: once the one before has ended, there is."""
-    with listening() as free:
-        port = free.getsockname()[1]
-    few = (5, 5)
-    words = [PROGRAM, "serve", "--port", str(port), "--connections", "10000"]
-    with subprocess.Popen(words, stdout=subprocess.PIPE, preexec_fn=lambda: resource.setrlimit(resource.RLIMIT_NOFILE, few)) as server:
-        try:
-            compare("the port", server.stdout.readline(), f"listening {port}\n".encode())
-            with socket.create_connection(("127.0.0.1", port), timeout=20) as one:
-                with socket.create_connection(("127.0.0.1", port), timeout=20) as other:
-                    time.sleep(0.5)
-                    one.close()
-                    # It is told by its end that no request came; by a reset, that it was never met.
-                    other.shutdown(socket.SHUT_WR)
-                    compare("behind a descriptor that came back", other.recv(1), b"")
-            compare("the server's status while it serves", server.poll(), None)
-        finally:
-            server.kill()
+    with Server("--connections", "10000", preexec_fn=few_descriptors) as server:
+        with connection(server) as one, connection(server) as other:
+            time.sleep(0.5)
+            one.close()
+            # It is told by its end that no request came; by a reset, that it was never met.
+            other.shutdown(socket.SHUT_WR)
+            compare("behind a descriptor that came back", other.recv(1), b"")
+        compare("the server's status while it serves", server.process.poll(), None)
 
 
 def default_port():
@@ -107,7 +80,7 @@ def default_port():
             return False
     with subprocess.Popen([PROGRAM, "serve"], stdout=subprocess.PIPE) as server:
         try:
-            compare("the default port", server.stdout.readline(), f"listening {DEFAULT_PORT}\n".encode())
+            compare("the default port", first_line(server), f"listening {DEFAULT_PORT}\n".encode())
         finally:
             server.kill()
     return True

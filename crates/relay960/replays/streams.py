@@ -4,7 +4,7 @@ import os
 import subprocess
 import sys
 
-from runs import PROGRAM, Run, lines
+from runs import PATIENCE, PROGRAM, Run, lines
 from scripts import MATE_SCRIPT, NOT_JSON
 from starts import PROMOTION, UNLAWFUL
 
@@ -36,7 +36,7 @@ def closed_outputs():
     """A device without room as standard output is fault 32."""
     for words, reads in WRITING:
         with open("/dev/full", "wb") as full:
-            ended = subprocess.run([PROGRAM, *words], input=reads, stdout=full, stderr=subprocess.PIPE)
+            ended = subprocess.run([PROGRAM, *words], input=reads, stdout=full, stderr=subprocess.PIPE, timeout=PATIENCE)
         if (ended.stderr, ended.returncode) != (b"fault 32 Write\n", 3):
             sys.exit(f"on a device without room {ended}")
     return len(WRITING)
@@ -47,7 +47,7 @@ def unreadable_inputs():
     folder = os.open("/", os.O_RDONLY)
     jobs = ((), ("script",), ("play", "518"))
     for words in jobs:
-        ended = subprocess.run([PROGRAM, *words], stdin=folder, capture_output=True)
+        ended = subprocess.run([PROGRAM, *words], stdin=folder, capture_output=True, timeout=PATIENCE)
         if (ended.stdout, ended.stderr, ended.returncode) != (b"", b"fault 31 Read\n", 3):
             sys.exit(f"on an input that cannot be read {ended}")
     os.close(folder)
