@@ -11,7 +11,7 @@ import time
 import websockets
 
 from browser import PATIENCE, Browser
-from relay import Client, Player, Relay, Wire, fens, start_fen
+from relay import Client, Player, Relay, Told, Wire, fens, start_fen
 
 WEB = pathlib.Path(__file__).resolve().parent.parent
 RECORDER = WEB.parent / "examples" / "recorder" / "record.py"
@@ -404,6 +404,68 @@ def quiet_game(start, plies, chance):
         return moves
     finally:
         player.close()
+
+
+async def try_fingers(browser):
+    """A finger scrolls on a board where nothing can be dragged; two fingers never make a move, one makes it."""
+    async with Told() as relay:
+        seer = await browser.open(url("watch.html"))
+        table = await browser.open(url("table.html", server=relay.address, board="b1", start=518))
+        for page in (seer, table):
+            assert await page.style(".board", "touch-action") == "auto"
+        await table.click("#opening .main")
+        await relay.hears(cmd="open", board="b1", start=518)
+        await relay.says(reply="opened")
+        await until_state(table, "live")
+        await table.until('document.querySelector(".board").classList.contains("usable")')
+        assert await table.style(".board", "touch-action") == "pinch-zoom"
+        first, second = (0, "[data-square=e2]"), (1, "[data-square=e4]")
+        await table.touch("touchStart", first)
+        await table.touch("touchStart", first, second)
+        await table.touch("touchEnd", first)
+        await table.touch("touchEnd")
+        await asyncio.sleep(0.2)
+        assert relay.asked.empty(), await relay.asked.get()
+        await table.run('document.querySelector("#name").focus()')
+        await table.press("Escape")
+        await table.touch("touchStart", (0, "[data-square=d2]"))
+        await table.touch("touchMove", (0, "[data-square=d3]"))
+        await table.touch("touchMove", (0, "[data-square=d4]"))
+        await table.touch("touchEnd")
+        await relay.hears(cmd="submit", board="b1", move="d2d4")
+        assert not table.faults, table.faults
+        for page in (seer, table):
+            await page.close()
+
+
+async def try_forced(browser):
+    """In forced colours the last move, a check, the focus and the man picked up have each a line of its own style."""
+    async with Told() as relay:
+        table = await browser.open(url("table.html", server=relay.address, board="b1", start=518))
+        await table.forced_colors()
+        await table.click("#opening .main")
+        await relay.hears(cmd="open", board="b1", start=518)
+        await relay.says(reply="opened")
+        await until_state(table, "live")
+        for place, move in enumerate(["e2e4", "f7f6", "d1h5"]):
+            await enter(table, move, "type")
+            await relay.hears(cmd="submit", board="b1", move=move)
+            await relay.plays(place)
+            await until_moves(table, place + 1)
+        await table.run('document.querySelector(".square[tabindex=\\"0\\"]").focus()')
+        await to_square(table, "e7")
+        assert await table.run('document.activeElement.matches("[data-square=e7]:focus-visible")')
+        focus = [await table.style("[data-square=e7]", "outline-style"), await table.style("[data-square=e7]", "outline-width")]
+        assert focus == ["dashed", "5px"], focus
+        await to_square(table, "a7")
+        await table.press("Enter")
+        await table.press("ArrowDown")
+        lines = [await table.style("[data-square=a7]", "outline-style"), await table.style("[data-square=a6]", "outline-style"),
+                 await table.style("[data-square=e8]", "border-top-style"), await table.style("[data-square=h5]", "border-top-style")]
+        assert lines == ["double", "dashed", "dotted", "solid"], lines
+        assert await table.style(".move.current", "background-color") != await table.style(".move:not(.current)", "background-color")
+        assert not table.faults, table.faults
+        await table.close()
 
 
 async def try_nowhere(browser):
