@@ -270,7 +270,11 @@ async def try_mate(browser):
     assert await text(seer, "#spoken") == "The first position."
     await seer.press("ArrowRight")
     assert await text(seer, "#spoken") == "place 0, White: pawn f2 to f3."
-    await seer.press("f")
+    for key in ("f", "F"):
+        await seer.press(key)
+    assert await seer.run('document.querySelector(".square").dataset.square') == "a8", "a letter turned the board"
+    await seer.click("#flip")
+    assert await seer.run('document.querySelector(".square").dataset.square') == "h1"
     assert await placement(seer) == "rnbqkbnr/pppppppp/8/8/8/5P2/PPPPP1PP/RNBQKBNR"
     for page in (table, seer):
         await page.close()
@@ -742,6 +746,26 @@ async def try_records(browser):
         await shows(again, 4, fens(start, moves[:4])[-1], "without the last move")
         assert not again.faults, again.faults
         await again.close()
+
+
+async def try_next(browser):
+    """A page that is sent to a board which is not open yet no longer shows the game that it showed before."""
+    relay = await Relay().start()
+    client = await Client.to(relay.address)
+    await client.open("b1")
+    await client.submit("b1", "e2e4")
+    seer = await watch(browser, relay, "b1")
+    await until_moves(seer, 1)
+    await seer.fill("#name", "b2")
+    await seer.click("#source .main")
+    await until_state(seer, "refused")
+    await until_moves(seer, 0)
+    assert await placement(seer) == "8/8/8/8/8/8/8/8" and await seer.run('document.querySelector("#fen").value') == ""
+    await client.open("b2", 0)
+    await shows(seer, 0, start_fen(0), "another board")
+    assert not seer.faults, seer.faults
+    await seer.close()
+    await client.close()
 
 
 async def main():
