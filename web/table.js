@@ -321,9 +321,27 @@
 
   /* Endings. */
 
-  function sure(text) {
+  const TESTED = "The relay tests it; a claim on a move not yet made is the arbiter's (Articles 9.2, 9.3).";
+  const GROUNDS = {
+    threefold: "the present position has appeared at least three times",
+    fifty: "the last fifty moves by each side were made without a capture and without a pawn move",
+  };
+
+  /** What is asked before an ending is sent, and the side that it needs: who resigns, or who has the move and so may claim. */
+  function question(button) {
+    const { how, side } = button.dataset;
+    if (!GROUNDS[how]) {
+      return { head: "End the game?", text: `${button.textContent}.`, yes: "End the game", side };
+    }
+    const claimant = Words.colour(page.record().present().turn);
+    return { head: "Claim a draw?", text: `${claimant}, to move, claims a draw: ${GROUNDS[how]}. ${TESTED}`, yes: "Claim", side: claimant.toLowerCase() };
+  }
+
+  function sure({ head, text, yes }) {
     const box = at("sure");
+    at("sure-head").textContent = head;
     at("sure-text").textContent = text;
+    at("sure-yes").textContent = yes;
     box.returnValue = "";
     box.showModal();
     return new Promise((resolve) => {
@@ -333,14 +351,13 @@
 
   async function end(button) {
     const { game } = table;
-    const { how, side } = button.dataset;
-    const claims = how === "threefold" || how === "fifty";
-    const who = claims ? Words.colour(page.record().present().turn).toLowerCase() : side;
-    if (!await sure(claims ? `${button.textContent}, claimed by ${who}.` : `${button.textContent}.`)) {
+    const { side, ...words } = question(button);
+    if (!await sure(words)) {
       return;
     }
     if (ready() && table.game === game) {
-      ask("end", who ? { cmd: "end", how, side: who } : { cmd: "end", how });
+      const command = { cmd: "end", how: button.dataset.how };
+      ask("end", side ? { ...command, side } : command);
     } else {
       say("The connection was lost meanwhile: nothing was entered.");
     }

@@ -543,6 +543,46 @@ async def try_strangers(browser):
             await wrong.close()
 
 
+async def try_claims(browser):
+    """Before a claim is sent, the page says who claims what, and that the relay tests it; nothing is ended by a key that is held."""
+    async with Told() as relay:
+        table = await browser.open(url("table.html", server=relay.address, board="b1", start=518))
+        await table.click("#opening .main")
+        await relay.hears(cmd="open", board="b1", start=518)
+        await relay.says(reply="opened")
+        await until_state(table, "live")
+        for colour, move in (("White", "g1f3"), ("Black", "g8f6")):
+            for how, label, ground in (("threefold", "Claim: threefold repetition", "has appeared at least three times"),
+                                       ("fifty", "Claim: fifty moves", "fifty moves by each side")):
+                assert await text(table, f"#ending [data-how={how}]") == label
+                await table.click(f"#ending [data-how={how}]")
+                await table.until('document.querySelector("#sure").open')
+                words = await text(table, "#sure-text")
+                assert words.startswith(f"{colour}, to move, claims a draw: ") and ground in words, words
+                assert "The relay tests it" in words and "9.2, 9.3" in words, words
+                assert await text(table, "#sure-head") == "Claim a draw?" and await text(table, "#sure .main") == "Claim"
+                await table.press("Enter")
+                await table.until('!document.querySelector("#sure").open')
+                await say_end(table, f"#ending [data-how={how}]")
+                await relay.hears(cmd="end", board="b1", how=how, side=colour.lower())
+                await relay.refuses(8, "ClaimRefused")
+                await table.until('document.querySelector("#said").textContent.startsWith("The claim is refused")')
+            await enter(table, move, "type")
+            await relay.hears(cmd="submit", board="b1", move=move)
+            await relay.plays(0 if colour == "White" else 1)
+            await until_moves(table, 1 if colour == "White" else 2)
+        await table.click("#ending [data-side=black]")
+        await table.until('document.querySelector("#sure").open')
+        assert await text(table, "#sure-head") == "End the game?" and await text(table, "#sure-text") == "Black resigns."
+        assert await text(table, "#sure .main") == "End the game"
+        await table.click("#sure .main")
+        await relay.hears(cmd="end", board="b1", how="resign", side="black")
+        await relay.says(outcome="black resigns", reply="ended")
+        await until_state(table, "over")
+        assert not table.faults, table.faults
+        await table.close()
+
+
 async def try_fingers(browser):
     """A finger scrolls on a board where nothing can be dragged; two fingers never make a move, one makes it."""
     async with Told() as relay:
