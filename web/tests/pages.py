@@ -270,9 +270,9 @@ async def try_mate(browser):
     assert await text(seer, "#spoken") == "The first position."
     await seer.press("ArrowRight")
     assert await text(seer, "#spoken") == "place 0, White: pawn f2 to f3."
-    for key in ("f", "F"):
-        await seer.press(key)
-    assert await seer.run('document.querySelector(".square").dataset.square') == "a8", "a letter turned the board"
+    for page in (seer, table):
+        await page.press("f")
+        assert await page.run('document.querySelector(".square").dataset.square') == "a8", "a letter turned the board"
     await seer.click("#flip")
     assert await seer.run('document.querySelector(".square").dataset.square') == "h1"
     assert await placement(seer) == "rnbqkbnr/pppppppp/8/8/8/5P2/PPPPP1PP/RNBQKBNR"
