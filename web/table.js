@@ -334,7 +334,8 @@
       return { head: "End the game?", text: `${button.textContent}.`, yes: "End the game", side };
     }
     const claimant = Words.colour(page.record().present().turn);
-    return { head: "Claim a draw?", text: `${claimant}, to move, claims a draw: ${GROUNDS[how]}. ${TESTED}`, yes: "Claim", side: claimant.toLowerCase() };
+    const text = `${claimant}, to move, claims a draw: ${GROUNDS[how]}. ${TESTED}`;
+    return { head: "Claim a draw?", text, yes: "Claim", side: claimant.toLowerCase() };
   }
 
   function sure({ head, text, yes }) {

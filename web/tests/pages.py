@@ -922,7 +922,8 @@ async def try_records(browser):
 
 
 FILES = [
-    (None, "cannot be read"), ("", "no record"), ("hello", "no record"), ("null\n", "no record"), ('{"board":"b","record":2,"start":518}\n', "no record"),
+    (None, "cannot be read"), ("", "no record"), ("hello", "no record"), ("null\n", "no record"),
+    ('{"board":"b","record":2,"start":518}\n', "no record"),
     ('{"board":"b","record":1,"start":960}\n', "does not begin with"), ('{"board":"b","record":1}\n', "does not begin with"),
     ('{"board":"b","record":1,"start":518}\nnull\n[]\n{"fen":7,"joined":0,"reply":"following"}\n', "b: start 518, 0 moves"),
     ('{"board":"b","record":1,"start":518}\n{"move":"e2e4","place":0,"reply":"move"}\n', "has a gap"),
