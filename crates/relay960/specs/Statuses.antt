@@ -12,50 +12,51 @@ use Rattle.relay960_engines.specs.Script.{Ran, ScriptStopped}
 use Rattle.relay960_engines.specs.Runs.{Known}
 use Rattle.relay960_engines.specs.Start.{start_line}
 use Rattle.relay960_engines.specs.Writing.{AppendsPart}
+use Rattle.relay960_words.specs.declared.status.Status.{Status}
+use Rattle.relay960_words.specs.declared.status.Status.TheVariants as status
 use Rattle.relay960_words.specs.declared.order.Job.{Job}
 use Rattle.relay960_words.specs.declared.order.Job.TheVariants.{Start, Moves, Play, Script}
 
--- 3 where a device failed or the input was too long, 4 where there was no memory, 1 where the argument was refused
-abbrev pub fault_status : RunFault → ℕ
-fault_status Read = 3
-fault_status Write = 3
-fault_status TooLong = 3
-fault_status OutOfMemory = 4
-fault_status BadStart = 1
+abbrev pub fault_status : RunFault → Status
+fault_status Read = status.DeviceFailed
+fault_status Write = status.DeviceFailed
+fault_status TooLong = status.DeviceFailed
+fault_status OutOfMemory = status.OutOfMemory
+fault_status BadStart = status.Refused
 
--- 0 with the line of start n, or 1 with that of its refusal; 3 with a prefix of it
-abbrev pub StartEnds : ℕ → Known → Known → ℕ → Type 0
-StartEnds n old new s = ((s ≡ cond (nat_lt n 960) 0 1) × Appends old new (start_line n)) ⊎ ((s ≡ 3) × AppendsPart old new (start_line n))
+-- done with the line of start n, or refused with that of its refusal; or a device failed, with a prefix of it
+abbrev pub StartEnds : ℕ → Known → Known → Status → Type 0
+StartEnds n old new s = ((s ≡ cond (nat_lt n 960) status.Done status.Refused) × Appends old new (start_line n)) ⊎ ((s ≡ status.DeviceFailed) × AppendsPart old new (start_line n))
 
--- 0 with the lines of a lawful position, 1 with the line that refuses the text; or a fault's, with what stands then
-abbrev pub MovesEnds : List ℕ → Known → Known → ℕ → Type 0
+-- done with the lines of a lawful position, refused with the line that refuses the text; or a fault's, with what stands then
+abbrev pub MovesEnds : List ℕ → Known → Known → Status → Type 0
 MovesEnds fen old new s =
-    ((good : Bool) × (s ≡ cond good 0 1) × Answered fen good old new)
+    ((good : Bool) × (s ≡ cond good status.Done status.Refused) × Answered fen good old new)
     ⊎ ((fault : RunFault) × (s ≡ fault_status fault) × Failed fen fault old new)
 
--- 0 with all answers of the game of start n, or a fault's, with what stands then
-abbrev pub PlayEnds : ℕ → Known → Known → Known → Known → ℕ → Type 0
+-- done with all answers of the game of start n, or a fault's, with what stands then
+abbrev pub PlayEnds : ℕ → Known → Known → Known → Known → Status → Type 0
 PlayEnds n old_input new_input old_output new_output s =
-    ((count : ℕ) × (s ≡ 0) × Played n greatest_bounds old_input new_input old_output new_output count)
+    ((count : ℕ) × (s ≡ status.Done) × Played n greatest_bounds old_input new_input old_output new_output count)
     ⊎ ((fault : RunFault) × (s ≡ fault_status fault)
     × PlayStopped n greatest_bounds old_input new_input old_output new_output fault)
 
--- 0 with all answers of a relay with these limits, or a fault's, with what stands then
-abbrev pub ScriptEnds : LimitNumbers → Known → Known → Known → Known → ℕ → Type 0
+-- done with all answers of a relay with these limits, or a fault's, with what stands then
+abbrev pub ScriptEnds : LimitNumbers → Known → Known → Known → Known → Status → Type 0
 ScriptEnds limits old_input new_input old_output new_output s =
-    ((count : ℕ) × (s ≡ 0) × Ran limits greatest_bounds old_input new_input old_output new_output count)
+    ((count : ℕ) × (s ≡ status.Done) × Ran limits greatest_bounds old_input new_input old_output new_output count)
     ⊎ ((fault : RunFault) × (s ≡ fault_status fault)
     × ScriptStopped limits greatest_bounds old_input new_input old_output new_output fault)
 
 -- the job was done so, and ends with status s; `start` and `moves` read nothing
-abbrev pub Ends : Job → Known → Known → Known → Known → ℕ → Type 0
+abbrev pub Ends : Job → Known → Known → Known → Known → Status → Type 0
 Ends (Start n) old_input new_input old_output new_output s = Keeps old_input new_input × StartEnds n old_output new_output s
 Ends (Moves fen) old_input new_input old_output new_output s = Keeps old_input new_input × MovesEnds fen.now old_output new_output s
 Ends (Play n) old_input new_input old_output new_output s = PlayEnds n old_input new_input old_output new_output s
 Ends (Script limits) old_input new_input old_output new_output s = ScriptEnds limits old_input new_input old_output new_output s
 
 -- the same over streams that do not tell what they hold
-abbrev pub EndsSomehow : Job → ℕ → Type 0
+abbrev pub EndsSomehow : Job → Status → Type 0
 EndsSomehow job s =
     (old_input : Known) × (new_input : Known) × (old_output : Known) × (new_output : Known)
     × Ends job old_input new_input old_output new_output s

@@ -23,5 +23,5 @@ fn main(rt: HostRuntime) -> ExitCode {
         Err(error) if error.kind() == ErrorKind::OutOfMemory => status_without_memory(&rt),
         Err(_) => status_of_no_text(&rt, alloc),
     };
-    ExitCode::from(status)
+    ExitCode::from(status.code())
 }

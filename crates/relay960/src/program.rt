@@ -6,29 +6,17 @@ ghost use Rattle.relay960.specs.Statuses.{Ends, EndsSomehow, fault_status};
 use relay960_engines::{
     RunFault, ScriptLimits, default_limits, moves_run, play_run, script_run, start_run,
 };
-use relay960_words::{Job, Order, Service, order_of};
+use relay960_words::{Job, Order, Service, Status, order_of};
 use std::alloc::Global;
 use std::convert::AsStr;
 use std::io;
 use std::io::{Read, Write};
 
-/// The job is done.
-pub const DONE: u8 = 0;
-
-/// The job's argument was refused.
-pub const REFUSED: u8 = 1;
-
-/// A device failed, or the input was too long.
-pub const DEVICE_FAILED: u8 = 3;
-
-/// There was no memory.
-pub const OUT_OF_MEMORY: u8 = 4;
-
 /// What became of the words.
 #[derive(Clone, Copy, PartialEq, Eq, Debug)]
 pub enum Course {
     /// What they ask for is done, with this status.
-    Ended(u8),
+    Ended(Status),
     /// They ask to serve.
     Serves(Service),
 }
@@ -48,7 +36,7 @@ pub fn course_of<R: Input + Print + Eprint, S: AsStr>(
 
 /// Does the job over the program's own streams, and gives the status. What these hold they do not tell, so what was read and written
 /// stands at `status_of_job`.
-fn status_over_streams<R: Input + Print + Eprint>(rt: &R, alloc: Global, job: &Job<'_>) -> u8
+fn status_over_streams<R: Input + Print + Eprint>(rt: &R, alloc: Global, job: &Job<'_>) -> Status
     ensures { EndsSomehow job.now result }
 {
     let mut reader = rt.reader();
@@ -64,7 +52,7 @@ pub fn status_of_job<E: Eprint, R: Read, W: Write>(
     job: &Job<'_>,
     reader: &mut R,
     writer: &mut W,
-) -> u8
+) -> Status
     ensures { Ends job.now (R.remaining reader.old) (R.remaining reader.new) (W.contents writer.old)
         (W.contents writer.new) result }
 {
@@ -83,36 +71,36 @@ pub fn status_of_job<E: Eprint, R: Read, W: Write>(
 }
 
 /// The status of a run: whether its argument was good, or the fault, which it tells of on standard error.
-fn status_of_run<R: Eprint>(rt: &R, ran: Result<bool, RunFault>) -> u8
-    ensures { MatchResult ran (λ good. result ≡ cond good 0 1) (λ fault. result ≡ fault_status fault) }
+fn status_of_run<R: Eprint>(rt: &R, ran: Result<bool, RunFault>) -> Status
+    ensures { MatchResult ran (λ good. result ≡ cond good Status.Done Status.Refused) (λ fault. result ≡ fault_status fault) }
 {
     match ran {
-        Ok(true) => DONE,
-        Ok(false) => REFUSED,
+        Ok(true) => Status::Done,
+        Ok(false) => Status::Refused,
         Err(fault) => status_of_fault(rt, fault),
     }
 }
 
 /// The status of a run over lines, however many there were: it is done, or a fault ended it, which is told on standard error.
-fn status_of_lines<R: Eprint>(rt: &R, ran: Result<u64, RunFault>) -> u8
-    ensures { MatchResult ran (λ count. result ≡ 0) (λ fault. result ≡ fault_status fault) }
+fn status_of_lines<R: Eprint>(rt: &R, ran: Result<u64, RunFault>) -> Status
+    ensures { MatchResult ran (λ count. result ≡ Status.Done) (λ fault. result ≡ fault_status fault) }
 {
     match ran {
-        Ok(_) => DONE,
+        Ok(_) => Status::Done,
         Err(fault) => status_of_fault(rt, fault),
     }
 }
 
 /// Tells of the fault on standard error and gives the status. Of a start that was refused the output has told.
-pub fn status_of_fault<R: Eprint>(rt: &R, fault: RunFault) -> u8
+pub fn status_of_fault<R: Eprint>(rt: &R, fault: RunFault) -> Status
     ensures { result ≡ fault_status fault }
 {
     if fault != RunFault::BadStart {
         let _ = rt.eprintln(fault);
     }
     match fault {
-        RunFault::Read | RunFault::Write | RunFault::TooLong => DEVICE_FAILED,
-        RunFault::OutOfMemory => OUT_OF_MEMORY,
-        RunFault::BadStart => REFUSED,
+        RunFault::Read | RunFault::Write | RunFault::TooLong => Status::DeviceFailed,
+        RunFault::OutOfMemory => Status::OutOfMemory,
+        RunFault::BadStart => Status::Refused,
     }
 }

@@ -130,7 +130,7 @@ stops_at_line gives s t p bounds xs end old new OutOfMemory plain below feed wit
   unseen = xs;
   split = refl;
   within = within_before bounds p within;
-  stop = (s, Sent-none gives s old new kept);
+  stop = (s, Sent-none gives s old new kept.0, kept.1);
 }
 stops_at_line gives s t p bounds xs end old new Read plain below feed within few short none = absurd none
 stops_at_line gives s t p bounds xs end old new TooLong plain below feed within few short none = absurd none

@@ -8,7 +8,7 @@ use Rattle.relay960_engines.specs.declared.bounds.Bounds.{Bounds}
 use Rattle.relay960_engines.specs.declared.fault.RunFault.{RunFault}
 use Rattle.relay960_engines.specs.declared.fault.RunFault.TheVariants.{Read, Write, TooLong, OutOfMemory, BadStart}
 use Rattle.relay960_engines.specs.declared.progress.Progress.{Progress}
-use Rattle.relay960_engines.specs.Lines.{Giving, Answers, Until, whole_lines, last_piece, last_line, lines_of, Between}
+use Rattle.relay960_engines.specs.Lines.{Giving, Answers, LedOn, Until, whole_lines, last_piece, last_line, lines_of, Between}
 use Rattle.relay960_engines.specs.Runs.{Known, Wrote, WrotePart, Done, Stopped, IsPast}
 use Rattle.relay960_engines.specs.Inner.Sending.{settled, Sent}
 use Rattle.relay960_engines.specs.Inner.Taking.{kept_lines, kept_piece, Within, IsWithin, LastFits, TakenAll, Unwritten, StopsReading}
@@ -66,12 +66,12 @@ module _ {S : Type 0} (gives : Giving S) (cut : IsCut gives) (s : S) (p : Progre
   few_bytes : (seen : List ℕ) → IsWithin bounds p seen → length seen ≤ bounds.bytes
   few_bytes seen within = omega (arith, within.bytes_within)
 
-  -- the same where the state is not told
-  wrote_somewhere : (mid : S) (b : Known) (seen : List ℕ) → Sent (Between gives s mid) (kept_lines p.line seen) (settled a) (settled b)
-      → Wrote (λ ls text. (m : S) × Answers gives s ls text m) (whole_lines [] seen) a b
-  wrote_somewhere mid b seen wrote =
+  -- the same where the answer to one more line could not be made
+  wrote_until : (mid t : S) (b : Known) (seen : List ℕ) → Sent (Between gives s mid) (kept_lines p.line seen) (settled a) (settled b)
+      → LedOn gives mid t → Wrote (Until gives s t OutOfMemory) (whole_lines [] seen) a b
+  wrote_until mid t b seen wrote on =
       let all = whole mid b seen wrote in
-      record { answers = all.answers; given = (mid, all.given); written = all.written }
+      record { answers = all.answers; given = (mid, all.given, on); written = all.written }
 
   -- it stopped within the bytes of the reader
   pub stopped : (t : S) (b : Known) (fault : RunFault)
@@ -128,7 +128,7 @@ module _ {S : Type 0} (gives : Giving S) (cut : IsCut gives) (s : S) (p : Progre
   ]
   stopped t b OutOfMemory stops = elim stops.stop [
     | inl (within, one) ↦
-        let (mid, wrote) = within.stop in
+        let (mid, wrote, on) = within.stop in
         record {
           seen = within.seen;
           unseen = within.unseen;
@@ -136,7 +136,7 @@ module _ {S : Type 0} (gives : Giving S) (cut : IsCut gives) (s : S) (p : Progre
           read = subst (Consumes old_input new_input) within.split stops.read;
           lines_within = few_lines within.seen within.within;
           bytes_within = few_bytes within.seen within.within;
-          wrote = wrote_somewhere mid b within.seen wrote;
+          wrote = wrote_until mid t b within.seen wrote on;
         }
     | inr at_read ↦ let other : OutOfMemory ≡ Read = at_read.0 in cc
   ]
@@ -207,16 +207,16 @@ module _ {S : Type 0} (gives : Giving S) (cut : IsCut gives) (s : S) (p : Progre
       read = subst (Consumes old_input new_input) (sym (append-nil took.input)) took.read;
       lines_within = omega (arith, within.answered_within, took.took.count, kept_number p.line took.input line);
       bytes_within = short within;
-      wrote = wrote_somewhere t c took.input
-          (Sent-kept gives s t (kept_lines p.line took.input) (settled a) (settled b) (settled c) took.took.sent kept);
+      wrote = wrote_until t u c took.input
+          (Sent-kept gives s t (kept_lines p.line took.input) (settled a) (settled b) (settled c) took.took.sent kept.0) kept.1;
     }
     stopped_last within (Err Read) none = absurd none
     stopped_last within (Err TooLong) none = absurd none
     stopped_last within (Err BadStart) none = absurd none
 
 -- there was no memory for the line: nothing was read
-pub stopped_before : {S : Type 0} (gives : Giving S) (s t : S) (bounds : Bounds) (input output : Known)
-    → Stopped (Until gives s t OutOfMemory) bounds input input output output OutOfMemory
+pub stopped_before : {S : Type 0} (gives : Giving S) (s : S) (bounds : Bounds) (input output : Known)
+    → Stopped (Until gives s s OutOfMemory) bounds input input output output OutOfMemory
 unfolding Answers
-stopped_before gives s t bounds input output =
-    nothing_read (Until gives s t OutOfMemory) bounds input output (s, (refl, refl))
+stopped_before gives s bounds input output =
+    nothing_read (Until gives s s OutOfMemory) bounds input output (s, (refl, refl), inl refl)

@@ -19,7 +19,7 @@ use Rattle.relay_messages.specs.Answers.{answer_text}
 use Rattle.relay_messages.specs.Decoding.{IsDecoding, decoded}
 use Rattle.relay960_engines.specs.Lines.{Giving, Answers}
 use Rattle.relay960_engines.specs.Script.{answer_to, history_after, answers_to, answer_lines, AnswersLine, AnswersLines, is_want, ScriptAnswers}
-use Rattle.relay960_engines.specs.Inner.ScriptSteps.{DeskGives, LeadsTo}
+use Rattle.relay960_engines.specs.Inner.ScriptSteps.{ScriptGives, LeadsTo}
 use Rattle.relay960_engines.specs.Writing.{line}
 
 -- ---- Answers that tell of no want of memory are the ones that the lines ask for.
@@ -154,7 +154,7 @@ one_told limits r q l (Reply reply) h stands (step, says, leads) =
 
 -- what an answerer with a relay gives
 abbrev pub IsGivenBy : {S : Type 0} → Giving S → (S → RelayRecord) → Type 0
-IsGivenBy {S} gives relay = (s : S) (l bytes : List ℕ) (t : S) → gives s l bytes t → DeskGives (relay s) l bytes (relay t)
+IsGivenBy {S} gives relay = (s : S) (l bytes : List ℕ) (t : S) → gives s l bytes t → ScriptGives (relay s) l bytes (relay t)
 
 pub lines_told : {S : Type 0} (gives : Giving S) (relay : S → RelayRecord) → IsGivenBy gives relay
     → (limits : LimitNumbers) (s t : S) (h : History) (ls : List (List ℕ)) (bytes : List ℕ) → Stands limits (relay s) h

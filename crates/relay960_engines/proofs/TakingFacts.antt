@@ -97,10 +97,11 @@ stop_behind : {S : Type 0} (gives : Giving S) (s t u : S) (p q : Progress) (boun
 stop_behind gives s t u p q bounds xs seen unseen a b c Write first part =
     subst (λ ls. SentPart (Between gives s u) ls a c) (lines_behind p.line q.line xs seen first.piece)
     (Sent-part gives s t u (kept_lines p.line xs) (kept_lines q.line seen) a b c first.sent part)
-stop_behind {S} gives s t u p q bounds xs seen unseen a b c OutOfMemory first (mid, wrote) = (
+stop_behind {S} gives s t u p q bounds xs seen unseen a b c OutOfMemory first (mid, wrote, on) = (
   mid,
   subst (λ ls. Sent (Between gives s mid) ls a c) (lines_behind p.line q.line xs seen first.piece)
       (Sent-trans gives s t mid (kept_lines p.line xs) (kept_lines q.line seen) a b c first.sent wrote),
+  on,
 )
 stop_behind gives s t u p q bounds xs seen unseen a b c TooLong first (more, wrote, bound) = (
   more,

@@ -1,5 +1,5 @@
 -- The lines of a stream of bytes, and the answers to them.
-use Rattle.std.specs.Prelude.{ℕ, ◌≡◌, ◌==◌, List, [], ◌∷◌, ◌++◌, cond}
+use Rattle.std.specs.Prelude.{ℕ, ◌≡◌, ◌==◌, ◌⊎◌, List, [], ◌∷◌, ◌++◌, cond}
 use Rattle.relay960_engines.specs.declared.fault.RunFault.{RunFault}
 use Rattle.relay960_engines.specs.declared.fault.RunFault.TheVariants.{Read, Write, TooLong, OutOfMemory, BadStart}
 
@@ -39,9 +39,13 @@ Answers {S} gives s (l ∷ ls) bytes t =
 abbrev pub Between : {S : Type 0} → Giving S → S → S → List (List ℕ) → List ℕ → Type 0
 Between gives s t lines bytes = Answers gives s lines bytes t
 
--- the same where a run ends with a fault; where there was no memory for an answer, the state is not told
+-- where memory was wanting: nothing was answered after state s, or one line was whose answer could not be made, which led to state t
+abbrev pub LedOn : {S : Type 0} → Giving S → S → S → Type 0
+LedOn gives s t = (t ≡ s) ⊎ ((l : List ℕ) × (text : List ℕ) × gives s l text t)
+
+-- the same where a run ends with a fault; where there was no memory for an answer, its line alone stands between the answers and state t
 abbrev pub Until : {S : Type 0} → Giving S → S → S → RunFault → List (List ℕ) → List ℕ → Type 0
-Until {S} gives s t OutOfMemory lines bytes = (mid : S) × Answers gives s lines bytes mid
+Until {S} gives s t OutOfMemory lines bytes = (mid : S) × Answers gives s lines bytes mid × LedOn gives mid t
 Until gives s t Read lines bytes = Answers gives s lines bytes t
 Until gives s t Write lines bytes = Answers gives s lines bytes t
 Until gives s t TooLong lines bytes = Answers gives s lines bytes t

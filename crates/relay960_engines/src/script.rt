@@ -18,17 +18,17 @@ use std::alloc::{AllocError, Global};
 
 /// The answerer of a script, over any kind of relay.
 #[derive(Drop)]
-pub struct Desk<S: Stepper> {
+pub struct Script<S: Stepper> {
     /// The relay that the commands so far have led to.
     pub relay: S,
     /// What decodes the lines.
     pub decoder: Decoder,
 }
 
-impl<S: Stepper> Answerer for Desk<S> {
-    ghost use Rattle.relay960_engines.specs.Inner.ScriptSteps.{DeskGives, answers_cut};
+impl<S: Stepper> Answerer for Script<S> {
+    ghost use Rattle.relay960_engines.specs.Inner.ScriptSteps.{ScriptGives, answers_cut};
 
-    ghost gives = { λ s l bytes t. DeskGives (S.record_of s.relay) l bytes (S.record_of t.relay) };
+    ghost gives = { λ s l bytes t. ScriptGives (S.record_of s.relay) l bytes (S.record_of t.relay) };
 
     ghost cut = { λ s l bytes t given. answers_cut (S.record_of s.relay) l bytes (S.record_of t.relay) given };
 
@@ -77,6 +77,6 @@ pub fn script_run<R: ReadDevice, W: WriteDevice>(
         return Err(RunFault::OutOfMemory);
     };
     let decoder = Decoder::new(alloc);
-    let mut desk = Desk { relay, decoder };
-    run_lines(alloc, reader, &mut desk, writer, limits.bounds())
+    let mut script = Script { relay, decoder };
+    run_lines(alloc, reader, &mut script, writer, limits.bounds())
 }

@@ -2,6 +2,8 @@
 use Rattle.std.specs.Prelude.{ℕ, List, codes}
 use Rattle.relay960_serving.specs.declared.fault.ServeFault.{ServeFault}
 use Rattle.relay960_serving.specs.declared.fault.ServeFault.TheVariants.{Device, Write, OutOfMemory}
+use Rattle.relay960_words.specs.declared.status.Status.{Status}
+use Rattle.relay960_words.specs.declared.status.Status.TheVariants as status
 
 abbrev pub serve_fault_code : ServeFault → ℕ
 serve_fault_code Device = 41
@@ -13,8 +15,7 @@ serve_fault_name Device = codes "Device"
 serve_fault_name Write = codes "Write"
 serve_fault_name OutOfMemory = codes "OutOfMemory"
 
--- 3 where a device failed, 4 where there was no memory
-abbrev pub serve_fault_status : ServeFault → ℕ
-serve_fault_status Device = 3
-serve_fault_status Write = 3
-serve_fault_status OutOfMemory = 4
+abbrev pub serve_fault_status : ServeFault → Status
+serve_fault_status Device = status.DeviceFailed
+serve_fault_status Write = status.DeviceFailed
+serve_fault_status OutOfMemory = status.OutOfMemory

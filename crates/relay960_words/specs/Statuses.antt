@@ -1,6 +1,15 @@
--- The statuses of words that ask for nothing that can be done.
+-- The statuses with which the program ends, and those of words that ask for nothing that can be done.
 use Rattle.std.specs.Prelude.{ℕ, ◌≡◌, ◌⊎◌}
+use Rattle.relay960_words.specs.declared.status.Status.{Status}
+use Rattle.relay960_words.specs.declared.status.Status.TheVariants.{Done, Refused, FaultyWords, DeviceFailed, OutOfMemory}
 
--- 2 for faulty words and for help, 4 where there was no memory
-abbrev pub IsFault : ℕ → Type 0
-IsFault s = (s ≡ 2) ⊎ (s ≡ 4)
+abbrev pub status_code : Status → ℕ
+status_code Done = 0
+status_code Refused = 1
+status_code FaultyWords = 2
+status_code DeviceFailed = 3
+status_code OutOfMemory = 4
+
+-- faulty words or help, or there was no memory
+abbrev pub IsFault : Status → Type 0
+IsFault s = (s ≡ FaultyWords) ⊎ (s ≡ OutOfMemory)

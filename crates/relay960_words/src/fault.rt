@@ -4,41 +4,36 @@ ghost use Rattle.std.specs.Prelude.{◌≡◌, ◌≢◌};
 ghost use Rattle.clap.specs.Words.{kind_of};
 ghost use Rattle.relay960_words.specs.Statuses.{IsFault};
 
+use crate::status::Status;
 use crate::words::not_utf8;
 use clap::Error;
 use clap::error::ErrorKind;
 use std::alloc::Global;
 
-/// The words are faulty or ask for help.
-const FAULTY_WORDS: u8 = 2;
-
-/// There was no memory.
-const OUT_OF_MEMORY: u8 = 4;
-
 /// Prints the text of an error of the words on standard error, for help too, and gives the status.
-pub(crate) fn status_of_error<R: Eprint>(rt: &R, error: &Error) -> u8
-    ensures memory { kind_of error.now ≡ ErrorKind.OutOfMemory → result ≡ 4 }
-    ensures words { kind_of error.now ≢ ErrorKind.OutOfMemory → result ≡ 2 }
+pub(crate) fn status_of_error<R: Eprint>(rt: &R, error: &Error) -> Status
+    ensures memory { kind_of error.now ≡ ErrorKind.OutOfMemory → result ≡ Status.OutOfMemory }
+    ensures words { kind_of error.now ≢ ErrorKind.OutOfMemory → result ≡ Status.FaultyWords }
 {
     if error.kind() == ErrorKind::OutOfMemory {
         return status_without_memory(rt);
     }
     // The status tells of the error, also where standard error is closed.
     let _ = rt.eprint(error);
-    FAULTY_WORDS
+    Status::FaultyWords
 }
 
-/// Tells on standard error of words that are no text in UTF-8, and gives the status: 2, or 4 where there was no memory.
-pub fn status_of_no_text<R: Eprint>(rt: &R, alloc: Global) -> u8
+/// Tells on standard error of words that are no text in UTF-8, and gives the status.
+pub fn status_of_no_text<R: Eprint>(rt: &R, alloc: Global) -> Status
     ensures { IsFault result }
 {
     status_of_error(rt, &not_utf8(alloc))
 }
 
 /// Tells on standard error that there was no memory, and gives the status.
-pub fn status_without_memory<R: Eprint>(rt: &R) -> u8
-    ensures { result ≡ 4 }
+pub fn status_without_memory<R: Eprint>(rt: &R) -> Status
+    ensures { result ≡ Status.OutOfMemory }
 {
     let _ = rt.eprintln("fault 12 OutOfMemory");
-    OUT_OF_MEMORY
+    Status::OutOfMemory
 }

@@ -3,8 +3,10 @@
 
 mod fault;
 mod order;
+mod status;
 mod words;
 
 pub use fault::{status_of_no_text, status_without_memory};
 pub use order::{Job, Order, Service};
+pub use status::Status;
 pub use words::order_of;

@@ -5,6 +5,7 @@ ghost use Rattle.relay960_words.specs.Statuses.{IsFault};
 
 use crate::fault::status_of_error;
 use crate::order::{Job, Order, Service};
+use crate::status::Status;
 use c960_game::Limits;
 use clap::error::ErrorKind;
 use clap::{Arg, ArgAction, ArgMatches, Command, Error, value_parser};
@@ -114,12 +115,12 @@ fn program_command<'a>(alloc: Global) -> Result<Command<'a>, AllocError> {
 ///
 /// # Errors
 ///
-/// The status, where they ask for help or for nothing that can be done: 2, or 4 where there was no memory. Standard error has been told.
+/// The status, where they ask for help or for nothing that can be done: `FaultyWords`, or `OutOfMemory`. Standard error has been told.
 pub fn order_of<'a, R: Eprint, S: AsStr>(
     rt: &R,
     alloc: Global,
     words: &'a [S],
-) -> Result<Order<'a>, u8>
+) -> Result<Order<'a>, Status>
     ensures { IfErr result IsFault }
 {
     match read_order(alloc, words) {

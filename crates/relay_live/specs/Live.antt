@@ -78,6 +78,10 @@ vacancy Vacant = 1
 vacancy (Open joined least) = 0
 vacancy (Closed c) = 0
 
+-- as many places of the board of this name are noted vacant as the relay's followers leave
+abbrev pub PlacesLeft : RelayRecord → List ℕ → BoardSeat → Type 0
+PlacesLeft r name b = count_by (λ e. same_name name e.1.board) r.followers + total vacancy b.knows.notes ≡ r.limits.followers
+
 pub record IsLive (limits : LimitNumbers) (boards : Boards) (fs : List (ℕ × Seated)) : Type 0 where
   -- the record is one to which a history leads
   pub kept : IsKept (held_by limits boards fs)

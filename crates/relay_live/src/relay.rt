@@ -1,6 +1,6 @@
 //! The relay over live boards.
 
-ghost use Rattle.std.specs.Prelude.{◌≡◌, [], ◌∷◌, false, length, option_map, OnErr, IfOk};
+ghost use Rattle.std.specs.Prelude.{◌≡◌, [], ◌∷◌, false, length, option_map, OnErr, IfOk, IfSome};
 ghost use Rattle.std.specs.Map.{lookup};
 ghost use Rattle.c960_game.specs.Limits.{LimitNumbers};
 ghost use Rattle.relay_core.specs.Headline.{Headline};
@@ -9,7 +9,8 @@ ghost use Rattle.relay_core.specs.Leads.{Leads};
 ghost use Rattle.relay_core.specs.Name.{same_name};
 ghost use Rattle.relay_core.specs.Replies.{may_grow, reply_to};
 ghost use Rattle.relay_core.specs.Stands.{Stands};
-ghost use Rattle.live_board.specs.Board.{game_of};
+ghost use Rattle.live_board.specs.Board.{game_of, setup_of};
+ghost use Rattle.relay_live.specs.Live.{PlacesLeft};
 
 use crate::boards::{end, leave_for, play, seat, take_for};
 use crate::seated::{Seated, count_take};
@@ -202,10 +203,12 @@ impl LiveRelay {
         run_steps(self.alloc, self, steps)
     }
 
-    /// The live board of that name, None exactly where none was opened. Its followers are dropped, and their places there stay taken.
-    /// It takes no memory.
+    /// The live board of that name, with this relay's limits, None exactly where none was opened. Its followers are dropped, and their
+    /// places there stay taken: the board has as many places left as these leave. It takes no memory.
     pub fn into_board(self, board: &BoardName) -> Option<Board>
         ensures game { option_map (λ b. game_of b.knows) result ≡ lookup (same_name board.now) self.boards }
+        ensures setup { IfSome result (λ b. b.knows.setup ≡ setup_of b.knows.setup.start self.limits) }
+        ensures places { IfSome result (λ b. PlacesLeft self board.now b) }
     {
         let LiveRelay {
             limits: _,

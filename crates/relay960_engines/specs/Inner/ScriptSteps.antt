@@ -17,7 +17,7 @@ LeadsTo r l (Fault fault) q = IsDecoding l (Err fault) × (q ≡ r)
 LeadsTo r l (Reply reply) q = (step : Step) × IsDecoding l (Ok step) × Leads r q step reply
 
 -- the same, with the bytes of the answer
-pub record DeskGives (r : RelayRecord) (l bytes : List ℕ) (q : RelayRecord) : Type 0 where
+pub record ScriptGives (r : RelayRecord) (l bytes : List ℕ) (q : RelayRecord) : Type 0 where
   pub answer : Answer
   pub leads : LeadsTo r l answer q
   pub spelt : bytes ≡ line (answer_text answer)
@@ -26,6 +26,6 @@ leads_cut : (r : RelayRecord) (l : List ℕ) (answer : Answer) (q : RelayRecord)
 leads_cut r l (Fault fault) q given = (decoding_of_front l (Err fault) given.0, given.1)
 leads_cut r l (Reply reply) q (step, says, leads) = (step, decoding_of_front l (Ok step) says, leads)
 
-pub answers_cut : (r : RelayRecord) (l bytes : List ℕ) (q : RelayRecord) → DeskGives r (take 1025 l) bytes q → DeskGives r l bytes q
+pub answers_cut : (r : RelayRecord) (l bytes : List ℕ) (q : RelayRecord) → ScriptGives r (take 1025 l) bytes q → ScriptGives r l bytes q
 answers_cut r l bytes q given =
     record { answer = given.answer; leads = leads_cut r l given.answer q given.leads; spelt = given.spelt }

@@ -5,7 +5,7 @@ use Rattle.relay960_engines.specs.declared.bounds.Bounds.{Bounds}
 use Rattle.relay960_engines.specs.declared.fault.RunFault.{RunFault}
 use Rattle.relay960_engines.specs.declared.fault.RunFault.TheVariants.{Read, Write, TooLong, OutOfMemory, BadStart}
 use Rattle.relay960_engines.specs.declared.progress.Progress.{Progress}
-use Rattle.relay960_engines.specs.Lines.{Giving, Between, last_line}
+use Rattle.relay960_engines.specs.Lines.{Giving, Between, LedOn, last_line}
 use Rattle.relay960_engines.specs.Runs.{Known, one_read}
 use Rattle.relay960_engines.specs.Inner.Sending.{Outlet, settled, Sends, Sent, SentPart}
 
@@ -69,7 +69,7 @@ IsAtBound bounds p seen = (bounds.lines ≤ p.answered + length (kept_lines p.li
 -- what was due and the lines' answers were not written whole, since a write failed; or there was no memory, and what was due was
 abbrev pub Unwritten : {S : Type 0} → Giving S → S → S → List (List ℕ) → Outlet → Outlet → RunFault → Type 0
 Unwritten gives s t lines old new Write = SentPart (Between gives s t) lines old new
-Unwritten gives s t lines old new OutOfMemory = Sends old new []
+Unwritten gives s t lines old new OutOfMemory = Sends old new [] × LedOn gives s t
 Unwritten gives s t lines old new Read = ⊥
 Unwritten gives s t lines old new TooLong = ⊥
 Unwritten gives s t lines old new BadStart = ⊥
@@ -79,7 +79,8 @@ abbrev pub StopsBy : {S : Type 0} → Giving S → S → S → Progress → Boun
 StopsBy gives s t p bounds seen unseen old new Write = SentPart (Between gives s t) (kept_lines p.line seen) old new
 StopsBy gives s t p bounds seen unseen old new TooLong =
     (0 < length unseen) × Sent (Between gives s t) (kept_lines p.line seen) old new × IsAtBound bounds p seen
-StopsBy {S} gives s t p bounds seen unseen old new OutOfMemory = (mid : S) × Sent (Between gives s mid) (kept_lines p.line seen) old new
+StopsBy {S} gives s t p bounds seen unseen old new OutOfMemory =
+    (mid : S) × Sent (Between gives s mid) (kept_lines p.line seen) old new × LedOn gives mid t
 StopsBy gives s t p bounds seen unseen old new Read = ⊥
 StopsBy gives s t p bounds seen unseen old new BadStart = ⊥
 

@@ -3,7 +3,7 @@ use Rattle.relay960_engines.proofs.RunFacts.{stopped_before, stopped, done, stop
 use Rattle.relay960_engines.proofs.lines.run_lines.Goals as goal
 
 pub returns-in_default-clause-failed : goal.returns-in_default-clause-failed
-returns-in_default-clause-failed g c = stopped_before _ _ c.args.answerer.now c.args.bounds _ _
+returns-in_default-clause-failed g c = stopped_before _ c.args.answerer.now c.args.bounds _ _
 
 pub returns-in_err-take_all-clause-failed : goal.returns-in_err-take_all-clause-failed
 returns-in_err-take_all-clause-failed g c =
