@@ -153,12 +153,12 @@ const createBoard = (holder, { chosen = null } = {}) => {
     return squareOfCell(found);
   };
 
-  /* A press picks up; a release on another square drops there. A press and release on one square is a click. */
-  const hand = { from: null, man: null, x: 0, y: 0, wasPicked: false };
+  /* A press picks up; a release on another square drops there. A press and release on one square is a click. A second finger does neither. */
+  const hand = { from: null, man: null, x: 0, y: 0, wasPicked: false, pointer: null };
 
   function press(event) {
     const square = squareUnder(event);
-    if (square === null || event.button !== 0) {
+    if (square === null || event.button !== 0 || !event.isPrimary) {
       return;
     }
     event.preventDefault();
@@ -176,11 +176,12 @@ const createBoard = (holder, { chosen = null } = {}) => {
     hand.man = cells.get(square).querySelector(".piece");
     hand.x = event.clientX;
     hand.y = event.clientY;
+    hand.pointer = event.pointerId;
     grid.setPointerCapture(event.pointerId);
   }
 
   function drag(event) {
-    if (hand.from === null) {
+    if (hand.from === null || event.pointerId !== hand.pointer) {
       return;
     }
     const far = Math.hypot(event.clientX - hand.x, event.clientY - hand.y) > 4;
@@ -201,7 +202,7 @@ const createBoard = (holder, { chosen = null } = {}) => {
 
   function release(event) {
     const from = hand.from;
-    if (from === null) {
+    if (from === null || event.pointerId !== hand.pointer) {
       return;
     }
     const wasPicked = hand.wasPicked;

@@ -6,7 +6,8 @@ const Kept = (() => {
 
   function all() {
     try {
-      return JSON.parse(localStorage.getItem(KEY)) || [];
+      const games = JSON.parse(localStorage.getItem(KEY));
+      return Array.isArray(games) ? games : [];
     } catch (fault) {
       return [];
     }

@@ -7,35 +7,48 @@ const Link = (() => {
   const FELL_BEHIND = 4001;
   const NORMAL = 1000;
 
-  /** Opens a connection; `heard` gets each text as an object. The answer has `send` and `close`. */
-  function open(address, { opened, heard, closed }) {
-    let socket;
+  const NO_ADDRESS = "This is no address: it begins with ws:// or wss://.";
+  const NO_RELAY = "This is no relay: it sent a text that a relay does not send here.";
+
+  function connect(address) {
     try {
-      socket = new WebSocket(address);
+      return /^wss?:\/\//i.test(address) ? new WebSocket(address) : null;
     } catch (fault) {
-      setTimeout(() => closed({ code: 0, faulty: true }), 0);
+      return null;
+    }
+  }
+
+  /**
+   * Opens a connection. `heard` gets each text of the relay as an object and answers whether it was to be expected; after one that was
+   * not the connection is closed. `closed` gets the `code` of the close, or a `fault` in words where no other try can mend it. The answer
+   * has `send` and `close`.
+   */
+  function open(address, { opened, heard, closed }) {
+    const socket = connect(address);
+    if (socket === null) {
+      setTimeout(() => closed({ fault: NO_ADDRESS }), 0);
       return { send: () => {}, close: () => {} };
     }
     let ended = false;
+    const close = () => {
+      ended = true;
+      socket.close();
+    };
+    const end = (why) => {
+      if (!ended) {
+        close();
+        closed(why);
+      }
+    };
     socket.addEventListener("open", () => !ended && opened());
     socket.addEventListener("message", (event) => {
-      if (!ended && typeof event.data === "string") {
-        heard(JSON.parse(event.data));
+      const text = Texts.read(event.data);
+      if (!ended && (text === null || !heard(text))) {
+        end({ fault: NO_RELAY });
       }
     });
-    socket.addEventListener("close", (event) => {
-      if (!ended) {
-        ended = true;
-        closed({ code: event.code });
-      }
-    });
-    return {
-      send: (command) => socket.send(JSON.stringify(command)),
-      close: () => {
-        ended = true;
-        socket.close();
-      },
-    };
+    socket.addEventListener("close", (event) => end({ code: event.code }));
+    return { send: (command) => socket.send(JSON.stringify(command)), close };
   }
 
   /** Waits that grow, and end after a while. */

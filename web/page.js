@@ -118,6 +118,10 @@ const createPage = ({ chosen = null } = {}) => {
     page.told = 0;
     page.seen = 0;
     moves.update([]);
+    board.show(null);
+    board.name("Board");
+    at("words").replaceChildren();
+    at("fen").value = "";
     at("spoken").textContent = "";
     refresh();
   }
@@ -150,11 +154,12 @@ const createPage = ({ chosen = null } = {}) => {
   const acts = { first: moves.first, back: moves.back, on: moves.on, last: moves.last, flip: turn };
   Object.entries(acts).forEach(([id, act]) => at(id).addEventListener("click", () => (id === "flip" || page.record.origin) && act()));
 
-  const KEYS = { ArrowLeft: "back", ArrowRight: "on", Home: "first", End: "last", f: "flip", F: "flip" };
+  /* No letter is among them: who dictates or leans on a key would turn the board unawares. */
+  const KEYS = { ArrowLeft: "back", ArrowRight: "on", Home: "first", End: "last" };
   document.addEventListener("keydown", (event) => {
     const typing = event.target.closest("input, select, textarea, dialog");
     const act = KEYS[event.key];
-    if (act && !typing && !event.ctrlKey && !event.altKey && !event.metaKey) {
+    if (act && !typing && !event.ctrlKey && !event.altKey && !event.metaKey && !event.shiftKey) {
       event.preventDefault();
       at(act).click();
     }

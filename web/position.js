@@ -78,6 +78,12 @@ const Position = (() => {
   /** The parts of a move's text, such as e2e4 and a7a8q. */
   const parts = (text) => ({ from: squareOf(text), to: squareOf(text.slice(2)), promotion: text[4] || null });
 
+  /** Whether a move's text moves a man of the side to move. That every legal move does. */
+  function movesMan(position, text) {
+    const man = position.squares[parts(text).from];
+    return man !== "" && colourOf(man) === position.turn;
+  }
+
   /**
    * What a legal move does: the man that moves, what it takes and where, and for castling where king and rook go.
    * Castling is written as the king's square and its own rook's.
@@ -193,6 +199,8 @@ const Position = (() => {
     return rank.join("");
   }
 
+  const isStart = (number) => Number.isInteger(number) && number >= 0 && number < 960;
+
   /** The starting position of a number from 0 to 959. */
   function start(number) {
     const pieces = array(number);
@@ -212,6 +220,6 @@ const Position = (() => {
     return null;
   }
 
-  return { read, write, writePlacement, after, effect, inCheck, kingOf, array, start, startNumber,
+  return { read, write, writePlacement, after, effect, movesMan, inCheck, kingOf, array, isStart, start, startNumber,
     nameOf, squareOf, fileOf, rankOf, squareAt, colourOf, other, WHITE, BLACK };
 })();

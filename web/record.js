@@ -5,7 +5,7 @@
  *   "joined"  the first position                    "moved"  a new move
  *   "had"     a place that it has had already       "gap"    places were missed; it goes on from a later position
  *   "other"   another game than before              "over"   the game has ended
- *   "lost"    a move that has no position before it (only where texts are missing)
+ *   "lost"    a move that has no position before it, or moves no man there (only where texts are missing)
  * Its file is one text a line: first {"board":..,"record":1,"start":..}, then the relay's texts as they came.
  */
 const createRecord = () => {
@@ -71,11 +71,14 @@ const createRecord = () => {
       return "lost";
     }
     if (text.place === record.next) {
-      return append(text);
+      return Position.movesMan(present(), text.move) ? append(text) : "lost";
     }
     const index = record.plies.findIndex((it) => it.place === text.place);
     if (index < 0 || record.plies[index].gap || record.plies[index].text === text.move) {
       return "had";
+    }
+    if (!Position.movesMan(positionAt(text.place), text.move)) {
+      return "lost";
     }
     record.plies = record.plies.slice(0, index);
     append(text);
@@ -121,7 +124,7 @@ const RecordFile = (() => {
       return { fault: "This file is no record of a board." };
     }
     const record = createRecord();
-    for (const text of texts) {
+    for (const text of texts.filter(Texts.fits)) {
       if (["following", "move", "over"].includes(text.reply) && ["gap", "lost"].includes(record.take(text))) {
         return { fault: "The record has a gap, so the game cannot be played again from it." };
       }
@@ -130,7 +133,7 @@ const RecordFile = (() => {
       return { fault: `The record begins at place ${record.origin.place}, so the game cannot be played again from it.` };
     }
     const start = record.origin ? Position.startNumber(record.origin.position) : head.start;
-    if (start === null || start === undefined) {
+    if (!Position.isStart(start)) {
       return { fault: "The record does not begin with a starting position." };
     }
     return { board: String(head.board), start, moves: record.plies.map((it) => it.text), outcome: record.outcome };

@@ -7,12 +7,21 @@
   const page = createPage({ chosen: dropped });
   const { at, state, notice } = page;
   const NAMES = 20;
-  /* game: { id, board, start, outcome } of the board that is open; resend: moves still to be sent again; pending: a move's text. */
-  const table = { link: null, waits: Link.waits(), game: null, resend: [], names: 0, pending: null, playing: false, waiting: false, chosen: null };
+  /*
+   * game: { id, board, start, outcome } of the board that is open; resend: moves still to be sent again; asked: { kind, move } of what
+   * the relay has not answered yet, or null. It is asked for one thing at a time, so that an answer is that to what was asked.
+   */
+  const table = { link: null, waits: Link.waits(), game: null, resend: [], names: 0, asked: null, playing: false, waiting: false, chosen: null };
 
-  page.usableWhen(() => table.playing && table.pending === null && table.resend.length === 0);
+  /** Whether a move or an ending may be entered. */
+  const ready = () => table.playing && table.asked === null && table.resend.length === 0;
+
+  page.usableWhen(ready);
 
   const moves = () => page.record().plies.map((it) => it.text);
+
+  /** All moves of the game, also those that are still to be sent again. */
+  const allMoves = () => [...moves(), ...table.resend];
 
   function say(text) {
     at("said").hidden = text === "";
@@ -37,12 +46,19 @@
 
   function connect() {
     state("connecting", "Connecting …");
-    table.link = Link.open(at("server").value.trim(), { opened: ask, heard, closed });
+    table.link = Link.open(at("server").value.trim(), { opened: askForBoard, heard, closed });
     controls();
   }
 
-  function ask() {
-    table.link.send({ cmd: "open", board: table.game.board, start: table.game.start });
+  function ask(kind, command) {
+    table.asked = { kind, move: command.move };
+    table.link.send({ ...command, board: table.game.board });
+    page.redraw();
+    controls();
+  }
+
+  function askForBoard() {
+    ask("open", { cmd: "open", start: table.game.start });
   }
 
   function leave() {
@@ -53,17 +69,25 @@
     table.link = null;
     table.playing = false;
     table.waiting = false;
-    table.pending = null;
+    table.asked = null;
     table.resend = [];
   }
 
   /* What the relay answers. */
 
-  const ANSWERS = { opened, played, ended, refused };
+  const TAKEN = { open: { opened, refused }, move: { played, refused }, end: { ended, refused } };
 
+  /** Takes an answer to what was asked, and answers whether it is one. */
   function heard(text) {
-    ANSWERS[text.reply](text);
+    const { asked } = table;
+    const take = asked && TAKEN[asked.kind][text.reply];
+    if (!take) {
+      return false;
+    }
+    table.asked = null;
+    const fits = take(text, asked) !== false;
     controls();
+    return fits;
   }
 
   function opened() {
@@ -85,18 +109,17 @@
     page.refresh();
   }
 
-  function submit(text) {
-    table.pending = text;
-    page.redraw();
-    table.link.send({ cmd: "submit", board: table.game.board, move: text });
+  function submit(move) {
+    ask("move", { cmd: "submit", move });
   }
 
-  function played({ place, outcome }) {
-    const text = table.pending;
+  /** A move was played; false where it is none of the game that this page has. */
+  function played({ place, outcome }, { move }) {
     const again = table.resend.length > 0;
-    table.pending = null;
+    if (page.record().take({ reply: "move", place, move }) !== "moved") {
+      return false;
+    }
     table.resend = table.resend.slice(1);
-    page.record().take({ reply: "move", place, move: text });
     say("");
     if (outcome !== null) {
       over(outcome);
@@ -105,6 +128,7 @@
     }
     keep();
     page.refresh();
+    return true;
   }
 
   function ended({ outcome }) {
@@ -121,19 +145,17 @@
     notice(`${table.game.board}: ${Words.outcome(outcome)}`);
   }
 
-  function refused(answer) {
-    if (!table.playing && answer.name === "BoardExists" && table.game.anew && table.names < NAMES) {
+  function refused(answer, { kind, move }) {
+    if (kind === "open" && answer.name === "BoardExists" && table.game.anew && table.names < NAMES) {
       table.names += 1;
       table.game.board = Words.nextName(table.game.board);
-      ask();
+      askForBoard();
       return;
     }
-    const what = table.pending === null ? "" : `${table.pending}: `;
-    table.pending = null;
-    say(what + Words.refusal(answer));
-    if (!table.playing) {
+    say((kind === "move" ? `${move}: ` : "") + Words.refusal(answer));
+    if (kind === "open") {
       state("refused", `The board was not opened: ${Words.refusal(answer)}`);
-      leave();
+      giveUp();
     } else if (table.resend.length > 0) {
       notice(`Sending the moves again stopped at ${table.resend[0]}: ${Words.refusal(answer)}`);
       table.resend = [];
@@ -145,11 +167,12 @@
 
   /* A lost connection: the relay has ended the game. It is opened anew, at once or by a press. */
 
-  function closed({ faulty }) {
+  function closed({ fault }) {
     table.link = null;
-    if (faulty) {
-      state("refused", "This is not a relay's address: it begins with ws:// or wss://.");
-      leave();
+    table.asked = null;
+    if (fault) {
+      state("refused", fault);
+      giveUp();
     } else if (table.playing) {
       lost();
     } else {
@@ -159,7 +182,7 @@
   }
 
   function lost() {
-    const sent = [...moves(), ...table.resend];
+    const sent = allMoves();
     const again = { board: Words.nextName(table.game.board), start: table.game.start, anew: true };
     notice(`The connection of ${table.game.board} was lost, so the relay ends its game as abandoned.`);
     leave();
@@ -176,11 +199,19 @@
     table.waiting = seconds !== null;
     if (seconds === null) {
       state("stopped", "No connection to the relay. It was tried often enough.");
-      offer({ ...table.game, moves: [...table.resend] });
-      leave();
+      giveUp();
     } else {
       state("lost", `No connection to the relay. It tries again in ${seconds} s.`);
     }
+  }
+
+  /** Tries no more; the moves that the game had are offered to be opened anew. */
+  function giveUp() {
+    if (allMoves().length > 0) {
+      offer({ ...table.game, moves: allMoves() });
+    }
+    leave();
+    page.redraw();
   }
 
   /* Keeping games, and opening them anew. */
@@ -220,14 +251,18 @@
 
   async function readFile() {
     const file = at("file").files[0];
-    if (file) {
-      at("kept").value = "";
-      offer(RecordFile.read(await file.text()));
+    if (!file) {
+      return;
+    }
+    at("kept").value = "";
+    const read = await file.text().then(RecordFile.read, () => ({ fault: "This file cannot be read." }));
+    if (at("file").files[0] === file) {
+      offer(read);
     }
   }
 
   function save() {
-    const content = RecordFile.write({ ...table.game, moves: moves() });
+    const content = RecordFile.write({ ...table.game, moves: allMoves() });
     const link = document.createElement("a");
     link.href = URL.createObjectURL(new Blob([content], { type: "application/jsonl" }));
     link.download = `${table.game.board}.record`;
@@ -242,9 +277,15 @@
   async function dropped(from, to) {
     const position = page.record().present();
     const pawn = position.squares[from].toLowerCase() === "p";
+    const { game } = table;
     const letter = pawn && endRank(to) ? await promotion(position.turn) : "";
-    if (letter !== null && table.playing && table.pending === null) {
+    if (letter === null) {
+      return;
+    }
+    if (ready() && table.game === game) {
       submit(Position.nameOf(from) + Position.nameOf(to) + letter);
+    } else {
+      say("No move can be played now.");
     }
   }
 
@@ -268,9 +309,9 @@
 
   function typed() {
     const text = at("move").value.trim();
-    if (!table.playing || table.pending !== null || table.resend.length > 0) {
+    if (!ready()) {
       say("No move can be played now.");
-    } else if (/^[a-h][1-8][a-h][1-8][nbrq]?$/.test(text)) {
+    } else if (Texts.isMove(text)) {
       at("move").value = "";
       submit(text);
     } else {
@@ -280,9 +321,28 @@
 
   /* Endings. */
 
-  function sure(text) {
+  const TESTED = "The relay tests it; a claim on a move not yet made is the arbiter's (Articles 9.2, 9.3).";
+  const GROUNDS = {
+    threefold: "the present position has appeared at least three times",
+    fifty: "the last fifty moves by each side were made without a capture and without a pawn move",
+  };
+
+  /** What is asked before an ending is sent, and the side that it needs: who resigns, or who has the move and so may claim. */
+  function question(button) {
+    const { how, side } = button.dataset;
+    if (!GROUNDS[how]) {
+      return { head: "End the game?", text: `${button.textContent}.`, yes: "End the game", side };
+    }
+    const claimant = Words.colour(page.record().present().turn);
+    const text = `${claimant}, to move, claims a draw: ${GROUNDS[how]}. ${TESTED}`;
+    return { head: "Claim a draw?", text, yes: "Claim", side: claimant.toLowerCase() };
+  }
+
+  function sure({ head, text, yes }) {
     const box = at("sure");
+    at("sure-head").textContent = head;
     at("sure-text").textContent = text;
+    at("sure-yes").textContent = yes;
     box.returnValue = "";
     box.showModal();
     return new Promise((resolve) => {
@@ -291,13 +351,16 @@
   }
 
   async function end(button) {
-    const { how, side } = button.dataset;
-    const claims = how === "threefold" || how === "fifty";
-    const who = claims ? Words.colour(page.record().present().turn).toLowerCase() : side;
-    const text = claims ? `${button.textContent}, claimed by ${who}.` : `${button.textContent}.`;
-    if (await sure(text) && table.playing) {
-      const command = { cmd: "end", board: table.game.board, how };
-      table.link.send(who ? { ...command, side: who } : command);
+    const { game } = table;
+    const { side, ...words } = question(button);
+    if (!await sure(words)) {
+      return;
+    }
+    if (ready() && table.game === game) {
+      const command = { cmd: "end", how: button.dataset.how };
+      ask("end", side ? { ...command, side } : command);
+    } else {
+      say("The connection was lost meanwhile: nothing was entered.");
     }
   }
 
@@ -311,13 +374,14 @@
     at("alone-card").hidden = !busy;
     at("give-up").hidden = !busy || table.playing;
     at("ending").hidden = !table.playing;
+    at("ending").querySelectorAll("button").forEach((it) => it.setAttribute("aria-disabled", String(!ready())));
     at("save").hidden = table.game === null;
     at("typed").hidden = !table.playing;
   }
 
   function array() {
     const number = Number(at("start").value);
-    const valid = at("start").value !== "" && number >= 0 && number < 960 && Number.isInteger(number);
+    const valid = at("start").value !== "" && Position.isStart(number);
     at("array").replaceChildren(...(valid ? [...Position.array(number)].map(Pieces.draw) : []));
     if (valid && page.record().origin === null) {
       page.board.show(Position.start(number));
@@ -347,12 +411,12 @@
   });
   at("ending").addEventListener("click", (event) => {
     const button = event.target.closest("button");
-    if (button) {
+    if (button && ready()) {
       end(button);
     }
   });
   at("give-up").addEventListener("click", () => {
-    leave();
+    giveUp();
     state("idle", "No board open");
     controls();
   });

@@ -9,13 +9,13 @@
   const ASK_AGAIN = 2;
   const ASKS = 5400; // Three hours: a spectator may open the page long before the round.
   const LATER = ["NoSuchBoard", "TooManyFollowers", "OutOfMemory"];
-  const watch = { wish: null, link: null, waits: Link.waits(), asked: null, asks: 0, timer: null, closing: null, said: null };
+  const watch = { wish: null, link: null, waits: Link.waits(), asked: null, asks: 0, timer: null, ended: false, said: null };
 
   const isChannel = () => watch.wish.kind === "channel";
   const address = () => (isChannel() ? `${watch.wish.server.replace(/\/+$/, "")}/${watch.wish.board}` : watch.wish.server);
 
   function connect() {
-    watch.closing = null;
+    watch.ended = false;
     state("connecting", "Connecting …");
     watch.link = Link.open(address(), { opened: isChannel() ? listen : ask, heard, closed });
   }
@@ -44,15 +44,22 @@
     watch.link.send(from === null ? command : { ...command, from });
   }
 
+  function told(text) {
+    took(text.reply, page.record().take(text));
+    page.refresh();
+  }
+
+  /* A channel repeats what a follower is told; nothing is asked there. The close behind `cut` says why: 4001. */
+  const TOLD = { following: told, move: told, over: told };
+  const ANSWERS = { ...TOLD, cut: () => {}, refused };
+
+  /** Takes a text, and answers whether it was to be expected. */
   function heard(text) {
-    if (text.reply === "refused") {
-      refused(text);
-    } else if (text.reply === "cut") {
-      watch.closing = "cut";
-    } else {
-      took(text.reply, page.record().take(text));
-      page.refresh();
+    const take = (isChannel() ? TOLD : ANSWERS)[text.reply];
+    if (take) {
+      take(text);
     }
+    return take !== undefined;
   }
 
   function took(reply, met) {
@@ -78,7 +85,7 @@
 
   function finish(outcome) {
     state("over", "The game is over");
-    watch.closing = isChannel() ? null : "over";
+    watch.ended = !isChannel();
     const next = Words.nextName(watch.wish.board);
     at("anew").hidden = outcome !== "abandoned";
     at("anew").textContent = `Watch ${next}`;
@@ -105,17 +112,13 @@
     }
   }
 
-  function closed({ code, faulty }) {
+  function closed({ code, fault }) {
     clearTimeout(watch.timer);
-    if (faulty) {
-      state("refused", "This is not a server's address: it begins with ws:// or wss://.");
-      watch.link = null;
-      buttons();
-      return;
-    }
-    if (watch.closing === "over") {
-      watch.link = null;
-      buttons();
+    if (fault || watch.ended) {
+      if (fault) {
+        state("refused", fault);
+      }
+      leave();
       return;
     }
     const behind = code === Link.FELL_BEHIND;

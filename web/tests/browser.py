@@ -179,6 +179,18 @@ class Page:
     async def scheme(self, name):
         await self.call("Emulation.setEmulatedMedia", features=[{"name": "prefers-color-scheme", "value": name}])
 
+    async def forced_colors(self):
+        await self.call("Emulation.setEmulatedMedia", features=[{"name": "forced-colors", "value": "active"}])
+
+    async def touch(self, kind, *points):
+        """Fingers, each as its number and the square or element that it is on."""
+        places = [(number, await self.middle(selector)) for number, selector in points]
+        await self.call("Input.dispatchTouchEvent", type=kind, touchPoints=[{"id": number, "x": x, "y": y} for number, (x, y) in places])
+
+    async def style(self, selector, name):
+        """A computed style of an element."""
+        return await self.run(f"getComputedStyle(document.querySelector({json.dumps(selector)})).getPropertyValue({json.dumps(name)})")
+
     async def picture(self, path, whole=False):
         await self.call("Page.bringToFront")
         taken = await self.call("Page.captureScreenshot", format="png", captureBeyondViewport=whole)
@@ -189,8 +201,8 @@ class Page:
         """Closes it. Its connections are gone when this returns."""
         if self.socket.open:
             await self.go("about:blank")
-            try:
-                await self.call("Page.close")
-            except (RuntimeError, websockets.ConnectionClosed, asyncio.TimeoutError):
-                pass
-            await self.socket.close()
+            for last in (self.call("Page.close"), self.socket.close()):
+                try:
+                    await last  # The browser may drop the connection with the page.
+                except (RuntimeError, websockets.ConnectionClosed, asyncio.TimeoutError):
+                    pass

@@ -11,7 +11,7 @@ import time
 import websockets
 
 from browser import PATIENCE, Browser
-from relay import Client, Player, Relay, Wire, fens, start_fen
+from relay import Client, Player, Relay, Told, Wire, fens, start_fen
 
 WEB = pathlib.Path(__file__).resolve().parent.parent
 RECORDER = WEB.parent / "examples" / "recorder" / "record.py"
@@ -270,7 +270,11 @@ async def try_mate(browser):
     assert await text(seer, "#spoken") == "The first position."
     await seer.press("ArrowRight")
     assert await text(seer, "#spoken") == "place 0, White: pawn f2 to f3."
-    await seer.press("f")
+    for page in (seer, table):
+        await page.press("f")
+        assert await page.run('document.querySelector(".square").dataset.square') == "a8", "a letter turned the board"
+    await seer.click("#flip")
+    assert await seer.run('document.querySelector(".square").dataset.square') == "h1"
     assert await placement(seer) == "rnbqkbnr/pppppppp/8/8/8/5P2/PPPPP1PP/RNBQKBNR"
     for page in (table, seer):
         await page.close()
@@ -404,6 +408,241 @@ def quiet_game(start, plies, chance):
         return moves
     finally:
         player.close()
+
+
+async def said(page):
+    return await page.run('document.querySelector("#said").hidden ? "" : document.querySelector("#said").textContent')
+
+
+async def try_order(browser):
+    """One thing is asked at a time, and an answer is that to what was asked: a claim, a move, and moves that are sent again."""
+    async with Told() as relay:
+        table = await browser.open(url("table.html", server=relay.address, board="b1", start=518))
+        await table.click("#opening .main")
+        await relay.hears(cmd="open", board="b1", start=518)
+        await relay.says(reply="opened")
+        await until_state(table, "live")
+        await say_end(table, "#ending [data-how=threefold]")
+        await relay.hears(cmd="end", board="b1", how="threefold", side="white")
+        await enter(table, "e2e4", "type")
+        await enter(table, "d2d4", "drag")
+        await table.click("#ending [data-how=agreed]")
+        assert await said(table) == "No move can be played now." and not await table.run('document.querySelector("#sure").open')
+        await relay.refuses(8, "ClaimRefused")
+        await table.until('document.querySelector("#said").textContent.startsWith("The claim is refused")')
+        await enter(table, "e2e4", "type")
+        await relay.hears(cmd="submit", board="b1", move="e2e4")
+        await table.click("#ending [data-how=threefold]")
+        assert not await table.run('document.querySelector("#sure").open')
+        await relay.plays(0)
+        await shows(table, 1, fens(518, ["e2e4"])[-1], "a move behind a refused claim")
+        await say_end(table, "#ending [data-how=abandoned]")
+        await relay.hears(cmd="end", board="b1", how="abandoned")
+        await relay.says(outcome="abandoned", reply="ended")
+        await until_state(table, "over")
+        await table.choose("#kept", await table.run('document.querySelector("#kept").options[1].value'))
+        await table.click("#anew button[type=submit]")
+        await relay.hears(cmd="open", board="b1_2", start=518)
+        await relay.says(reply="opened")
+        await relay.hears(cmd="submit", board="b1_2", move="e2e4")
+        assert await table.run('[...document.querySelectorAll("#ending button")].every((it) => it.getAttribute("aria-disabled") === "true")')
+        for how in ("threefold", "agreed"):
+            await table.click(f"#ending [data-how={how}]")
+            assert not await table.run('document.querySelector("#sure").open')
+        await relay.plays(0)
+        await until_moves(table, 1)
+        await until_state(table, "live")
+        assert await table.run('[...document.querySelectorAll("#ending button")].every((it) => it.getAttribute("aria-disabled") === "false")')
+        assert relay.asked.empty() and not table.faults, table.faults
+        await table.close()
+
+
+async def try_meanwhile(browser):
+    """A connection that is lost while a question stands open: the answer to the question ends no game, and all moves can be saved."""
+    async with Told() as relay:
+        table = await browser.open(url("table.html", server=relay.address, board="b1", start=518))
+        await table.click("#opening .main")
+        await relay.hears(cmd="open", board="b1", start=518)
+        await relay.says(reply="opened")
+        await until_state(table, "live")
+        await enter(table, "e2e4", "type")
+        await relay.hears(cmd="submit", board="b1", move="e2e4")
+        await relay.plays(0)
+        await until_moves(table, 1)
+        await table.click("#ending [data-how=fifty]")
+        await table.until('document.querySelector("#sure").open')
+        await relay.socket.close()
+        await relay.hears(cmd="open", board="b1_2", start=518)
+        await table.run('HTMLAnchorElement.prototype.click = () => {}; window.write = RecordFile.write; '
+                        'RecordFile.write = (game) => { window.game = game; return write(game); }')
+        await table.run('document.querySelector("#save").click()')
+        assert await table.run("game.moves") == ["e2e4"]
+        await relay.says(reply="opened")
+        await relay.hears(cmd="submit", board="b1_2", move="e2e4")
+        await relay.plays(0)
+        await until_moves(table, 1)
+        await table.click("#sure .main")
+        await table.until('document.querySelector("#said").textContent.includes("nothing was entered")')
+        assert relay.asked.empty() and await state(table) == "live"
+        await enter(table, "e7e5", "type")
+        await relay.hears(cmd="submit", board="b1_2", move="e7e5")
+        await relay.refuses(7, "LogFull")
+        await table.until('document.querySelector("#said").textContent.startsWith("e7e5: ")')
+        assert not table.faults, table.faults
+        await table.close()
+
+
+STRANGE = ["hello", "", "null", "[]", "7", "{}", '{"reply":"pong"}', '{"reply":"constructor"}', '{"reply":["move"]}',
+           '{"cmd":"follow","board":"b1"}', '{"reply":"refused","code":6}', '{"reply":"following","joined":0}',
+           '{"fen":"rnbqkbnr/pppppppp/8/8/8/8/PPPPPPPP/RNBQKBNRR w HAha - 0 1","joined":0,"reply":"following"}',
+           '{"fen":"<b>x</b>","joined":0,"reply":"following"}', '{"move":"e2e9","place":0,"reply":"move"}',
+           '{"move":"e2e4","place":"0","reply":"move"}', '{"reply":"over"}', '{"outcome":null,"reply":"ended"}']
+
+
+async def try_strangers(browser):
+    """A server that is no relay: each page says so at its first such text, closes the connection, and can be sent elsewhere."""
+    others = [b"bytes", '{"outcome":null,"place":0,"reply":"played"}', '{"outcome":"agreed","reply":"ended"}']
+    async with Told() as relay:
+        table = await browser.open(url("table.html", server=relay.address, board="b1", start=518))
+        seer = await browser.open(url("watch.html", server=relay.address))
+        await seer.fill("#name", "b1")
+        for page, press, question, more in (
+                (table, "#opening .main", {"cmd": "open", "board": "b1", "start": 518}, [*others, json.dumps({"reply": "cut"})]),
+                (seer, "#source .main", {"cmd": "follow", "board": "b1", "spectator": 0, "from": 0}, [*others, json.dumps({"reply": "opened"})])):
+            for strange in [*STRANGE, *more]:
+                await page.click(press)
+                await relay.hears(**question)
+                assert await state(page) == "connecting"
+                await relay.says_so(strange)
+                await until_state(page, "refused")
+                assert "This is no relay" in await text(page, "#state"), await text(page, "#state")
+                await asyncio.wait_for(relay.socket.wait_closed(), 10)
+        await table.click("#opening .main")
+        await relay.hears(cmd="open", board="b1", start=518)
+        await relay.says(reply="opened")
+        await until_state(table, "live")
+        await enter(table, "e2e4", "type")
+        await relay.hears(cmd="submit", board="b1", move="e2e4")
+        await relay.plays(5)
+        await until_state(table, "refused")
+        await seer.click("#source .main")
+        await relay.hears(cmd="follow", board="b1", spectator=0, **{"from": 0})
+        await relay.says(fen=start_fen(518), joined=0, reply="following")
+        await relay.says(move="e4e5", place=0, reply="move")
+        await relay.says(move="e2e4", place=0, reply="move")
+        await until_moves(seer, 1)
+        for page in (table, seer):
+            assert not page.faults, page.faults
+            await page.close()
+        for page, form, press in (("table.html", "#opening", "#opening .main"), ("watch.html", "#source", "#source .main")):
+            wrong = await browser.open(url(page, server=relay.address.replace("ws:", "http:")))
+            await wrong.fill("#name", "b1")
+            await wrong.click(press)
+            await until_state(wrong, "refused")
+            assert "ws://" in await text(wrong, "#state") and await wrong.run(f'!document.querySelector("{form}").hidden')
+            await wrong.close()
+
+
+async def try_claims(browser):
+    """Before a claim is sent, the page says who claims what, and that the relay tests it; nothing is ended by a key that is held."""
+    async with Told() as relay:
+        table = await browser.open(url("table.html", server=relay.address, board="b1", start=518))
+        await table.click("#opening .main")
+        await relay.hears(cmd="open", board="b1", start=518)
+        await relay.says(reply="opened")
+        await until_state(table, "live")
+        for colour, move in (("White", "g1f3"), ("Black", "g8f6")):
+            for how, label, ground in (("threefold", "Claim: threefold repetition", "has appeared at least three times"),
+                                       ("fifty", "Claim: fifty moves", "fifty moves by each side")):
+                assert await text(table, f"#ending [data-how={how}]") == label
+                await table.click(f"#ending [data-how={how}]")
+                await table.until('document.querySelector("#sure").open')
+                words = await text(table, "#sure-text")
+                assert words.startswith(f"{colour}, to move, claims a draw: ") and ground in words, words
+                assert "The relay tests it" in words and "9.2, 9.3" in words, words
+                assert await text(table, "#sure-head") == "Claim a draw?" and await text(table, "#sure .main") == "Claim"
+                await table.press("Enter")
+                await table.until('!document.querySelector("#sure").open')
+                await say_end(table, f"#ending [data-how={how}]")
+                await relay.hears(cmd="end", board="b1", how=how, side=colour.lower())
+                await relay.refuses(8, "ClaimRefused")
+                await table.until('document.querySelector("#said").textContent.startsWith("The claim is refused")')
+            await enter(table, move, "type")
+            await relay.hears(cmd="submit", board="b1", move=move)
+            await relay.plays(0 if colour == "White" else 1)
+            await until_moves(table, 1 if colour == "White" else 2)
+        await table.click("#ending [data-side=black]")
+        await table.until('document.querySelector("#sure").open')
+        assert await text(table, "#sure-head") == "End the game?" and await text(table, "#sure-text") == "Black resigns."
+        assert await text(table, "#sure .main") == "End the game"
+        await table.click("#sure .main")
+        await relay.hears(cmd="end", board="b1", how="resign", side="black")
+        await relay.says(outcome="black resigns", reply="ended")
+        await until_state(table, "over")
+        assert not table.faults, table.faults
+        await table.close()
+
+
+async def try_fingers(browser):
+    """A finger scrolls on a board where nothing can be dragged; two fingers never make a move, one makes it."""
+    async with Told() as relay:
+        seer = await browser.open(url("watch.html"))
+        table = await browser.open(url("table.html", server=relay.address, board="b1", start=518))
+        for page in (seer, table):
+            assert await page.style(".board", "touch-action") == "auto"
+        await table.click("#opening .main")
+        await relay.hears(cmd="open", board="b1", start=518)
+        await relay.says(reply="opened")
+        await until_state(table, "live")
+        await table.until('document.querySelector(".board").classList.contains("usable")')
+        assert await table.style(".board", "touch-action") == "pinch-zoom"
+        first, second = (0, "[data-square=e2]"), (1, "[data-square=e4]")
+        await table.touch("touchStart", first)
+        await table.touch("touchStart", first, second)
+        await table.touch("touchEnd", first)
+        await table.touch("touchEnd")
+        await asyncio.sleep(0.2)
+        assert relay.asked.empty(), await relay.asked.get()
+        await table.run('document.querySelector("#name").focus()')
+        await table.press("Escape")
+        await table.touch("touchStart", (0, "[data-square=d2]"))
+        await table.touch("touchMove", (0, "[data-square=d3]"))
+        await table.touch("touchMove", (0, "[data-square=d4]"))
+        await table.touch("touchEnd")
+        await relay.hears(cmd="submit", board="b1", move="d2d4")
+        assert not table.faults, table.faults
+        for page in (seer, table):
+            await page.close()
+
+
+async def try_forced(browser):
+    """In forced colours the last move, a check, the focus and the man picked up have each a line of its own style."""
+    async with Told() as relay:
+        table = await browser.open(url("table.html", server=relay.address, board="b1", start=518))
+        await table.forced_colors()
+        await table.click("#opening .main")
+        await relay.hears(cmd="open", board="b1", start=518)
+        await relay.says(reply="opened")
+        await until_state(table, "live")
+        for place, move in enumerate(["e2e4", "f7f6", "d1h5"]):
+            await enter(table, move, "type")
+            await relay.hears(cmd="submit", board="b1", move=move)
+            await relay.plays(place)
+            await until_moves(table, place + 1)
+        await table.run('document.querySelector(".square[tabindex=\\"0\\"]").focus()')
+        await to_square(table, "e7")
+        assert await table.run('document.activeElement.matches("[data-square=e7]:focus-visible")')
+        focus = [await table.style("[data-square=e7]", "outline-style"), await table.style("[data-square=e7]", "outline-width")]
+        assert focus == ["dashed", "5px"], focus
+        await to_square(table, "a7")
+        await table.press("Enter")
+        await table.press("ArrowDown")
+        lines = [await table.style("[data-square=a7]", "outline-style"), await table.style("[data-square=a6]", "outline-style"),
+                 await table.style("[data-square=e8]", "border-top-style"), await table.style("[data-square=h5]", "border-top-style")]
+        assert lines == ["double", "dashed", "dotted", "solid"], lines
+        assert await table.style(".move.current", "background-color") != await table.style(".move:not(.current)", "background-color")
+        assert not table.faults, table.faults
+        await table.close()
 
 
 async def try_nowhere(browser):
@@ -680,6 +919,62 @@ async def try_records(browser):
         await shows(again, 4, fens(start, moves[:4])[-1], "without the last move")
         assert not again.faults, again.faults
         await again.close()
+
+
+FILES = [
+    (None, "cannot be read"), ("", "no record"), ("hello", "no record"), ("null\n", "no record"),
+    ('{"board":"b","record":2,"start":518}\n', "no record"),
+    ('{"board":"b","record":1,"start":960}\n', "does not begin with"), ('{"board":"b","record":1}\n', "does not begin with"),
+    ('{"board":"b","record":1,"start":518}\nnull\n[]\n{"fen":7,"joined":0,"reply":"following"}\n', "b: start 518, 0 moves"),
+    ('{"board":"b","record":1,"start":518}\n{"move":"e2e4","place":0,"reply":"move"}\n', "has a gap"),
+    ("GAME" + '{"move":"e7e5","place":0,"reply":"move"}\n', "has a gap"),
+    ("GAME" + '{"move":7,"place":0,"reply":"move"}\n{"move":"e7e5","place":1,"reply":"move"}\n', "has a gap"),
+    ("GAME" + '{"move":"e2e4","place":0,"reply":"move"}\n{"move":"e7e5","pl', "b: start 518, 1 moves"),
+]
+
+
+async def try_files(browser):
+    """A file that is no record, or a damaged one, is said to be one; what came before a line that was cut off counts."""
+    game = '{"board":"b","record":1,"start":518}\n' + json.dumps({"fen": start_fen(518), "joined": 0, "reply": "following"}) + "\n"
+    table = await browser.open(url("table.html"))
+    with tempfile.TemporaryDirectory() as folder:
+        for number, (content, words) in enumerate(FILES):
+            file = pathlib.Path(folder, f"{number}.record")
+            file.write_text((content or "").replace("GAME", game))
+            await table.give_file("#file", file)
+            await table.until('document.querySelector("#anew-said").textContent !== ""')
+            await table.run('document.querySelector("#anew-said").textContent = ""')
+            if content is None:
+                file.unlink()
+            await table.run('document.querySelector("#file").dispatchEvent(new Event("change"))')
+            await table.until('document.querySelector("#anew-said").textContent !== ""')
+            assert words in await text(table, "#anew-said"), (content, await text(table, "#anew-said"))
+    await table.run('localStorage.setItem("sirvandu.games", "7")')
+    await table.go(url("table.html"))
+    assert await text(table, "#kept") == "none yet"
+    await table.run('localStorage.removeItem("sirvandu.games")')
+    assert not table.faults, table.faults
+    await table.close()
+
+
+async def try_next(browser):
+    """A page that is sent to a board which is not open yet no longer shows the game that it showed before."""
+    relay = await Relay().start()
+    client = await Client.to(relay.address)
+    await client.open("b1")
+    await client.submit("b1", "e2e4")
+    seer = await watch(browser, relay, "b1")
+    await until_moves(seer, 1)
+    await seer.fill("#name", "b2")
+    await seer.click("#source .main")
+    await until_state(seer, "refused")
+    await until_moves(seer, 0)
+    assert await placement(seer) == "8/8/8/8/8/8/8/8" and await seer.run('document.querySelector("#fen").value') == ""
+    await client.open("b2", 0)
+    await shows(seer, 0, start_fen(0), "another board")
+    assert not seer.faults, seer.faults
+    await seer.close()
+    await client.close()
 
 
 async def main():

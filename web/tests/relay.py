@@ -125,6 +125,46 @@ class Client:
         await self.socket.close()
 
 
+class Told:
+    """A server that says to the page what a test tells it to, and keeps what the page asks for."""
+
+    async def __aenter__(self):
+        self.asked = asyncio.Queue()
+        self.socket = None
+        self.server = await websockets.serve(self.listen, "127.0.0.1", 0, compression=None, ping_interval=None)
+        self.address = f"ws://127.0.0.1:{self.server.sockets[0].getsockname()[1]}"
+        return self
+
+    async def listen(self, socket, path):
+        self.socket = socket
+        try:
+            async for text in socket:
+                self.asked.put_nowait(json.loads(text))
+        except websockets.ConnectionClosed:
+            pass
+
+    async def hears(self, **command):
+        """Waits for the page's next command, which has to be this one."""
+        heard = await asyncio.wait_for(self.asked.get(), 30)
+        assert heard == command, heard
+
+    async def says(self, **text):
+        await self.says_so(json.dumps(text))
+
+    async def says_so(self, text):
+        await self.socket.send(text)
+
+    async def refuses(self, code, name):
+        await self.says(code=code, name=name, reply="refused")
+
+    async def plays(self, place, outcome=None):
+        await self.says(outcome=outcome, place=place, reply="played")
+
+    async def __aexit__(self, *_):
+        self.server.close()
+        await self.server.wait_closed()
+
+
 class Wire:
     """A wire of TCP between a page and a relay that can be cut and mended, while the relay goes on."""
 
