@@ -22,8 +22,9 @@ pub struct ServeEnd {
     pub failed: u32,
 }
 
-/// How many bytes the stack of a session's thread has: JSON of the greatest nesting, 127, fits.
-const STACK_BYTES: usize = 256 * 1024;
+/// How many bytes the stack of a session's thread has. A request of 124 header fields takes some 160 KiB of it, and JSON of the greatest
+/// nesting, 127, some 144 KiB: both fit three times. What a session does not touch takes no memory.
+const STACK_BYTES: usize = 512 * 1024;
 
 /// How many seconds a write may make no way before its session ends as failed.
 const MOST_WRITE_SECONDS: u64 = 30;
