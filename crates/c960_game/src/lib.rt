@@ -13,6 +13,6 @@ mod same;
 
 pub use ending::Ending;
 pub use game::Game;
-pub use limits::Limits;
+pub use limits::{Limits, MOST_BOARDS, MOST_CAPACITY, MOST_FOLLOWERS, MOST_PLIES};
 pub use outcome::Outcome;
 pub use refusal::Refusal;

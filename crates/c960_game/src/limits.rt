@@ -5,6 +5,18 @@ ghost use Rattle.c960_game.specs.Limits.{AreLimits, LimitNumbers};
 
 use std::marker::Model;
 
+/// The most boards that a relay may have.
+pub const MOST_BOARDS: u16 = 256;
+
+/// The most followers that a board may have.
+pub const MOST_FOLLOWERS: u16 = 1024;
+
+/// The most moves that a follower's queue may hold.
+pub const MOST_CAPACITY: u16 = 1024;
+
+/// The most plies that a game may have.
+pub const MOST_PLIES: u16 = 16384;
+
 /// The limits of a relay. Contracts see their four numbers.
 #[derive(Clone, Copy, PartialEq, Eq, Debug)]
 pub struct Limits {
@@ -33,10 +45,10 @@ impl Limits {
         ensures some { IsSome result ↔ AreLimits (record { boards = boards; followers = followers; capacity = capacity; plies = plies }) }
         ensures value { IfSome result (λ l. l ≡ record { boards = boards; followers = followers; capacity = capacity; plies = plies }) }
     {
-        let fit = (1..=256).contains(&boards)
-            && (1..=1024).contains(&followers)
-            && (1..=1024).contains(&capacity)
-            && (1..=16384).contains(&plies);
+        let fit = (1..=MOST_BOARDS).contains(&boards)
+            && (1..=MOST_FOLLOWERS).contains(&followers)
+            && (1..=MOST_CAPACITY).contains(&capacity)
+            && (1..=MOST_PLIES).contains(&plies);
         if fit {
             Some(Limits {
                 boards,

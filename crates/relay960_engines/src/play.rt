@@ -13,11 +13,8 @@ use crate::lines::run_lines;
 use crate::play_texts::{fault_text, played_text, refused_text};
 use crate::start::refuse;
 use c960_board::{Move, read_move};
-use c960_game::{Game, Refusal};
+use c960_game::{Game, MOST_PLIES, Refusal};
 use std::alloc::{AllocError, Global};
-
-/// How many plies a game of the program may have.
-const MOST_PLIES: u16 = 16384;
 
 /// The answerer of a live game.
 #[derive(Drop)]

@@ -6,11 +6,12 @@ ghost use Rattle.relay960_words.specs.Statuses.{IsFault};
 use crate::fault::status_of_error;
 use crate::order::{Job, Order, Service};
 use crate::status::Status;
-use c960_game::Limits;
+use c960_game::{Limits, MOST_BOARDS, MOST_CAPACITY, MOST_FOLLOWERS, MOST_PLIES};
 use clap::error::ErrorKind;
 use clap::{Arg, ArgAction, ArgMatches, Command, Error, value_parser};
 use std::alloc::{AllocError, Global};
 use std::convert::AsStr;
+use std::str::FromStr;
 
 fn start_command<'a>(alloc: Global) -> Result<Command<'a>, AllocError> {
     let number = Arg::new(alloc, "N")
@@ -49,14 +50,14 @@ fn limit_option<'a>(
     alloc: Global,
     name: &'static str,
     help: &'static str,
-    most: i64,
+    most: u16,
     default: &'static str,
 ) -> Arg<'a> {
     Arg::new(alloc, name)
         .long(name)
         .help(help)
         .action(ArgAction::Set)
-        .value_parser(value_parser!(u16).range(1..=most))
+        .value_parser(value_parser!(u16).range(1..=i64::from(most)))
         .default_value(default)
 }
 
@@ -67,10 +68,10 @@ fn with_limits<'a>(alloc: Global, command: Command<'a>) -> Result<Command<'a>, A
     let capacity = "How many moves a follower's queue holds";
     let plies = "How many plies a game may have";
     command
-        .arg(limit_option(alloc, "boards", boards, 256, "16"))?
-        .arg(limit_option(alloc, "followers", followers, 1024, "64"))?
-        .arg(limit_option(alloc, "capacity", capacity, 1024, "64"))?
-        .arg(limit_option(alloc, "plies", plies, 16384, "1024"))
+        .arg(limit_option(alloc, "boards", boards, MOST_BOARDS, "16"))?
+        .arg(limit_option(alloc, "followers", followers, MOST_FOLLOWERS, "64"))?
+        .arg(limit_option(alloc, "capacity", capacity, MOST_CAPACITY, "64"))?
+        .arg(limit_option(alloc, "plies", plies, MOST_PLIES, "1024"))
 }
 
 fn script_command<'a>(alloc: Global) -> Result<Command<'a>, AllocError> {
@@ -133,10 +134,10 @@ pub fn order_of<'a, R: Eprint, S: AsStr>(
 fn read_order<'a, S: AsStr>(alloc: Global, words: &'a [S]) -> Result<Order<'a>, Error> {
     let matches = program_command(alloc)?.try_get_matches_from(words)?;
     match matches.subcommand() {
-        // `clap` answers an error where the number or the text is missing, so `unwrap_or` is never needed here.
-        Some(("start", given)) => Ok(Order::Run(Job::Start(number_of(given)))),
+        Some(("start", given)) => Ok(Order::Run(Job::Start(number_of(alloc, given, "N")?))),
+        // `clap` answers an error where the text is missing, so `unwrap_or` is never needed here.
         Some(("moves", given)) => Ok(Order::Run(Job::Moves(given.get_str("FEN").unwrap_or("")))),
-        Some(("play", given)) => Ok(Order::Run(Job::Play(number_of(given)))),
+        Some(("play", given)) => Ok(Order::Run(Job::Play(number_of(alloc, given, "N")?))),
         Some(("serve", given)) => Ok(Order::Serve(service_of(alloc, given)?)),
         Some((_, given)) => Ok(Order::Run(Job::Script(limits_of(alloc, given)?))),
         // With the program's name alone, a script has its defaults.
@@ -147,28 +148,37 @@ fn read_order<'a, S: AsStr>(alloc: Global, words: &'a [S]) -> Result<Order<'a>, 
     }
 }
 
-/// The number that is given.
-fn number_of(given: &ArgMatches) -> u16 {
-    given.get_one::<u16>("N").unwrap_or(0)
+/// The number that is given under this name, or that stands for it by default.
+fn number_of<T: FromStr>(alloc: Global, given: &ArgMatches, name: &str) -> Result<T, Error>
+where
+    T::Err: Drop,
+{
+    match given.get_one::<T>(name) {
+        Some(number) => Ok(number),
+        // `clap` has seen to it that there is one.
+        None => Err(program_command(alloc)?.error(
+            ErrorKind::MissingRequiredArgument,
+            "a number is missing",
+        )?),
+    }
 }
 
 /// The service that is given.
 fn service_of(alloc: Global, given: &ArgMatches) -> Result<Service, Error> {
     Ok(Service {
-        port: given.get_one::<u16>("port").unwrap_or(9600),
-        connections: given.get_one::<u32>("connections").unwrap_or(1_000_000),
+        port: number_of(alloc, given, "port")?,
+        connections: number_of(alloc, given, "connections")?,
         limits: limits_of(alloc, given)?,
     })
 }
 
 /// The limits that are given.
 fn limits_of(alloc: Global, given: &ArgMatches) -> Result<Limits, Error> {
-    let limit = |name| given.get_one::<u16>(name).unwrap_or(1);
     let limits = Limits::new(
-        limit("boards"),
-        limit("followers"),
-        limit("capacity"),
-        limit("plies"),
+        number_of(alloc, given, "boards")?,
+        number_of(alloc, given, "followers")?,
+        number_of(alloc, given, "capacity")?,
+        number_of(alloc, given, "plies")?,
     );
     match limits {
         Some(limits) => Ok(limits),
