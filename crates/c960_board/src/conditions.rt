@@ -1,8 +1,8 @@
 //! The conditions that the parts of a position meet, each as a test.
 
-ghost use Rattle.std.specs.Prelude.{◌≡◌, ◌↔◌, ℕ, IsTrue, Some};
+ghost use Rattle.std.specs.Prelude.{◌≡◌, ◌↔◌, ◌≤◌, ℕ, IsTrue, Some};
 ghost use Rattle.c960_board.specs.declared.piece.Colour.{Colour};
-ghost use Rattle.c960_board.specs.Position.{IsPosition, AreRights, IsTarget, AreCounters};
+ghost use Rattle.c960_board.specs.Position.{IsPosition, AreRights, IsTarget};
 
 use crate::parts::Parts;
 use crate::piece::Colour;
@@ -33,11 +33,10 @@ fn rights_fit(parts: &Parts) -> bool
         && are_rights(&parts.placement, &parts.rights, Colour::Black)
 }
 
-/// Whether the counters are in their ranges: the type `u16` bounds them from above.
-pub fn are_counters(half_moves: u16, number: u16) -> bool
-    ensures { IsTrue result ↔ AreCounters half_moves number }
+/// Whether it is a move's number, from 1; its type bounds it from above.
+fn is_move_number(number: u16) -> bool
+    ensures { IsTrue result ↔ (1 ≤ number) }
 {
-    let _ = half_moves;
     number > 0
 }
 
@@ -45,8 +44,10 @@ pub fn are_counters(half_moves: u16, number: u16) -> bool
 pub fn are_parts(parts: &Parts) -> bool
     ensures { IsTrue result ↔ IsPosition parts.now }
 {
+    // So the proof has the bound of the half-move counter, which is its type's.
+    let _bound = parts.half_moves;
     is_placement(&parts.placement)
         && rights_fit(parts)
         && target_fits(parts)
-        && are_counters(parts.half_moves, parts.number)
+        && is_move_number(parts.number)
 }

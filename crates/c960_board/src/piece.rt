@@ -1,7 +1,7 @@
 //! The pieces: their colours and their kinds.
 
-ghost use Rattle.std.specs.Prelude.{◌≡◌};
-ghost use Rattle.c960_board.specs.Pieces.{other};
+ghost use Rattle.std.specs.Prelude.{◌≡◌, ◌↔◌, IsTrue};
+ghost use Rattle.c960_board.specs.Pieces.{other, holds, man};
 
 /// A side (FIDE Laws, Article 1).
 #[derive(Clone, Copy, PartialEq, Eq, Debug)]
@@ -38,4 +38,15 @@ pub enum Kind {
 pub struct Piece {
     pub colour: Colour,
     pub kind: Kind,
+}
+
+/// Whether a square that holds this holds a piece of the colour and the kind.
+pub fn holds(cell: Option<Piece>, colour: Colour, kind: Kind) -> bool
+    ensures test { result ≡ holds colour kind cell }
+    ensures fact { IsTrue result ↔ (cell ≡ man colour kind) }
+{
+    match cell {
+        Some(piece) => piece.colour == colour && piece.kind == kind,
+        None => false,
+    }
 }

@@ -13,12 +13,17 @@ pub struct Sets {
     pub white: u64,
     /// The squares of Black's pieces.
     pub black: u64,
-    /// The squares of the pawns of both sides, and so for the other kinds.
+    /// The squares of the pawns of both sides.
     pub pawns: u64,
+    /// The squares of the knights of both sides.
     pub knights: u64,
+    /// The squares of the bishops of both sides.
     pub bishops: u64,
+    /// The squares of the rooks of both sides.
     pub rooks: u64,
+    /// The squares of the queens of both sides.
     pub queens: u64,
+    /// The squares of the kings of both sides.
     pub kings: u64,
 }
 

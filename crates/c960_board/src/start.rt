@@ -83,9 +83,7 @@ impl Position {
         ensures some { IsSome result ↔ (number < 960) }
         ensures value { IfSome result (λ p. p ≡ start number) }
     {
-        let Some(rank) = arrangement(number) else {
-            return None;
-        };
+        let rank = arrangement(number)?;
         Some(Position::of_parts(start_parts(&rank)))
     }
 }

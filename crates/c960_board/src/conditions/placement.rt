@@ -7,25 +7,14 @@ ghost use Rattle.c960_board.specs.Position.{cell_at, IsPlacement};
 ghost use Rattle.c960_board.specs.Squares.{rank_of, IsEndRank};
 ghost use Rattle.c960_board.specs.declared.piece.Kind.TheVariants.{Pawn, King};
 
-use crate::piece::{Colour, Kind, Piece};
-
-/// Whether the square holds a piece of the colour and the kind.
-pub fn is_man(cell: Option<Piece>, colour: Colour, kind: Kind) -> bool
-    ensures test { result ≡ holds colour kind cell }
-    ensures fact { IsTrue result ↔ (cell ≡ man colour kind) }
-{
-    match cell {
-        Some(piece) => piece.colour == colour && piece.kind == kind,
-        None => false,
-    }
-}
+use crate::piece::{Colour, Kind, Piece, holds};
 
 fn has_one_king(placement: &[Option<Piece>; 64], colour: Colour) -> bool
     ensures { IsTrue result ↔ (count_by (holds colour King) placement.now ≡ 1) }
 {
     let kings = placement
         .iter()
-        .filter(|cell| is_man(**cell, colour, Kind::King))
+        .filter(|cell| holds(**cell, colour, Kind::King))
         .count();
     kings == 1
 }
@@ -40,7 +29,7 @@ fn has_no_end_pawn(placement: &[Option<Piece>; 64], colour: Colour) -> bool
     ensures { IsTrue result ↔ ((s : ℕ) → s < 64 → IsEndRank (rank_of s) → cell_at placement.now s ≢ man colour Pawn) }
 {
     for square in 0..64 {
-        if is_end_rank(square) && is_man(placement[square], colour, Kind::Pawn) {
+        if is_end_rank(square) && holds(placement[square], colour, Kind::Pawn) {
             return false;
         }
     }

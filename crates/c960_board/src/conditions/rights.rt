@@ -7,8 +7,7 @@ ghost use Rattle.c960_board.specs.Position.{cell_at, has_right, rights_of, AreRi
 ghost use Rattle.c960_board.specs.Squares.{file_of, rank_of, home_rank, home_square};
 ghost use Rattle.c960_board.specs.declared.piece.Kind.TheVariants.{Rook, King};
 
-use crate::conditions::placement::is_man;
-use crate::piece::{Colour, Kind, Piece};
+use crate::piece::{Colour, Kind, Piece, holds};
 use crate::rights::CastlingRights;
 
 /// The first square of the side's home rank.
@@ -28,7 +27,7 @@ fn rooks_stand(placement: &[Option<Piece>; 64], rights: &CastlingRights, colour:
 {
     let home = home(colour);
     for file in 0..8 {
-        if rights.has(colour, file as u8) && !is_man(placement[home + file], colour, Kind::Rook) {
+        if rights.has(colour, file as u8) && !holds(placement[home + file], colour, Kind::Rook) {
             return false;
         }
     }
@@ -95,7 +94,7 @@ fn fit_square(
     requires { square < 64 }
     ensures { IsTrue result ↔ (cell_at placement.now square ≡ man colour King → RightsFitKing rights.now colour square) }
 {
-    !is_man(placement[square], colour, Kind::King) || fit_king(rights, colour, square)
+    !holds(placement[square], colour, Kind::King) || fit_king(rights, colour, square)
 }
 
 /// Whether the rights fit wherever the side's king stands.

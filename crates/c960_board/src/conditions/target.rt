@@ -5,8 +5,7 @@ ghost use Rattle.c960_board.specs.Pieces.{man};
 ghost use Rattle.c960_board.specs.Position.{cell_at, IsTarget};
 ghost use Rattle.c960_board.specs.declared.piece.Kind.TheVariants.{Pawn};
 
-use crate::conditions::placement::is_man;
-use crate::piece::{Colour, Kind, Piece};
+use crate::piece::{Colour, Kind, Piece, holds};
 use crate::square::Square;
 
 /// Whether the square and the one behind it are empty, and a pawn of the colour stands before it.
@@ -24,7 +23,7 @@ fn is_passed_over(
 {
     placement[square].is_none()
         && placement[behind].is_none()
-        && is_man(placement[before], colour, Kind::Pawn)
+        && holds(placement[before], colour, Kind::Pawn)
 }
 
 /// Whether a pawn of the side not to move may just have passed over the square.

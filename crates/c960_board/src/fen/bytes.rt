@@ -5,11 +5,15 @@ ghost use Rattle.std.specs.Prelude.{◌≡◌, ◌≤◌, ◌==◌, length};
 use arrayvec::ArrayVec;
 use std::marker::Model;
 
+/// The bytes of a text. The longest has 93: 64 squares and 7 slashes, the letter of the turn, 4 rights, 2 bytes of a target, 5 digits
+/// of each counter, and 5 spaces.
+pub(super) type TextBytes = ArrayVec<u8, 93>;
+
 /// The text of a position in ASCII, at most 93 bytes, which lie in the value itself: nothing is allocated. Contracts
 /// see the list of the bytes.
 #[derive(Drop)]
 pub struct FenBytes {
-    bytes: ArrayVec<u8, 93>,
+    bytes: TextBytes,
 }
 
 impl Model for FenBytes {
@@ -22,7 +26,7 @@ impl Model for FenBytes {
 
 impl FenBytes {
     /// The text of these bytes.
-    pub(super) fn new(bytes: ArrayVec<u8, 93>) -> FenBytes
+    pub(super) fn new(bytes: TextBytes) -> FenBytes
         ensures { result ≡ bytes.items }
     {
         FenBytes { bytes }

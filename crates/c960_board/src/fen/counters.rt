@@ -29,12 +29,8 @@ pub(crate) fn read_counters(half_moves: &[u8], number: &[u8]) -> Option<(u16, u1
         ((h n : ℕ) → AreCounterFields half_moves.now number.now h n → ⊥)
         (λ r. AreCounterFields half_moves.now number.now r.0 r.1) }
 {
-    let Some(half_moves) = read_number(half_moves) else {
-        return None;
-    };
-    let Some(number) = read_number(number) else {
-        return None;
-    };
+    let half_moves = read_number(half_moves)?;
+    let number = read_number(number)?;
     if number == 0 {
         return None;
     }

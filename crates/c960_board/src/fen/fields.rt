@@ -43,9 +43,7 @@ fn is_field(text: &[u8]) -> bool
 fn front(text: &[u8]) -> Option<(&[u8], &[u8])>
     ensures { MatchOption result ((a x : List ℕ) → IsFront text.now a x → ⊥) (λ x. IsFront text.now x.0.now x.1.now) }
 {
-    let Some((field, rest)) = cut(text, b' ') else {
-        return None;
-    };
+    let (field, rest) = cut(text, b' ')?;
     if field.is_empty() {
         return None;
     }
@@ -56,21 +54,11 @@ fn front(text: &[u8]) -> Option<(&[u8], &[u8])>
 pub(crate) fn six_fields(text: &[u8]) -> Option<Fields<'_>>
     ensures { MatchOption result ((f : Six) → IsSix f text.now → ⊥) (λ f. IsSix (six_of f) text.now) }
 {
-    let Some((placement, rest)) = front(text) else {
-        return None;
-    };
-    let Some((turn, rest)) = front(rest) else {
-        return None;
-    };
-    let Some((rights, rest)) = front(rest) else {
-        return None;
-    };
-    let Some((target, rest)) = front(rest) else {
-        return None;
-    };
-    let Some((half_moves, number)) = front(rest) else {
-        return None;
-    };
+    let (placement, rest) = front(text)?;
+    let (turn, rest) = front(rest)?;
+    let (rights, rest) = front(rest)?;
+    let (target, rest) = front(rest)?;
+    let (half_moves, number) = front(rest)?;
     if !is_field(number) {
         return None;
     }

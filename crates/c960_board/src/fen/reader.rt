@@ -21,21 +21,12 @@ use crate::position::Position;
 fn read_fields(fields: &Fields<'_>) -> Result<Position, FenFault>
     ensures { MatchResult result (λ p. Spells (six_of fields.now) p) (λ e. FaultIn e (six_of fields.now)) }
 {
-    let Some(placement) = read_placement(fields.placement) else {
-        return Err(FenFault::Placement);
-    };
-    let Some(turn) = read_turn(fields.turn) else {
-        return Err(FenFault::Turn);
-    };
-    let Some(rights) = read_rights(&placement, fields.rights) else {
-        return Err(FenFault::Castling);
-    };
-    let Some(target) = read_target(&placement, turn, fields.target) else {
-        return Err(FenFault::EnPassant);
-    };
-    let Some((half_moves, number)) = read_counters(fields.half_moves, fields.number) else {
-        return Err(FenFault::Counters);
-    };
+    let placement = read_placement(fields.placement).ok_or(FenFault::Placement)?;
+    let turn = read_turn(fields.turn).ok_or(FenFault::Turn)?;
+    let rights = read_rights(&placement, fields.rights).ok_or(FenFault::Castling)?;
+    let target = read_target(&placement, turn, fields.target).ok_or(FenFault::EnPassant)?;
+    let counters = read_counters(fields.half_moves, fields.number);
+    let (half_moves, number) = counters.ok_or(FenFault::Counters)?;
     let parts = Parts {
         placement,
         turn,
@@ -60,8 +51,6 @@ pub fn read_fen(text: &[u8]) -> Result<Position, FenFault>
     ensures only { (p : Parts) → FenText p text.now → result ≡ Ok p }
     ensures first { (e : FenFault) → IsFault e text.now → result ≡ Err e }
 {
-    let Some(fields) = six_fields(text) else {
-        return Err(FenFault::Fields);
-    };
+    let fields = six_fields(text).ok_or(FenFault::Fields)?;
     read_fields(&fields)
 }

@@ -56,9 +56,7 @@ fn read_letters(text: &[u8]) -> Option<CastlingRights>
     }
     let mut rights = no_rights();
     for byte in text {
-        let Some((colour, file)) = right_of(*byte) else {
-            return None;
-        };
+        let (colour, file) = right_of(*byte)?;
         if rights.has(colour, file) {
             return None;
         }
@@ -83,9 +81,7 @@ pub(crate) fn read_rights(placement: &[Option<Piece>; 64], text: &[u8]) -> Optio
         ((r : CastlingRights) → IsRightsField placement.now text.now r → ⊥)
         (λ r. IsRightsField placement.now text.now r) }
 {
-    let Some(rights) = read_names(text) else {
-        return None;
-    };
+    let rights = read_names(text)?;
     if are_rights(placement, &rights, Colour::White)
         && are_rights(placement, &rights, Colour::Black)
     {

@@ -42,9 +42,7 @@ fn piece_of(byte: u8) -> Option<Piece>
         b'A'..=b'Z' => (Colour::White, byte + 32),
         _ => (Colour::Black, byte),
     };
-    let Some(kind) = kind_of(small) else {
-        return None;
-    };
+    let kind = kind_of(small)?;
     Some(Piece { colour, kind })
 }
 

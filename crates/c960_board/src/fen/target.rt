@@ -34,9 +34,7 @@ pub(crate) fn read_target(
     match text {
         b"-" => Some(None),
         _ => {
-            let Some(square) = square_of(text) else {
-                return None;
-            };
+            let square = square_of(text)?;
             if is_target(placement, turn, square) {
                 Some(Some(square))
             } else {

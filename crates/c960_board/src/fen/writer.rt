@@ -8,7 +8,7 @@ ghost use Rattle.c960_board.specs.Fen.RankCells.{rank_cells};
 ghost use Rattle.c960_board.specs.Fen.Target.{target_text};
 ghost use Rattle.c960_board.specs.Sets.{cells_of, parts_of};
 
-use crate::fen::bytes::FenBytes;
+use crate::fen::bytes::{FenBytes, TextBytes};
 use crate::piece::{Colour, Kind, Piece};
 use crate::position::Position;
 use crate::rights::CastlingRights;
@@ -37,7 +37,7 @@ fn letter_of(piece: Piece) -> u8
 }
 
 /// Appends the digit of a run of empty squares: nothing where there is none.
-fn write_run(text: &mut ArrayVec<u8, 93>, empty: u8)
+fn write_run(text: &mut TextBytes, empty: u8)
     requires digit { empty ≤ 8 }
     requires room { array_vec_len text.old + length (run_text empty) ≤ 93 }
     ensures { text.new.items ≡ text.old.items ++ run_text empty }
@@ -49,7 +49,7 @@ fn write_run(text: &mut ArrayVec<u8, 93>, empty: u8)
 
 /// Appends the squares of a rank, from file a to file h. Rank 0 is the first.
 #[tactic(auto, using(crate::proofs::Written::RankCells::rank_text_end))]
-fn write_rank(text: &mut ArrayVec<u8, 93>, sets: &Sets, rank: u8)
+fn write_rank(text: &mut TextBytes, sets: &Sets, rank: u8)
     requires on_board { rank < 8 }
     requires room { array_vec_len text.old + length (squares_text (rank_cells sets.now rank) 0) ≤ 93 }
     ensures { text.new.items ≡ text.old.items ++ squares_text (rank_cells sets.now rank) 0 }
@@ -69,7 +69,7 @@ fn write_rank(text: &mut ArrayVec<u8, 93>, sets: &Sets, rank: u8)
 }
 
 /// Appends the ranks from the eighth to the first, parted by slashes.
-fn write_placement(text: &mut ArrayVec<u8, 93>, sets: &Sets)
+fn write_placement(text: &mut TextBytes, sets: &Sets)
     requires { array_vec_len text.old + length (ranks_text 7 (cells_of sets.now)) ≤ 93 }
     ensures text { text.new.items ≡ text.old.items ++ ranks_text 7 (cells_of sets.now) }
     ensures len { array_vec_len text.new ≡ array_vec_len text.old + length (ranks_text 7 (cells_of sets.now)) }
@@ -82,7 +82,7 @@ fn write_placement(text: &mut ArrayVec<u8, 93>, sets: &Sets)
 }
 
 /// Appends the letter of the side to move.
-fn write_turn(text: &mut ArrayVec<u8, 93>, turn: Colour)
+fn write_turn(text: &mut TextBytes, turn: Colour)
     requires { array_vec_len text.old + length (turn_text turn) ≤ 93 }
     ensures text { text.new.items ≡ text.old.items ++ turn_text turn }
     ensures len { array_vec_len text.new ≡ array_vec_len text.old + length (turn_text turn) }
@@ -106,7 +106,7 @@ fn first_letter(colour: Colour) -> u8
 
 /// Appends the letters of a side's rights, the higher file first.
 #[tactic(auto, using(crate::proofs::Written::Steps::side_text_without))]
-fn write_side(text: &mut ArrayVec<u8, 93>, rights: &CastlingRights, colour: Colour)
+fn write_side(text: &mut TextBytes, rights: &CastlingRights, colour: Colour)
     requires { array_vec_len text.old + length (side_text rights.now colour 8) ≤ 93 }
     ensures { text.new.items ≡ text.old.items ++ side_text rights.now colour 8 }
 {
@@ -119,7 +119,7 @@ fn write_side(text: &mut ArrayVec<u8, 93>, rights: &CastlingRights, colour: Colo
 
 /// Appends White's rights and then Black's, a dash where there is none.
 #[tactic(auto, using(crate::proofs::Written::Steps::sides_length))]
-fn write_rights(text: &mut ArrayVec<u8, 93>, rights: &CastlingRights)
+fn write_rights(text: &mut TextBytes, rights: &CastlingRights)
     requires { array_vec_len text.old + length (rights_text rights.now) ≤ 93 }
     ensures text { text.new.items ≡ text.old.items ++ rights_text rights.now }
     ensures len { array_vec_len text.new ≡ array_vec_len text.old + length (rights_text rights.now) }
@@ -133,7 +133,7 @@ fn write_rights(text: &mut ArrayVec<u8, 93>, rights: &CastlingRights)
 }
 
 /// Appends the target's square, a dash for none.
-fn write_target(text: &mut ArrayVec<u8, 93>, target: Option<Square>)
+fn write_target(text: &mut TextBytes, target: Option<Square>)
     requires { array_vec_len text.old + length (target_text target) ≤ 93 }
     ensures text { text.new.items ≡ text.old.items ++ target_text target }
     ensures len { array_vec_len text.new ≡ array_vec_len text.old + length (target_text target) }
@@ -149,7 +149,7 @@ fn write_target(text: &mut ArrayVec<u8, 93>, target: Option<Square>)
 }
 
 /// Appends a number in decimal.
-fn write_number(text: &mut ArrayVec<u8, 93>, number: u16)
+fn write_number(text: &mut TextBytes, number: u16)
     requires { array_vec_len text.old + length (decimal number) ≤ 93 }
     ensures text { text.new.items ≡ text.old.items ++ decimal number }
     ensures len { array_vec_len text.new ≡ array_vec_len text.old + length (decimal number) }
@@ -167,7 +167,7 @@ fn fields(
     target: Option<Square>,
     half_moves: u16,
     number: u16,
-) -> ArrayVec<u8, 93>
+) -> TextBytes
     requires { length (ranks_text 7 (cells_of sets.now)) + length (turn_text turn) + length (rights_text rights.now)
         + length (target_text target) + length (decimal half_moves) + length (decimal number) + 5 ≤ 93 }
     ensures { result.items ≡ canonical (parts_of sets.now turn rights.now target half_moves number) }

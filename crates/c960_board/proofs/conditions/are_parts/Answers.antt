@@ -1,4 +1,4 @@
-use Rattle.std.proofs.Common.{rules, ◌≡◌, true, sym, ◌∙◌}
+use Rattle.std.proofs.Common.{arith, rules, ◌≡◌, true, sym, ◌∙◌}
 use Rattle.c960_board.proofs.conditions.are_parts.Goals as goal
 use Rattle.c960_board.proofs.conditions.are_parts.Goals.{then-is_placement, else-is_placement, then-rights_fit, else-rights_fit}
 
@@ -16,9 +16,13 @@ returns-then-target_fits c = (
             placement = c.is_placement.ensures.0 (search rules);
             rights = v.rights_fit.ensures.0 (search rules);
             target = w.target_fits.ensures.0 (search rules);
-            counters = c.are_counters.ensures.0 counted;
+            counters = record {
+              half_moves = omega arith;
+              numbered = c.is_move_number.ensures.0 counted;
+              bounded = omega arith;
+            };
           }
     ]
   ],
-  λ position. c.are_counters.ensures.1 position.counters,
+  λ position. c.is_move_number.ensures.1 position.counters.numbered,
 )

@@ -4,6 +4,6 @@ use Rattle.c960_board.proofs.fen.rights.read_letters.Goals as goal
 
 pub returns-then-has : goal.returns-then-has
 returns-then-has c =
-    letter_again c.args.text.now c.loop-byte.byte-index c.loop-byte.rights c.in-Some.colour c.in-Some.file
+    letter_again c.args.text.now c.loop-byte.byte-index c.loop-byte.rights c.in_ok-colour.colour c.in_ok-colour.file
     c.loop-byte.invariant c.loop-byte-test.true
-    c.in-Some.ensures.0 c.in-Some.ensures.1 (sym c.if-has.ensures)
+    c.in_ok-colour.ensures.0 c.in_ok-colour.ensures.1 (sym c.if-has.ensures)

@@ -7,10 +7,10 @@ use Rattle.c960_board.proofs.position.Position.start.Goals as goal
 pub of_parts-requires : goal.of_parts-requires
 unfolding start
 of_parts-requires c =
-    let below : c.args.number < 960 = c.in-Some.ensures.some.0 refl in
-    let made = c.start_parts.ensures ∙ ap start_of c.in-Some.ensures.value in
+    let below : c.args.number < 960 = c.in_ok-rank.ensures.some.0 refl in
+    let made = c.start_parts.ensures ∙ ap start_of c.in_ok-rank.ensures.value in
     subst IsPosition (sym made) (start_is_position c.args.number below)
 
 pub returns-clause-value : goal.returns-clause-value
 unfolding start
-returns-clause-value c = c.of_parts.ensures ∙ c.start_parts.ensures ∙ ap start_of c.in-Some.ensures.value
+returns-clause-value c = c.of_parts.ensures ∙ c.start_parts.ensures ∙ ap start_of c.in_ok-rank.ensures.value
