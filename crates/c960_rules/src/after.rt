@@ -13,11 +13,10 @@ ghost use Rattle.c960_rules.specs.Legal.{Legal};
 
 use crate::bitset::only;
 use crate::castling::{king_goal, rook_goal};
-use crate::cells::{holds, is_of};
 use crate::placement::landed;
-use crate::safety::passed;
+use crate::safety::captured_pawn;
 use crate::sides::{ahead, home_square};
-use c960_board::{CastlingRights, Colour, Kind, Move, Piece, Position, Sets, Square};
+use c960_board::{CastlingRights, Colour, Kind, Move, Piece, Position, Sets, Square, holds};
 
 /// Whether the right of that file outlives the move.
 #[tactic(auto, unfolding(crate::specs::After::keeps_right))]
@@ -67,7 +66,7 @@ fn half_moves_after(position: &Position, m: &Move) -> u16
 {
     let turn = position.turn();
     let is_pawn = holds(position.piece_at(m.from), turn, Kind::Pawn);
-    if is_pawn || is_of(position.piece_at(m.to), turn.other()) {
+    if is_pawn || Sets::is_of(position.piece_at(m.to), turn.other()) {
         0
     } else {
         position.half_moves() + 1
@@ -152,7 +151,7 @@ fn sets_moved(position: &Position, m: &Move) -> Sets
 {
     let sets = position.sets();
     let piece = landed(position.piece_at(m.from), m.promotion);
-    let changed = only(m.from) | (only(m.to) | passed(position, m));
+    let changed = only(m.from) | (only(m.to) | captured_pawn(position, m));
     let left = taken_off(&sets, changed);
     put_on(&left, piece, m.to)
 }
@@ -162,7 +161,7 @@ fn sets_after(position: &Position, m: &Move) -> Sets
     requires { Legal position.now m.now }
     ensures { result ≡ sets_of (placement_after position.now m.now) }
 {
-    if is_of(position.piece_at(m.to), position.turn()) {
+    if Sets::is_of(position.piece_at(m.to), position.turn()) {
         sets_castled(position, m)
     } else {
         sets_moved(position, m)

@@ -15,11 +15,10 @@ ghost use Rattle.c960_rules.specs.Wheres.{where_set, is_slider};
 
 use crate::attack_sets::free_from;
 use crate::bitset::only;
-use crate::cells::{holds, is_of};
-use crate::lookups::{pawn_hits, ways};
+use crate::lookups::{pawn_hits, reach_on_empty_board};
 use crate::reaches::pawn_rank;
 use crate::sides::{ahead, squares_of};
-use c960_board::{Colour, Kind, Piece, Position, Sets, Square};
+use c960_board::{Colour, Kind, Piece, Position, Sets, Square, holds};
 
 /// The en passant target, as a set.
 #[inline(always)]
@@ -47,7 +46,6 @@ fn single_step(position: &Position, from: Square) -> u64
     ensures { result ≡ where_set (λ t. steps position.now.placement position.now.turn from t) }
 {
     let _sets = position.sets();
-    let _bound = from.number();
     let turn = position.turn();
     let step = ahead(turn, from);
     only(step) & !position.occupied()
@@ -60,7 +58,6 @@ fn double_step(position: &Position, from: Square) -> u64
     ensures { result ≡ where_set (λ t. steps_twice position.now.placement position.now.turn from t) }
 {
     let _sets = position.sets();
-    let _bound = from.number();
     let turn = position.turn();
     let is_first = is_on_pawn_rank(turn, from);
     if !is_first {
@@ -120,7 +117,7 @@ fn officer_goals(position: &Position, from: Square, piece: Piece) -> u64
     let _sets = position.sets();
     let turn = position.turn();
     let own = squares_of(position, turn);
-    let goals = ways(piece, from) & !own;
+    let goals = reach_on_empty_board(piece, from) & !own;
     if is_slider(piece.kind) {
         return free_from(goals, from, position.occupied());
     }
@@ -134,7 +131,7 @@ pub(crate) fn goals(position: &Position, from: Square) -> u64
 {
     let cell = position.piece_at(from);
     let turn = position.turn();
-    if !is_of(cell, turn) {
+    if !Sets::is_of(cell, turn) {
         return 0;
     }
     let Some(piece) = cell else {

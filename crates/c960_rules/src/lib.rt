@@ -8,7 +8,6 @@ mod attacks;
 mod between;
 mod bitset;
 mod castling;
-mod cells;
 mod check;
 mod en_passant;
 mod ending;

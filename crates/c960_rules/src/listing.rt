@@ -36,6 +36,7 @@ fn push_safe(
         to,
         promotion,
     };
+    // So the proof has what every move keeps: `code` ensures it.
     prove!(m.code() < 20480);
     if !exposes_king(position, &m) {
         moves.push(m)?;
@@ -95,6 +96,7 @@ fn push_castling(
         to,
         promotion: None,
     };
+    // So the proof has what every move keeps: `code` ensures it.
     prove!(m.code() < 20480);
     if is_legal_in(position, &m) {
         moves.push(m)?;
@@ -114,7 +116,6 @@ fn push_at(
     requires { goals ≡ where_set (λ t. goes_to position.now from t) }
     ensures { IfOk result (λ _. moves.new.items ≡ moves.old.items ++ legal_between position.now from to) }
 {
-    let _bound = to.number();
     if Sets::is_in(goals, to) {
         push_reached(moves, position, from, to)
     } else {
@@ -147,6 +148,7 @@ pub fn legal_moves(alloc: Global, lawful: &Lawful) -> Result<Vec<Move>, AllocErr
 {
     let position = lawful.position();
     let turn = position.turn();
+    // Room for 64, since few positions have more legal moves: so the list seldom grows while it is filled.
     let mut moves = Vec::with_capacity(alloc, 64)?;
     let mut left = squares_of(&position, turn);
     while left != 0 {

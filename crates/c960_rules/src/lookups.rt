@@ -101,7 +101,7 @@ pub fn pawn_hits(colour: Colour, square: Square) -> u64
 
 /// The squares that a piece attacks on an empty board.
 #[inline(always)]
-pub fn ways(piece: Piece, square: Square) -> u64
+pub fn reach_on_empty_board(piece: Piece, square: Square) -> u64
     ensures { result ≡ where_set (is_way piece.colour piece.kind square) }
 {
     match piece.kind {

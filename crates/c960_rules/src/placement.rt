@@ -3,9 +3,8 @@
 ghost use Rattle.std.specs.Prelude.{◌≡◌};
 ghost use Rattle.c960_rules.specs.After.{landed, is_en_passant};
 
-use crate::cells::holds;
 use crate::reaches::{is_same_file, is_target};
-use c960_board::{Kind, Move, Piece, Position};
+use c960_board::{Kind, Move, Piece, Position, holds};
 
 /// The piece that comes to its goal: the mover, or what a pawn becomes.
 pub(crate) fn landed(cell: Option<Piece>, promotion: Option<Kind>) -> Option<Piece>
@@ -14,9 +13,7 @@ pub(crate) fn landed(cell: Option<Piece>, promotion: Option<Kind>) -> Option<Pie
     let Some(kind) = promotion else {
         return cell;
     };
-    let Some(Piece { colour, kind: _ }) = cell else {
-        return None;
-    };
+    let Piece { colour, kind: _ } = cell?;
     Some(Piece { colour, kind })
 }
 

@@ -5,9 +5,8 @@ ghost use Rattle.c960_board.specs.Squares.{rank_of};
 ghost use Rattle.c960_rules.specs.Listing.{promotes};
 ghost use Rattle.c960_rules.specs.Reaches.{last_rank};
 
-use crate::cells::holds;
 use crate::sides::home_rank;
-use c960_board::{Colour, Kind, Position, Square};
+use c960_board::{Colour, Kind, Position, Square, holds};
 
 /// Whether the square is on the rank where the side's pawns are promoted.
 #[inline(always)]

@@ -9,9 +9,8 @@ ghost use Rattle.c960_rules.specs.Attacks.{is_forward, Attacks};
 ghost use Rattle.c960_rules.specs.Reaches.{pawn_rank, is_target, promotes_rightly, Steps, StepsTwice, Takes, PromotesRightly, GoesAsPawn, GoesAsOfficer, Reaches};
 
 use crate::attack_sets::attacks;
-use crate::cells::{holds, is_of};
 use crate::sides::{ahead, home_rank};
-use c960_board::{Colour, Kind, Move, Piece, Position, Square};
+use c960_board::{Colour, Kind, Move, Piece, Position, Sets, Square, holds};
 
 /// The rank on which a side's pawns stand at the start, from 0.
 pub(crate) fn pawn_rank(colour: Colour) -> u8
@@ -86,7 +85,7 @@ fn takes(position: &Position, m: &Move) -> bool
     ensures { IsTrue result ↔ Takes position.now m.now }
 {
     attacks_goal(position, m)
-        && (is_of(position.piece_at(m.to), position.turn().other())
+        && (Sets::is_of(position.piece_at(m.to), position.turn().other())
             || is_target(position.target(), m.to))
 }
 
@@ -137,6 +136,6 @@ fn goes_as_officer(position: &Position, m: &Move) -> bool
 pub(crate) fn reaches(position: &Position, m: &Move) -> bool
     ensures { IsTrue result ↔ Reaches position.now m.now }
 {
-    !is_of(position.piece_at(m.to), position.turn())
+    !Sets::is_of(position.piece_at(m.to), position.turn())
         && (goes_as_officer(position, m) || goes_as_pawn(position, m))
 }

@@ -34,7 +34,7 @@ fn behind(turn: Colour, square: Square) -> Option<Square>
 
 /// The square of the pawn that is taken en passant, as a set.
 #[inline(always)]
-pub(crate) fn passed(position: &Position, m: &Move) -> u64
+pub(crate) fn captured_pawn(position: &Position, m: &Move) -> u64
     ensures { result ≡ where_set (λ s. is_passed_on position.now m.now s) }
 {
     if !is_en_passant(position, m) {
@@ -75,10 +75,11 @@ pub(crate) fn exposes_king(position: &Position, m: &Move) -> bool
     requires { Reaches position.now m.now }
     ensures { IsTrue result ↔ InCheck (placement_after position.now m.now) position.now.turn }
 {
+    // So the proof has what every move keeps: `code` ensures it.
     prove!(m.code() < 20480);
     let _sets = position.sets();
     let turn = position.turn();
-    let behind = passed(position, m);
+    let behind = captured_pawn(position, m);
     let occupied = occupied_after(position, m, behind);
     let king = king_of(position, turn);
     let square = if m.from == king { m.to } else { king };
@@ -102,6 +103,7 @@ pub(crate) fn castling_exposes(position: &Position, m: &Move) -> bool
     requires { Castles position.now m.now }
     ensures { IsTrue result ↔ InCheck (placement_after position.now m.now) position.now.turn }
 {
+    // So the proof has what every move keeps: `code` ensures it.
     prove!(m.code() < 20480);
     let _sets = position.sets();
     let turn = position.turn();

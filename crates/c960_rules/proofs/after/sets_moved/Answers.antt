@@ -23,8 +23,8 @@ returns c =
     c.landed-piece.ensures ∙ ap (λ (o : Cell). landed o c.m.inside.promotion) (c.piece_at.ensures ∙ ap (λ (u : ℕ). piece_on p u) from)
     ∙ ap (λ (k : Option Kind). landed (piece_on p m.from) k) promotion in
     let gone =
-    where_or (λ u. u == m.to) (λ u. is_passed_on p m u) c.only-2.result c.passed.result
-    (only_at to c.only-2.ensures) c.passed.ensures in
+    where_or (λ u. u == m.to) (λ u. is_passed_on p m u) c.only-2.result c.captured_pawn.result
+    (only_at to c.only-2.ensures) c.captured_pawn.ensures in
     let changed =
     where_or (λ u. u == m.from) (λ u. is_gone p m u) c.only.result _
     (only_at from c.only.ensures) gone in

@@ -15,7 +15,7 @@ returns-then-is_slider c =
     let off = where_not (λ u. is_of p.turn (cell_at p.placement u)) c.squares_of-own.result side in
     sliders_go p c.args.from _ c.free_from.result c.occupied.result q c.sets-sets.ensures.valid c.requires.there c.requires.own c.requires.officer
     (sym c.is_slider.ensures ∙ c.if-is_slider.true) c.occupied.ensures.set
-    (where_and (is_way q.colour q.kind c.args.from) (λ u. not (is_of p.turn (cell_at p.placement u))) _ _ c.ways.ensures off) c.free_from.ensures
+    (where_and (is_way q.colour q.kind c.args.from) (λ u. not (is_of p.turn (cell_at p.placement u))) _ _ c.reach_on_empty_board.ensures off) c.free_from.ensures
 
 pub returns : goal.returns
 returns c =
@@ -25,4 +25,4 @@ returns c =
     let off = where_not (λ u. is_of p.turn (cell_at p.placement u)) c.squares_of-own.result side in
     leapers_go p c.args.from _ q c.sets-sets.ensures.valid c.requires.there c.requires.own c.requires.officer
     (sym c.is_slider.ensures ∙ c.if-is_slider.false)
-    (where_and (is_way q.colour q.kind c.args.from) (λ u. not (is_of p.turn (cell_at p.placement u))) _ _ c.ways.ensures off)
+    (where_and (is_way q.colour q.kind c.args.from) (λ u. not (is_of p.turn (cell_at p.placement u))) _ _ c.reach_on_empty_board.ensures off)
