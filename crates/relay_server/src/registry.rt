@@ -1,19 +1,12 @@
 //! The boards of a server, which all connections share.
 
-ghost use Rattle.std.specs.Prelude.{◌≡◌, ◌<◌, ◌⊎◌, ◌++◌, ◌∷◌, [], Ok, Err, OnOk, OnErr};
-ghost use Rattle.std.specs.HashMap.{spare};
-ghost use Rattle.relay_server.specs.Opening.{admission};
-
+use crate::boards::Boards;
 use crate::broadcast::Broadcast;
 use crate::chime::Chime;
 use c960_game::{Limits, Refusal};
-use indexmap::IndexMap;
 use relay_core::BoardName;
 use std::alloc::{AllocError, Global};
 use std::sync::{Arc, Mutex, Wait};
-
-/// Boards by their names.
-type Boards = IndexMap<BoardName, Arc<Broadcast, Global>>;
 
 /// The boards of a server. Its lock is taken to look a name up and to enter one. No thread ever holds two locks: this one is given
 /// back before a board's is taken, and neither is held while a socket is waited for.
@@ -35,7 +28,7 @@ impl Registry {
     /// There was no memory.
     pub fn new(alloc: Global, limits: Limits) -> Result<Registry, AllocError> {
         Ok(Registry {
-            boards: Mutex::new(Boards::with_capacity(alloc, usize::from(limits.boards()))?),
+            boards: Mutex::new(Boards::new(alloc, limits)?),
             limits,
             alloc,
             ended: Chime::new(),
@@ -49,7 +42,7 @@ impl Registry {
 
     /// Whether a board of this name was opened.
     pub(crate) fn knows<R: Wait>(&self, rt: &R, name: &BoardName) -> bool {
-        self.boards.lock(rt).contains_key(name)
+        self.boards.lock(rt).contains(name)
     }
 
     /// The board of this name.
@@ -75,18 +68,12 @@ impl Registry {
     ///
     /// `BoardExists`, `BadStart`, `TooManyBoards`, `OutOfMemory`.
     pub(crate) fn open<R: Wait>(&self, rt: &R, name: BoardName, start: u16) -> Result<(), Refusal> {
-        admit(&self.boards.lock(rt), &self.limits, &name, start)?;
+        self.boards.lock(rt).admit(&name, start)?;
         let broadcast = Broadcast::open(self.alloc, name, start, self.limits)?;
         let Ok(broadcast) = Arc::new(self.alloc, broadcast) else {
             return Err(Refusal::OutOfMemory);
         };
-        enter(
-            &mut self.boards.lock(rt),
-            &self.limits,
-            name,
-            start,
-            broadcast,
-        )
+        self.boards.lock(rt).enter(name, start, broadcast)
     }
 }
 
@@ -100,40 +87,4 @@ pub(crate) fn share(broadcast: &Arc<Broadcast, Global>) -> Result<Arc<Broadcast,
         Ok(shared) => Ok(shared),
         Err(_) => Err(Refusal::OutOfMemory),
     }
-}
-
-/// Enters a board, where it may still be opened. There is room in the map for each board that may.
-fn enter(
-    boards: &mut Boards,
-    limits: &Limits,
-    name: BoardName,
-    start: u16,
-    broadcast: Arc<Broadcast, Global>,
-) -> Result<(), Refusal>
-    ensures entered { OnOk result (boards.new.entries ≡ boards.old.entries ++ (name, broadcast) ∷ []) }
-    ensures answer { (result ≡ admission boards.old.entries limits.now.boards name start) ⊎ ((admission boards.old.entries limits.now.boards name start ≡ Ok tt) × (result ≡ Err Refusal.OutOfMemory)) }
-    ensures room { 0 < spare boards.old → result ≡ admission boards.old.entries limits.now.boards name start }
-    ensures refused { OnErr result (boards.new.entries ≡ boards.old.entries) }
-{
-    admit(boards, limits, &name, start)?;
-    match boards.insert(name, broadcast) {
-        Ok(_) => Ok(()),
-        Err(_) => Err(Refusal::OutOfMemory),
-    }
-}
-
-/// Tells in order why no board of this name and start may be opened, memory aside.
-fn admit(boards: &Boards, limits: &Limits, name: &BoardName, start: u16) -> Result<(), Refusal>
-    ensures { result ≡ admission boards.now.entries limits.now.boards name.now start }
-{
-    if boards.contains_key(name) {
-        return Err(Refusal::BoardExists);
-    }
-    if start >= 960 {
-        return Err(Refusal::BadStart);
-    }
-    if boards.len() >= usize::from(limits.boards()) {
-        return Err(Refusal::TooManyBoards);
-    }
-    Ok(())
 }
