@@ -1,6 +1,6 @@
 //! The boards of a server, which all connections share.
 
-ghost use Rattle.std.specs.Prelude.{◌≡◌, ◌<◌, ◌⊎◌, ◌++◌, ◌∷◌, [], Ok, Err, OnOk, OnErr};
+ghost use Rattle.std.specs.Prelude.{◌≡◌, ◌<◌, ◌≤◌, ◌⊎◌, ◌++◌, ◌∷◌, [], Ok, Err, IfOk, OnOk, OnErr};
 ghost use Rattle.std.specs.HashMap.{spare};
 ghost use Rattle.relay_server.specs.Opening.{admission};
 
@@ -35,7 +35,7 @@ impl Registry {
     /// There was no memory.
     pub fn new(alloc: Global, limits: Limits) -> Result<Registry, AllocError> {
         Ok(Registry {
-            boards: Mutex::new(Boards::with_capacity(alloc, usize::from(limits.boards()))?),
+            boards: Mutex::new(room_for(alloc, &limits)?),
             limits,
             alloc,
             ended: Chime::new(),
@@ -88,6 +88,14 @@ impl Registry {
             broadcast,
         )
     }
+}
+
+/// No board, with room for each that may be opened, so that to enter one takes no memory.
+fn room_for(alloc: Global, limits: &Limits) -> Result<Boards, AllocError>
+    ensures none { IfOk result (λ boards. boards.entries ≡ []) }
+    ensures room { IfOk result (λ boards. limits.now.boards ≤ spare boards) }
+{
+    Boards::with_capacity(alloc, usize::from(limits.boards()))
 }
 
 /// One more owner of the board.
