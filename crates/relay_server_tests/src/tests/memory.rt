@@ -147,14 +147,16 @@ fn assert_talk<R: Wait + Clock + Abort>(
     Ok(())
 }
 
-/// What comes byte by byte.
+/// What comes byte by byte, and how many bytes a read asked for at most.
 #[derive(Drop)]
 struct Drops<'a> {
     left: &'a [u8],
+    most: &'a mut usize,
 }
 
 impl Read for Drops<'_> {
     fn read(&mut self, buf: &mut [u8]) -> io::Result<usize> {
+        *self.most = buf.len().max(*self.most);
         match (self.left.split_first(), buf.first_mut()) {
             (Some((byte, rest)), Some(place)) => {
                 *place = *byte;
@@ -166,19 +168,26 @@ impl Read for Drops<'_> {
     }
 }
 
-/// How the session ends whose peer sends these bytes one by one.
-fn end_of_drops<R: Wait + Clock>(
+/// Asserts how the session ends whose peer sends these bytes one by one, and that it makes no room for more than 4,096 at a time.
+fn assert_drops<R: Wait + Clock + Abort>(
     rt: &R,
     alloc: Global,
     registry: &Registry,
     input: &[u8],
-) -> SessionEnd {
+    wanted: SessionEnd,
+) {
     let mut sent = Vec::new(alloc);
+    let mut most = 0;
     let stream = Duplex {
-        reader: Drops { left: input },
+        reader: Drops {
+            left: input,
+            most: &mut most,
+        },
         writer: &mut sent,
     };
-    session(rt, alloc, registry, 1, stream, &OpenGate)
+    let end = session(rt, alloc, registry, 1, stream, &OpenGate);
+    assert_eq!(rt; end, wanted);
+    assert!(rt; most <= 4096, "{most}");
 }
 
 /// Asserts that each handshake that is cut off is none, and each frame that is cut off a failure.
@@ -223,12 +232,9 @@ fn assert_heads<R: Wait + Clock + Abort>(
     let closed = (SessionEnd::Closed, b"close 1000\n".as_slice(), (0, 0));
     assert_talk(rt, alloc, registry, longest.as_slice(), closed)?;
     let too_long = padded(alloc, 8193)?;
-    for (bytes, end) in [
-        (longest.as_slice(), SessionEnd::Closed),
-        (too_long.as_slice(), SessionEnd::NoHandshake),
-    ] {
-        assert_eq!(rt; end_of_drops(rt, alloc, registry, bytes), end);
-    }
+    assert_drops(rt, alloc, registry, longest.as_slice(), SessionEnd::Closed);
+    let refused = SessionEnd::NoHandshake;
+    assert_drops(rt, alloc, registry, too_long.as_slice(), refused);
     for bytes in [too_long.as_slice(), b"GET / HTTP/1.1\r\n\r\n"] {
         let refused = (SessionEnd::NoHandshake, b"".as_slice(), (0, 0));
         assert_talk(rt, alloc, registry, bytes, refused)?;
