@@ -5,8 +5,10 @@ use crate::tests::frames::{
 };
 use crate::tests::gates::Counted;
 use c960_game::Limits;
-use relay_server::{Registry, SessionEnd, session};
+use relay_server::{OpenGate, Registry, SessionEnd, session};
 use std::alloc::{AllocError, Global};
+use std::io;
+use std::io::Read;
 use std::process::Abort;
 use std::sync::Wait;
 use std::test::Fail;
@@ -145,6 +147,49 @@ fn assert_talk<R: Wait + Clock + Abort>(
     Ok(())
 }
 
+/// What comes byte by byte, and how many bytes a read asked for at most.
+#[derive(Drop)]
+struct Drops<'a> {
+    left: &'a [u8],
+    most: &'a mut usize,
+}
+
+impl Read for Drops<'_> {
+    fn read(&mut self, buf: &mut [u8]) -> io::Result<usize> {
+        *self.most = buf.len().max(*self.most);
+        match (self.left.split_first(), buf.first_mut()) {
+            (Some((byte, rest)), Some(place)) => {
+                *place = *byte;
+                self.left = rest;
+                Ok(1)
+            }
+            _ => Ok(0),
+        }
+    }
+}
+
+/// Asserts how the session ends whose peer sends these bytes one by one, and that it makes no room for more than 4,096 at a time.
+fn assert_drops<R: Wait + Clock + Abort>(
+    rt: &R,
+    alloc: Global,
+    registry: &Registry,
+    input: &[u8],
+    wanted: SessionEnd,
+) {
+    let mut sent = Vec::new(alloc);
+    let mut most = 0;
+    let stream = Duplex {
+        reader: Drops {
+            left: input,
+            most: &mut most,
+        },
+        writer: &mut sent,
+    };
+    let end = session(rt, alloc, registry, 1, stream, &OpenGate);
+    assert_eq!(rt; end, wanted);
+    assert!(rt; most <= 4096, "{most}");
+}
+
 /// Asserts that each handshake that is cut off is none, and each frame that is cut off a failure.
 fn assert_cuts<R: Wait + Clock + Abort>(
     rt: &R,
@@ -177,7 +222,7 @@ fn padded(alloc: Global, len: usize) -> Result<Vec<u8>, AllocError> {
     Ok(bytes)
 }
 
-/// Asserts that a head may have 8,192 bytes, but not 9,000, and that a request has a key.
+/// Asserts that a head may have 8,192 bytes, and come byte by byte, but not one more, and that a request has a key.
 fn assert_heads<R: Wait + Clock + Abort>(
     rt: &R,
     alloc: Global,
@@ -186,7 +231,10 @@ fn assert_heads<R: Wait + Clock + Abort>(
     let longest = padded(alloc, 8192)?;
     let closed = (SessionEnd::Closed, b"close 1000\n".as_slice(), (0, 0));
     assert_talk(rt, alloc, registry, longest.as_slice(), closed)?;
-    let too_long = padded(alloc, 9000)?;
+    let too_long = padded(alloc, 8193)?;
+    assert_drops(rt, alloc, registry, longest.as_slice(), SessionEnd::Closed);
+    let refused = SessionEnd::NoHandshake;
+    assert_drops(rt, alloc, registry, too_long.as_slice(), refused);
     for bytes in [too_long.as_slice(), b"GET / HTTP/1.1\r\n\r\n"] {
         let refused = (SessionEnd::NoHandshake, b"".as_slice(), (0, 0));
         assert_talk(rt, alloc, registry, bytes, refused)?;
