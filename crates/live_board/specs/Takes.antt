@@ -1,14 +1,19 @@
 -- What a take answers, and what it makes of the follower.
-use Rattle.std.specs.Prelude.{◌≡◌, ◌+◌, ◌≤◌, [], ◌∷◌, ◌++◌, Some, None}
+use Rattle.std.specs.Prelude.{◌≡◌, ◌+◌, ◌≤◌, [], ◌∷◌, ◌++◌, Option, Some, None}
 use Rattle.relay_core.specs.declared.reply.Taken.{Taken}
 use Rattle.relay_core.specs.declared.reply.Taken.TheVariants.{Move, Nothing, Over, Cut}
 use Rattle.live_steps.specs.declared.view.Part.{Part}
 use Rattle.live_steps.specs.Views.{next_of}
 use Rattle.live_board.specs.Seats.{FollowerSeat}
 
--- whatever was answered: the follower stays where it is, and has seen no less
+-- what was known is known still
+abbrev pub StaysKnown : {A : Type 0} → Option A → Option A → Type 0
+StaysKnown {A} old new = (x : A) → old ≡ Some x → new ≡ Some x
+
+-- whatever was answered: the follower stays where it is, and has seen no less, neither of the length nor of an outcome or a closing
 abbrev pub Stays : FollowerSeat → FollowerSeat → Type 0
 Stays f g = (g.table ≡ f.table) × (g.part.setup ≡ f.part.setup) × (g.part.place ≡ f.part.place) × (g.part.joined ≡ f.part.joined) × (f.part.seen ≤ g.part.seen)
+    × StaysKnown f.part.outcome g.part.outcome × StaysKnown f.part.closing g.part.closing
 
 -- the status was loaded in this call, and nothing was taken: the next place is the length that it said, and no closing is known
 abbrev pub FoundNone : Part → Part → Type 0

@@ -3,9 +3,9 @@
 ghost use Rattle.std.specs.Prelude.{◌≡◌, ◌≢◌, ℕ, ◌+◌, ◌<◌, ◌≤◌, [], ◌∷◌, length, Some, None, unwrap_or, is_some};
 ghost use Rattle.live_steps.specs.Sound.{IsSoundPart};
 ghost use Rattle.live_steps.specs.Views.{gains, holding, learns, next_of, sees};
-ghost use Rattle.live_steps.specs.Words.{length_in};
+ghost use Rattle.live_steps.specs.Words.{closing_in, length_in, outcome_in};
 ghost use Rattle.live_board.specs.Accounts.{account_of};
-ghost use Rattle.live_board.specs.Takes.{Stays, Took};
+ghost use Rattle.live_board.specs.Takes.{Stays, StaysKnown, Took};
 
 use crate::desk::LiveTable;
 use crate::gone::Gone;
@@ -109,7 +109,8 @@ impl Follower {
     /// Loads the status.
     fn look(&mut self)
         ensures table { self.new.table ≡ self.old.table }
-        ensures part { (status : ℕ) × (self.new.part ≡ sees status self.old.part) × (self.old.part.seen ≤ length_in status) × ((c : ℕ) → self.old.part.closing ≡ Some c → c ≤ length_in status) }
+        ensures part { (status : ℕ) × (self.new.part ≡ sees status self.old.part) × (self.old.part.seen ≤ length_in status) × ((c : ℕ) → self.old.part.closing ≡ Some c → c ≤ length_in status)
+            × StaysKnown self.old.part.outcome (outcome_in status) }
         ensures sound { IsSoundPart self.new.part }
     {
         let shared = &self.table.shared;
@@ -123,7 +124,8 @@ impl Follower {
         requires near { next_of self.old.part < self.old.part.seen }
         requires unclosed { (c : ℕ) → self.old.part.closing ≡ Some c → next_of self.old.part < c }
         ensures table { self.new.table ≡ self.old.table }
-        ensures part { (cursor : ℕ) × (self.new.part ≡ gains cursor (holding (Some result) self.old.part)) }
+        ensures part { (cursor : ℕ) × (self.new.part ≡ gains cursor (holding (Some result) self.old.part))
+            × StaysKnown self.old.part.closing (closing_in cursor) }
         ensures sound { IsSoundPart self.new.part }
     {
         let word = move_word_at(self.setup.limits, self.joined + self.taken);
@@ -144,6 +146,7 @@ impl Follower {
     /// length that it sees, it takes the move; else it answers `Over` or `Nothing` by that status.
     pub fn take(&mut self) -> Taken
         ensures stays { Stays self.old self.new }
+        ensures cut { self.old.part.closing ≡ Some (next_of self.old.part) → result ≡ Taken.Cut }
         ensures took { Took self.old self.new result }
         ensures sound { IsSoundPart self.new.part }
     {

@@ -20,7 +20,7 @@ use Rattle.live_steps.specs.declared.setup.BoardSetup.{BoardSetup}
 use Rattle.live_steps.specs.declared.note.Note.TheVariants.{Vacant, Open as OpenNote}
 use Rattle.live_steps.specs.declared.view.Part.{Part}
 use Rattle.live_steps.specs.declared.view.View.{View}
-use Rattle.live_steps.specs.Words.{cursor_at, move_word_at, header_word, status_word, cursor_of, outcome_number, outcome_numbered}
+use Rattle.live_steps.specs.Words.{closing_in, cursor_at, move_word_at, header_word, status_word, cursor_of, outcome_number, outcome_numbered}
 use Rattle.live_steps.specs.Views.{next_of, starting, followed, kept_part, given_part, storing, published, finished, each_part, sees, finds, gains, learns, only_at, carrying, noted, cutting, left_at, taking_in, spent}
 use Rattle.live_steps.specs.Shows.{Table, ShowsPart, Shows}
 use Rattle.live_steps.specs.Rule.{Kept, IsEvent}
@@ -34,7 +34,7 @@ use Rattle.live_steps.proofs.Looking.{status_says, loads_the_status, loads_a_mov
 use Rattle.live_steps.proofs.Opening.{makes_the_table}
 use Rattle.live_steps.proofs.Publishing.{stores_an_open_cursor, stores_a_move, stores_the_length, stores_the_outcome}
 use Rattle.live_steps.proofs.SoundViews.{sound_part, told}
-use Rattle.live_steps.proofs.Taking.{adds_one}
+use Rattle.live_steps.proofs.Taking.{adds_one, closing_shown}
 use Rattle.std.proofs.lemmas.Option.{same_Some}
 
 -- the rule after an event, and after a silent step
@@ -113,7 +113,7 @@ allows_looking z slots id m s q _ seat _ =
         (λ i p e.
             let h = r.parts id m.0 seat i p e in
             let seen = h.seen in
-            let most = seen.1 in (omega arith, λ c e'. let here = (r.shared.places p.place _ h.has).1 in let l = (here.closed c (h.noticed c e')).1 in omega arith)),
+            let most = seen.1 in (omega arith, λ c e'. let here = (r.shared.places p.place _ h.has).1 in let l = (here.closed c (h.noticed c e')).1 in omega arith, λ o e'. says.1 ∙ (h.over o e').0)),
         λ owns. let b = (r.board id m.0 seat owns).1 in (len ∙ sym (ap length b.log_is), says.1 ∙ sym b.outcome_is),
       ),
     )
@@ -157,7 +157,9 @@ allows_taking z slots id m i p x mine known unclosed s q _ seat _ =
     let n : ℕ = get_or s.words word 0 in
     let w = each_part (only_at word (gains n)) m.0 in
     let kept = kept_event z s (after s word ((n + 1) % 2 ^ 64) id m w) q (Take p.place) (adds_one z q.now s id m q.shows seat i p x mine known unclosed) in
-    (w, keeps, tt, kept, (told z s word ((n + 1) % 2 ^ 64) id m w seat kept, refl))
+    (w, keeps, tt, kept, (told z s word ((n + 1) % 2 ^ 64) id m w seat kept, refl, λ j o e at c e'.
+        let h = q.shows.parts id m.0 seat j o e in
+        ap (λ (y : ℕ). closing_in (get_or s.words y 0)) (sym at) ∙ closing_shown z q.now s q.shows o h ∙ h.noticed c e'))
 
 -- 9
 pub allows_checking : (z : BoardSetup) (slots id : ℕ) (m : Seat) (k : ℕ) → k < z.limits.followers → Allows (Kept z) slots id m (cursor_at k) (λ n. n) (checks (step slots (cursor_at k) 0 0 none) m)

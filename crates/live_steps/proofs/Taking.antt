@@ -6,20 +6,29 @@ use Rattle.std.proofs.lemmas.Option.{same_Some, none-some}
 use mathlib.Core.Option.{some, some-injective}
 use lib.ListN.{get_elem?}
 use Rattle.c960_board.specs.Moves.{Triple}
-use Rattle.live_machine.specs.Board.{Follower, next, move_at, with_follower}
+use Rattle.live_machine.specs.Board.{SharedBoard, Follower, next, move_at, with_follower}
 use Rattle.live_machine.specs.Events.{Take, Goes, HasNext, changed}
 use Rattle.live_machine.proofs.Followers.{with_here}
 use Rattle.live_machine.proofs.Kept.{goes}
+use Rattle.live_steps.specs.declared.setup.BoardSetup.{BoardSetup}
 use Rattle.live_steps.specs.declared.view.Part.{Part}
 use Rattle.live_steps.specs.declared.view.View.{View}
 use Rattle.live_steps.specs.Words.{mark, cursor_word, closing_in}
 use Rattle.live_steps.specs.Views.{next_of, gains, only_at, each_part}
-use Rattle.live_steps.specs.Shows.{total, is_at, one_if, IsTrueNote, ShowsPart}
+use Rattle.live_steps.specs.Shows.{Table, total, is_at, one_if, IsTrueNote, Shows, ShowsPart}
 use Rattle.live_steps.specs.Kinds.{AddsOne}
 use Rattle.live_steps.proofs.Notes.{follower, closing_is, note_next, Notes, notes_same}
 use Rattle.live_steps.proofs.Parts.{part_other, same_part, pick, not_there}
 use Rattle.live_steps.proofs.Steps.{Parts, turned, each_ok, opt_cases, only_keep}
 use Rattle.live_steps.proofs.Totals.{total-map}
+
+-- a part's cursor says its closing
+pub closing_shown : (z : BoardSetup) (a : SharedBoard) (s : Table) → Shows z a s → (p : Part) (h : ShowsPart z a p) → closing_in (get_or s.words (p.place + 2) 0) ≡ h.closing
+closing_shown z a s r p h =
+    let seen = h.seen in
+    let room = r.shared.room in
+    let plies = r.limits.most_plies in
+    ap closing_in (r.cursors p.place h.inside ∙ ap cursor_word h.has) ∙ closing_is (next_of p) h.closing (omega arith)
 
 pub adds_one : AddsOne
 adds_one z a s id m r seat i p item mine known unclosed =
@@ -44,7 +53,7 @@ adds_one z a s id m r seat i p item mine known unclosed =
     let was : n ≡ next_of p + 4294967296 * mark h.closing = r.cursors k inside ∙ ap cursor_word h.has in
     let n' : ℕ = (n + 1) % 2 ^ 64 in
     let new : n' ≡ next (follower p.joined list h.closing) + 4294967296 * mark h.closing = omega arith in
-    let shows-closing : closing_in n ≡ h.closing = ap closing_in was ∙ closing_is (next_of p) h.closing (omega arith) in
+    let shows-closing : closing_in n ≡ h.closing = closing_shown z a s r p h in
     let more : HasNext a f = (
       omega arith,
       λ c e. ⊎_elim

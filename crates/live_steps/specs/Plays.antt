@@ -5,12 +5,13 @@ use mathlib.Core.Option.{some}
 use lib.ListN.{get_elem?}
 use Rattle.atomic_table.specs.Table.{Me, Step}
 use Rattle.c960_board.specs.Moves.{Triple, IsMove, move_code}
+use Rattle.c960_game.specs.declared.outcome.Outcome.{Outcome}
 use Rattle.live_machine.specs.Board.{move_at}
 use Rattle.live_steps.specs.declared.note.Note.{Note}
 use Rattle.live_steps.specs.declared.note.Note.TheVariants.{Open}
 use Rattle.live_steps.specs.declared.view.Part.{Part}
 use Rattle.live_steps.specs.declared.view.View.{View}
-use Rattle.live_steps.specs.Words.{length_in, outcome_in, place_in, note_after}
+use Rattle.live_steps.specs.Words.{length_in, outcome_in, closing_in, place_in, note_after}
 use Rattle.live_steps.specs.Views.{next_of, next_word, followed, storing, published, finished, each_part, sees, finds, gains, learns, only_at, noted, cutting, left_at}
 use Rattle.live_steps.specs.Sound.{IsSound, IsSoundPart, Follows}
 
@@ -37,10 +38,12 @@ publishes st m r m' = Told m m' × ((x : Triple) → m.0.stored ≡ Some x → m
 abbrev pub finishes : Made → Seat → ℕ → Seat → Type 0
 finishes st m r m' = Told m m' × (m'.0 ≡ finished (outcome_in st.first) m.0)
 
--- the length found is not below what a part has seen or knows as its closing; the board finds its own length and outcome
+-- the length found is not below what a part has seen or knows as its closing, and an outcome that it has seen is the one found; the
+-- board finds its own length and outcome
 abbrev pub looks : Made → Seat → ℕ → Seat → Type 0
 looks st m r m' = Told m m' × (m'.0 ≡ each_part (sees r) m.0)
-    × ((i : ℕ) (p : Part) → get_elem? m.0.parts i ≡ some p → (p.seen ≤ length_in r) × ((c : ℕ) → p.closing ≡ Some c → c ≤ length_in r))
+    × ((i : ℕ) (p : Part) → get_elem? m.0.parts i ≡ some p → (p.seen ≤ length_in r) × ((c : ℕ) → p.closing ≡ Some c → c ≤ length_in r)
+    × ((o : Outcome) → p.outcome ≡ Some o → outcome_in r ≡ Some o))
     × (m.0.owns ≡ true → (length_in r ≡ length m.0.log) × (outcome_in r ≡ m.0.outcome))
 
 -- where a part waits for this word, the word is the code of a move
@@ -48,8 +51,10 @@ abbrev pub reads : Made → Seat → ℕ → Seat → Type 0
 reads st m r m' = Told m m' × ((i : ℕ) (p : Part) → get_elem? m.0.parts i ≡ some p → next_word p ≡ st.word → next_of p < p.seen
     → (x : Triple) × IsMove x × (r ≡ move_code x) × (m'.0 ≡ each_part (finds st.word x) m.0) × (m.0.owns ≡ true → x ≡ move_at m.0.log (next_of p)))
 
+-- a closing that the part of this cursor knows is the one found
 abbrev pub takes : Made → Seat → ℕ → Seat → Type 0
 takes st m r m' = Told m m' × (m'.0 ≡ each_part (only_at st.word (gains r)) m.0)
+    × ((i : ℕ) (p : Part) → get_elem? m.0.parts i ≡ some p → p.place + 2 ≡ st.word → (c : ℕ) → p.closing ≡ Some c → closing_in r ≡ Some c)
 
 -- the note follows on the old one, and an open follower is at most a capacity behind
 abbrev pub Noted : Made → Seat → ℕ → Type 0

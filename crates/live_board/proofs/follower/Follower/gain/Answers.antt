@@ -67,8 +67,15 @@ invariant_of-self c =
 
 pub returns-clause-part : goal.returns-clause-part
 returns-clause-part c =
+    let i = c.self.invariant in
     let cursor = c.fetch_add-cursor.result in
-    (cursor, ap part_of (gained (goal.at.returns-clause-part c).After-fetch_add-cursor) ∙ (λ k. gains cursor (holding (Some c.in-Some.m) (c.self.view_is k).part)))
+    let x = found (goal.at.returns-clause-part c).After-load-code in
+    let known = ap (λ (h : FollowerSeat). h.part.closing) c.self.view_is in (
+      cursor,
+      ap part_of (gained (goal.at.returns-clause-part c).After-fetch_add-cursor) ∙ (λ k. gains cursor (holding (Some c.in-Some.m) (c.self.view_is k).part)),
+      λ d e. c.fetch_add-cursor.ensures.2.2 0 (holding (Some x.0) (part_of c.self.inside.seat.me.0)) (ap (λ (u : View). get_elem? u.parts 0) x.3)
+          (ap (λ (y : ℕ). y + 2) (sym i.place_is) ∙ sym c.cursor_at.ensures) d (known ∙ e),
+    )
 
 pub returns-clause-sound : goal.returns-clause-sound
 returns-clause-sound c =

@@ -2,10 +2,11 @@ use Rattle.std.proofs.Common.{rules, ◌≡◌, ℕ, ◌≤◌, Some, subst, ap,
 use lib.ListN.{get_elem?}
 use Rattle.live_steps.specs.declared.view.Part.{Part}
 use Rattle.live_steps.specs.declared.view.View.{View}
-use Rattle.live_steps.specs.Words.{length_in}
+use Rattle.live_steps.specs.Words.{length_in, outcome_in}
 use Rattle.live_steps.specs.Views.{each_part, sees}
 use Rattle.live_steps.proofs.Allowed.{allows_looking}
 use Rattle.live_board.specs.Seats.{FollowerSeat, part_of}
+use Rattle.live_board.specs.Takes.{StaysKnown}
 use Rattle.live_board.proofs.Followers.{follower_of, part_sound}
 use Rattle.live_board.proofs.follower.Follower.look.Goals as goal
 
@@ -26,8 +27,8 @@ returns-clause-part c =
     let n = c.load-status.result in
     let now = ap (λ (h : FollowerSeat). h.part) c.self.view_is in
     let t = f.2.2 0 (part_of c.self.inside.seat.me.0) (ap (λ (u : View). get_elem? u.parts 0) i.one) in
-    let u = subst (λ (q : Part). (q.seen ≤ length_in n) × ((d : ℕ) → q.closing ≡ Some d → d ≤ length_in n)) now t in
-    (n, ap part_of (f.2.1 ∙ ap (each_part (sees n)) i.one) ∙ ap (sees n) now, u.0, u.1)
+    let u = subst (λ (q : Part). (q.seen ≤ length_in n) × ((d : ℕ) → q.closing ≡ Some d → d ≤ length_in n) × StaysKnown q.outcome (outcome_in n)) now t in
+    (n, ap part_of (f.2.1 ∙ ap (each_part (sees n)) i.one) ∙ ap (sees n) now, u.0, u.1, u.2)
 
 pub returns-clause-sound : goal.returns-clause-sound
 returns-clause-sound c =

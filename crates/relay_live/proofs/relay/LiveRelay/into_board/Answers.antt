@@ -42,8 +42,8 @@ returns c =
           ∙ sym (lookup-map (same_name name) game a.boards.entries)
           ∙ ap (λ (r : RelayRecord). lookup (same_name name) r.boards) c.self.view_is;
       setup = subst (λ (r : RelayRecord). IfSome c.swap_remove.result (λ b. b.knows.setup ≡ setup_of b.knows.setup.start r.limits)) c.self.view_is
-          (where_found _ _ c.swap_remove.ensures.value (λ b at. c.self.invariant.setups name b at));
+          (where_found _ _ c.swap_remove.ensures.value (λ b at. c.self.invariant.0.setups name b at));
       places = subst (λ (r : RelayRecord). IfSome c.swap_remove.result (λ b. PlacesLeft r name b)) c.self.view_is
           (where_found _ _ c.swap_remove.ensures.value (λ b at.
-          ap (λ (n : ℕ). n + total vacancy b.knows.notes) count ∙ c.self.invariant.counted name b at));
+          ap (λ (n : ℕ). n + total vacancy b.knows.notes) count ∙ c.self.invariant.0.counted name b at));
     }
