@@ -9,7 +9,7 @@ ghost use Rattle.c960_game.specs.Positions.{last_position, position_at};
 ghost use Rattle.c960_game.specs.Record.{end_answer, play_answer};
 ghost use Rattle.relay_core.specs.Inner.Boards.{with_place};
 ghost use Rattle.relay_core.specs.Replies.{taken_of};
-ghost use Rattle.live_steps.specs.Sound.{IsSound};
+ghost use Rattle.live_steps.specs.Sound.{IsSound, IsSoundPart};
 ghost use Rattle.live_steps.specs.declared.note.Note.TheVariants.{Vacant};
 ghost use Rattle.live_steps.specs.Views.{each_part, finished, followed, left_at, newcomer, sees, starting};
 ghost use Rattle.live_board.specs.Accounts.{account_of};
@@ -242,6 +242,7 @@ pub fn meet(board: &mut Board, follower: &mut Follower) -> Account
     ensures met { Met board.old.knows follower.old.part board.new.knows follower.new.part }
     ensures account { result ≡ account_of follower.new.part }
     ensures sound { IsSound board.new.knows }
+    ensures sound_part { IsSoundPart follower.new.part }
 {
     board.desk.meet(follower);
     follower.account()
