@@ -15,12 +15,16 @@ run=$(mktemp -d)
 chmod 755 "$run"
 pids=""
 stop() {
+    status=$?
     trap - EXIT INT TERM
     for pid in $pids; do kill "$pid" 2> /dev/null || true; done
     wait || true
     rm -rf "$run"
+    exit "$status"
 }
-trap stop EXIT INT TERM
+trap stop EXIT
+trap 'exit 130' INT
+trap 'exit 143' TERM
 
 # The units, with the program where it was built; mandoc on the manual page.
 sed "s|/usr/bin/relay960|$RELAY960|" relay960.service > "$run/relay960.service"

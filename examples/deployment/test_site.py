@@ -34,6 +34,7 @@ def try_paths():
         ("/pages/watch.html", "GET", False): 200, ("/pages/style.css", "GET", False): 200, ("/pages/table.html", "GET", False): 404,
         ("/pages/../operators", "GET", False): 404, ("/operators/table.html", "GET", False): 401,
         ("/operators/table.html", "GET", True): 200, ("/operators/relay", "GET", False): 401, ("/relay", "GET", False): 404,
+        ("/pages/tests/pages.py", "GET", False): 404, ("/operators/tests/pages.py", "GET", True): 404,
         ("/publish/hall", "POST", False): 404, ("/sub/hall", "POST", False): 403, ("/kept/hall", "GET", False): 404,
     }
     for (path, method, login), wanted in expected.items():

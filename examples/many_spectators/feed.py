@@ -6,8 +6,10 @@
 It follows each board from its first move and publishes the relay's texts, as they are, to the channel of the board's name: one after
 another for each board, each answered before the next, so their places come in order. It begins by reading what the channel has
 had and publishes only what is missing there, so it can be killed and started anew at any moment. It waits for boards that are
-not open yet, and ends when the games of all its boards have ended. A board that the relay refuses for good, as for its name, is given up
-with a line on standard error; the others go on, and the status is 1.
+not open yet, without bound, and asks for each again on the same connection: the relay accepts only so many (--connections). It ends when
+the games of all its boards have ended. A board that the relay refuses for good, as for its name, and one for which --tries tries in a
+row brought nothing, is given up with a line on standard error; the others go on, and the status is 1. What a board waits for is told
+there too, once and when it changes.
 """
 import argparse
 import asyncio
@@ -24,6 +26,10 @@ FAULTS = (OSError, asyncio.TimeoutError, websockets.WebSocketException, http.cli
 
 class Refused(Exception):
     """Why a board cannot be followed."""
+
+
+class Later(Exception):
+    """Why a board cannot be followed yet; it may be asked for again on the same connection."""
 
 
 class Channel:
@@ -99,27 +105,51 @@ class Channel:
         return self.outcome == text["outcome"]
 
 
-async def follow(relay, channel):
-    """Brings a channel to the state of its board, and keeps it there until the connection ends. Answers whether the game has."""
-    async with websockets.connect(relay, ping_interval=None, compression=None, open_timeout=10) as socket:
-        place = 0
-        await socket.send(command(channel.board, place))
-        async for message in socket:
-            text = json.loads(message)
-            if text["reply"] == "refused" and text["name"] == "TooFarBack" and place < 16384:
-                place += 1
-                await socket.send(command(channel.board, place))
-            elif text["reply"] == "refused":
-                if text["name"] not in LATER:
-                    raise Refused(f"{text['code']} {text['name']}")
-                return False
-            elif text["reply"] == "cut":
-                return False
-            else:
-                if not channel.has(text):
-                    await channel.publish(message)
-                if text["reply"] == "over":
-                    return True
+class Line:
+    """A connection to the relay. One on which a board was refused for now is kept; any other is closed, and made anew."""
+
+    def __init__(self, relay):
+        self.relay = relay
+        self.socket = None
+
+    async def follow(self, channel):
+        """Brings a channel to the state of its board, and keeps it there until the connection ends. Answers whether the game has."""
+        if self.socket is None:
+            self.socket = await websockets.connect(self.relay, ping_interval=None, compression=None, open_timeout=10)
+        try:
+            over = await follow(self.socket, channel)
+        except Later:
+            raise
+        except BaseException:
+            await self.close()
+            raise
+        await self.close()
+        return over
+
+    async def close(self):
+        socket, self.socket = self.socket, None
+        if socket is not None:
+            await socket.close()
+
+
+async def follow(socket, channel):
+    """Follows a channel's board on this connection until it ends. Answers whether the game has."""
+    place = 0
+    await socket.send(command(channel.board, place))
+    async for message in socket:
+        text = json.loads(message)
+        if text["reply"] == "refused" and text["name"] == "TooFarBack" and place < 16384:
+            place += 1
+            await socket.send(command(channel.board, place))
+        elif text["reply"] == "refused":
+            raise (Later if text["name"] in LATER else Refused)(f"refused {text['code']} {text['name']}")
+        elif text["reply"] == "cut":
+            return False
+        else:
+            if not channel.has(text):
+                await channel.publish(message)
+            if text["reply"] == "over":
+                return True
     return False
 
 
@@ -128,30 +158,44 @@ def command(board, place):
 
 
 async def feed(relay, channel, tries, wait):
-    """Follows a board until its game is over. A try that brought nothing is followed by a wait; so many of them end it."""
-    failed = 0
-    while failed < tries:
-        had = (channel.next, channel.origin)
-        try:
-            await channel.read()
-            if await follow(relay, channel):
-                print(f"{channel.board}: over, {channel.next} moves", flush=True)
-                return True
-        except Refused as fault:
-            print(f"{channel.board}: refused {fault}", file=sys.stderr, flush=True)
-            return False
-        except FAULTS as fault:
-            print(f"{channel.board}: {type(fault).__name__} {fault}", file=sys.stderr, flush=True)
-        failed = failed + 1 if had == (channel.next, channel.origin) else 0
-        await asyncio.sleep(wait)
-    return False
+    """Follows a board until its game is over, or is given up, and answers which. A try that brought nothing is followed by a wait."""
+    line = Line(relay)
+    failed, told = 0, None
+    try:
+        while tries is None or failed < tries:
+            had, why = (channel.next, channel.origin), "the connection ended"
+            try:
+                await channel.read()
+                if await line.follow(channel):
+                    print(f"{channel.board}: over, {channel.next} moves", flush=True)
+                    return True
+            except Refused as fault:
+                say(channel, fault)
+                return False
+            except Later as fault:
+                why = str(fault)
+            except FAULTS as fault:
+                why = f"{type(fault).__name__} {fault}"
+            failed = failed + 1 if had == (channel.next, channel.origin) else 0
+            if why != told:
+                say(channel, why)
+            told = why
+            await asyncio.sleep(wait)
+        say(channel, f"given up after {tries} tries in a row that brought nothing: {told}")
+        return False
+    finally:
+        await line.close()
+
+
+def say(channel, words):
+    print(f"{channel.board}: {words}", file=sys.stderr, flush=True)
 
 
 async def main():
     words = argparse.ArgumentParser(description="Fills channels of nchan from boards of the relay.")
     words.add_argument("--relay", default="ws://127.0.0.1:9600")
     words.add_argument("--channels", default="127.0.0.1:9110", help="where nginx takes texts (127.0.0.1:9110)")
-    words.add_argument("--tries", type=int, default=7200, help="tries in a row that bring nothing, for each board (7200)")
+    words.add_argument("--tries", type=int, help="give a board up after so many tries in a row that brought nothing (never)")
     words.add_argument("--wait", type=float, default=0.5, help="seconds between two tries (0.5)")
     words.add_argument("boards", nargs="+")
     given = words.parse_args()

@@ -22,6 +22,7 @@ PLIES = 120
 PORTS = (9100, 9101)
 RELAY_PORT = "9690"
 RELAY = f"ws://127.0.0.1:{RELAY_PORT}"
+SMALL_PORT = "9691"
 
 
 def whole_game(start, chance):
@@ -71,9 +72,9 @@ class Subscriber:
                 and self.outcomes == ["agreed"])
 
 
-async def play(board, start, game, half):
+async def play(board, start, game, half, relay=RELAY):
     """An operator: plays a board's game, waits in its middle, and ends it."""
-    async with websockets.connect(RELAY, ping_interval=None, compression=None) as socket:
+    async with websockets.connect(relay, ping_interval=None, compression=None) as socket:
         async def ask(**command):
             await socket.send(json.dumps(command))
             answer = json.loads(await socket.recv())
@@ -99,8 +100,8 @@ async def running(*words, **options):
         await process.wait()
 
 
-def feed(*boards, **options):
-    return running("./feed.py", "--relay", RELAY, *boards, **options)
+def feed(*boards, relay=RELAY, **options):
+    return running("./feed.py", "--relay", relay, *boards, **options)
 
 
 async def subscribe_all(subscribers):
@@ -152,6 +153,36 @@ async def refuses_one_board():
     return process.returncode == 1 and printed.startswith(b"t1: over") and said == b"no/name: refused 24 BadField\n"
 
 
+async def gives_up_one_board():
+    """Whether a board that is not opened within so many tries ends no feed but its own, and is told."""
+    words = ("--tries", "3", "--wait", "0.05")
+    async with feed("nobody", BOARDS[0], *words, stdout=subprocess.PIPE, stderr=subprocess.PIPE) as process:
+        printed, said = await asyncio.wait_for(process.communicate(), 120)
+    expected = b"nobody: refused 1 NoSuchBoard\nnobody: given up after 3 tries in a row that brought nothing: refused 1 NoSuchBoard\n"
+    return process.returncode == 1 and printed.startswith(b"t1: over") and said == expected
+
+
+async def waits_on_one_connection(game, start):
+    """Whether waiting takes one connection for each board: of four, two boards leave two to open them, and four are served."""
+    relay = f"ws://127.0.0.1:{SMALL_PORT}"
+    half = asyncio.Event()
+    half.set()
+    async with running(PROGRAM, "serve", "--port", SMALL_PORT, "--connections", "4",
+                       stdout=subprocess.PIPE, stderr=subprocess.PIPE) as small:
+        await asyncio.wait_for(small.stdout.readline(), 20)
+        async with feed("w1", "w2", "--wait", "0.05", relay=relay, stdout=subprocess.DEVNULL, stderr=subprocess.PIPE) as process:
+            said = [await asyncio.wait_for(process.stderr.readline(), 20) for _ in "12"]
+            await asyncio.sleep(2)
+            try:
+                await asyncio.wait_for(asyncio.gather(*(play(it, start, game, half, relay) for it in ("w1", "w2"))), 60)
+                _, more = await asyncio.wait_for(process.communicate(), 60)
+                _, served = await asyncio.wait_for(small.communicate(), 20)
+            except (OSError, asyncio.TimeoutError, websockets.WebSocketException):
+                return False
+    return (sorted(said) == [b"w1: refused 1 NoSuchBoard\n", b"w2: refused 1 NoSuchBoard\n"] and more == b""
+            and process.returncode == 0 and served == b"served 4, failed 0\n")
+
+
 async def main():
     chance = random.Random(960)
     starts = [chance.randrange(960) for _ in BOARDS]
@@ -178,14 +209,16 @@ async def tried(games, starts, run):
         late = [Subscriber(BOARDS[index % 4], PORTS[index // 4 % 2]) for index in range(LATE)]
         await asyncio.wait(await subscribe_all(late), timeout=30)
         status = await asyncio.wait_for(third.wait(), 60)
-    refused = await refuses_one_board()
+    refused = await refuses_one_board() and await gives_up_one_board()
+    waited = await waits_on_one_connection(games[BOARDS[0]], starts[0])
     right = sum(it.right(games[it.board]) for it in subscribers)
     came_late = sum(it.right(games[it.board]) for it in late)
     moves = ", ".join(f"{len(games[it])}" for it in BOARDS)
-    passed = right == SUBSCRIBERS and came_late == LATE and status == 0 and refused
+    passed = right == SUBSCRIBERS and came_late == LATE and status == 0 and refused and waited
     print(f"{'passed' if passed else 'failed'}: {right} of {SUBSCRIBERS} subscribers and {came_late} of {LATE} late ones had every place "
           f"once and in order; games of {moves} moves in {took:.1f} s; the feed was killed twice, and "
-          f"{'told' if refused else 'did not tell'} of a board that is refused")
+          f"{'told' if refused else 'did not tell'} of boards that are refused or not opened; waiting for a board took "
+          f"{'one connection' if waited else 'other than one connection'}")
     return 0 if passed else 1
 
 

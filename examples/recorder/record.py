@@ -5,7 +5,7 @@
 
 The file has one JSON text a line: first {"board":..,"record":1,"start":..}, then the relay's texts. It is written through to the
 disk after each move, so it is whole up to the last move that came, and web/table.html opens the game anew from it. It waits for a
-board that is not open yet. After a lost connection it follows from the first move again and compares what it is told with what it
+board that is not open yet, and asks for it again on the same connection: the relay accepts only so many (--connections). After a lost connection it follows from the first move again and compares what it is told with what it
 has: where the relay was started anew, another game may have the board's name, and nothing of that is added. It ends with the game
 (status 0), where the relay no longer gives the first moves (1), where the file is there already (1), after so many tries in a row
 that brought nothing new (2), or where the board has another game than the record (3). Where nothing came, it leaves no file.
@@ -50,6 +50,10 @@ class Broken(Exception):
     def __init__(self, status, words):
         super().__init__(words)
         self.status = status
+
+
+class Later(Exception):
+    """Why a board cannot be followed yet; it may be asked for again on the same connection."""
 
 
 class Record:
@@ -110,43 +114,73 @@ class Record:
         return Broken(3, f"{self.board} has another game: {words}; nothing of it is in the record")
 
 
-async def follow(server, record):
-    """Follows the board until the connection ends. Answers whether the game has."""
-    async with websockets.connect(server, ping_interval=None, compression=None, open_timeout=10) as socket:
-        await socket.send(json.dumps({"cmd": "follow", "board": record.board, "spectator": 0, "from": 0}))
-        async for message in socket:
-            text = json.loads(message)
-            if text["reply"] == "refused":
-                why = f"refused: {text['code']} {text['name']}"
-                if text["name"] not in LATER:
-                    raise Broken(1, why)
-                print(why, file=sys.stderr)
-                return False
-            if text["reply"] == "cut":
-                return False
-            record.take(text)
-            if text["reply"] == "over":
-                return True
+class Line:
+    """A connection to the relay. One on which the board was refused for now is kept; any other is closed, and made anew."""
+
+    def __init__(self, server):
+        self.server = server
+        self.socket = None
+
+    async def follow(self, record):
+        """Follows the board until the connection ends. Answers whether the game has."""
+        if self.socket is None:
+            self.socket = await websockets.connect(self.server, ping_interval=None, compression=None, open_timeout=10)
+        try:
+            over = await follow(self.socket, record)
+        except Later:
+            raise
+        except BaseException:
+            await self.close()
+            raise
+        await self.close()
+        return over
+
+    async def close(self):
+        socket, self.socket = self.socket, None
+        if socket is not None:
+            await socket.close()
+
+
+async def follow(socket, record):
+    """Follows the board on this connection until it ends. Answers whether the game has."""
+    await socket.send(json.dumps({"cmd": "follow", "board": record.board, "spectator": 0, "from": 0}))
+    async for message in socket:
+        text = json.loads(message)
+        if text["reply"] == "refused":
+            why = f"refused: {text['code']} {text['name']}"
+            raise Later(why) if text["name"] in LATER else Broken(1, why)
+        if text["reply"] == "cut":
+            return False
+        record.take(text)
+        if text["reply"] == "over":
+            return True
     return False
 
 
 async def keep(server, record, tries, wait):
     """Follows the board until its game is over, or so many tries in a row brought nothing new. Answers the status to end with."""
+    line = Line(server)
     failed = 0
-    while failed < tries:
-        had = record.size()
-        try:
-            if await follow(server, record):
-                return 0
-        except (OSError, asyncio.TimeoutError, websockets.WebSocketException) as fault:
-            print(f"no connection: {fault}", file=sys.stderr)
-        except Broken as fault:
-            print(fault, file=sys.stderr)
-            return fault.status
-        failed = failed + 1 if record.size() == had else 0
-        if failed > 0:
-            await asyncio.sleep(wait)
-    return 2
+    try:
+        while failed < tries:
+            had = record.size()
+            try:
+                if await line.follow(record):
+                    return 0
+            except Later as fault:
+                print(fault, file=sys.stderr)
+            except (OSError, asyncio.TimeoutError, websockets.WebSocketException) as fault:
+                print(f"no connection: {fault}", file=sys.stderr)
+            except Broken as fault:
+                print(fault, file=sys.stderr)
+                return fault.status
+            failed = failed + 1 if record.size() == had else 0
+            if failed > 0:
+                await asyncio.sleep(wait)
+        print(f"{record.board}: given up after {tries} tries in a row that brought nothing new", file=sys.stderr)
+        return 2
+    finally:
+        await line.close()
 
 
 def main():

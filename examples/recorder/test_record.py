@@ -7,7 +7,7 @@ import tempfile
 
 HERE = pathlib.Path(__file__).resolve().parent
 sys.path.insert(0, str(HERE.parents[1] / "web" / "tests"))
-from relay import Client, Relay, Wire, start_fen  # noqa: E402
+from relay import PROGRAM, Client, Relay, Wire, free_port, start_fen  # noqa: E402
 
 PATIENCE = 30  # Seconds: a machine that is busy with proofs needs some.
 MOVES = ["e2e4", "e7e5", "g1f3", "g8f6", "b1c3", "b8c6"]
@@ -105,6 +105,40 @@ async def try_tries(folder):
     await relay.kill()
     said = await recorder.ended(2, 518, MOVES[:2])
     assert said.count("no connection") == 6, said  # The one that was lost, and five that were not made.
+
+
+async def try_connections(folder):
+    """Waiting takes one connection, however often the board is asked for: a relay of two has one left to open it, and serves two."""
+    port = free_port()
+    relay = await asyncio.create_subprocess_exec(PROGRAM, "serve", "--port", str(port), "--connections", "2",
+                                                 stdout=asyncio.subprocess.PIPE, stderr=asyncio.subprocess.PIPE)
+    try:
+        await asyncio.wait_for(relay.stdout.readline(), PATIENCE)
+        recorder = await Recorder.start(folder, f"ws://127.0.0.1:{port}")
+        asked = [await asyncio.wait_for(recorder.process.stderr.readline(), PATIENCE) for _ in range(10)]
+        assert asked == [b"refused: 1 NoSuchBoard\n"] * 10, asked
+        client = await Client.to(f"ws://127.0.0.1:{port}")
+        await client.open("b1", 518)
+        await recorder.until(0)
+        await client.submit("b1", *MOVES)
+        await client.ask(cmd="end", board="b1", how="agreed")
+        await recorder.ended(0, 518, MOVES, "agreed")
+        await client.socket.close()
+        _, said = await asyncio.wait_for(relay.communicate(), PATIENCE)
+        assert said == b"served 2, failed 0\n" and relay.returncode == 0, (said, relay.returncode)
+    finally:
+        if relay.returncode is None:
+            relay.kill()
+            await relay.wait()
+
+
+async def try_waiting(folder):
+    """A board that is not opened is given up after so many tries, and that is said."""
+    relay = await Relay().start()
+    recorder = await Recorder.start(folder, relay.address, "--tries", "3")
+    _, said = await asyncio.wait_for(recorder.process.communicate(), PATIENCE)
+    assert recorder.process.returncode == 2 and not recorder.file.exists(), recorder.process.returncode
+    assert said == b"refused: 1 NoSuchBoard\n" * 3 + b"b1: given up after 3 tries in a row that brought nothing new\n", said
 
 
 async def try_start(folder):
