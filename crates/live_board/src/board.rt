@@ -155,6 +155,7 @@ impl Board {
         ensures outcome { self.new.knows.outcome ≡ self.old.knows.outcome }
         ensures closings { self.new.knows.closings ≡ self.old.knows.closings }
         ensures sound { IsSound self.new.knows }
+        ensures sound_part { IfOk result (λ f. IsSoundPart f.part) }
     {
         let len = self.game.len();
         let place = from.unwrap_or(len);

@@ -277,6 +277,7 @@ impl Desk {
         ensures answer { MatchOption result (self.new ≡ self.old)
             (λ f. (self.new.knows ≡ kept_part (followed cursor_place from self.old.knows)) × (f.table ≡ self.old.table) × (f.part ≡ newcomer cursor_place from self.old.knows)) }
         ensures sound { IsSound self.new.knows }
+        ensures sound_part { IfSome result (λ f. IsSoundPart f.part) }
     {
         let Ok(table) = Arc::try_clone(&self.table) else {
             return None;
