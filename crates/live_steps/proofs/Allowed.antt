@@ -156,10 +156,19 @@ allows_taking z slots id m i p x mine known unclosed s q _ seat _ =
     let word : ℕ = p.place + 2 in
     let n : ℕ = get_or s.words word 0 in
     let w = each_part (only_at word (gains n)) m.0 in
-    let kept = kept_event z s (after s word ((n + 1) % 2 ^ 64) id m w) q (Take p.place) (adds_one z q.now s id m q.shows seat i p x mine known unclosed) in
-    (w, keeps, tt, kept, (told z s word ((n + 1) % 2 ^ 64) id m w seat kept, refl, λ j o e at c e'.
-        let h = q.shows.parts id m.0 seat j o e in
-        ap (λ (y : ℕ). closing_in (get_or s.words y 0)) (sym at) ∙ closing_shown z q.now s q.shows o h ∙ h.noticed c e'))
+    let kept = kept_event z s (after s word ((n + 1) % 2 ^ 64) id m w) q (Take p.place) (adds_one z q.now s id m q.shows seat i p x mine known unclosed) in (
+      w,
+      keeps,
+      tt,
+      kept,
+      (
+        told z s word ((n + 1) % 2 ^ 64) id m w seat kept,
+        refl,
+        λ j o e at c e'.
+            let h = q.shows.parts id m.0 seat j o e in
+            ap (λ (y : ℕ). closing_in (get_or s.words y 0)) (sym at) ∙ closing_shown z q.now s q.shows o h ∙ h.noticed c e',
+      ),
+    )
 
 -- 9
 pub allows_checking : (z : BoardSetup) (slots id : ℕ) (m : Seat) (k : ℕ) → k < z.limits.followers → Allows (Kept z) slots id m (cursor_at k) (λ n. n) (checks (step slots (cursor_at k) 0 0 none) m)

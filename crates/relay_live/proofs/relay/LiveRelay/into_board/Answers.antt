@@ -35,7 +35,7 @@ returns c =
     let name : List ℕ = c.args.board.now in
     let a = c.self.inside in
     let count = plain_count name (holders a.limits.capacity a.boards.entries a.followers.entries)
-        ∙ crowd_held name a.limits.capacity a.boards.entries a.followers.entries in
+    ∙ crowd_held name a.limits.capacity a.boards.entries a.followers.entries in
     record {
       game =
           ap (option_map game) c.swap_remove.ensures.value
