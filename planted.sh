@@ -17,6 +17,12 @@ for name; do
     mv "crates/$name/planted" "crates/$name/must-fail"
     planted=$((planted + $(ls "crates/$name/must-fail" | wc -l)))
 done
+# Crates that are tried side by side would build the libraries below them at once and in the same place, so these are built before.
+for name; do
+    for below in $(sed -n "s/^$name\( [^:]*\)\{0,1\}: *//p" crates.txt); do
+        [ ! -d "crates/$below" ] || (cd "crates/$below" && rt lib) > "$below.built" 2>&1 || true
+    done
+done
 # The status of `rt must-fail` says no more than its lines, which are counted below.
 printf '%s\n' "$@" | xargs -P "$(nproc)" -I NAME sh -c 'rt must-fail NAME > NAME.log 2>&1; cat NAME.log'
 refused=$(cat ./*.log | grep -c '^rt: must-fail .*: refused, as it must be' || true)
