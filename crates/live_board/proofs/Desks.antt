@@ -1,8 +1,8 @@
 -- What makes a seat a desk's, and notes.
-use Rattle.std.proofs.Common.{◌≡◌, ℕ, ◌+◌, ◌-◌, ◌/◌, ◌%◌, ◌<◌, zero, suc, List, [], ◌∷◌, set, get_or, length, replicate, true, sym, refl, ap, ◌∙◌, cond, eqb, eqb-true, arith}
+use Rattle.std.proofs.Common.{◌≡◌, ℕ, ◌+◌, ◌-◌, ◌/◌, ◌%◌, ◌<◌, ◌≤◌, ◌≢◌, zero, suc, List, [], ◌∷◌, set, get_or, length, replicate, true, sym, refl, ap, ◌∙◌, cond, eqb, eqb-true, ⊎_elim, arith}
 use Rattle.atomic_table.specs.Seated.{TableId}
 use Rattle.atomic_table.specs.declared.shared.Seat.{Seat}
-use Rattle.atomic_table.proofs.Lists.{at_index}
+use Rattle.atomic_table.proofs.Lists.{at_index, at_set}
 use mathlib.Core.Option.{some, some-ne-none}
 use lib.ListN.{get_elem?}
 use Rattle.live_machine.specs.Limits.{AreBoardLimits}
@@ -12,17 +12,17 @@ use Rattle.live_steps.specs.declared.note.Note.TheVariants.{Vacant, Open, Closed
 use Rattle.live_steps.specs.declared.view.View.{View}
 use Rattle.live_steps.specs.Words.{header_word, joined_noted, note_after, word_count}
 use Rattle.live_steps.specs.Views.{starting}
-use Rattle.live_steps.specs.Sound.{IsSound}
+use Rattle.live_steps.specs.Sound.{IsSound, Follows}
 use Rattle.live_steps.proofs.Allowed.{table_made}
 use Rattle.live_steps.proofs.Parts.{pick}
 use Rattle.live_steps.proofs.SoundViews.{sound}
 use Rattle.live_board.specs.Carried.{Carries}
-use Rattle.live_board.specs.Seats.{IsDesk}
+use Rattle.live_board.specs.Seats.{NoneBefore, IsDesk}
 
-pub desk_of : {id : TableId} {key : BoardSetup} {seat : Seat (Unit {0}) View} {setup : BoardSetup} {len : ℕ} {notes : List Note} {room : ℕ} (v : View) → seat.me.0 ≡ v → seat.table_id ≡ id → id.words ≡ word_count setup.limits → key ≡ setup
-    → v.owns ≡ true → v.setup ≡ setup → len ≡ length v.log → notes ≡ v.notes → room ≡ setup.limits.followers → seat.me.1 ≡ [] → IsSound seat.me.0
-    → IsDesk id key seat setup len notes room
-desk_of v is table words key owns setup-is len-is notes-are room-is none-held sound = record {
+pub desk_of : {id : TableId} {key : BoardSetup} {seat : Seat (Unit {0}) View} {setup : BoardSetup} {len least : ℕ} {notes : List Note} {room : ℕ} (v : View) → seat.me.0 ≡ v → seat.table_id ≡ id → id.words ≡ word_count setup.limits → key ≡ setup
+    → v.owns ≡ true → v.setup ≡ setup → len ≡ length v.log → notes ≡ v.notes → NoneBefore least notes → least ≤ len → room ≡ setup.limits.followers → seat.me.1 ≡ [] → IsSound seat.me.0
+    → IsDesk id key seat setup len least notes room
+desk_of v is table words key owns setup-is len-is notes-are least-is least-low room-is none-held sound = record {
   table = table;
   words = words;
   key_is = key;
@@ -30,6 +30,8 @@ desk_of v is table words key owns setup-is len-is notes-are room-is none-held so
   setup_is = ap (λ (u : View). u.setup) is ∙ setup-is;
   len_is = len-is ∙ ap (λ (u : View). length u.log) (sym is);
   notes_are = notes-are ∙ ap (λ (u : View). u.notes) (sym is);
+  least_is = least-is;
+  least_low = least-low;
   room_is = room-is;
   none_held = none-held;
   sound = sound;
@@ -72,7 +74,7 @@ pub noted_is : (l : List Note) (k r : ℕ) (x : Note) → get_or l k Vacant ≡ 
 noted_is l k r x is = let here : k ≡ k + 2 - 2 = omega arith in λ i. set l (here i) (note_after ((sym is ∙ ap (λ (j : ℕ). get_or l j Vacant) here) i) r)
 
 -- the note that a desk has read
-pub noted_there : {id : TableId} {key : BoardSetup} {seat : Seat (Unit {0}) View} {setup : BoardSetup} {len : ℕ} {notes : List Note} {room : ℕ} → IsDesk id key seat setup len notes room → (k : ℕ) (n : Note) (v : View) → seat.me.0 ≡ v → k < v.setup.limits.followers
+pub noted_there : {id : TableId} {key : BoardSetup} {seat : Seat (Unit {0}) View} {setup : BoardSetup} {len least : ℕ} {notes : List Note} {room : ℕ} → IsDesk id key seat setup len least notes room → (k : ℕ) (n : Note) (v : View) → seat.me.0 ≡ v → k < v.setup.limits.followers
     → n ≡ get_or notes k n → get_elem? v.notes k ≡ some n
 noted_there {notes = notes} i k n v is inside found =
     let b = i.sound.board i.owns in
@@ -81,12 +83,40 @@ noted_there {notes = notes} i k n v is inside found =
     ∙ ap (λ (l : List Note). get_elem? l k) (sym i.notes_are) ∙ at_index notes k n low found
 
 -- the place of a part that a desk carries
-pub carried_inside : {id : TableId} {key : BoardSetup} {seat : Seat (Unit {0}) View} {setup : BoardSetup} {len : ℕ} {notes : List Note} {room : ℕ} → IsDesk id key seat setup len notes room → (v : View) (k : ℕ) → seat.me.0 ≡ v → Carries v k
+pub carried_inside : {id : TableId} {key : BoardSetup} {seat : Seat (Unit {0}) View} {setup : BoardSetup} {len least : ℕ} {notes : List Note} {room : ℕ} → IsDesk id key seat setup len least notes room → (v : View) (k : ℕ) → seat.me.0 ≡ v → Carries v k
     → k < v.setup.limits.followers
 carried_inside i v k is c =
     let inside = ((i.sound.board i.owns).inside c.0 c.1 (ap (λ (u : View). get_elem? u.parts c.0) is ∙ c.2)).0 in
     omega (arith, inside, c.3, ap (λ (u : View). u.setup.limits.followers) is)
 
 -- how many cursors a desk has, by its fields and by the view that callers see
-pub same_followers : {id : TableId} {key : BoardSetup} {seat : Seat (Unit {0}) View} {setup : BoardSetup} {len : ℕ} {notes : List Note} {room : ℕ} → IsDesk id key seat setup len notes room → (v : View) → seat.me.0 ≡ v → setup.limits.followers ≡ v.setup.limits.followers
+pub same_followers : {id : TableId} {key : BoardSetup} {seat : Seat (Unit {0}) View} {setup : BoardSetup} {len least : ℕ} {notes : List Note} {room : ℕ} → IsDesk id key seat setup len least notes room → (v : View) → seat.me.0 ≡ v → setup.limits.followers ≡ v.setup.limits.followers
 same_followers i v is = ap (λ (z : BoardSetup). z.limits.followers) (sym i.setup_is) ∙ ap (λ (u : View). u.setup.limits.followers) is
+
+-- ---- The least place that is noted.
+
+none_before_zero : (l : List Note) → NoneBefore 0 l
+none_before_zero l k j b e = omega arith
+
+-- a note is set that is of no open follower before the place
+pub none_before_set : (least k : ℕ) (l : List Note) (m : Note) → NoneBefore least l → ((j b : ℕ) → m ≡ Open j b → least ≤ b) → NoneBefore least (set l k m)
+none_before_set least k l m all mine i j b e =
+    ⊎_elim (λ (x : (i ≡ k) × (m ≡ Open j b)). mine j b x.1) (λ (x : (i ≢ k) × (get_elem? l i ≡ some (Open j b))). all i j b x.1) (at_set l k i m (Open j b) e)
+
+-- what follows on a note is noted at no place before it
+follows_later : (least : ℕ) (n m : Note) → ((j b : ℕ) → n ≡ Open j b → least ≤ b) → Follows n m → (j b : ℕ) → m ≡ Open j b → least ≤ b
+follows_later least Vacant m low f j b e = absurd (vacant_open j b (sym f ∙ e))
+follows_later least (Open joined next) m low f j b e =
+    ⊎_elim (λ (x : m ≡ Vacant). absurd (vacant_open j b (sym x ∙ e)))
+    (λ (x : (c : ℕ) × (m ≡ Open joined c) × (next ≤ c)). let same = same_open joined j x.0 b (sym x.1 ∙ e) in let old = low joined next refl in let more = x.2 in omega arith) f
+follows_later least (Closed c) m low f j b e =
+    ⊎_elim (λ (x : m ≡ Vacant). absurd (vacant_open j b (sym x ∙ e))) (λ (x : m ≡ Closed c). absurd (closed_open c j b (sym x ∙ e))) f
+
+-- a cursor is loaded
+pub none_before_noted : (least k : ℕ) (l : List Note) (n m : Note) → NoneBefore least l → get_elem? l k ≡ some n → Follows n m → NoneBefore least (set l k m)
+none_before_noted least k l n m all there f = none_before_set least k l m all (follows_later least n m (λ j b e. all k j b (there ∙ ap some e)) f)
+
+-- the notes of a desk once the cursor k was loaded
+pub none_before_loaded : {id : TableId} {key : BoardSetup} {seat : Seat (Unit {0}) View} {setup : BoardSetup} {len least : ℕ} {notes : List Note} {room : ℕ} → IsDesk id key seat setup len least notes room → (k : ℕ) (n m : Note) → get_elem? seat.me.0.notes k ≡ some n
+    → Follows n m → NoneBefore least (set notes k m)
+none_before_loaded {notes = notes} i k n m there f = none_before_noted _ k notes n m i.least_is (ap (λ (l : List Note). get_elem? l k) i.notes_are ∙ there) f

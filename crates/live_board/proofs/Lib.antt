@@ -6,3 +6,4 @@ pub mod Tries
 mod Games
 mod Carrying
 mod Meetings
+pub mod Headlines

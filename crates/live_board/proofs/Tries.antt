@@ -1,5 +1,6 @@
 -- What loads and exchanges of cursors make of a board's view.
-use Rattle.std.proofs.Common.{◌≡◌, ◌≢◌, ℕ, zero, suc, ◌+◌, ◌-◌, ◌*◌, ◌<◌, ◌≤◌, ◌⊎◌, List, set, length, get_or, sym, refl, ap, ◌∙◌, subst, ⊎_elim, arith, length-set, get_or-set_other, get_or-set_same}
+use Rattle.std.proofs.Common.{◌≡◌, ◌≢◌, ℕ, zero, suc, ◌+◌, ◌-◌, ◌*◌, ◌<◌, ◌≤◌, ◌⊎◌, inr, List, set, length, get_or, sym, refl, ap, ◌∙◌, subst, ⊎_elim, arith, length-set, get_or-set_other, get_or-set_same}
+use Rattle.std.proofs.Math.Nat.{lt_of_not-le}
 use Rattle.std.specs.Prelude.{MatchOption, Option, Some, None}
 use mathlib.Core.Logic.{dite}
 use mathlib.Core.Option.{some, some-injective}
@@ -13,7 +14,7 @@ use Rattle.live_steps.specs.declared.view.View.{View}
 use Rattle.live_steps.specs.Words.{cursor_of, note_after}
 use Rattle.live_steps.specs.Views.{board, noted, cutting}
 use Rattle.live_steps.proofs.Checking.{note_there, note_read}
-use Rattle.live_board.specs.Desk.{NotedAs, Checked, IsNotedFull, Exchanged, Tried, TriedBelow, FreeBelow, CheckedBelow, LoadedBelow, Unmoved}
+use Rattle.live_board.specs.Desk.{NotedAs, Checked, IsNotedFull, Exchanged, MayBeFull, Asked, Tried, TriedBelow, FreeBelow, CheckedBelow, LoadedBelow, Unmoved}
 use Rattle.live_board.proofs.Desks.{at_within, closed_open, open_back}
 
 -- ---- Notes.
@@ -44,14 +45,14 @@ beside v notes checks closings parts = board v v.log v.outcome v.stored notes ch
 
 -- ---- A follower is closed, or not.
 
--- What a try at the cursor k leads to. It was loaded; then it was left, since it is noted of no full follower; or the exchange closed the
--- follower; or the exchange found another word.
-pub by_try : (P : View → Type 0) (v w : View) (k : ℕ) → Tried v k w
+-- What is led to where the cursor k was loaded. It was left, since it is noted of no full follower; or the exchange closed the follower; or
+-- the exchange found another word.
+by_asked : (P : View → Type 0) (v w : View) (k : ℕ) → Asked v k w
     → ((r : ℕ) → NotedAs v k r → ((place : ℕ) → ¬ (IsNotedFull (noted (k + 2) r v) k place)) → P (noted (k + 2) r v))
     → ((r place : ℕ) → NotedAs v k r → IsNotedFull (noted (k + 2) r v) k place → P (cutting (k + 2) (noted (k + 2) r v)))
     → ((r place n : ℕ) → NotedAs v k r → IsNotedFull (noted (k + 2) r v) k place → NotedAs (noted (k + 2) r v) k n → (n ≡ 0) ⊎ (cursor_of place None < n) → P (noted (k + 2) n (noted (k + 2) r v)))
     → P w
-by_try P v w k (u, (r, is, told), went) left hit miss =
+by_asked P v w k (u, (r, is, told), went) left hit miss =
     ⊎_elim exchanged (λ (x : (w ≡ u') × ((place : ℕ) → ¬ (IsNotedFull u' k place))). subst P (sym x.0) (left r told x.1)) (subst Went is went)
   where
     u' : View
@@ -65,6 +66,16 @@ by_try P v w k (u, (r, is, told), went) left hit miss =
         (λ (x : w ≡ cutting (k + 2) u'). subst P (sym x) (hit r place told full))
         (λ (x : (n : ℕ) × (w ≡ noted (k + 2) n u') × NotedAs u' k n × ((n ≡ 0) ⊎ (cursor_of place None < n))). subst P (sym x.1) (miss r place x.0 told full x.2 x.3)) e
 
+-- What a try at the cursor k leads to: nothing was done, since its follower can't be full; or what a load leads to.
+pub by_try : (P : View → Type 0) (v w : View) (k : ℕ) → Tried v k w
+    → ((MayBeFull v k → ⊥) → P v)
+    → ((r : ℕ) → NotedAs v k r → ((place : ℕ) → ¬ (IsNotedFull (noted (k + 2) r v) k place)) → P (noted (k + 2) r v))
+    → ((r place : ℕ) → NotedAs v k r → IsNotedFull (noted (k + 2) r v) k place → P (cutting (k + 2) (noted (k + 2) r v)))
+    → ((r place n : ℕ) → NotedAs v k r → IsNotedFull (noted (k + 2) r v) k place → NotedAs (noted (k + 2) r v) k n → (n ≡ 0) ⊎ (cursor_of place None < n) → P (noted (k + 2) n (noted (k + 2) r v)))
+    → P w
+by_try P v w k t skip left hit miss =
+    ⊎_elim (λ (x : MayBeFull v k × Asked v k w). by_asked P v w k x.1 left hit miss) (λ (x : (MayBeFull v k → ⊥) × (w ≡ v)). subst P (sym x.1) (skip x.0)) t
+
 -- of the notes only that of the cursor k is another, and it is of no full follower
 pub record Tidied (v : View) (k : ℕ) (w : View) : Type 0 where
   pub same : w ≡ beside v w.notes w.checks w.closings w.parts
@@ -74,6 +85,12 @@ pub record Tidied (v : View) (k : ℕ) (w : View) : Type 0 where
 
 pub tidied : (v w : View) (k : ℕ) → Tried v k w → Tidied v k w
 tidied v w k t = by_try (Tidied v k) v w k t
+    (λ none. record {
+      same = refl;
+      long = refl;
+      elsewhere = λ j d. refl;
+      free = λ j b e. lt_of_not-le (λ full. none (j, b, e, full));
+    })
     (λ r told open-end. record {
       same = refl;
       long = noted_long v k r;
@@ -128,6 +145,12 @@ tidied_below (suc n) v w (u, before, last) =
           (λ (x : k ≡ n). omega (arith, b.free j l (ap (get_elem? w.notes) (sym x) ∙ e), len, cap))
           (λ ne. omega (arith, a.free k j l (omega arith) (sym (b.elsewhere k ne) ∙ e), len, cap));
     }
+
+-- where no follower at the first n cursors can be full, nothing is done
+pub tried_none : (n : ℕ) (v : View) → FreeBelow n v → TriedBelow n v v
+tried_none zero v free = refl
+tried_none (suc n) v free =
+    (v, tried_none n v (λ k j b less e. free k j b (omega arith) e), inr ((λ full. let less = free n full.0 full.1 (omega arith) full.2 in let most = full.3 in absurd (omega arith)), refl))
 
 -- ---- Cursors are loaded.
 

@@ -33,18 +33,26 @@ Exchanged v k place w =
     (w ≡ cutting (cursor_at k) v)
     ⊎ ((r : ℕ) × (w ≡ noted (cursor_at k) r v) × NotedAs v k r × ((r ≡ 0) ⊎ (cursor_of place None < r)))
 
+-- by what is noted of it, the follower at the cursor k may be a capacity behind
+abbrev pub MayBeFull : View → ℕ → Type 0
+MayBeFull v k = (joined least : ℕ) × (get_elem? v.notes k ≡ some (Open joined least)) × (least + v.setup.limits.capacity ≤ length v.log)
+
 -- The cursor k was loaded. Where it was then open and a capacity behind, it was exchanged, once.
-abbrev pub Tried : View → ℕ → View → Type 0
-Tried v k w = (u : View) × Checked v k u
+abbrev pub Asked : View → ℕ → View → Type 0
+Asked v k w = (u : View) × Checked v k u
     × (((place : ℕ) × IsNotedFull u k place × Exchanged u k place w)
     ⊎ ((w ≡ u) × ((place : ℕ) → ¬ (IsNotedFull u k place))))
 
--- the first n cursors were, in their order
+-- The follower at the cursor k was asked where it may be full; else nothing was done.
+abbrev pub Tried : View → ℕ → View → Type 0
+Tried v k w = (MayBeFull v k × Asked v k w) ⊎ ((MayBeFull v k → ⊥) × (w ≡ v))
+
+-- those at the first n cursors were, in their order
 abbrev pub TriedBelow : ℕ → View → View → Type 0
 TriedBelow zero v w = w ≡ v
 TriedBelow (suc n) v w = (u : View) × TriedBelow n v u × Tried u n w
 
--- A submit: each cursor in its order, then the move is stored, then published. Only an exchange that closes a follower adds to the
+-- A submit: each follower that may be full is asked, in the order of the cursors, then the move is stored, then published. Only an exchange that closes a follower adds to the
 -- closings that the view lists (`cutting`).
 abbrev pub Submitted : Triple → View → View → Type 0
 Submitted m v w = (u : View) × TriedBelow v.setup.limits.followers v u × (w ≡ published m (storing m u))

@@ -1,10 +1,13 @@
 -- What contracts see of a board and of a follower, and what ties the fields of each to the view of its seat.
-use Rattle.std.specs.Prelude.{◌≡◌, ℕ, List, [], ◌∷◌, length, Option, None, true}
+use Rattle.std.specs.Prelude.{◌≡◌, ℕ, ◌≤◌, List, [], ◌∷◌, length, Option, None, true}
 use Rattle.atomic_table.specs.Seated.{TableId}
 use Rattle.atomic_table.specs.declared.shared.Seat.{Seat}
 use Rattle.c960_game.specs.declared.outcome.Outcome.{Outcome}
 use Rattle.live_steps.specs.declared.setup.BoardSetup.{BoardSetup}
+use mathlib.Core.Option.{some}
+use lib.ListN.{get_elem?}
 use Rattle.live_steps.specs.declared.note.Note.{Note}
+use Rattle.live_steps.specs.declared.note.Note.TheVariants.{Open}
 use Rattle.live_steps.specs.declared.view.Part.{Part}
 use Rattle.live_steps.specs.declared.view.View.{View}
 use Rattle.live_steps.specs.Words.{word_count}
@@ -22,7 +25,7 @@ pub record FollowerSeat : Type 0 where
   pub part : Part
 
 abbrev nobody : BoardSetup → Part
-nobody z = part z 0 0 [] 0 None 0 None None
+nobody z = part z 0 0 [] [] 0 None 0 None None
 
 abbrev first_part : Part → List Part → Part
 first_part d [] = d
@@ -32,9 +35,13 @@ first_part d (p ∷ ps) = p
 abbrev pub part_of : View → Part
 part_of v = first_part (nobody v.setup) v.parts
 
+-- no open follower is noted at a place before this one
+abbrev pub NoneBefore : ℕ → List Note → Type 0
+NoneBefore least notes = (k joined next : ℕ) → get_elem? notes k ≡ some (Open joined next) → least ≤ next
+
 -- Of a board: the table's identity and key, the seat, and the fields beside it. After the opening and after each call the notes have room
 -- for each follower, and for no more; of memory that a call asks for and gives back within itself this says nothing.
-pub record IsDesk (id : TableId) (key : BoardSetup) (seat : Seat (Unit {0}) View) (setup : BoardSetup) (len : ℕ) (notes : List Note) (room : ℕ) : Type 0 where
+pub record IsDesk (id : TableId) (key : BoardSetup) (seat : Seat (Unit {0}) View) (setup : BoardSetup) (len least : ℕ) (notes : List Note) (room : ℕ) : Type 0 where
   pub table : seat.table_id ≡ id
   pub words : id.words ≡ word_count setup.limits
   pub key_is : key ≡ setup
@@ -42,6 +49,8 @@ pub record IsDesk (id : TableId) (key : BoardSetup) (seat : Seat (Unit {0}) View
   pub setup_is : seat.me.0.setup ≡ setup
   pub len_is : len ≡ length seat.me.0.log
   pub notes_are : notes ≡ seat.me.0.notes
+  pub least_is : NoneBefore least notes
+  pub least_low : least ≤ len
   pub room_is : room ≡ setup.limits.followers
   pub none_held : seat.me.1 ≡ []
   pub sound : IsSound seat.me.0

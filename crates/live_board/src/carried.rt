@@ -48,6 +48,7 @@ impl Desk {
             joined: from,
             next: from,
         };
+        self.least_noted = self.least_noted.min(from);
     }
 
     /// Loads the status.

@@ -1,7 +1,7 @@
 //! A board's side of its table: the seat, and what the board keeps of the seat's view. It knows no rules of chess; the game stands
 //! beside it, so that while a move is being stored the game may be one move ahead of the view.
 
-ghost use Rattle.std.specs.Prelude.{◌≡◌, ◌↔◌, ℕ, ◌+◌, ◌<◌, ◌≤◌, ◌++◌, ◌∷◌, [], length, Some, None, IfOk, IfErr, IfSome, IsSome, MatchOption};
+ghost use Rattle.std.specs.Prelude.{◌≡◌, ◌↔◌, false, true, ℕ, ◌+◌, ◌<◌, ◌≤◌, ◌++◌, ◌∷◌, [], length, Some, None, IfOk, IfErr, IfSome, IsSome, MatchOption};
 ghost use mathlib.Core.Option.{some};
 ghost use lib.ListN.{get_elem?};
 ghost use Rattle.c960_rules.specs.Legal.{Legal};
@@ -13,8 +13,9 @@ ghost use Rattle.live_machine.specs.Limits.{AreBoardLimits};
 ghost use Rattle.live_steps.specs.declared.note.Note.TheVariants.{Open, Vacant};
 ghost use Rattle.live_steps.specs.Sound.{IsSound, IsSoundPart};
 ghost use Rattle.live_steps.specs.Views.{finished, followed, kept_part, newcomer, published, starting, storing};
-ghost use Rattle.live_board.specs.Desk.{Checked, CheckedBelow, Exchanged, FreeBelow, IsNotedFull, LoadedBelow, NoneVacant, Searched, Tried, TriedBelow, Unmoved};
+ghost use Rattle.live_board.specs.Desk.{Asked, Checked, CheckedBelow, Exchanged, FreeBelow, IsNotedFull, LoadedBelow, MayBeFull, NoneVacant, Searched, Tried, TriedBelow, Unmoved};
 ghost use Rattle.live_board.specs.Meeting.{Met};
+ghost use Rattle.live_board.specs.Seats.{NoneBefore};
 
 use crate::cursor::{note_after, renew};
 use crate::follower::Follower;
@@ -48,6 +49,9 @@ pub struct Desk {
     pub(crate) len: u64,
     /// What is noted of each cursor place, by its number.
     pub(crate) notes: Vec<Note>,
+    /// No open follower is noted at a place of the log before this one, which is at most the length. So none can be full while the log
+    /// is less than a capacity beyond it.
+    pub(crate) least_noted: u64,
 }
 
 impl Model for Desk {
@@ -59,7 +63,7 @@ impl Model for Desk {
 
     ghost view = { λ d. record { table = d.seat.table_id; knows = d.seat.me.0 } };
 
-    ghost invariant = { λ d. IsDesk (arc_value d.table).shared.table_id (arc_value d.table).shared.key d.seat d.setup d.len d.notes.items (vec_capacity d.notes) };
+    ghost invariant = { λ d. IsDesk (arc_value d.table).shared.table_id (arc_value d.table).shared.key d.seat d.setup d.len d.least_noted d.notes.items (vec_capacity d.notes) };
 }
 
 impl Desk {
@@ -87,6 +91,7 @@ impl Desk {
             setup,
             len: 0,
             notes,
+            least_noted: 0,
         })
     }
 
@@ -167,11 +172,24 @@ impl Desk {
         self.notes[cursor_place as usize] = note;
     }
 
+    /// Whether the follower at the place may be full, by what is noted of it.
+    fn may_be_full(&self, place: u64) -> bool
+        requires { place < self.now.knows.setup.limits.followers }
+        ensures full { (result ≡ true) ↔ MayBeFull self.now.knows place }
+        ensures sound { IsSound self.now.knows }
+    {
+        let capacity = self.setup.limits.capacity;
+        match self.notes[place as usize] {
+            Note::Open { next, .. } => capacity <= self.len && next <= self.len - capacity,
+            _ => false,
+        }
+    }
+
     /// Loads the cursor at the place, and closes the follower there if it is full.
-    fn close_at(&mut self, place: u64)
+    fn ask(&mut self, place: u64)
         requires { place < self.old.knows.setup.limits.followers }
         ensures table { self.new.table ≡ self.old.table }
-        ensures knows { Tried self.old.knows place self.new.knows }
+        ensures knows { Asked self.old.knows place self.new.knows }
         ensures before { IsSound self.old.knows }
         ensures sound { IsSound self.new.knows }
     {
@@ -182,7 +200,52 @@ impl Desk {
         }
     }
 
-    /// Closes each full follower, in the order of their places.
+    /// Closes the follower at the place if it is full. Its cursor is loaded only where it may be.
+    fn close_at(&mut self, place: u64)
+        requires { place < self.old.knows.setup.limits.followers }
+        ensures table { self.new.table ≡ self.old.table }
+        ensures knows { Tried self.old.knows place self.new.knows }
+        ensures before { IsSound self.old.knows }
+        ensures sound { IsSound self.new.knows }
+    {
+        if self.may_be_full(place) {
+            self.ask(place);
+        }
+    }
+
+    /// The place that is noted of an open follower there, else the log's length.
+    fn noted_at(&self, place: u64) -> u64
+        requires { place < self.now.knows.setup.limits.followers }
+        ensures { (joined next : ℕ) → get_elem? self.now.knows.notes place ≡ some (Open joined next) → result ≤ next }
+    {
+        match self.notes[place as usize] {
+            Note::Open { next, .. } => next,
+            _ => self.len,
+        }
+    }
+
+    /// Closes each full follower, in the order of their places: a place of the log before which no open follower is noted then.
+    fn close_each(&mut self) -> u64
+        ensures table { self.new.table ≡ self.old.table }
+        ensures knows { TriedBelow self.old.knows.setup.limits.followers self.old.knows self.new.knows }
+        ensures free { FreeBelow self.new.knows.setup.limits.followers self.new.knows }
+        ensures setup { self.new.knows.setup ≡ self.old.knows.setup }
+        ensures log { self.new.knows.log ≡ self.old.knows.log }
+        ensures outcome { self.new.knows.outcome ≡ self.old.knows.outcome }
+        ensures sound { IsSound self.new.knows }
+        ensures least { NoneBefore result self.new.knows.notes }
+        ensures low { result ≤ length self.new.knows.log }
+    {
+        let mut least = self.len;
+        for place in 0..self.setup.limits.followers {
+            self.close_at(place);
+            least = least.min(self.noted_at(place));
+        }
+        least
+    }
+
+    /// Closes each full follower, in the order of their places. While nobody can be full, it looks at no place.
+    #[tactic(auto, using(crate::proofs::Tries::tried_none))]
     pub fn close_full(&mut self)
         ensures table { self.new.table ≡ self.old.table }
         ensures knows { TriedBelow self.old.knows.setup.limits.followers self.old.knows self.new.knows }
@@ -192,9 +255,17 @@ impl Desk {
         ensures outcome { self.new.knows.outcome ≡ self.old.knows.outcome }
         ensures sound { IsSound self.new.knows }
     {
-        for place in 0..self.setup.limits.followers {
-            self.close_at(place);
+        if self.can_be_full() {
+            self.least_noted = self.close_each();
         }
+    }
+
+    /// Whether anybody can be full: where not, each open follower is noted less than a capacity behind.
+    fn can_be_full(&self) -> bool
+        ensures free { result ≡ false → FreeBelow self.now.knows.setup.limits.followers self.now.knows }
+        ensures sound { IsSound self.now.knows }
+    {
+        self.least_noted + self.setup.limits.capacity <= self.len
     }
 }
 

@@ -1,11 +1,12 @@
 //! Who takes a board's moves.
 
 ghost use Rattle.std.specs.Prelude.{◌≡◌, ◌≢◌, ℕ, ◌+◌, ◌<◌, ◌≤◌, [], ◌∷◌, length, Some, None, unwrap_or, is_some};
+ghost use Rattle.live_steps.specs.declared.view.Part.{Part};
 ghost use Rattle.live_steps.specs.Sound.{IsSoundPart};
 ghost use Rattle.live_steps.specs.Views.{gains, holding, learns, next_of, sees};
 ghost use Rattle.live_steps.specs.Words.{closing_in, length_in, outcome_in};
 ghost use Rattle.live_board.specs.Accounts.{account_of};
-ghost use Rattle.live_board.specs.Takes.{Stays, StaysKnown, Took};
+ghost use Rattle.live_board.specs.Takes.{Stays, StaysKnown, Took, TookOfGame};
 
 use crate::desk::LiveTable;
 use crate::gone::Gone;
@@ -140,24 +141,21 @@ impl Follower {
         m
     }
 
-    /// Takes the next move of the board; or tells that there is none yet, that the game is over, or that the follower was closed.
-    ///
-    /// `Cut` where it knows of its closing and stands there. Else it loads the status, once: where the next place lies below the
-    /// length that it sees, it takes the move; else it answers `Over` or `Nothing` by that status.
-    pub fn take(&mut self) -> Taken
+    /// Takes where all that was seen has been taken: by the status, which it loads.
+    #[inline(never)]
+    #[tactic(auto, using(crate::proofs::Headlines::took_of_game))]
+    fn take_unseen(&mut self) -> Taken
+        requires taken { self.old.part.seen ≤ next_of self.old.part }
+        requires unclosed { (c : ℕ) → self.old.part.closing ≡ Some c → next_of self.old.part < c }
         ensures stays { Stays self.old self.new }
-        ensures cut { self.old.part.closing ≡ Some (next_of self.old.part) → result ≡ Taken.Cut }
         ensures took { Took self.old self.new result }
+        ensures headline { TookOfGame self.new.part result }
         ensures sound { IsSoundPart self.new.part }
     {
-        let next = self.next();
-        if self.closing == Some(next) {
-            return Taken::Cut;
-        }
+        let place = self.next();
         self.look();
-        if next < self.seen {
-            let m = self.gain();
-            return Taken::Move(next as u16, m);
+        if place < self.seen {
+            return Taken::Move(place as u16, self.gain());
         }
         match self.outcome {
             Some(outcome) => Taken::Over(outcome),
@@ -165,12 +163,39 @@ impl Follower {
         }
     }
 
+    /// Takes the next move of the board; or tells that there is none yet, that the game is over, or that the follower was closed.
+    ///
+    /// `Cut` where it knows of its closing and stands there. Else it takes the move where the next place lies below the length that it
+    /// has seen. Else it loads the status, once: where the next place lies below the length that it sees now, it takes the move; else it
+    /// answers `Over` or `Nothing` by that status.
+    ///
+    /// So the moves that it has taken are, each once and in order, the stretch of the board's log from its joining place on, and the
+    /// log is a legal game from its numbered start (`headline`).
+    #[tactic(auto, using(crate::proofs::Headlines::took_of_game))]
+    pub fn take(&mut self) -> Taken
+        ensures stays { Stays self.old self.new }
+        ensures cut { self.old.part.closing ≡ Some (next_of self.old.part) → result ≡ Taken.Cut }
+        ensures took { Took self.old self.new result }
+        ensures headline { TookOfGame self.new.part result }
+        ensures sound { IsSoundPart self.new.part }
+    {
+        let next = self.next();
+        if self.closing == Some(next) {
+            return Taken::Cut;
+        }
+        if next < self.seen {
+            return Taken::Move(next as u16, self.gain());
+        }
+        self.take_unseen()
+    }
+
     /// Gives its place on the board back: loads the status, then swaps its cursor for a vacant one. The account has its closing, as
-    /// the swap shows it, or else the length that it loaded.
+    /// the swap shows it, or else the length that it loaded. What the part that left had taken is a stretch of the log of a legal game.
     pub fn leave(self) -> (Account, Gone)
         ensures table { result.1.table ≡ self.table }
         ensures none { result.1.knows.parts ≡ [] }
         ensures gone { (status cursor : ℕ) × (result.1.knows.gone ≡ learns cursor (sees status self.part) ∷ []) × (result.0 ≡ account_of (learns cursor (sees status self.part))) }
+        ensures headline { (p : Part) × (result.1.knows.gone ≡ p ∷ []) × IsSoundPart p }
     {
         let mut follower = self;
         follower.look();

@@ -73,6 +73,7 @@ learned_ok z a s r word p h =
       setup_is = h.setup_is;
       closing = h.closing;
       has = h.has;
+      before = h.before;
       seen = h.seen;
       over = h.over;
       loaded = h.loaded;
@@ -132,6 +133,7 @@ hit z a s id m r seat owns k p inside full f has none-yet is-next =
       setup_is = h.setup_is;
       closing = Some (length a.log);
       has = ap (with_follower a.followers k o) e ∙ with_here a.followers k o ∙ (λ i. Some (follower (sym (ap (λ (g : Follower). g.joined) same) i) (sym (ap (λ (g : Follower). g.taken) same) i) (Some (length a.log))));
+      before = h.before;
       noticed = λ d e'. absurd (none-some d (sym none-here ∙ h.noticed d e'));
       unnoticed = λ d _ e'. let l = same_Some _ _ e' in let g = ap next same in omega arith;
       seen = h.seen;

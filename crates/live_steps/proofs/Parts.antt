@@ -20,6 +20,7 @@ part_other z a k o p h ne = record {
   setup_is = h.setup_is;
   closing = h.closing;
   has = with_there a.followers k o p.place ne ∙ h.has;
+  before = h.before;
   noticed = h.noticed;
   unnoticed = h.unnoticed;
   seen = h.seen;

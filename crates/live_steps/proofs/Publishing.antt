@@ -1,8 +1,9 @@
 -- 2, 4 and 5. The board stores a cursor, a move, and the status.
-use Rattle.std.proofs.Common.{◌≡◌, ℕ, zero, suc, ◌+◌, ◌<◌, ◌≢◌, List, [], ◌∷◌, ◌++◌, length, get_or, set, Option, Some, None, sym, refl, ap, ◌∙◌, subst, arith, length-append, length-set, get_or-set_other, get_or-set_same}
+use Rattle.std.proofs.Common.{◌≡◌, ℕ, zero, suc, ◌+◌, ◌<◌, ◌≢◌, List, [], ◌∷◌, ◌++◌, length, take, get_or, set, Option, Some, None, sym, refl, ap, ◌∙◌, subst, arith, length-append, length-set, get_or-set_other, get_or-set_same}
 use Rattle.std.specs.Prelude.{IfSome}
 use Rattle.std.proofs.Math.ListN.{get_or-append}
 use Rattle.std.proofs.Math.Seq.{get_or-append_seam}
+use Rattle.std.proofs.lemmas.List.{take-append-le}
 use Rattle.std.proofs.lemmas.Option.{none-some, IfSome_then}
 use mathlib.Core.Logic.{dite}
 use mathlib.Core.Option.{some, some-injective}
@@ -52,6 +53,7 @@ stores_an_open_cursor z a s id m r seat owns k p inside note low close =
       setup_is = board.setup_is;
       closing = None;
       has = with_here a.followers k o;
+      before = ap (take p) board.log_is;
       noticed = λ c e. e;
       unnoticed = λ c _ e. absurd (none-some c e);
       seen = (omega arith, omega arith);
@@ -143,6 +145,7 @@ stores_the_length z a s id m r seat owns item stored going legal free =
       setup_is = o.setup_is;
       closing = o.closing;
       has = o.has;
+      before = o.before ∙ sym (take-append-le p.joined a.log (item ∷ []) (omega arith));
       noticed = o.noticed;
       unnoticed = o.unnoticed;
       seen = (seen.0, omega arith);
@@ -183,6 +186,7 @@ stores_the_outcome z a s id m r seat owns ending going has_ground =
       setup_is = x.setup_is;
       closing = x.closing;
       has = x.has;
+      before = x.before;
       noticed = x.noticed;
       unnoticed = x.unnoticed;
       seen = x.seen;

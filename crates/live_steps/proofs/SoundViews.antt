@@ -1,12 +1,16 @@
 -- What the rule says of one view by itself.
-use Rattle.std.proofs.Common.{◌≡◌, ℕ, zero, suc, ◌+◌, List, [], ◌∷◌, length, set, Some, None, sym, refl, ap, ◌∙◌, subst, ⊎_elim, arith}
+use Rattle.std.proofs.Common.{◌≡◌, ℕ, zero, suc, ◌+◌, ◌≤◌, List, [], ◌∷◌, ◌++◌, length, take, drop, set, Option, Some, None, sym, refl, ap, ◌∙◌, subst, ⊎_elim, arith}
+use Rattle.std.proofs.lemmas.List.{length-take-le, take-append-le, take-append-drop, drop-append-le}
 use Rattle.std.proofs.lemmas.Option.{same_Some, none-some, IfSome_then}
 use mathlib.Core.Option.{some, some-ne-none}
 use lib.ListN.{get_elem?}
 use Rattle.atomic_table.specs.Table.{keeps, stepped}
 use Rattle.c960_board.specs.Moves.{Triple, IsMove}
+use Rattle.c960_game.specs.Game960.{Game960}
+use Rattle.c960_game.specs.Record.{IsOutcome}
 use Rattle.live_machine.specs.Limits.{AreBoardLimits}
-use Rattle.live_machine.specs.Board.{Follower, SharedBoard, move_at}
+use Rattle.live_machine.specs.Board.{Follower, SharedBoard, move_at, stretch}
+use Rattle.live_machine.proofs.Stretches.{is_stretch}
 use Rattle.live_steps.specs.declared.setup.BoardSetup.{BoardSetup}
 use Rattle.live_steps.specs.declared.note.Note.{Note}
 use Rattle.live_steps.specs.declared.note.Note.TheVariants.{Vacant, Open, Closed}
@@ -14,13 +18,54 @@ use Rattle.live_steps.specs.declared.view.Part.{Part}
 use Rattle.live_steps.specs.declared.view.View.{View}
 use Rattle.live_steps.specs.Views.{next_of}
 use Rattle.live_steps.specs.Shows.{Table, IsTrueNote, ShowsPart, Shows}
-use Rattle.live_steps.specs.Sound.{IsSoundPart, Agrees, IsSound}
+use Rattle.live_steps.specs.Sound.{BearsOut, IsSoundPart, Agrees, IsSound, end_of}
 use Rattle.live_steps.specs.Plays.{Seat, Told}
 use Rattle.live_steps.specs.Rule.{Kept}
 use Rattle.live_steps.proofs.Codes.{logged_is_move}
 use Rattle.live_steps.proofs.Notes.{follower}
 use Rattle.live_steps.proofs.Parts.{same_part}
 use Rattle.live_steps.proofs.Steps.{opt_cases}
+
+-- two stretches, one behind the other
+stretches_join : (j n m : ℕ) (l : List Triple) → j ≤ n → n ≤ m → m ≤ length l → stretch j n l ++ stretch n m l ≡ stretch j m l
+stretches_join j n m l low high short =
+    let first : List Triple = take m l in
+    let long : length first ≡ m = length-take-le m l short in
+    let same : take n l ≡ take n first = ap (take n) (sym (take-append-drop m l)) ∙ take-append-le n first (drop m l) (omega arith) in
+    let near : length (take n first) ≡ n = length-take-le n first (omega arith) in
+    ap (λ (x : List Triple). drop j x ++ drop n first) same
+    ∙ sym (drop-append-le j (take n first) (drop n first) (omega arith)) ∙ ap (drop j) (take-append-drop n first)
+
+-- the log of the board that a table shows bears out each part
+bears_out : (z : BoardSetup) (a : SharedBoard) (s : Table) → Shows z a s → (p : Part) (h : ShowsPart z a p) → BearsOut a.log h.closing p
+bears_out z a s r p h =
+    let here = (r.shared.places p.place _ h.has).1 in
+    let within = here.within in
+    let start : a.start ≡ p.setup.start = r.start_is ∙ ap (λ (t : BoardSetup). t.start) (sym h.setup_is) in
+    let capacity = ap (λ (t : BoardSetup). t.limits.capacity) h.setup_is in
+    let plies = ap (λ (t : BoardSetup). t.limits.plies) h.setup_is in
+    let room = r.shared.room in
+    let seen = h.seen in
+    let ends = bounds h.closing refl in
+    let low = ends.0 in
+    let high = ends.1 in
+    let most = ends.2 in
+    record {
+      game = subst (λ (n : ℕ). Game960 n a.log) start r.shared.game;
+      room = omega arith;
+      whole = ap (λ (x : List Triple). x ++ stretch (next_of p) (end_of a.log h.closing) a.log) (is_stretch p.taken a.log p.joined here.stretch within)
+          ∙ stretches_join p.joined (next_of p) (end_of a.log h.closing) a.log (omega arith) low high;
+      before = h.before;
+      reached = (low, high);
+      bounded = omega arith;
+      seen = seen.1;
+      closed = h.noticed;
+      over = λ o e. let t = h.over o e in (subst (λ (n : ℕ). IsOutcome n a.log (Some o)) start (subst (IsOutcome a.start a.log) t.0 r.shared.ended), t.1);
+    }
+  where
+    bounds : (c : Option ℕ) → h.closing ≡ c → (next_of p ≤ end_of a.log c) × (end_of a.log c ≤ length a.log) × (end_of a.log c ≤ next_of p + z.limits.capacity)
+    bounds None e = let here = (r.shared.places p.place _ h.has).1 in let low = here.within in let high = here.near e in (omega arith, omega arith, omega arith)
+    bounds (Some c) e = let here = (r.shared.places p.place _ h.has).1 in let low = here.closed c e in let high = here.near_closing c e in (low.0, low.1, high)
 
 pub sound_part : (z : BoardSetup) (a : SharedBoard) (s : Table) → Shows z a s → (p : Part) → ShowsPart z a p → IsSoundPart p
 sound_part z a s r p h =
@@ -38,6 +83,9 @@ sound_part z a s r p h =
       room = omega arith;
       closing = λ c e. let n = here.closed c (h.noticed c e) in let m = here.near_closing c (h.noticed c e) in let l = n.1 in (n.0, omega arith, omega arith);
       loaded = IfSome_then p.loaded h.loaded (λ x t. (t.0, subst IsMove (sym t.1) (logged_is_move a.start a.log r.shared.game (next_of p))));
+      log = a.log;
+      closed_at = h.closing;
+      headline = bears_out z a s r p h;
     }
 
 agrees : (z : BoardSetup) (a : SharedBoard) (s : Table) (r : Shows z a s) (v : View) (p : Part) (n : Note) → v.log ≡ a.log → v.setup ≡ z → ShowsPart z a p → IsTrueNote n (a.followers p.place) → Agrees v n p

@@ -71,6 +71,7 @@ adds_one z a s id m r seat i p item mine known unclosed =
       setup_is = h.setup_is;
       closing = h.closing;
       has = with_here a.followers k o ∙ ap (λ (l : List Triple). Some (follower p.joined l h.closing)) (sym taken-list);
+      before = h.before;
       noticed = λ c e. sym shows-closing ∙ e;
       unnoticed = λ c e e'. absurd (none-some c (sym e ∙ shows-closing ∙ e'));
       seen = (omega arith, seen.1);

@@ -1,5 +1,5 @@
 -- When the words of a table and the views of its seats show a shared board. This holds between any two atomic steps.
-use Rattle.std.specs.Prelude.{◌≡◌, ℕ, ◌+◌, ◌<◌, ◌≤◌, ◌==◌, if◌then◌else◌, true, List, [], ◌∷◌, length, slice_index, Option, Some, None, IfSome}
+use Rattle.std.specs.Prelude.{◌≡◌, ℕ, ◌+◌, ◌<◌, ◌≤◌, ◌==◌, if◌then◌else◌, true, List, [], ◌∷◌, length, take, slice_index, Option, Some, None, IfSome}
 use mathlib.Core.Option.{some}
 use lib.ListN.{get_elem?}
 use Rattle.atomic_table.specs.Table.{State}
@@ -49,6 +49,8 @@ pub record ShowsPart (z : BoardSetup) (a : SharedBoard) (p : Part) : Type 0 wher
   pub setup_is : p.setup ≡ z
   pub closing : Option ℕ
   pub has : a.followers p.place ≡ Some (follower_of p closing)
+  -- the moves before its joining place are the log's
+  pub before : p.before ≡ take p.joined a.log
   -- one that has noticed its closing knows it; one that has not stands a capacity before it
   pub noticed : (c : ℕ) → p.closing ≡ Some c → closing ≡ Some c
   pub unnoticed : (c : ℕ) → p.closing ≡ None → closing ≡ Some c → c ≡ next_of p + z.limits.capacity

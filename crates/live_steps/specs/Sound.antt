@@ -1,15 +1,43 @@
 -- What is true of a view by itself, while the rule holds: what code may conclude from the view of its own seat.
-use Rattle.std.specs.Prelude.{◌≡◌, ℕ, ◌+◌, ◌<◌, ◌≤◌, ◌⊎◌, true, length, Some, None, IfSome}
+use Rattle.std.specs.Prelude.{◌≡◌, ℕ, ◌+◌, ◌<◌, ◌≤◌, ◌⊎◌, ◌++◌, true, List, length, take, unwrap_or, Option, Some, None, IfSome}
 use mathlib.Core.Option.{some}
 use lib.ListN.{get_elem?}
-use Rattle.c960_board.specs.Moves.{IsMove}
+use Rattle.c960_board.specs.Moves.{Triple, IsMove}
+use Rattle.c960_game.specs.declared.outcome.Outcome.{Outcome}
+use Rattle.c960_game.specs.Game960.{Game960}
+use Rattle.c960_game.specs.Record.{IsOutcome}
 use Rattle.live_machine.specs.Limits.{AreBoardLimits}
-use Rattle.live_machine.specs.Board.{move_at}
+use Rattle.live_machine.specs.Board.{move_at, stretch}
 use Rattle.live_steps.specs.declared.note.Note.{Note}
 use Rattle.live_steps.specs.declared.note.Note.TheVariants.{Vacant, Open, Closed}
 use Rattle.live_steps.specs.declared.view.Part.{Part}
 use Rattle.live_steps.specs.declared.view.View.{View}
 use Rattle.live_steps.specs.Views.{next_of}
+
+-- ---- The headline, of one follower.
+
+-- where the moves that a follower gets end: at the length at which it was closed, else at the present, the log's length
+abbrev pub end_of : List Triple → Option ℕ → ℕ
+end_of log closing = unwrap_or closing (length log)
+
+-- The board's log, and the length of it at which the follower was closed, if it was, bear out what the follower has and knows.
+pub record BearsOut (log : List Triple) (closing : Option ℕ) (p : Part) : Type 0 where
+  -- the log is a legal game from its numbered start
+  pub game : Game960 p.setup.start log
+  pub room : length log ≤ p.setup.limits.plies
+  -- the moves taken, then those due, are, each once and in order, the stretch of the log from the joining place to the closing or the present
+  pub whole : p.taken ++ stretch (next_of p) (end_of log closing) log ≡ stretch p.joined (end_of log closing) log
+  pub before : p.before ≡ take p.joined log
+  -- that end lies in the log, not before the next place, and no more moves are due than a queue holds
+  pub reached : (next_of p ≤ end_of log closing) × (end_of log closing ≤ length log)
+  pub bounded : end_of log closing ≤ next_of p + p.setup.limits.capacity
+  -- what it has seen lies in the log, and a closing that it has noticed is its closing
+  pub seen : p.seen ≤ length log
+  pub closed : (c : ℕ) → p.closing ≡ Some c → closing ≡ Some c
+  -- an outcome that it has seen is one that the log has, and it has seen the whole of the log
+  pub over : (o : Outcome) → p.outcome ≡ Some o → IsOutcome p.setup.start log (Some o) × (p.seen ≡ length log)
+
+-- ---- What is true of views.
 
 -- a follower's part
 pub record IsSoundPart (p : Part) : Type 0 where
@@ -19,6 +47,9 @@ pub record IsSoundPart (p : Part) : Type 0 where
   pub room : p.seen ≤ p.setup.limits.plies
   pub closing : (c : ℕ) → p.closing ≡ Some c → (next_of p ≤ c) × (c ≤ next_of p + p.setup.limits.capacity) × (c ≤ p.setup.limits.plies)
   pub loaded : IfSome p.loaded (λ m. (next_of p < p.seen) × IsMove m)
+  pub log : List Triple
+  pub closed_at : Option ℕ
+  pub headline : BearsOut log closed_at p
 
 -- what a note says of the part at its place
 abbrev pub Agrees : View → Note → Part → Type 0

@@ -1,5 +1,5 @@
 -- What the steps make of views.
-use Rattle.std.specs.Prelude.{ℕ, ◌+◌, ◌-◌, ◌==◌, nat_lt, if◌then◌else◌, true, false, List, [], ◌∷◌, ◌++◌, map, length, replicate, get_or, slice_index, slice_set, Option, Some, None}
+use Rattle.std.specs.Prelude.{ℕ, ◌+◌, ◌-◌, ◌==◌, nat_lt, if◌then◌else◌, true, false, List, [], ◌∷◌, ◌++◌, map, length, replicate, take, get_or, slice_index, slice_set, Option, Some, None}
 use Rattle.std.specs.Option.{option_to_list}
 use Rattle.c960_board.specs.Moves.{Triple}
 use Rattle.c960_game.specs.declared.outcome.Outcome.{Outcome}
@@ -21,19 +21,19 @@ next_of p = p.joined + length p.taken
 abbrev pub next_word : Part → ℕ
 next_word p = move_word_at p.setup.limits (next_of p)
 
-abbrev pub part : BoardSetup → ℕ → ℕ → List Triple → ℕ → Option Outcome → ℕ → Option Triple → Option ℕ → Part
-part z k j l n o c m d = record { setup = z; place = k; joined = j; taken = l; seen = n; outcome = o; loads = c; loaded = m; closing = d }
+abbrev pub part : BoardSetup → ℕ → ℕ → List Triple → List Triple → ℕ → Option Outcome → ℕ → Option Triple → Option ℕ → Part
+part z k j b l n o c m d = record { setup = z; place = k; joined = j; before = b; taken = l; seen = n; outcome = o; loads = c; loaded = m; closing = d }
 
 -- a new follower at the cursor place k, which joins at the place j and has seen the board's length and outcome
 abbrev pub newcomer : ℕ → ℕ → View → Part
-newcomer k j v = part v.setup k j [] (length v.log) v.outcome 0 None None
+newcomer k j v = part v.setup k j (take j v.log) [] (length v.log) v.outcome 0 None None
 
 -- has loaded the status w
 abbrev pub sees : ℕ → Part → Part
-sees w p = part p.setup p.place p.joined p.taken (length_in w) (outcome_in w) (p.loads + 1) p.loaded p.closing
+sees w p = part p.setup p.place p.joined p.before p.taken (length_in w) (outcome_in w) (p.loads + 1) p.loaded p.closing
 
 abbrev pub holding : Option Triple → Part → Part
-holding o p = part p.setup p.place p.joined p.taken p.seen p.outcome p.loads o p.closing
+holding o p = part p.setup p.place p.joined p.before p.taken p.seen p.outcome p.loads o p.closing
 
 -- has loaded the word of a move, and holds the move where it is the next one and lies in the length seen
 abbrev pub finds : ℕ → Triple → Part → Part
@@ -41,11 +41,11 @@ finds word m p = holding (if next_word p == word then (if nat_lt (next_of p) p.s
 
 -- has taken the move that it held, and noticed what its cursor said
 abbrev pub gains : ℕ → Part → Part
-gains w p = part p.setup p.place p.joined (p.taken ++ option_to_list p.loaded) p.seen p.outcome p.loads None (closing_in w)
+gains w p = part p.setup p.place p.joined p.before (p.taken ++ option_to_list p.loaded) p.seen p.outcome p.loads None (closing_in w)
 
 -- has noticed what its cursor said
 abbrev pub learns : ℕ → Part → Part
-learns w p = part p.setup p.place p.joined p.taken p.seen p.outcome p.loads p.loaded (closing_in w)
+learns w p = part p.setup p.place p.joined p.before p.taken p.seen p.outcome p.loads p.loaded (closing_in w)
 
 -- f at the part whose cursor is this word, and nothing at the others
 abbrev pub only_at : ℕ → (Part → Part) → Part → Part

@@ -16,6 +16,8 @@ pub struct Part {
     pub place: u64,
     /// The place of the log at which it joined.
     pub joined: u64,
+    /// The moves of the log before that place.
+    pub before: LinkedList<Move>,
     /// The moves that it has taken.
     pub taken: LinkedList<Move>,
     /// The length of the log that it has seen.

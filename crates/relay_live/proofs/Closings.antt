@@ -84,6 +84,12 @@ turns_closed len ps k Vacant j b f none = absurd (vacant_open j b (sym f))
 turns_closed len ps k (Closed c) j b f none = ⊎_elim (λ (x : Open j b ≡ Vacant). absurd (vacant_open j b (sym x))) (λ (x : Open j b ≡ Closed c). absurd (closed_open c j b (sym x))) f
 turns_closed len ps k (Open joined least) j b f none = inr (inr (refl, none))
 
+-- a note that stays follows on itself
+stays_noted : (a : Note) → Follows a a
+stays_noted Vacant = refl
+stays_noted (Open joined least) = inr (least, refl, omega arith)
+stays_noted (Closed c) = inr refl
+
 -- ---- One place.
 
 -- what a try to close the follower at the place k leaves of the parts, and makes of its note
@@ -94,6 +100,11 @@ pub record TriedOnce (v : View) (k : ℕ) (w : View) : Type 0 where
 
 tried_once : (v w : View) (k : ℕ) → Tried v k w → TriedOnce v k w
 tried_once v w k t = by_try (TriedOnce v k) v w k t
+    (λ _. record {
+      held = refl;
+      others = λ j d none. none;
+      turns = λ a n e d. subst (Turns (length v.log) v.parts k a) (some-injective _ _ (sym e ∙ d)) (turns_by (length v.log) v.parts k a a (stays_noted a));
+    })
     (λ r told open-end. record {
       held = held_learned (k + 2) r v.parts;
       others = λ j d none. noticed_other k j r v.parts d none;

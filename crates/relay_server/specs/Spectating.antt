@@ -1,6 +1,8 @@
 -- What the connection of a follower is sent: what the follower takes.
 use Rattle.std.specs.Prelude.{◌≡◌, ◌+◌, ◌≤◌, ℕ, List, [], ◌∷◌, ◌++◌, length, Option, Some, None, ⊤}
 use Rattle.c960_board.specs.Moves.{Triple}
+use Rattle.c960_game.specs.Record.{IsOutcome}
+use Rattle.relay_core.specs.Following.{stretch}
 use Rattle.relay_core.specs.declared.reply.Taken.{Taken}
 use Rattle.relay_core.specs.declared.reply.Taken.TheVariants as takes
 use Rattle.relay_pushing.specs.declared.pushing.PushEnd.{PushEnd}
@@ -9,12 +11,13 @@ use Rattle.relay_pushing.specs.Pushing.{text_of}
 use Rattle.relay_pushing.specs.Sending.{GainsAll}
 use Rattle.live_steps.specs.declared.view.Part.{Part}
 use Rattle.live_steps.specs.Views.{next_of}
+use Rattle.live_steps.specs.Sound.{BearsOut}
 use Rattle.live_board.specs.Seats.{FollowerSeat}
-use Rattle.live_board.specs.Takes.{Stays, Took}
+use Rattle.live_board.specs.Takes.{Stays, Took, TookOfGame}
 
--- a take of the follower gives this answer, and leads from f to g
+-- a take of the follower gives this answer, and leads from f to g; what it has taken is of a legal game
 abbrev pub Gives : FollowerSeat → Taken → FollowerSeat → Type 0
-Gives f taken g = Stays f g × Took f g taken
+Gives f taken g = Stays f g × Took f g taken × TookOfGame g.part taken
 
 -- the texts of moves, the first of them with this place, the others with the places behind it
 abbrev pub move_texts : ℕ → List Triple → List (List ℕ)
@@ -33,20 +36,30 @@ IsLost (Over outcome) lost = lost ≡ []
 IsLost Cut lost = lost ≡ []
 IsLost (Failed fault) lost = length lost ≤ 1
 
--- an end is told by the outcome that the follower has seen, or by the closing where it stands
-abbrev pub IsEnd : Part → PushEnd → Type 0
-IsEnd p (Over outcome) = (p.outcome ≡ Some outcome) × (next_of p ≡ p.seen) × (p.closing ≡ None)
-IsEnd p Cut = p.closing ≡ Some (next_of p)
-IsEnd p (Failed fault) = ⊤
+-- an end is told by the outcome that the follower has seen, which is the log's, and then all of the log is taken; or by the closing where
+-- it stands
+abbrev pub IsEnd : List Triple → Part → PushEnd → Type 0
+IsEnd log p (Over outcome) =
+    (p.outcome ≡ Some outcome) × (next_of p ≡ p.seen) × (p.closing ≡ None) × (next_of p ≡ length log) × IsOutcome p.setup.start log (Some outcome)
+IsEnd log p Cut = p.closing ≡ Some (next_of p)
+IsEnd log p (Failed fault) = ⊤
 
--- The follower took moves. The outlet gained their texts, each once and in order, with the places from the follower's next place on, and
--- then the end's; where a text could not be made or sent, perhaps not the last move's.
+-- The follower took moves: the stretch of its board's log from its next place on, and that log is a legal game from its numbered start. The
+-- outlet gained their texts, each once and in order, with the places from the follower's next place on, and then the end's; where a text
+-- could not be made or sent, perhaps not the last move's.
 pub record Sent (f g : FollowerSeat) (old new : Option (List (List ℕ))) (end : PushEnd) : Type 0 where
   pub table : g.table ≡ f.table
+  pub setup : g.part.setup ≡ f.part.setup
   pub joined : g.part.joined ≡ f.part.joined
+  pub before : g.part.before ≡ f.part.before
   pub sent : List Triple
   pub lost : List Triple
   pub taken : g.part.taken ≡ f.part.taken ++ sent ++ lost
   pub few : IsLost end lost
+  -- the board's log, and the length at which the follower was closed, if it was
+  pub log : List Triple
+  pub closing : Option ℕ
+  pub game : BearsOut log closing g.part
+  pub of_log : sent ++ lost ≡ stretch (next_of f.part) (next_of g.part) log
   pub gained : GainsAll old new (move_texts (next_of f.part) sent ++ end_texts end)
-  pub ended : IsEnd g.part end
+  pub ended : IsEnd log g.part end

@@ -1,7 +1,7 @@
 //! A board that is broadcast: one connection plays it, others follow it.
 
 ghost use Rattle.std.specs.Prelude.{◌≡◌, Some, IfOk};
-ghost use Rattle.c960_game.specs.Positions.{position_at};
+ghost use Rattle.c960_game.specs.Positions.{last_position, position_at};
 ghost use Rattle.live_board.specs.Board.{from_place};
 ghost use Rattle.live_steps.specs.Views.{newcomer};
 
@@ -90,6 +90,7 @@ impl Broadcast {
 fn join(board: &mut Board, from: Option<u16>) -> Result<(Follower, Position), Refusal>
     ensures follower { IfOk result (λ r. (r.0.table ≡ board.old.table) × (r.0.part ≡ newcomer r.0.part.place (from_place board.old.knows from) board.old.knows)) }
     ensures position { IfOk result (λ r. position_at board.new.knows.setup.start board.new.knows.log r.0.part.joined ≡ Some r.1) }
+    ensures before { IfOk result (λ r. r.1 ≡ last_position board.new.knows.setup.start r.0.part.before) }
 {
     let follower = board.follow(from)?;
     let Some(position) = board.position_at(follower.joined()) else {

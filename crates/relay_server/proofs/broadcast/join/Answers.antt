@@ -1,8 +1,10 @@
-use Rattle.std.proofs.Common.{◌≡◌, ◌<◌, ℕ, List, length, None, Ok, Err, OnOk, sym, subst, ap, ◌∙◌, arith}
+use Rattle.std.proofs.Common.{◌≡◌, ◌<◌, ℕ, Bool, true, false, cond, List, length, take, None, Some, Ok, Err, OnOk, sym, subst, ap, ◌∙◌, arith}
+use Rattle.std.specs.Prelude.{nat_le}
 use Rattle.std.proofs.Math.Nat.{lt_of_not-le}
-use Rattle.std.proofs.lemmas.Option.{none-some}
+use Rattle.std.proofs.lemmas.Option.{none-some, same_Some}
+use Rattle.c960_board.specs.declared.parts.Parts.{Parts}
 use Rattle.c960_board.specs.Moves.{Triple}
-use Rattle.c960_game.specs.Positions.{position_at}
+use Rattle.c960_game.specs.Positions.{last_position, position_at}
 use Rattle.c960_game.specs.declared.refusal.Refusal.TheVariants.{NotYet}
 use Rattle.c960_game.proofs.LogFacts.{position_made}
 use Rattle.live_steps.specs.declared.view.Part.{Part}
@@ -25,3 +27,21 @@ unreachable-requires c =
     let early = past board.setup.start board.log c.joined.result (sym c.position_at.ensures ∙ c.in_default.is) in
     let from : f.part.joined ≡ from_place c.args.board.now.knows c.args.from = ap (λ (p : Part). p.joined) told.follower.1 in
     not_refused f NotYet (sym c.in_ok-follower.was ∙ c.follow.ensures.not_yet.1 (omega (arith, early, c.joined.ensures, from, ap length c.follow.ensures.log)))
+
+-- where there is a position, it is the one after that many of the moves
+made_here : (n : ℕ) (l : List Triple) (place : ℕ) (p : Parts) → position_at n l place ≡ Some p → p ≡ last_position n (take place l)
+unfolding position_at
+made_here n l place p e = by (nat_le place (length l)) e
+  where
+    by : (b : Bool) → cond b (Some (last_position n (take place l))) None ≡ Some p → p ≡ last_position n (take place l)
+    by true e = sym (same_Some _ _ e)
+    by false e = absurd (none-some p e)
+
+pub returns-clause-before : goal.returns-clause-before
+returns-clause-before c =
+    let board = c.follow.new.self.knows in
+    let part = c.in_ok-follower.ensures.follower.1 in
+    let joined = c.joined.ensures ∙ ap (λ (p : Part). p.joined) part in
+    made_here board.setup.start board.log c.joined.result c.in-Some.position (sym c.position_at.ensures ∙ c.in-Some.is)
+    ∙ (λ i. last_position board.setup.start (take (joined i) (c.follow.ensures.log i)))
+    ∙ sym (ap (λ (p : Part). last_position board.setup.start p.before) part)

@@ -1,16 +1,18 @@
-use Rattle.std.proofs.Common.{rules, arith, ap, refl, sym, ◌∙◌, ◌<◌, length, List, ℕ}
+use Rattle.std.proofs.Common.{rules, arith, ap, refl, sym, subst, set, ◌∙◌, ◌≡◌, ◌+◌, ◌-◌, ◌<◌, length, List, ℕ}
 use mathlib.Core.Option.{some}
 use lib.ListN.{get_elem?}
 use Rattle.atomic_table.proofs.Lists.{set_here}
 use Rattle.live_steps.specs.declared.note.Note.{Note}
 use Rattle.live_steps.specs.declared.view.View.{View}
-use Rattle.live_board.proofs.Desks.{noted_is, noted_there}
+use Rattle.live_board.proofs.Desks.{desk_of, none_before_loaded, noted_is, noted_there}
+use Rattle.live_steps.specs.Sound.{Follows}
 use Rattle.live_steps.specs.Words.{note_after}
 use Rattle.live_steps.specs.Views.{noted}
 use Rattle.live_steps.proofs.Checking.{note_read}
 use Rattle.live_steps.specs.declared.setup.BoardSetup.{BoardSetup}
-use Rattle.live_board.specs.Seats.{BoardSeat}
+use Rattle.live_board.specs.Seats.{BoardSeat, NoneBefore}
 use Rattle.live_board.proofs.Steps.{checking}
+use Rattle.live_board.proofs.desk.Desk.check.Goals.{After-index_mut}
 use Rattle.live_board.proofs.desk.Desk.check.Goals as goal
 
 pub load-word-requires : goal.load-word-requires
@@ -22,6 +24,28 @@ load-word-requires c =
       omega (arith, c.cursor_at.ensures, inside, i.words, ap (λ t. t.shared.table_id.words) same),
       checking _ _ _ _ c.args.place _ c.cursor_at.ensures (omega (arith, inside, ap (λ (z : BoardSetup). z.limits.followers) i.key_is, ap (λ t. t.shared.key.limits.followers) same)),
     )
+
+-- the note that was read
+read : (c : After-index_mut) → get_elem? c.self.inside.seat.me.0.notes c.args.place ≡ some c.index_mut.result.now
+read c =
+    let i = c.self.invariant in
+    noted_there i c.args.place c.index_mut.result.now c.self.inside.seat.me.0 refl (omega (arith, c.requires, ap (λ (h : BoardSeat). h.knows.setup.limits.followers) c.self.view_is)) c.index_mut.ensures.value
+
+pub invariant_of-self : goal.invariant_of-self
+invariant_of-self c =
+    let i = c.self.invariant in
+    let v = c.self.inside.seat.me.0 in
+    let place = c.args.place in
+    let x = c.index_mut.result.now in
+    let n = c.load-word.result in
+    let f = c.load-word.ensures in
+    let there = read (goal.at.invariant_of-self c).After-index_mut in
+    let at-place : place + 2 - 2 ≡ place = omega arith in
+    let follows : Follows x (note_after x n) = (f.2.2 i.owns x (ap (λ (y : ℕ). get_elem? v.notes (y - 2)) c.cursor_at.ensures ∙ ap (get_elem? v.notes) at-place ∙ there)).0 in
+    desk_of _ f.2.1 (f.0 ∙ i.table) i.words i.key_is i.owns i.setup_is i.len_is
+    ((λ k. set (i.notes_are k) place (c.renew.ensures.note k)) ∙ noted_is v.notes place n x (note_read v.notes place x there) ∙ ap (λ (y : ℕ). (noted y n v).notes) (sym c.cursor_at.ensures))
+    (subst (λ m. NoneBefore c.self.inside.least_noted (set c.self.inside.notes.items place m)) (sym c.renew.ensures.note) (none_before_loaded i place x (note_after x n) there follows)) i.least_low i.room_is
+    (f.2.0.0 ∙ i.none_held) f.2.0.1
 
 -- the note that was made stands at its place
 pub returns-clause-note : goal.returns-clause-note

@@ -1,15 +1,17 @@
-use Rattle.std.proofs.Common.{rules, arith, refl, sym, ap, ◌∙◌, ◌≡◌, ◌+◌, ◌<◌, ◌∷◌, [], ℕ, length, set, subst}
+use Rattle.std.proofs.Common.{rules, arith, refl, sym, ap, ◌∙◌, ◌≡◌, ◌+◌, ◌-◌, ◌<◌, ◌∷◌, [], ℕ, length, set, subst}
 use Rattle.live_steps.specs.declared.setup.BoardSetup.{BoardSetup}
 use Rattle.live_steps.specs.declared.view.Part.{Part}
 use Rattle.live_steps.specs.declared.view.View.{View}
-use Rattle.live_steps.specs.Sound.{IsSound}
+use lib.ListN.{get_elem?}
+use Rattle.live_steps.specs.Sound.{IsSound, Follows}
+use Rattle.live_steps.specs.Words.{note_after}
 use Rattle.live_steps.specs.Views.{carrying, taking_in, each_part, sees, learns, noted, kept_part, given_part}
 use Rattle.live_steps.proofs.Allowed.{allows_sparing, allows_splitting, allows_joining, allows_looking}
 use Rattle.live_steps.proofs.Checking.{note_read}
 use Rattle.live_steps.proofs.Steps.{off}
 use Rattle.live_board.specs.Meeting.{Met}
-use Rattle.live_board.specs.Seats.{BoardSeat, FollowerSeat, part_of}
-use Rattle.live_board.proofs.Desks.{desk_of, noted_is, noted_there}
+use Rattle.live_board.specs.Seats.{BoardSeat, FollowerSeat, NoneBefore, part_of}
+use Rattle.live_board.proofs.Desks.{desk_of, none_before_loaded, noted_is, noted_there}
 use Rattle.live_board.proofs.Followers.{follower_of, only_is, part_sound}
 use Rattle.live_board.proofs.Hands.{kept_sound, given_sound}
 use Rattle.live_board.proofs.Steps.{checking}
@@ -101,8 +103,12 @@ invariant_of-self c =
     let out = c.split_seat-out.ensures in
     let kept = ap (λ m. m.0) out.2 in
     let there = noted_there i place c.index-note.result.now v refl (omega (arith, low (early late), ap (λ (z : BoardSetup). z.limits.followers) i.setup_is)) c.index-note.ensures in
+    let at-place : place + 2 - 2 ≡ place = omega arith in
+    let follows : Follows c.index-note.result.now (note_after c.index-note.result.now n) =
+    (f.2.2 (ap (λ (u : View). u.owns) (looked (early late)) ∙ i.owns) c.index-note.result.now (ap (λ (u : View). get_elem? u.notes (c.cursor_at-word.result - 2)) (looked (early late)) ∙ ap (λ (y : ℕ). get_elem? v.notes (y - 2)) c.cursor_at-word.ensures ∙ ap (get_elem? v.notes) at-place ∙ there)).0 in
     desk_of _ (kept ∙ ap kept_part (whole late)) (out.0 ∙ f.0 ∙ c.load-status.ensures.0 ∙ c.join_seat.ensures.0 ∙ c.split_seat-seat.ensures.0 ∙ i.table) i.words i.key_is i.owns i.setup_is i.len_is
     (ap (λ l. set l place c.note_after.result) i.notes_are ∙ ap (set v.notes place) c.note_after.ensures ∙ noted_is v.notes place n c.index-note.result.now (note_read v.notes place c.index-note.result.now there))
+    (subst (λ m. NoneBefore c.self.inside.least_noted (set c.self.inside.notes.items place m)) (sym c.note_after.ensures) (none_before_loaded i place c.index-note.result.now (note_after c.index-note.result.now n) there follows)) i.least_low
     i.room_is
     (ap (λ m. m.1) out.2 ∙ f.2.0.0 ∙ c.load-status.ensures.2.0.0 ∙ ap (λ m. m.1) c.join_seat.ensures.2 ∙ ap (λ m. m.1) c.split_seat-seat.ensures.2 ∙ i.none_held) (subst IsSound (sym kept) (kept_sound c.load-cursor.new.seat.me.0 f.2.0.1))
 

@@ -5,7 +5,7 @@ use Rattle.live_steps.specs.declared.note.Note.TheVariants.{Open}
 use Rattle.live_steps.specs.Words.{place_in}
 use Rattle.live_steps.specs.Views.{followed}
 use Rattle.live_board.specs.Seats.{BoardSeat}
-use Rattle.live_board.proofs.Desks.{desk_of}
+use Rattle.live_board.proofs.Desks.{desk_of, none_before_set, same_open}
 use Rattle.live_board.proofs.Hands.{followed_is}
 use Rattle.live_board.proofs.Steps.{following}
 use Rattle.live_board.proofs.desk.Desk.seat_at.Goals.{After-store}
@@ -51,6 +51,7 @@ invariant_of-self c =
     let i = c.self.invariant in
     let f = c.store.ensures in
     desk_of _ (seated (goal.at.invariant_of-self c).After-store) (f.0 ∙ i.table) i.words i.key_is i.owns i.setup_is i.len_is (ap (λ l. set l c.args.cursor_place (Open c.args.from c.args.from)) i.notes_are)
+    (none_before_set _ c.args.cursor_place _ (Open c.args.from c.args.from) (λ k j b e. omega (arith, i.least_is k j b e, c.min-self-inside.ensures)) (λ j b e. omega (arith, same_open _ _ _ _ e, c.min-self-inside.ensures))) (omega (arith, i.least_low, c.min-self-inside.ensures))
     i.room_is (f.2.0.0 ∙ i.none_held) f.2.0.1
 
 pub returns-clause-knows : goal.returns-clause-knows

@@ -3,7 +3,7 @@ use mathlib.Core.Option.{some, some-injective}
 use Rattle.live_steps.specs.declared.setup.BoardSetup.{BoardSetup}
 use Rattle.live_board.specs.Seats.{BoardSeat}
 use Rattle.live_board.proofs.Desks.{same_open}
-use Rattle.live_board.proofs.desk.Desk.close_at.Goals as goal
+use Rattle.live_board.proofs.desk.Desk.ask.Goals as goal
 
 pub exchange-requires-clause-full : goal.exchange-requires-clause-full
 exchange-requires-clause-full c =
