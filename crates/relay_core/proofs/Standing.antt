@@ -10,6 +10,7 @@ use Rattle.relay_core.specs.Following.{following, board_of}
 use Rattle.relay_core.specs.Inner.Held.{HeldFollower, Held, plain_follower, plain}
 use Rattle.relay_core.specs.History.{History, opened, start_of, log}
 use Rattle.relay_core.specs.Inner.Kept.{HeldStands, IsKept, held_follower_of}
+use Rattle.relay_core.specs.Inner.Room.{Holding}
 use Rattle.relay_core.specs.Name.{same_name}
 use Rattle.relay_core.specs.Replies.{LawfulHistory}
 use Rattle.relay_core.specs.Stands.{Stands, game_of, follower_of}
@@ -47,6 +48,10 @@ fresh limits bs fs none nobody = rw (none, nobody) (record {
 })
 
 -- ---- Without the queues.
+
+-- what is shown of the same holdings
+pub shown_is : {a b : Holding} → a ≡ b → a.shown ≡ b.shown
+shown_is same = ap (λ (x : Holding). x.shown) same
 
 pub shows : (limits : LimitNumbers) (r : Held) (h : History) → HeldStands limits r h → Stands limits (plain r) h
 shows limits r h st = record {

@@ -3,6 +3,7 @@
 pub mod NameFields
 pub mod Boards
 pub mod Held
+pub mod Room
 pub mod Next
 pub mod Followers
 pub mod Kept

@@ -107,13 +107,14 @@ impl Followers {
         Ok(())
     }
 
-    /// Lets a spectator go.
+    /// Lets a spectator go. The room does not shrink: of a removal the map tells no more.
     pub(crate) fn remove(&mut self, who: Spectator) -> Option<Follower>
         ensures value { result ≡ lookup (nat_eq who) self.old.entries }
         ensures updates { (q : ℕ) → lookup (nat_eq q) self.new.entries
             ≡ cond (nat_eq who q) None (lookup (nat_eq q) self.old.entries) }
         ensures entries { self.new.entries ≡ remove_entry (nat_eq who) self.old.entries }
         ensures none { IfNone result (self.new.entries ≡ self.old.entries) }
+        ensures room { self.old.room ≤ self.new.room }
     {
         self.seats.shift_remove(&who)
     }

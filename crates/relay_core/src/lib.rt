@@ -4,6 +4,7 @@
 mod boards;
 mod follower;
 mod followers;
+mod holdings;
 pub mod laws;
 mod name;
 mod relay;

@@ -8,6 +8,7 @@ use Rattle.c960_game.specs.Limits.{LimitNumbers}
 use Rattle.c960_game.specs.Record.{GameRecord}
 use Rattle.relay_core.specs.Inner.Held.{HeldFollower, Held, plain}
 use Rattle.relay_core.specs.Inner.Kept.{IsKept}
+use Rattle.relay_core.specs.Inner.Room.{Holding}
 use Rattle.relay_core.specs.Name.{same_name}
 use Rattle.relay_core.specs.State.{RelayRecord}
 use Rattle.live_steps.specs.declared.note.Note.{Note}
@@ -20,7 +21,7 @@ use Rattle.live_steps.specs.Views.{spent}
 use Rattle.live_board.specs.Board.{game_of, setup_of}
 use Rattle.live_board.specs.Carried.{Carries, cut_at, due_at}
 use Rattle.live_board.specs.Seats.{BoardSeat}
-use Rattle.relay_live.specs.declared.relay.LiveRelay.TheInside.{Inside}
+use Rattle.relay_live.specs.declared.holdings.Holdings.TheInside.{Inside}
 use Rattle.relay_live.specs.declared.seated.Seated.{Seated}
 
 abbrev pub Boards : Type 0
@@ -58,8 +59,11 @@ held_by limits boards fs = record { limits = limits; boards = games boards; foll
 abbrev pub held_of : Inside → Held
 held_of a = held_by a.limits a.boards.entries a.followers.entries
 
-abbrev pub view_of : Inside → RelayRecord
-view_of a = plain (held_of a)
+abbrev pub holding_of : Inside → Holding
+holding_of a = record {
+  shown = plain (held_of a);
+  room = record { boards = spare a.boards; followers = spare a.followers };
+}
 
 -- ---- What is kept.
 

@@ -3,6 +3,7 @@
 #![tactic(auto)]
 
 mod boards;
+mod holdings;
 mod relay;
 mod seated;
 

@@ -2,14 +2,14 @@
 use Rattle.std.specs.Prelude.{◌≡◌, ℕ, ◌+◌, ◌≤◌, nat_eq, List, length, map, option_map}
 use Rattle.std.specs.Map.{lookup}
 use Rattle.c960_game.specs.Limits.{LimitNumbers}
-use Rattle.relay_core.specs.declared.relay.Relay.TheInside.{Inside}
+use Rattle.relay_core.specs.declared.holdings.Holdings.TheInside.{Inside}
 use Rattle.relay_core.specs.Following.{following, board_of, joined, taken, cut_at, due}
 use Rattle.relay_core.specs.Inner.Held.{HeldFollower, Held, plain}
+use Rattle.relay_core.specs.Inner.Room.{Holding}
 use Rattle.relay_core.specs.History.{History, opened, start_of}
 use Rattle.relay_core.specs.Name.{same_name}
 use Rattle.relay_core.specs.Replies.{LawfulHistory}
 use Rattle.relay_core.specs.Stands.{game_of}
-use Rattle.relay_core.specs.State.{RelayRecord}
 
 -- a spectator that follows this board, with the moves due to it in its queue
 abbrev pub held_follower_of : LimitNumbers → History → ℕ → List ℕ → HeldFollower
@@ -34,8 +34,11 @@ pub record HeldStands (limits : LimitNumbers) (r : Held) (h : History) : Type 0 
 abbrev pub held_of : Inside → Held
 held_of a = record { limits = a.limits; boards = a.boards.entries; followers = a.followers.entries }
 
-abbrev pub view_of : Inside → RelayRecord
-view_of a = plain (held_of a)
+abbrev pub holding_of : Inside → Holding
+holding_of a = record {
+  shown = plain (held_of a);
+  room = record { boards = a.boards.room; followers = a.followers.room };
+}
 
 pub record IsKept (r : Held) : Type 0 where
   pub history : History

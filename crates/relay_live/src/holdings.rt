@@ -1,0 +1,208 @@
+//! What a relay over live boards holds, and each step on it, with the room that is left. It stands apart from `LiveRelay`, so that the
+//! clauses of the steps can speak of that room and those of a relay need not.
+
+ghost use Rattle.std.specs.Prelude.{◌≡◌, ◌≤◌, [], false, option_map, IfOk, IfSome};
+ghost use Rattle.std.specs.Map.{lookup};
+ghost use Rattle.c960_game.specs.Limits.{LimitNumbers};
+ghost use Rattle.relay_core.specs.History.{History, is_accepted};
+ghost use Rattle.relay_core.specs.Inner.Room.{KeepsRoom};
+ghost use Rattle.relay_core.specs.Leads.{Leads};
+ghost use Rattle.relay_core.specs.Name.{same_name};
+ghost use Rattle.relay_core.specs.Replies.{may_grow, reply_to};
+ghost use Rattle.relay_core.specs.Stands.{Stands};
+ghost use Rattle.live_board.specs.Board.{game_of, setup_of};
+ghost use Rattle.relay_live.specs.Live.{PlacesLeft};
+
+use crate::boards::{end, leave_for, play, seat, take_for};
+use crate::seated::{Seated, count_take};
+use c960_board::Move;
+use c960_game::{Ending, Limits, Refusal};
+use indexmap::IndexMap;
+use live_board::Board;
+use relay_core::{BoardName, Reply, Spectator, Step, Taken};
+use std::alloc::{AllocError, Global};
+use std::marker::Model;
+
+/// The live boards, and who follows them, within the limits. Contracts see a `Holding`.
+#[derive(Drop)]
+pub(crate) struct Holdings {
+    /// How much the relay and each of its boards may hold.
+    limits: Limits,
+    /// The boards that were opened.
+    boards: IndexMap<BoardName, Board>,
+    /// Who follows, and where.
+    followers: IndexMap<Spectator, Seated>,
+}
+
+impl Model for Holdings {
+    ghost use Rattle.relay_core.specs.Inner.Room.{Holding};
+    ghost use Rattle.relay_live.specs.Live.{HasRoom, IsLive, holding_of};
+
+    ghost Value = { Holding };
+
+    ghost view = { holding_of };
+
+    ghost invariant = { λ r. IsLive r.limits r.boards.entries r.followers.entries × HasRoom r };
+}
+
+impl Holdings {
+    /// No board, with room for as many as the limits allow.
+    pub(crate) fn new(alloc: Global, limits: Limits) -> Result<Holdings, AllocError>
+        ensures stands { IfOk result (λ h. Stands limits h.shown []) }
+    {
+        Ok(Holdings {
+            limits,
+            boards: IndexMap::with_capacity(alloc, usize::from(limits.boards()))?,
+            followers: IndexMap::new(alloc),
+        })
+    }
+
+    /// Opens a board with a game from a numbered start. Refused: `BoardExists`, `BadStart`, `TooManyBoards`, `OutOfMemory`.
+    fn open(&mut self, alloc: Global, board: BoardName, start: u16) -> Reply
+        ensures stands { Leads self.old.shown self.new.shown (Step.Open board start) result }
+        ensures refused { is_accepted result ≡ false → self.new.shown ≡ self.old.shown }
+    {
+        if self.boards.contains_key(&board) {
+            return Reply::Refused(Refusal::BoardExists);
+        }
+        if start >= 960 {
+            return Reply::Refused(Refusal::BadStart);
+        }
+        if self.boards.len() >= usize::from(self.limits.boards()) {
+            return Reply::Refused(Refusal::TooManyBoards);
+        }
+        let Ok(live) = Board::open(alloc, start, self.limits) else {
+            return Reply::Refused(Refusal::OutOfMemory);
+        };
+        let Ok(_) = self.boards.insert(board, live) else {
+            unreachable!();
+        };
+        Reply::Opened
+    }
+
+    /// Makes a move on a board, through the cursors of that board and no other. Refused: `NoSuchBoard`, `GameOver`, `LogFull`,
+    /// `Illegal`.
+    fn submit(&mut self, board: BoardName, m: Move) -> Reply
+        ensures stands { Leads self.old.shown self.new.shown (Step.Submit board m) result }
+        ensures refused { is_accepted result ≡ false → self.new.shown ≡ self.old.shown }
+        ensures room { self.new.room ≡ self.old.room }
+    {
+        match play(&mut self.boards, board, m) {
+            Err(refusal) => Reply::Refused(refusal),
+            Ok((place, outcome)) => Reply::Played { place, outcome },
+        }
+    }
+
+    /// Ends the game of a board. Refused: `NoSuchBoard`, `GameOver`, `ClaimRefused`.
+    fn end(&mut self, board: BoardName, ending: Ending) -> Reply
+        ensures stands { Leads self.old.shown self.new.shown (Step.End board ending) result }
+        ensures refused { is_accepted result ≡ false → self.new.shown ≡ self.old.shown }
+        ensures room { self.new.room ≡ self.old.room }
+    {
+        match end(&mut self.boards, board, ending) {
+            Err(refusal) => Reply::Refused(refusal),
+            Ok(outcome) => Reply::Ended(outcome),
+        }
+    }
+
+    /// Lets a spectator follow a board from a place of its log on, or from now on. Refused: `NoSuchBoard`, `FollowerExists`,
+    /// `NotYet`, `TooFarBack`, `TooManyFollowers`, `OutOfMemory`.
+    fn follow(&mut self, who: Spectator, board: BoardName, from: Option<u16>) -> Reply
+        ensures stands { Leads self.old.shown self.new.shown (Step.Follow who board from) result }
+        ensures refused { is_accepted result ≡ false → self.new.shown ≡ self.old.shown }
+    {
+        let Some(live) = self.boards.get(&board) else {
+            return Reply::Refused(Refusal::NoSuchBoard);
+        };
+        if self.followers.contains_key(&who) {
+            return Reply::Refused(Refusal::FollowerExists);
+        }
+        let joined = from.unwrap_or(live.len());
+        if joined > live.len() {
+            return Reply::Refused(Refusal::NotYet);
+        }
+        if live.len() - joined > self.limits.capacity() {
+            return Reply::Refused(Refusal::TooFarBack);
+        }
+        let Some(place) = live.vacant_place() else {
+            return Reply::Refused(Refusal::TooManyFollowers);
+        };
+        let Some(position) = live.position_at(joined) else {
+            unreachable!();
+        };
+        let seated = Seated {
+            board,
+            place,
+            joined,
+            taken: 0,
+        };
+        let Ok(_) = self.followers.insert(who, seated) else {
+            return Reply::Refused(Refusal::OutOfMemory);
+        };
+        seat(&mut self.boards, board, place, joined);
+        Reply::Following { joined, position }
+    }
+
+    /// Takes the spectator's next move. Refused: `NoSuchFollower`.
+    fn take(&mut self, who: Spectator) -> Reply
+        ensures stands { Leads self.old.shown self.new.shown (Step.Take who) result }
+        ensures refused { is_accepted result ≡ false → self.new.shown ≡ self.old.shown }
+        ensures room { self.new.room ≡ self.old.room }
+    {
+        // So the places of a log fit 16 bits.
+        prove!(self.limits.plies() <= 16384);
+        let Some(&seated) = self.followers.get(&who) else {
+            return Reply::Refused(Refusal::NoSuchFollower);
+        };
+        let taken = take_for(&mut self.boards, seated);
+        if let Taken::Move(_, _) = taken {
+            count_take(&mut self.followers, who);
+        }
+        Reply::Took(taken)
+    }
+
+    /// Ends a spectator's following. Refused: `NoSuchFollower`.
+    fn leave(&mut self, who: Spectator) -> Reply
+        ensures stands { Leads self.old.shown self.new.shown (Step.Leave who) result }
+        ensures refused { is_accepted result ≡ false → self.new.shown ≡ self.old.shown }
+        ensures room { self.new.room.boards ≡ self.old.room.boards }
+        ensures followers_room { self.old.room.followers ≤ self.new.room.followers }
+    {
+        let Some(seated) = self.followers.shift_remove(&who) else {
+            return Reply::Refused(Refusal::NoSuchFollower);
+        };
+        Reply::Left(leave_for(&mut self.boards, seated))
+    }
+
+    /// Makes one step, as `LiveRelay::step` promises it. An Open alone is handed what memory is asked of.
+    pub(crate) fn step(&mut self, alloc: Global, step: Step) -> Reply
+        ensures stands { Leads self.old.shown self.new.shown step result }
+        ensures exact { may_grow step ≡ false → (limits : LimitNumbers) (h : History) → Stands limits self.old.shown h
+            → result ≡ reply_to limits h step }
+        ensures refused { is_accepted result ≡ false → self.new.shown ≡ self.old.shown }
+        ensures room { KeepsRoom step self.old.room self.new.room }
+    {
+        match step {
+            Step::Open(board, start) => self.open(alloc, board, start),
+            Step::Submit(board, m) => self.submit(board, m),
+            Step::End(board, ending) => self.end(board, ending),
+            Step::Follow(who, board, from) => self.follow(who, board, from),
+            Step::Take(who) => self.take(who),
+            Step::Leave(who) => self.leave(who),
+        }
+    }
+
+    /// The board of that name, as `LiveRelay::into_board` promises it.
+    pub(crate) fn into_board(self, board: &BoardName) -> Option<Board>
+        ensures game { option_map (λ b. game_of b.knows) result ≡ lookup (same_name board.now) self.shown.boards }
+        ensures setup { IfSome result (λ b. b.knows.setup ≡ setup_of b.knows.setup.start self.shown.limits) }
+        ensures places { IfSome result (λ b. PlacesLeft self.shown board.now b) }
+    {
+        let Holdings {
+            limits: _,
+            mut boards,
+            followers: _,
+        } = self;
+        boards.swap_remove(board)
+    }
+}
