@@ -14,6 +14,11 @@ setup_of start limits = record { start = start; limits = record { followers = li
 abbrev pub game_of : View → GameRecord
 game_of v = record { start = v.setup.start; plies = v.setup.limits.plies; log = v.log; outcome = v.outcome }
 
+-- The game that a board's view shows is a legal game of Chess960 from its numbered start. Its outcome is the one that it has by itself, or
+-- the one that an ending with its ground named. It is no longer than the ply limit.
+abbrev pub IsLegalGame : View → Type 0
+IsLegalGame v = IsGame (game_of v)
+
 -- the game that runs is the one that the view shows
 pub record IsBoard (desk : BoardSeat) (game : GameRecord) : Type 0 where
   pub game_is : game ≡ game_of desk.knows

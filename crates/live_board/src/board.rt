@@ -1,6 +1,6 @@
 //! A live board: a game, and its log on a table that its followers read.
 
-ghost use Rattle.std.specs.Prelude.{◌≡◌, ◌↔◌, ℕ, ◌+◌, ◌<◌, ◌≤◌, ◌⊎◌, [], ◌∷◌, ◌++◌, length, Some, None, Err, IfOk, IfErr, IsSome, OnErr, OnOk, MatchOption};
+ghost use Rattle.std.specs.Prelude.{◌≡◌, ◌↔◌, ℕ, ◌+◌, ◌<◌, ◌≤◌, ◌⊎◌, [], ◌∷◌, ◌++◌, length, slice_get, Some, None, Err, IfOk, IfErr, IsSome, OnErr, OnOk, MatchOption};
 ghost use mathlib.Core.Option.{some};
 ghost use lib.ListN.{get_elem?};
 ghost use Rattle.c960_game.specs.Ending.{named_outcome};
@@ -14,7 +14,7 @@ ghost use Rattle.live_steps.specs.declared.note.Note.TheVariants.{Vacant};
 ghost use Rattle.live_steps.specs.Views.{each_part, finished, followed, left_at, newcomer, sees, starting};
 ghost use Rattle.live_board.specs.Accounts.{account_of};
 ghost use Rattle.live_board.specs.Carried.{Carries, CarriesAt, cut_at, due_at, TookAt};
-ghost use Rattle.live_board.specs.Board.{from_place, game_of, IsNotYet, IsTooFarBack, setup_of};
+ghost use Rattle.live_board.specs.Board.{from_place, game_of, IsLegalGame, IsNotYet, IsTooFarBack, setup_of};
 ghost use Rattle.live_board.specs.Desk.{Joined, LoadedBelow, NoneVacant, Searched, Submitted};
 ghost use Rattle.live_board.specs.Meeting.{Met};
 
@@ -56,6 +56,7 @@ impl Board {
         ensures bad_start { (result ≡ Err Refusal.BadStart) ↔ (960 ≤ start) }
         ensures refusals { IfErr result (λ r. (r ≡ Refusal.BadStart) ⊎ (r ≡ Refusal.OutOfMemory)) }
         ensures knows { IfOk result (λ b. b.knows ≡ starting (setup_of start limits)) }
+        ensures valid { IfOk result (λ b. IsLegalGame b.knows) }
         ensures sound { IfOk result (λ b. IsSound b.knows) }
     {
         let game = Game::open(alloc, start, limits.plies())?;
@@ -69,30 +70,50 @@ impl Board {
         Ok(Board { desk, game })
     }
 
+    /// The number of the start, 0 to 959.
+    pub fn start(&self) -> u16
+        ensures value { result ≡ self.now.knows.setup.start }
+        ensures valid { IsLegalGame self.now.knows }
+    {
+        self.game.start()
+    }
+
     /// How many moves were made.
     pub fn len(&self) -> u16
-        ensures { result ≡ length self.now.knows.log }
+        ensures value { result ≡ length self.now.knows.log }
+        ensures valid { IsLegalGame self.now.knows }
     {
         self.game.len()
     }
 
+    /// The move at a place of the log, counted from 0: None exactly from the log's length on.
+    pub fn move_at(&self, place: u16) -> Option<Move>
+        ensures value { result ≡ slice_get self.now.knows.log place }
+        ensures valid { IsLegalGame self.now.knows }
+    {
+        self.game.move_at(place)
+    }
+
     /// The present position.
     pub fn position(&self) -> Position
-        ensures { result ≡ last_position self.now.knows.setup.start self.now.knows.log }
+        ensures value { result ≡ last_position self.now.knows.setup.start self.now.knows.log }
+        ensures valid { IsLegalGame self.now.knows }
     {
         self.game.position()
     }
 
     /// The position after that many moves: None exactly where fewer were made.
     pub fn position_at(&self, place: u16) -> Option<Position>
-        ensures { result ≡ position_at self.now.knows.setup.start self.now.knows.log place }
+        ensures value { result ≡ position_at self.now.knows.setup.start self.now.knows.log place }
+        ensures valid { IsLegalGame self.now.knows }
     {
         self.game.position_at(place)
     }
 
     /// The outcome, once the game is over.
     pub fn outcome(&self) -> Option<Outcome>
-        ensures { result ≡ self.now.knows.outcome }
+        ensures value { result ≡ self.now.knows.outcome }
+        ensures valid { IsLegalGame self.now.knows }
     {
         self.game.outcome()
     }
@@ -115,6 +136,7 @@ impl Board {
         ensures knows { OnOk result (Submitted m self.old.knows self.new.knows) }
         ensures log { OnOk result (self.new.knows.log ≡ self.old.knows.log ++ m ∷ []) }
         ensures outcome { OnOk result (self.new.knows.outcome ≡ own_outcome self.old.knows.setup.start (self.old.knows.log ++ m ∷ [])) }
+        ensures valid { IsLegalGame self.new.knows }
         ensures sound { IsSound self.new.knows }
     {
         let place = self.game.len();
@@ -130,6 +152,7 @@ impl Board {
         ensures refused { OnErr result (self.new ≡ self.old) }
         ensures table { self.new.table ≡ self.old.table }
         ensures knows { OnOk result (self.new.knows ≡ finished (Some (named_outcome ending)) self.old.knows) }
+        ensures valid { IsLegalGame self.new.knows }
         ensures sound { IsSound self.new.knows }
     {
         let outcome = self.game.end(ending)?;
@@ -154,6 +177,7 @@ impl Board {
         ensures log { self.new.knows.log ≡ self.old.knows.log }
         ensures outcome { self.new.knows.outcome ≡ self.old.knows.outcome }
         ensures closings { self.new.knows.closings ≡ self.old.knows.closings }
+        ensures valid { IsLegalGame self.new.knows }
         ensures sound { IsSound self.new.knows }
         ensures sound_part { IfOk result (λ f. IsSoundPart f.part) }
     {
@@ -181,6 +205,7 @@ impl Board {
     /// The first cursor place that is noted vacant.
     pub fn vacant_place(&self) -> Option<u64>
         ensures place { MatchOption result (NoneVacant self.now.knows) (λ k. (k < self.now.knows.setup.limits.followers) × (get_elem? self.now.knows.notes k ≡ some Vacant)) }
+        ensures valid { IsLegalGame self.now.knows }
     {
         self.desk.vacant()
     }
@@ -192,6 +217,7 @@ impl Board {
         requires from { (from ≤ length self.old.knows.log) × (length self.old.knows.log ≤ from + self.old.knows.setup.limits.capacity) }
         ensures table { self.new.table ≡ self.old.table }
         ensures knows { self.new.knows ≡ followed cursor_place from self.old.knows }
+        ensures valid { IsLegalGame self.new.knows }
         ensures sound { IsSound self.new.knows }
     {
         self.desk.seat_at(cursor_place, u64::from(from));
@@ -203,6 +229,7 @@ impl Board {
         ensures answer { result ≡ taken_of next self.old.knows.outcome (cut_at self.old.knows cursor_place) (due_at self.old.knows cursor_place next) }
         ensures table { self.new.table ≡ self.old.table }
         ensures knows { TookAt cursor_place result self.old.knows self.new.knows }
+        ensures valid { IsLegalGame self.new.knows }
         ensures sound { IsSound self.new.knows }
     {
         if self.desk.closing_at(cursor_place) == Some(u64::from(next)) {
@@ -226,6 +253,7 @@ impl Board {
         ensures closing { result ≡ cut_at self.old.knows place }
         ensures table { self.new.table ≡ self.old.table }
         ensures knows { (status cursor : ℕ) × (self.new.knows ≡ left_at (place + 2) cursor (each_part (sees status) self.old.knows)) }
+        ensures valid { IsLegalGame self.new.knows }
         ensures sound { IsSound self.new.knows }
     {
         let closing = self.desk.closing_at(place);
@@ -242,6 +270,7 @@ pub fn meet(board: &mut Board, follower: &mut Follower) -> Account
     ensures table { (board.new.table ≡ board.old.table) × (follower.new.table ≡ follower.old.table) }
     ensures met { Met board.old.knows follower.old.part board.new.knows follower.new.part }
     ensures account { result ≡ account_of follower.new.part }
+    ensures valid { IsLegalGame board.new.knows }
     ensures sound { IsSound board.new.knows }
     ensures sound_part { IsSoundPart follower.new.part }
 {

@@ -1,2 +1,4 @@
+pub mod Broadcasting
 pub mod Opening
+pub mod Seating
 pub mod Spectating

@@ -1,13 +1,38 @@
--- Why no board of a name may be opened.
-use Rattle.std.specs.Prelude.{ℕ, List, length, is_some, nat_le, cond, Result, Ok, Err}
-use Rattle.std.specs.Map.{lookup}
+-- How boards stand under their names, why no board of a name may be opened, and what opening one answers.
+use Rattle.std.specs.Prelude.{◌≡◌, ◌⊎◌, ℕ, List, length, map, Bool, nat_le, cond, Result, Ok, Err}
+use Rattle.std.specs.List.{list_any}
+use Rattle.std.specs.Map.{keys_of}
 use Rattle.c960_game.specs.declared.refusal.Refusal.{Refusal}
-use Rattle.c960_game.specs.declared.refusal.Refusal.TheVariants.{BadStart, BoardExists, TooManyBoards}
+use Rattle.c960_game.specs.declared.refusal.Refusal.TheVariants.{BadStart, BoardExists, OutOfMemory, TooManyBoards}
 use Rattle.relay_core.specs.Name.{same_name}
 
--- the first of the grounds that holds, memory aside: the name is taken, there is no such start, as many boards were opened as may be
-abbrev pub admission : {B : Type 0} → List (List ℕ × B) → ℕ → List ℕ → ℕ → Result Unit Refusal
-admission boards most name start =
-    cond (is_some (lookup (same_name name) boards)) (Err BoardExists)
+-- each board stands under its own name
+abbrev pub AreNamed : {B : Type 0} → List (List ℕ × B) → (B → List ℕ) → Type 0
+AreNamed boards name_of = map (λ e. name_of e.1) boards ≡ keys_of boards
+
+-- whether the name is one of these
+abbrev pub is_taken : List (List ℕ) → List ℕ → Bool
+is_taken names name = list_any (same_name name) names
+
+-- of boards with these names, the first of the grounds that holds, memory aside: the name is taken, there is no such start, as many boards
+-- were opened as may be
+abbrev pub admission : List (List ℕ) → ℕ → List ℕ → ℕ → Result Unit Refusal
+admission names most name start =
+    cond (is_taken names name) (Err BoardExists)
     (cond (nat_le 960 start) (Err BadStart)
-    (cond (nat_le most (length boards)) (Err TooManyBoards) (Ok tt)))
+    (cond (nat_le most (length names)) (Err TooManyBoards) (Ok tt)))
+
+-- ---- Behind the lock, where other connections open boards too: what is said is said of the boards that were found there at one look.
+
+-- whether a board of this name is there, is told by the names of the boards that were found
+abbrev pub IsTold : List ℕ → Bool → Type 0
+IsTold name known = (names : List (List ℕ)) × (known ≡ is_taken names name)
+
+-- opening a board is answered by the boards that were found, or there was no memory
+abbrev pub IsOpening : List ℕ → ℕ → Result Unit Refusal → Type 0
+IsOpening name start answer = ((names : List (List ℕ)) × (most : ℕ) × (answer ≡ admission names most name start)) ⊎ (answer ≡ Err OutOfMemory)
+
+-- that it was done, or why not
+abbrev pub done : {A : Type 0} → Result A Refusal → Result Unit Refusal
+done (Ok value) = Ok tt
+done (Err refusal) = Err refusal

@@ -1,14 +1,15 @@
-//! The boards of a server by their names, which stand behind the registry's lock.
+//! The boards of a server, which stand behind the registry's lock.
 
-ghost use Rattle.std.specs.Prelude.{◌≡◌, ◌≤◌, ◌+◌, ◌++◌, ◌∷◌, [], is_some, length, option_copied, IfOk, OnOk, OnErr};
+ghost use Rattle.std.specs.Prelude.{◌≡◌, ◌≤◌, ◌+◌, ◌++◌, ◌∷◌, [], length, true, option_copied, IfOk, IfSome, OnOk, OnErr};
+ghost use Rattle.std.specs.Arc.{arc_value};
 ghost use Rattle.std.specs.HashMap.{spare};
-ghost use Rattle.std.specs.Map.{lookup};
+ghost use Rattle.std.specs.Map.{keys_of, lookup};
 ghost use Rattle.relay_core.specs.Name.{same_name};
-ghost use Rattle.relay_server.specs.Opening.{admission};
+ghost use Rattle.relay_server.specs.Opening.{admission, is_taken};
 
+use crate::board_map::BoardMap;
 use crate::broadcast::Broadcast;
 use c960_game::{Limits, Refusal};
-use indexmap::IndexMap;
 use relay_core::BoardName;
 use std::alloc::{AllocError, Global};
 use std::sync::Arc;
@@ -16,40 +17,41 @@ use std::sync::Arc;
 /// Boards by their names. As many as the limits allow fit without memory (`room`).
 #[derive(Drop)]
 pub(crate) struct Boards {
-    shared: IndexMap<BoardName, Arc<Broadcast, Global>>,
+    shared: BoardMap,
     limits: Limits,
-    ghost room: { limits.boards ≤ length shared.entries + spare shared },
+    ghost room: { limits.boards ≤ length shared.map.entries + spare shared.map },
 }
 
 impl Boards {
     /// No board, with room for as many as these limits allow.
     pub(crate) fn new(alloc: Global, limits: Limits) -> Result<Boards, AllocError>
-        ensures none { IfOk result (λ boards. boards.shared.entries ≡ []) }
+        ensures none { IfOk result (λ boards. boards.shared.map.entries ≡ []) }
         ensures limits { IfOk result (λ boards. boards.limits ≡ limits) }
     {
         Ok(Boards {
-            shared: IndexMap::with_capacity(alloc, usize::from(limits.boards()))?,
+            shared: BoardMap::with_capacity(alloc, usize::from(limits.boards()))?,
             limits,
         })
     }
 
     /// Whether a board of this name was opened.
     pub(crate) fn contains(&self, name: &BoardName) -> bool
-        ensures { result ≡ is_some (lookup (same_name name.now) self.now.shared.entries) }
+        ensures { result ≡ is_taken (keys_of self.now.shared.map.entries) name.now }
     {
-        self.shared.contains_key(name)
+        self.shared.contains(name)
     }
 
     /// The board of this name.
     pub(crate) fn get(&self, name: &BoardName) -> Option<&Arc<Broadcast, Global>>
-        ensures { option_copied result ≡ lookup (same_name name.now) self.now.shared.entries }
+        ensures value { option_copied result ≡ lookup (same_name name.now) self.now.shared.map.entries }
+        ensures named { IfSome result (λ b. same_name name.now (arc_value b.now).name ≡ true) }
     {
         self.shared.get(name)
     }
 
     /// Tells in order why no board of this name and start may be opened, memory aside.
     pub(crate) fn admit(&self, name: &BoardName, start: u16) -> Result<(), Refusal>
-        ensures { result ≡ admission self.now.shared.entries self.now.limits.boards name.now start }
+        ensures { result ≡ admission (keys_of self.now.shared.map.entries) self.now.limits.boards name.now start }
     {
         if self.contains(name) {
             return Err(Refusal::BoardExists);
@@ -63,20 +65,19 @@ impl Boards {
         Ok(())
     }
 
-    /// Enters a board, where it may still be opened. It takes no memory.
+    /// Enters a board under its name, where it may still be opened. It takes no memory.
     pub(crate) fn enter(
         &mut self,
-        name: BoardName,
         start: u16,
         broadcast: Arc<Broadcast, Global>,
     ) -> Result<(), Refusal>
-        ensures answer { result ≡ admission self.old.shared.entries self.old.limits.boards name start }
-        ensures entered { OnOk result (self.new.shared.entries ≡ self.old.shared.entries ++ (name, broadcast) ∷ []) }
-        ensures refused { OnErr result (self.new.shared.entries ≡ self.old.shared.entries) }
+        ensures answer { result ≡ admission (keys_of self.old.shared.map.entries) self.old.limits.boards (arc_value broadcast).name start }
+        ensures entered { OnOk result (self.new.shared.map.entries ≡ self.old.shared.map.entries ++ ((arc_value broadcast).name, broadcast) ∷ []) }
+        ensures refused { OnErr result (self.new.shared.map.entries ≡ self.old.shared.map.entries) }
         ensures limits { self.new.limits ≡ self.old.limits }
     {
-        self.admit(&name, start)?;
-        let Ok(_) = self.shared.insert(name, broadcast) else {
+        self.admit(&broadcast.name, start)?;
+        let Ok(()) = self.shared.insert(broadcast) else {
             unreachable!();
         };
         Ok(())

@@ -1,15 +1,20 @@
 //! A board that is broadcast: one connection plays it, others follow it.
 
-ghost use Rattle.std.specs.Prelude.{◌≡◌, Some, IfOk};
-ghost use Rattle.c960_game.specs.Positions.{last_position, position_at};
-ghost use Rattle.live_board.specs.Board.{from_place};
-ghost use Rattle.live_steps.specs.Views.{newcomer};
+ghost use Rattle.std.specs.Prelude.{◌≡◌, ◌↔◌, ◌≤◌, ◌⊎◌, ◌++◌, ◌∷◌, [], Some, Err, IfOk, IfErr, OnErr, OnOk};
+ghost use Rattle.c960_game.specs.Ending.{named_outcome};
+ghost use Rattle.c960_game.specs.Ends.{own_outcome};
+ghost use Rattle.c960_game.specs.Positions.{last_position};
+ghost use Rattle.live_steps.specs.Views.{finished};
+ghost use Rattle.live_board.specs.Board.{IsLegalGame};
+ghost use Rattle.live_board.specs.Desk.{Submitted};
+ghost use Rattle.relay_server.specs.Broadcasting.{JoinAnswer, IsEndingAnswer, IsJoinAnswer, IsMoveAnswer, ending_answer, move_answer};
 
-use crate::chime::Chime;
+use crate::chime::{BoardBell, Chime};
 use c960_board::{Move, Position};
 use c960_game::{Ending, Limits, Outcome, Refusal};
 use live_board::{Board, Follower};
 use relay_core::BoardName;
+use relay_pushing::Bell;
 use std::alloc::Global;
 use std::sync::{Mutex, Wait};
 
@@ -33,7 +38,11 @@ impl Broadcast {
         name: BoardName,
         start: u16,
         limits: Limits,
-    ) -> Result<Broadcast, Refusal> {
+    ) -> Result<Broadcast, Refusal>
+        ensures name { IfOk result (λ broadcast. broadcast.name ≡ name) }
+        ensures bad_start { (result ≡ Err Refusal.BadStart) ↔ (960 ≤ start) }
+        ensures refusals { IfErr result (λ r. (r ≡ Refusal.BadStart) ⊎ (r ≡ Refusal.OutOfMemory)) }
+    {
         let board = Board::open(alloc, start, limits)?;
         Ok(Broadcast {
             name,
@@ -47,14 +56,10 @@ impl Broadcast {
     /// # Errors
     ///
     /// As `Board::submit`; then nobody is rung for.
-    pub(crate) fn submit<R: Wait>(
-        &self,
-        rt: &R,
-        m: Move,
-    ) -> Result<(u16, Option<Outcome>), Refusal> {
-        let played = self.board.lock(rt).submit(m)?;
-        self.chime.ring_softly();
-        Ok(played)
+    pub(crate) fn submit<R: Wait>(&self, rt: &R, m: Move) -> Result<(u16, Option<Outcome>), Refusal>
+        ensures { IsMoveAnswer m result }
+    {
+        play(&mut self.board.lock(rt), &self.bell(rt), m)
     }
 
     /// Ends the game, and then rings. The sleepers are still to be woken.
@@ -62,10 +67,10 @@ impl Broadcast {
     /// # Errors
     ///
     /// As `Board::end`; then nobody is rung for.
-    pub(crate) fn end<R: Wait>(&self, rt: &R, ending: Ending) -> Result<Outcome, Refusal> {
-        let outcome = self.board.lock(rt).end(ending)?;
-        self.chime.ring_softly();
-        Ok(outcome)
+    pub(crate) fn end<R: Wait>(&self, rt: &R, ending: Ending) -> Result<Outcome, Refusal>
+        ensures { IsEndingAnswer ending result }
+    {
+        finish(&mut self.board.lock(rt), &self.bell(rt), ending)
     }
 
     /// A follower from a place of the log, or from its present length; and the position there.
@@ -77,9 +82,58 @@ impl Broadcast {
         &self,
         rt: &R,
         from: Option<u16>,
-    ) -> Result<(Follower, Position), Refusal> {
+    ) -> Result<(Follower, Position), Refusal>
+        ensures { IsJoinAnswer from result }
+    {
         join(&mut self.board.lock(rt), from)
     }
+
+    /// The chime as the board's bell.
+    fn bell<'a, R>(&'a self, rt: &'a R) -> BoardBell<'a, R> {
+        BoardBell {
+            rt,
+            chime: &self.chime,
+        }
+    }
+}
+
+/// Makes a move on a board, and rings where it was accepted. A bell is shared, so no contract tells that it was rung.
+///
+/// # Errors
+///
+/// As `Board::submit`.
+fn play<B: Bell>(board: &mut Board, bell: &B, m: Move) -> Result<(u16, Option<Outcome>), Refusal>
+    ensures answer { result ≡ move_answer board.old.knows m }
+    ensures refused { OnErr result (board.new ≡ board.old) }
+    ensures table { board.new.table ≡ board.old.table }
+    ensures knows { OnOk result (Submitted m board.old.knows board.new.knows) }
+    ensures log { OnOk result (board.new.knows.log ≡ board.old.knows.log ++ m ∷ []) }
+    ensures outcome { OnOk result (board.new.knows.outcome ≡ own_outcome board.old.knows.setup.start (board.old.knows.log ++ m ∷ [])) }
+    ensures legal { IsLegalGame board.old.knows × IsLegalGame board.new.knows }
+{
+    // Each call on a board tells that its game is legal, this one of the game before the move.
+    let _ = board.start();
+    let played = board.submit(m)?;
+    bell.ring();
+    Ok(played)
+}
+
+/// Ends the game of a board, and rings where that was accepted.
+///
+/// # Errors
+///
+/// As `Board::end`.
+fn finish<B: Bell>(board: &mut Board, bell: &B, ending: Ending) -> Result<Outcome, Refusal>
+    ensures answer { result ≡ ending_answer board.old.knows ending }
+    ensures refused { OnErr result (board.new ≡ board.old) }
+    ensures table { board.new.table ≡ board.old.table }
+    ensures knows { OnOk result (board.new.knows ≡ finished (Some (named_outcome ending)) board.old.knows) }
+    ensures legal { IsLegalGame board.old.knows × IsLegalGame board.new.knows }
+{
+    let _ = board.start();
+    let outcome = board.end(ending)?;
+    bell.ring();
+    Ok(outcome)
 }
 
 /// A follower joins a board: it, and the position from which it takes on.
@@ -88,10 +142,14 @@ impl Broadcast {
 ///
 /// As `Board::follow`.
 fn join(board: &mut Board, from: Option<u16>) -> Result<(Follower, Position), Refusal>
-    ensures follower { IfOk result (λ r. (r.0.table ≡ board.old.table) × (r.0.part ≡ newcomer r.0.part.place (from_place board.old.knows from) board.old.knows)) }
-    ensures position { IfOk result (λ r. position_at board.new.knows.setup.start board.new.knows.log r.0.part.joined ≡ Some r.1) }
+    ensures answer { JoinAnswer board.old.knows from result }
+    ensures table { (board.new.table ≡ board.old.table) × IfOk result (λ r. r.0.table ≡ board.old.table) }
+    ensures log { board.new.knows.log ≡ board.old.knows.log }
+    ensures outcome { board.new.knows.outcome ≡ board.old.knows.outcome }
     ensures before { IfOk result (λ r. r.1 ≡ last_position board.new.knows.setup.start r.0.part.before) }
+    ensures legal { IsLegalGame board.old.knows × IsLegalGame board.new.knows }
 {
+    let _ = board.start();
     let follower = board.follow(from)?;
     let Some(position) = board.position_at(follower.joined()) else {
         unreachable!();

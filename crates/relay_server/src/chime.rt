@@ -29,8 +29,8 @@ impl Chime {
         self.rings.load(Ordering::SeqCst)
     }
 
-    /// Rings it, and leaves asleep those who sleep on it.
-    pub(crate) fn ring_softly(&self) {
+    /// Rings it: the count rises by 1. Who sleeps on it is left asleep until `wake`.
+    pub(crate) fn ring(&self) {
         self.rings.fetch_add(1, Ordering::SeqCst);
     }
 
@@ -40,12 +40,6 @@ impl Chime {
         if self.sleepers.load(Ordering::SeqCst) != 0 {
             self.rings.wake_all();
         }
-    }
-
-    /// Rings it, and wakes all who sleep on it.
-    pub(crate) fn ring(&self) {
-        self.ring_softly();
-        self.wake();
     }
 
     /// Waits until the count is not `heard`, and gives it.
@@ -73,7 +67,7 @@ impl Chime {
     }
 }
 
-/// A board's chime, with the runtime by which its listener waits.
+/// A board's chime as its bell, with the runtime by which its listener waits.
 #[derive(Drop)]
 pub(crate) struct BoardBell<'a, R> {
     pub(crate) rt: &'a R,

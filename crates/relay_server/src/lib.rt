@@ -1,6 +1,7 @@
 //! Sessions of a relay over WebSocket (RFC 6455), a thread for each connection.
 #![tactic(auto)]
 
+mod board_map;
 mod boards;
 mod broadcast;
 mod chime;

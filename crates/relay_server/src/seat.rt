@@ -1,5 +1,11 @@
 //! What a connection asks of the registry: it keeps the boards for the connection's commands.
 
+ghost use Rattle.std.specs.Prelude.{◌≡◌, ◌⊎◌, true, is_some, IfErr, IfOk};
+ghost use Rattle.std.specs.Arc.{arc_value};
+ghost use Rattle.relay_core.specs.Name.{same_name};
+ghost use Rattle.relay_server.specs.Seating.{EndReply, FollowReply, follows_after, joins, MayReply, OpenReply, SubmitReply, told};
+
+use crate::board_map::BoardMap;
 use crate::broadcast::Broadcast;
 use crate::registry::{Registry, share};
 use crate::spectating::Spectating;
@@ -15,8 +21,9 @@ use std::sync::{Arc, Wait};
 pub(crate) struct Seat<'a, R> {
     rt: &'a R,
     registry: &'a Registry,
-    /// The board of the last command, so that the next one to it need not look it up.
-    latest: Option<Arc<Broadcast, Global>>,
+    /// The boards that the connection opened, so that a step on one of them need not look it up behind the registry's lock. One that
+    /// there was no memory to keep is looked up all the same.
+    own: BoardMap,
     spectating: Option<Spectating>,
     /// The board that was rung last, whose sleepers are still to be woken.
     rung: Option<Arc<Broadcast, Global>>,
@@ -28,14 +35,16 @@ impl<'a, R: Wait> Seat<'a, R> {
         Seat {
             rt,
             registry,
-            latest: None,
+            own: registry.no_boards(),
             spectating: None,
             rung: None,
         }
     }
 
     /// Whether the connection follows a board.
-    pub(crate) fn follows(&self) -> bool {
+    pub(crate) fn follows(&self) -> bool
+        ensures { result ≡ is_some self.now.spectating }
+    {
         self.spectating.is_some()
     }
 
@@ -64,26 +73,32 @@ impl<'a, R: Wait> Seat<'a, R> {
         }
     }
 
-    /// The board of a name.
-    fn find(&mut self, name: BoardName) -> Result<Arc<Broadcast, Global>, Refusal> {
-        if let Some(latest) = &self.latest {
-            if latest.name == name {
-                return share(latest);
-            }
+    /// The board of a name: the connection's own, or else the registry's.
+    fn find(&self, name: BoardName) -> Result<Arc<Broadcast, Global>, Refusal>
+        ensures named { IfOk result (λ b. same_name name (arc_value b).name ≡ true) }
+        ensures refusals { IfErr result (λ r. (r ≡ Refusal.NoSuchBoard) ⊎ (r ≡ Refusal.OutOfMemory)) }
+    {
+        match self.own.get(&name) {
+            Some(own) => share(own),
+            None => self.registry.find(self.rt, &name),
         }
-        let found = self.registry.find(self.rt, &name)?;
-        self.latest = share(&found).ok();
-        Ok(found)
     }
 
-    /// Opens a board.
-    fn open(&mut self, name: BoardName, start: u16) -> Result<Reply, Refusal> {
-        self.registry.open(self.rt, name, start)?;
+    /// Opens a board, and keeps it where there is memory to.
+    fn open(&mut self, name: BoardName, start: u16) -> Result<Reply, Refusal>
+        ensures reply { OpenReply name start (told result) }
+        ensures follows { self.new.spectating ≡ self.old.spectating }
+    {
+        let opened = self.registry.open(self.rt, name, start)?;
+        let _ = self.own.insert(opened);
         Ok(Reply::Opened)
     }
 
     /// Makes a move on a board.
-    fn submit(&mut self, name: BoardName, m: Move) -> Result<Reply, Refusal> {
+    fn submit(&mut self, name: BoardName, m: Move) -> Result<Reply, Refusal>
+        ensures reply { SubmitReply m (told result) }
+        ensures follows { self.new.spectating ≡ self.old.spectating }
+    {
         let broadcast = self.find(name)?;
         let (place, outcome) = broadcast.submit(self.rt, m)?;
         self.note(broadcast);
@@ -91,7 +106,10 @@ impl<'a, R: Wait> Seat<'a, R> {
     }
 
     /// Ends the game of a board.
-    fn end(&mut self, name: BoardName, ending: Ending) -> Result<Reply, Refusal> {
+    fn end(&mut self, name: BoardName, ending: Ending) -> Result<Reply, Refusal>
+        ensures reply { EndReply ending (told result) }
+        ensures follows { self.new.spectating ≡ self.old.spectating }
+    {
         let broadcast = self.find(name)?;
         let outcome = broadcast.end(self.rt, ending)?;
         self.note(broadcast);
@@ -99,7 +117,10 @@ impl<'a, R: Wait> Seat<'a, R> {
     }
 
     /// Follows a board. A connection that follows one already does not follow another.
-    fn follow(&mut self, name: BoardName, from: Option<u16>) -> Result<Reply, Refusal> {
+    fn follow(&mut self, name: BoardName, from: Option<u16>) -> Result<Reply, Refusal>
+        ensures reply { FollowReply (is_some self.old.spectating) from (told result) }
+        ensures follows { is_some self.new.spectating ≡ joins (is_some self.old.spectating) (told result) }
+    {
         let broadcast = self.find(name)?;
         if self.follows() {
             return Err(Refusal::FollowerExists);
@@ -111,7 +132,9 @@ impl<'a, R: Wait> Seat<'a, R> {
     }
 
     /// Notes a board that was rung. The sleepers of one noted before are woken.
-    fn note(&mut self, rung: Arc<Broadcast, Global>) {
+    fn note(&mut self, rung: Arc<Broadcast, Global>)
+        ensures { self.new.spectating ≡ self.old.spectating }
+    {
         if let Some(earlier) = &self.rung {
             if earlier.name != rung.name {
                 earlier.chime.wake();
@@ -121,7 +144,10 @@ impl<'a, R: Wait> Seat<'a, R> {
     }
 
     /// Makes a step.
-    fn make(&mut self, step: &Step) -> Result<Reply, Refusal> {
+    fn make(&mut self, step: &Step) -> Result<Reply, Refusal>
+        ensures reply { MayReply (is_some self.old.spectating) step.now (told result) }
+        ensures follows { is_some self.new.spectating ≡ follows_after (is_some self.old.spectating) step.now (told result) }
+    {
         match *step {
             Step::Open(board, start) => self.open(board, start),
             Step::Submit(board, m) => self.submit(board, m),
@@ -134,10 +160,16 @@ impl<'a, R: Wait> Seat<'a, R> {
 }
 
 impl<R: Wait> Keeper for Seat<'_, R> {
-    // Other connections open and play boards too, so nothing is known of what it answers.
-    ghost tells = { λ _ _ _. Unit {0} };
+    ghost use Rattle.std.specs.Prelude.{◌≡◌, is_some};
+    ghost use Rattle.relay_server.specs.Opening.{IsTold};
+    ghost use Rattle.relay_server.specs.Seating.{follows_after, MayReply};
 
-    ghost makes = { λ _ _ _ _. Unit {0} };
+    // Other connections open boards too, so this much is known of whether there is one: some list of names tells.
+    ghost tells = { λ _ name known. IsTold name known };
+
+    // They play them too, so this much is known of a reply: some board with a legal game gives it.
+    ghost makes = { λ s step reply t. MayReply (is_some s.spectating) step reply
+        × (is_some t.spectating ≡ follows_after (is_some s.spectating) step reply) };
 
     fn knows(&self, board: &BoardName) -> bool {
         self.registry.knows(self.rt, board)

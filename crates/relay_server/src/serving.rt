@@ -111,6 +111,7 @@ where
             let end = session(&own, alloc, &registry, connection, stream, &*gate);
             flag.store(true, Ordering::SeqCst);
             registry.ended.ring();
+            registry.ended.wake();
             end
         })
         .ok()?;

@@ -1,14 +1,17 @@
-use Rattle.std.proofs.Common.{◌≡◌, ◌<◌, ℕ, Bool, true, false, cond, List, length, take, None, Some, Ok, Err, OnOk, sym, subst, ap, ◌∙◌, arith}
+use Rattle.std.proofs.Common.{◌≡◌, ◌<◌, inl, inr, ℕ, Bool, true, false, cond, List, length, take, None, Some, Ok, Err, OnOk, sym, subst, ap, ◌∙◌, arith}
 use Rattle.std.specs.Prelude.{nat_le}
 use Rattle.std.proofs.Math.Nat.{lt_of_not-le}
 use Rattle.std.proofs.lemmas.Option.{none-some, same_Some}
 use Rattle.c960_board.specs.declared.parts.Parts.{Parts}
 use Rattle.c960_board.specs.Moves.{Triple}
 use Rattle.c960_game.specs.Positions.{last_position, position_at}
-use Rattle.c960_game.specs.declared.refusal.Refusal.TheVariants.{NotYet}
+use Rattle.c960_game.specs.declared.refusal.Refusal.TheVariants.{NotYet, TooFarBack}
 use Rattle.c960_game.proofs.LogFacts.{position_made}
 use Rattle.live_steps.specs.declared.view.Part.{Part}
+use Rattle.live_steps.specs.declared.view.View.{View}
 use Rattle.live_board.specs.Board.{from_place}
+use Rattle.live_board.specs.Desk.{Joined, Searched}
+use Rattle.live_board.proofs.Tries.{unmoved_below}
 use Rattle.relay_server.proofs.broadcast.join.Goals as goal
 
 -- where there is no position, the place lies past the moves
@@ -24,7 +27,7 @@ unreachable-requires c =
     let board = c.follow.new.self.knows in
     let told = c.in_ok-follower.ensures in
     let f = c.in_ok-follower.follower in
-    let early = past board.setup.start board.log c.joined.result (sym c.position_at.ensures ∙ c.in_default.is) in
+    let early = past board.setup.start board.log c.joined.result (sym c.position_at.ensures.value ∙ c.in_default.is) in
     let from : f.part.joined ≡ from_place c.args.board.now.knows c.args.from = ap (λ (p : Part). p.joined) told.follower.1 in
     not_refused f NotYet (sym c.in_ok-follower.was ∙ c.follow.ensures.not_yet.1 (omega (arith, early, c.joined.ensures, from, ap length c.follow.ensures.log)))
 
@@ -37,11 +40,37 @@ made_here n l place p e = by (nat_le place (length l)) e
     by true e = sym (same_Some _ _ e)
     by false e = absurd (none-some p e)
 
+-- nobody who joins changes the setup
+searched_setup : (v w : View) → Searched v w → w.setup ≡ v.setup
+searched_setup v w (inl same) = ap (λ (u : View). u.setup) same
+searched_setup v w (inr checked) = (unmoved_below _ v w checked).setup
+
+joined_setup : (k p : ℕ) (v w : View) → Joined k p v w → w.setup ≡ v.setup
+joined_setup k p v w h = ap (λ (u : View). u.setup) h.3 ∙ searched_setup v h.0 h.1
+
+pub returns-clause-answer : goal.returns-clause-answer
+returns-clause-answer c =
+    let told = c.in_ok-follower.ensures in
+    let f = c.in_ok-follower.follower in
+    let done = sym c.in_ok-follower.was in
+    let setup = joined_setup _ _ _ _ told.knows in
+    record {
+      not_yet = ((λ h. absurd (not_refused _ _ h)), (λ h. absurd (not_refused f NotYet (done ∙ c.follow.ensures.not_yet.1 h))));
+      too_far_back = ((λ h. absurd (not_refused _ _ h)), (λ h. absurd (not_refused f TooFarBack (done ∙ c.follow.ensures.too_far_back.1 h))));
+      refusals = tt;
+      part = told.follower.1;
+      position =
+          (λ i. position_at (sym setup i).start (sym c.follow.ensures.log i) (sym c.joined.ensures i))
+          ∙ sym c.position_at.ensures.value
+          ∙ c.in-Some.is;
+      sound = told.sound_part;
+    }
+
 pub returns-clause-before : goal.returns-clause-before
 returns-clause-before c =
     let board = c.follow.new.self.knows in
     let part = c.in_ok-follower.ensures.follower.1 in
     let joined = c.joined.ensures ∙ ap (λ (p : Part). p.joined) part in
-    made_here board.setup.start board.log c.joined.result c.in-Some.position (sym c.position_at.ensures ∙ c.in-Some.is)
+    made_here board.setup.start board.log c.joined.result c.in-Some.position (sym c.position_at.ensures.value ∙ c.in-Some.is)
     ∙ (λ i. last_position board.setup.start (take (joined i) (c.follow.ensures.log i)))
     ∙ sym (ap (λ (p : Part). last_position board.setup.start p.before) part)

@@ -38,9 +38,9 @@ returns-then-joined-len-clause-stands c =
     let b = c.in-Some.live.now in
     let there : lookup (same_name c.args.board) a.boards.entries ≡ Some b = sym c.get.ensures.value ∙ ap option_copied c.in-Some.is in
     let nobody = nothing (lookup (nat_eq c.args.who) a.followers.entries) (sym c.contains_key.ensures ∙ c.if-contains_key.false) in
-    let at : c.unwrap_or-joined.result ≡ place_in c.args.from (game b) = c.unwrap_or-joined.ensures ∙ ap (unwrap_or c.args.from) c.len.ensures in
+    let at : c.unwrap_or-joined.result ≡ place_in c.args.from (game b) = c.unwrap_or-joined.ensures ∙ ap (unwrap_or c.args.from) c.len.ensures.value in
     stays (held_of a) _ _ c.self.invariant.0.kept _ (shown_is c.self.view_is)
-    (not_yet a.limits a.boards.entries a.followers.entries c.args.who c.args.board c.args.from b there nobody (omega (arith, at, c.len-2.ensures)))
+    (not_yet a.limits a.boards.entries a.followers.entries c.args.who c.args.board c.args.from b there nobody (omega (arith, at, c.len-2.ensures.value)))
 
 pub returns-then-len-joined-clause-stands : goal.returns-then-len-joined-clause-stands
 returns-then-len-joined-clause-stands c =
@@ -48,10 +48,10 @@ returns-then-len-joined-clause-stands c =
     let b = c.in-Some.live.now in
     let there : lookup (same_name c.args.board) a.boards.entries ≡ Some b = sym c.get.ensures.value ∙ ap option_copied c.in-Some.is in
     let nobody = nothing (lookup (nat_eq c.args.who) a.followers.entries) (sym c.contains_key.ensures ∙ c.if-contains_key.false) in
-    let at : c.unwrap_or-joined.result ≡ place_in c.args.from (game b) = c.unwrap_or-joined.ensures ∙ ap (unwrap_or c.args.from) c.len.ensures in
-    let low : place_in c.args.from (game b) ≤ length b.knows.log = omega (arith, at, c.len-2.ensures) in
+    let at : c.unwrap_or-joined.result ≡ place_in c.args.from (game b) = c.unwrap_or-joined.ensures ∙ ap (unwrap_or c.args.from) c.len.ensures.value in
+    let low : place_in c.args.from (game b) ≤ length b.knows.log = omega (arith, at, c.len-2.ensures.value) in
     stays (held_of a) _ _ c.self.invariant.0.kept _ (shown_is c.self.view_is)
-    (too_far a.limits a.boards.entries a.followers.entries c.args.who c.args.board c.args.from b there nobody low (omega (arith, at, c.len-3.ensures, c.capacity.ensures.value)))
+    (too_far a.limits a.boards.entries a.followers.entries c.args.who c.args.board c.args.from b there nobody low (omega (arith, at, c.len-3.ensures.value, c.capacity.ensures.value)))
 
 pub returns-in_default-vacant_place-clause-stands : goal.returns-in_default-vacant_place-clause-stands
 returns-in_default-vacant_place-clause-stands c =
@@ -59,15 +59,15 @@ returns-in_default-vacant_place-clause-stands c =
     let b = c.in-Some.live.now in
     let there : lookup (same_name c.args.board) a.boards.entries ≡ Some b = sym c.get.ensures.value ∙ ap option_copied c.in-Some.is in
     let nobody = nothing (lookup (nat_eq c.args.who) a.followers.entries) (sym c.contains_key.ensures ∙ c.if-contains_key.false) in
-    let at : c.unwrap_or-joined.result ≡ place_in c.args.from (game b) = c.unwrap_or-joined.ensures ∙ ap (unwrap_or c.args.from) c.len.ensures in
-    let low : place_in c.args.from (game b) ≤ length b.knows.log = omega (arith, at, c.len-2.ensures) in
-    let near : length b.knows.log - place_in c.args.from (game b) ≤ a.limits.capacity = omega (arith, at, c.len-3.ensures, c.capacity.ensures.value) in
+    let at : c.unwrap_or-joined.result ≡ place_in c.args.from (game b) = c.unwrap_or-joined.ensures ∙ ap (unwrap_or c.args.from) c.len.ensures.value in
+    let low : place_in c.args.from (game b) ≤ length b.knows.log = omega (arith, at, c.len-2.ensures.value) in
+    let near : length b.knows.log - place_in c.args.from (game b) ≤ a.limits.capacity = omega (arith, at, c.len-3.ensures.value, c.capacity.ensures.value) in
     stays (held_of a) _ _ c.self.invariant.0.kept _ (shown_is c.self.view_is)
     (too_many a.limits a.boards.entries a.followers.entries c.args.who c.args.board c.args.from b there nobody low near c.self.invariant.0 c.in_default-vacant_place.ensures.place)
 
 pub unreachable-requires : goal.unreachable-requires
 unreachable-requires c =
-    none-some _ (sym c.in_default-position_at.is ∙ c.position_at.ensures ∙ position_made c.in-Some.live.now.knows.setup.start c.in-Some.live.now.knows.log c.unwrap_or-joined.result (omega (arith, c.len-2.ensures)))
+    none-some _ (sym c.in_default-position_at.is ∙ c.position_at.ensures.value ∙ position_made c.in-Some.live.now.knows.setup.start c.in-Some.live.now.knows.log c.unwrap_or-joined.result (omega (arith, c.len-2.ensures.value)))
 
 pub returns-in_default-insert-clause-stands : goal.returns-in_default-insert-clause-stands
 returns-in_default-insert-clause-stands c =
@@ -75,9 +75,9 @@ returns-in_default-insert-clause-stands c =
     let b = c.in-Some.live.now in
     let there : lookup (same_name c.args.board) a.boards.entries ≡ Some b = sym c.get.ensures.value ∙ ap option_copied c.in-Some.is in
     let nobody = nothing (lookup (nat_eq c.args.who) a.followers.entries) (sym c.contains_key.ensures ∙ c.if-contains_key.false) in
-    let at : c.unwrap_or-joined.result ≡ place_in c.args.from (game b) = c.unwrap_or-joined.ensures ∙ ap (unwrap_or c.args.from) c.len.ensures in
-    let low : place_in c.args.from (game b) ≤ length b.knows.log = omega (arith, at, c.len-2.ensures) in
-    let near : length b.knows.log - place_in c.args.from (game b) ≤ a.limits.capacity = omega (arith, at, c.len-3.ensures, c.capacity.ensures.value) in
+    let at : c.unwrap_or-joined.result ≡ place_in c.args.from (game b) = c.unwrap_or-joined.ensures ∙ ap (unwrap_or c.args.from) c.len.ensures.value in
+    let low : place_in c.args.from (game b) ≤ length b.knows.log = omega (arith, at, c.len-2.ensures.value) in
+    let near : length b.knows.log - place_in c.args.from (game b) ≤ a.limits.capacity = omega (arith, at, c.len-3.ensures.value, c.capacity.ensures.value) in
     stands (held_of a) (held_by a.limits a.boards.entries c.insert.new.self.entries) _ _ c.self.invariant.0.kept _ (shown_is c.self.view_is)
     (subst (λ (l : List (ℕ × Seated)). Goes (held_of a) (held_by a.limits a.boards.entries l) (Follow c.args.who c.args.board c.args.from) (Refused OutOfMemory)) (sym c.in_default-insert.ensures.err)
     (no_memory a.limits a.boards.entries a.followers.entries c.args.who c.args.board c.args.from b there nobody low near c.self.invariant.0 c.in-Some-vacant_place.place c.in-Some-vacant_place.ensures.place.1))
@@ -89,7 +89,7 @@ seat-requires c =
     let there : lookup (same_name c.args.board) a.boards.entries ≡ Some b = sym c.get.ensures.value ∙ ap option_copied c.in-Some.is in
     let v = c.in-Some-vacant_place.ensures.place in
     let capacity : b.knows.setup.limits.capacity ≡ a.limits.capacity = ap (λ (s : BoardSetup). s.limits.capacity) (c.self.invariant.0.setups c.args.board b there) in
-    (b, there, v.0, v.1, omega (arith, c.len-2.ensures), omega (arith, capacity, c.len-2.ensures, c.len-3.ensures, c.capacity.ensures.value))
+    (b, there, v.0, v.1, omega (arith, c.len-2.ensures.value), omega (arith, capacity, c.len-2.ensures.value, c.len-3.ensures.value, c.capacity.ensures.value))
 
 pub invariant_of-self-2 : goal.invariant_of-self-2
 invariant_of-self-2 c =
@@ -97,13 +97,13 @@ invariant_of-self-2 c =
     let b = c.in-Some.live.now in
     let there : lookup (same_name c.args.board) a.boards.entries ≡ Some b = sym c.get.ensures.value ∙ ap option_copied c.in-Some.is in
     let nobody = nothing (lookup (nat_eq c.args.who) a.followers.entries) (sym c.contains_key.ensures ∙ c.if-contains_key.false) in
-    let at : c.unwrap_or-joined.result ≡ place_in c.args.from (game b) = c.unwrap_or-joined.ensures ∙ ap (unwrap_or c.args.from) c.len.ensures in
+    let at : c.unwrap_or-joined.result ≡ place_in c.args.from (game b) = c.unwrap_or-joined.ensures ∙ ap (unwrap_or c.args.from) c.len.ensures.value in
     let s : Seated = record { board = c.args.board; place = c.in-Some-vacant_place.place; joined = c.unwrap_or-joined.result; taken = 0 } in
     let t = joins c.args.board a.boards.entries c.seat.new.boards.entries c.in-Some-vacant_place.place c.unwrap_or-joined.result b there c.seat.ensures.swapped in (
       lives a.limits a.boards.entries c.seat.new.boards.entries a.followers.entries c.insert.new.self.entries c.args.who c.args.board c.in-Some-vacant_place.place c.unwrap_or-joined.result c.self.invariant.0 nobody
-          b t.0 there c.in-Some-vacant_place.ensures.place.1 (omega (arith, c.len-2.ensures)) t.1 t.2 t.3
+          b t.0 there c.in-Some-vacant_place.ensures.place.1 (omega (arith, c.len-2.ensures.value)) t.1 t.2 t.3
           s refl refl refl refl (c.in-Ok.ensures.entries ∙ insert_entry-new nat_eq a.followers c.args.who s nobody)
-          c.args.from c.in-Some-position_at.position at (omega (arith, c.len-3.ensures, c.capacity.ensures.value)) (sym c.in-Some-position_at.is ∙ c.position_at.ensures),
+          c.args.from c.in-Some-position_at.position at (omega (arith, c.len-3.ensures.value, c.capacity.ensures.value)) (sym c.in-Some-position_at.is ∙ c.position_at.ensures.value),
       rw (boards_counted a.boards.entries c.seat.new.boards.entries c.args.board b t.0 there t.3, c.seat.ensures.room) c.self.invariant.1,
     )
 
@@ -113,11 +113,11 @@ returns-clause-stands c =
     let b = c.in-Some.live.now in
     let there : lookup (same_name c.args.board) a.boards.entries ≡ Some b = sym c.get.ensures.value ∙ ap option_copied c.in-Some.is in
     let nobody = nothing (lookup (nat_eq c.args.who) a.followers.entries) (sym c.contains_key.ensures ∙ c.if-contains_key.false) in
-    let at : c.unwrap_or-joined.result ≡ place_in c.args.from (game b) = c.unwrap_or-joined.ensures ∙ ap (unwrap_or c.args.from) c.len.ensures in
+    let at : c.unwrap_or-joined.result ≡ place_in c.args.from (game b) = c.unwrap_or-joined.ensures ∙ ap (unwrap_or c.args.from) c.len.ensures.value in
     let s : Seated = record { board = c.args.board; place = c.in-Some-vacant_place.place; joined = c.unwrap_or-joined.result; taken = 0 } in
     let t = joins c.args.board a.boards.entries c.seat.new.boards.entries c.in-Some-vacant_place.place c.unwrap_or-joined.result b there c.seat.ensures.swapped in
     stands (held_of a) (held_by a.limits c.seat.new.boards.entries c.insert.new.self.entries) _ _ c.self.invariant.0.kept _ (shown_is c.self.view_is)
     (goes a.limits a.boards.entries c.seat.new.boards.entries a.followers.entries c.insert.new.self.entries c.args.who c.args.board c.in-Some-vacant_place.place c.unwrap_or-joined.result c.self.invariant.0 nobody
-    b t.0 there c.in-Some-vacant_place.ensures.place.1 (omega (arith, c.len-2.ensures)) t.1 t.2 t.3
+    b t.0 there c.in-Some-vacant_place.ensures.place.1 (omega (arith, c.len-2.ensures.value)) t.1 t.2 t.3
     s refl refl refl refl (c.in-Ok.ensures.entries ∙ insert_entry-new nat_eq a.followers c.args.who s nobody)
-    c.args.from c.in-Some-position_at.position at (omega (arith, c.len-3.ensures, c.capacity.ensures.value)) (sym c.in-Some-position_at.is ∙ c.position_at.ensures))
+    c.args.from c.in-Some-position_at.position at (omega (arith, c.len-3.ensures.value, c.capacity.ensures.value)) (sym c.in-Some-position_at.is ∙ c.position_at.ensures.value))
