@@ -21,7 +21,7 @@ use Rattle.live_steps.specs.declared.note.Note.TheVariants.{Vacant, Open as Open
 use Rattle.live_steps.specs.declared.view.Part.{Part}
 use Rattle.live_steps.specs.declared.view.View.{View}
 use Rattle.live_steps.specs.Words.{closing_in, cursor_at, move_word_at, header_word, status_word, cursor_of, outcome_number, outcome_numbered}
-use Rattle.live_steps.specs.Views.{next_of, starting, followed, kept_part, given_part, storing, published, finished, each_part, sees, finds, gains, learns, only_at, carrying, noted, cutting, left_at, taking_in, spent}
+use Rattle.live_steps.specs.Views.{next_of, starting, followed, kept_part, given_part, storing, published, finished, each_part, sees, finds, gains, learns, only_at, carrying, noted, missing, cutting, left_at, taking_in, spent}
 use Rattle.live_steps.specs.Shows.{Table, ShowsPart, Shows}
 use Rattle.live_steps.specs.Rule.{Kept, IsEvent}
 use Rattle.live_steps.specs.Plays.{Seat, follows, stores, publishes, finishes, looks, reads, takes, checks, cuts, leaves}
@@ -208,7 +208,7 @@ allows_cutting z slots id m k joined p inside owns note full s q _ seat _ =
     let kept = kept_event z s (after s word new id m w) q (Cut k) (law.0 hit) in
     (w, keeps, tt, kept, (told z s word new id m w seat kept, (λ _. refl), λ miss. absurd (miss hit))))
     (λ miss.
-    let w = noted word n m.0 in
+    let w = missing word n m.0 in
     let kept = kept_silent z s (after s word n id m w) q (law.1 miss) in (
       w,
       keeps,

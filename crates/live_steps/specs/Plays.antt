@@ -12,7 +12,7 @@ use Rattle.live_steps.specs.declared.note.Note.TheVariants.{Open}
 use Rattle.live_steps.specs.declared.view.Part.{Part}
 use Rattle.live_steps.specs.declared.view.View.{View}
 use Rattle.live_steps.specs.Words.{length_in, outcome_in, closing_in, place_in, note_after}
-use Rattle.live_steps.specs.Views.{next_of, next_word, followed, storing, published, finished, each_part, sees, finds, gains, learns, only_at, noted, cutting, left_at}
+use Rattle.live_steps.specs.Views.{next_of, next_word, followed, storing, published, finished, each_part, sees, finds, gains, learns, only_at, noted, missing, cutting, left_at}
 use Rattle.live_steps.specs.Sound.{IsSound, IsSoundPart, Follows}
 
 -- a seat: its view, and the slots that it has taken, which are none
@@ -67,7 +67,7 @@ checks st m r m' = Told m m' × (m'.0 ≡ noted st.word r m.0) × Noted st m r
 -- where the exchange fails, the follower has left or taken a move
 abbrev pub cuts : Made → Seat → ℕ → Seat → Type 0
 cuts st m r m' = Told m m' × (r ≡ st.first → m'.0 ≡ cutting st.word m.0)
-    × (r ≢ st.first → (m'.0 ≡ noted st.word r m.0) × Noted st m r × ((r ≡ 0) ⊎ (st.first < r)))
+    × (r ≢ st.first → (m'.0 ≡ missing st.word r m.0) × Noted st m r × ((r ≡ 0) ⊎ (st.first < r)))
 
 -- the part that leaves learns its closing, as one that stays would
 abbrev pub leaves : Made → Seat → ℕ → Seat → Type 0
