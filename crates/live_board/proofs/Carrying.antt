@@ -7,22 +7,23 @@ use mathlib.Core.Option.{some, some-injective, some-ne-none}
 use mathlib.Core.Logic.{dite}
 use native.Mathlib.Decide.{ℕ_discrete}
 use lib.ListN.{get_elem?}
+use Rattle.atomic_table.proofs.Lists.{at_map}
 use Rattle.c960_board.specs.Moves.{Triple}
 use Rattle.relay_core.specs.declared.reply.Taken.{Taken}
-use Rattle.relay_core.specs.declared.reply.Taken.TheVariants.{Move}
+use Rattle.relay_core.specs.declared.reply.Taken.TheVariants.{Move, Cut}
 use Rattle.live_machine.specs.Board.{move_at}
 use Rattle.live_steps.specs.declared.setup.BoardSetup.{BoardSetup}
 use Rattle.live_steps.specs.declared.note.Note.{Note}
 use Rattle.live_steps.specs.declared.note.Note.TheVariants.{Vacant, Open, Closed}
 use Rattle.live_steps.specs.declared.view.Part.{Part}
 use Rattle.live_steps.specs.declared.view.View.{View}
-use Rattle.live_steps.specs.Words.{length_in, move_word_at}
+use Rattle.live_steps.specs.Words.{length_in, outcome_in, move_word_at}
 use Rattle.live_steps.specs.Views.{next_of, next_word, each_part, sees, finds, gains, only_at}
 use Rattle.live_steps.specs.Sound.{IsSoundBoard, Agrees}
 use Rattle.live_steps.proofs.Checking.{note_there}
 use Rattle.live_steps.proofs.Parts.{pick}
 use Rattle.live_board.specs.Meeting.{closing_noted}
-use Rattle.live_board.specs.Carried.{closing_found, cut_at, due_at, Holding, holding_of, with_taken, items_of, TookAt}
+use Rattle.live_board.specs.Carried.{closing_found, cut_at, due_at, HasLooked, Holding, holding_of, Looked, with_taken, items_of, TookAt}
 use Rattle.live_board.proofs.Followers.{found_is}
 
 -- ---- Stretches of a log.
@@ -113,19 +114,27 @@ held_seen : (r : ℕ) (ps : List Part) → map holding_of (map (sees r) ps) ≡ 
 held_seen r [] = refl
 held_seen r (p ∷ ps) = ap (λ (t : List Holding). holding_of p ∷ t) (held_seen r ps)
 
-pub took_nothing : (place : ℕ) (v : View) (answer : Taken) → items_of answer ≡ [] → TookAt place answer v v
-took_nothing place v answer none = record {
+-- where the follower stands at its closing, nothing is done
+pub took_cut : (place : ℕ) (v : View) → TookAt place Cut v v
+took_cut place v = record {
   owns = refl;
   setup = refl;
   log = refl;
   outcome = refl;
   notes = refl;
   closings = refl;
-  parts = sym (ap (λ (l : List Triple). map (with_taken place l) (map holding_of v.parts)) none ∙ taken_none place (map holding_of v.parts));
+  parts = sym (taken_none place (map holding_of v.parts));
+  looked = λ i p e at. (p, e, refl);
 }
 
-pub took_look : (place r : ℕ) (v w : View) (answer : Taken) → items_of answer ≡ [] → w ≡ each_part (sees r) v → TookAt place answer v w
-took_look place r v w answer none is = record {
+-- the part that was looked for, once the status was loaded
+seen_at : (r i : ℕ) (v w : View) (p : Part) → w ≡ each_part (sees r) v → get_elem? v.parts i ≡ some p → get_elem? w.parts i ≡ some (sees r p)
+seen_at r i v w p is e = ap (λ (x : View). get_elem? x.parts i) is ∙ at_map (sees r) v.parts i p e
+
+-- where no move waits, the status is loaded
+pub took_look : (place r : ℕ) (v w : View) (answer : Taken) → items_of answer ≡ [] → ((p q : Part) → HasLooked v p q → q.closing ≡ p.closing → Looked answer v p q)
+    → w ≡ each_part (sees r) v → length_in r ≡ length v.log → outcome_in r ≡ v.outcome → TookAt place answer v w
+took_look place r v w answer none by is len over = record {
   owns = ap (λ (x : View). x.owns) is;
   setup = ap (λ (x : View). x.setup) is;
   log = ap (λ (x : View). x.log) is;
@@ -133,6 +142,7 @@ took_look place r v w answer none is = record {
   notes = ap (λ (x : View). x.notes) is;
   closings = ap (λ (x : View). x.closings) is;
   parts = ap (λ (x : View). map holding_of x.parts) is ∙ held_seen r v.parts ∙ sym (ap (λ (l : List Triple). map (with_taken place l) (map holding_of v.parts)) none ∙ taken_none place (map holding_of v.parts));
+  looked = λ i p e at. (sees r p, seen_at r i v w p is e, by p (sees r p) (refl, len, over) refl);
 }
 
 -- the parts after the two steps that take a move
@@ -150,10 +160,11 @@ grown place word r m (p ∷ ps) all =
     ∙ sym (λ k. cond (ne_eqb p.place place ne k) (p.place, p.joined, p.taken ++ m ∷ []) (holding_of p))) in
     λ k. one k ∷ grown place word r m ps (λ i q e. all (suc i) q e) k
 
-pub took_move : (place next r cursor i : ℕ) (m : Triple) (p : Part) (v u w : View) → IsSoundBoard u → u ≡ each_part (sees r) v → length_in r ≡ length v.log → next < length v.log → get_elem? u.parts i ≡ some p → p.place ≡ place → next_of p ≡ next
+pub took_move : (place next r cursor i : ℕ) (m : Triple) (p : Part) (v u w : View) → IsSoundBoard u → u ≡ each_part (sees r) v → length_in r ≡ length v.log → outcome_in r ≡ v.outcome → next < length v.log → get_elem? u.parts i ≡ some p → p.place ≡ place → next_of p ≡ next
     → w ≡ each_part (only_at (place + 2) (gains cursor)) (each_part (finds (move_word_at u.setup.limits next) m) u) → TookAt place (Move next m) v w
-took_move place next r cursor i m p v u w ok u-is seen less e here is w-is =
+took_move place next r cursor i m p v u w ok u-is seen over less e here is w-is =
     let sized = ok.inside i p e in
+    let word : ℕ = move_word_at u.setup.limits next in
     let seen-all : (j : ℕ) (q : Part) → get_elem? u.parts j ≡ some q → q.seen ≡ length v.log = λ j q d. seen_by v.parts j q (ap (λ (x : View). get_elem? x.parts j) (sym u-is) ∙ d) in
     record {
       owns = ap (λ (x : View). x.owns) w-is ∙ ap (λ (x : View). x.owns) u-is;
@@ -171,6 +182,12 @@ took_move place next r cursor i m p v u w ok u-is seen less e here is w-is =
           let s = seen-all j q d in
           let f = ap (λ (t : BoardSetup). t.limits.followers) sized.1 in (omega arith, omega arith))
           ∙ ap (λ (x : View). map (with_taken place (m ∷ [])) (map holding_of x.parts)) u-is ∙ ap (map (with_taken place (m ∷ []))) (held_seen r v.parts);
+      looked = λ j q d at. (
+        only_at (place + 2) (gains cursor) (finds word m (sees r q)),
+        ap (λ (x : View). get_elem? x.parts j) w-is
+            ∙ at_map (only_at (place + 2) (gains cursor)) (map (finds word m) u.parts) j (finds word m (sees r q)) (at_map (finds word m) u.parts j (sees r q) (seen_at r j v u q u-is d)),
+        pick (HasLooked v q) (eqb (q.place + 2) (place + 2)) (gains cursor (finds word m (sees r q))) (finds word m (sees r q)) (λ _. (refl, seen, over)) (λ _. (refl, seen, over)),
+      );
     }
   where
     seen_by : (ps : List Part) (j : ℕ) (q : Part) → get_elem? (map (sees r) ps) j ≡ some q → q.seen ≡ length v.log

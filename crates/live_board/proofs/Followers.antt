@@ -1,5 +1,5 @@
 -- What makes a seat a follower's.
-use Rattle.std.proofs.Common.{◌≡◌, ℕ, ◌+◌, ◌<◌, [], ◌∷◌, length, Option, Some, sym, ap, ◌∙◌, cond, eq-eqb, lt-ltb, arith}
+use Rattle.std.proofs.Common.{◌≡◌, ℕ, ◌+◌, ◌<◌, ◌≤◌, [], ◌∷◌, length, unwrap_or, Option, Some, None, refl, sym, ap, ◌∙◌, cond, eq-eqb, lt-ltb, arith}
 use Rattle.atomic_table.specs.Seated.{TableId}
 use Rattle.atomic_table.specs.declared.shared.Seat.{Seat}
 use mathlib.Core.Option.{none, some}
@@ -14,6 +14,7 @@ use Rattle.live_steps.specs.Words.{word_count}
 use Rattle.live_steps.specs.Views.{next_of, next_word, carrying, each_part, finds, gains, holding, only_at}
 use Rattle.live_steps.specs.Sound.{IsSoundPart, IsSound}
 use Rattle.live_steps.specs.Plays.{Seat as Sitting, reads}
+use Rattle.live_board.specs.Accounts.{account_of}
 use Rattle.live_board.specs.Seats.{part_of, IsFollower}
 
 -- the part of a follower's view is sound
@@ -40,6 +41,14 @@ follower_of {seat = seat} {setup = setup} p one sound none-held table words key 
       closing_is = closing ∙ ap (λ (q : Part). q.closing) (sym is);
       sound = part_sound seat.me.0 setup p one sound;
     }
+
+-- the account of a part: the next place is not beyond the limit
+pub account_within : (p : Part) → IsSoundPart p → (account_of p).joined + (account_of p).taken ≤ (account_of p).limit
+account_within p sound = by p.closing refl
+  where
+    by : (o : Option ℕ) → p.closing ≡ o → p.joined + length p.taken ≤ unwrap_or o p.seen
+    by None e = sound.within
+    by (Some c) e = (sound.closing c e).0
 
 -- the move that was looked for is held
 pub found_is : (word : ℕ) (m : Triple) (p : Part) → next_of p < p.seen → next_word p ≡ word → finds word m p ≡ holding (Some m) p

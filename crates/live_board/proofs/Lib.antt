@@ -3,6 +3,7 @@ pub mod Desks
 mod Followers
 mod Hands
 pub mod Tries
+pub mod Orders
 mod Games
 mod Carrying
 mod Meetings

@@ -17,6 +17,7 @@ use Rattle.live_steps.specs.Sound.{Agrees, IsSound}
 use Rattle.live_steps.proofs.Checking.{note_there}
 use Rattle.live_steps.proofs.Parts.{pick}
 use Rattle.live_board.specs.Meeting.{Met, closing_noted}
+use Rattle.live_board.specs.Takes.{HasSeenNoLess}
 use Rattle.live_board.proofs.Followers.{only_is}
 use Rattle.live_board.proofs.Tries.{loaded_note, noted_long}
 
@@ -59,8 +60,8 @@ looked_inside w v z p r is owns sound =
     (subst (λ (y : BoardSetup). p.place < y.limits.followers) setup x.0, x.1 ∙ setup)
 
 module _ (v : View) (z : BoardSetup) (p : Part) (k r n : ℕ) where
-  pub meets : p.place ≡ k → v.owns ≡ true → IsSound (checked_in v z p r k n) → length_in r ≡ length v.log → outcome_in r ≡ v.outcome → Met v p (kept_part (checked_in v z p r k n)) (learns n (sees r p))
-  meets here owns sound len over =
+  pub meets : p.place ≡ k → v.owns ≡ true → IsSound (checked_in v z p r k n) → length_in r ≡ length v.log → outcome_in r ≡ v.outcome → HasSeenNoLess p (learns n (sees r p)) → Met v p (kept_part (checked_in v z p r k n)) (learns n (sees r p))
+  meets here owns sound len over no-less =
       let w = checked_in v z p r k n in
       let q = learns n (sees r p) in
       let b = sound.board owns in
@@ -79,6 +80,7 @@ module _ (v : View) (z : BoardSetup) (p : Part) (k r n : ℕ) where
         outcome = refl;
         closings = refl;
         learned = (r, n, refl);
+        no_less = no-less;
         seen = len;
         over = over;
         within = within;

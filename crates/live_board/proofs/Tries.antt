@@ -9,10 +9,11 @@ use lib.ListN.{get_elem?}
 use Rattle.atomic_table.proofs.Lists.{set_here, set_else}
 use Rattle.live_steps.specs.declared.note.Note.{Note}
 use Rattle.live_steps.specs.declared.note.Note.TheVariants.{Vacant, Open, Closed}
+use Rattle.live_steps.specs.declared.step.BoardStep.{BoardStep}
 use Rattle.live_steps.specs.declared.view.Part.{Part}
 use Rattle.live_steps.specs.declared.view.View.{View}
 use Rattle.live_steps.specs.Words.{cursor_of, note_after}
-use Rattle.live_steps.specs.Views.{board, noted, cutting}
+use Rattle.live_steps.specs.Views.{board, noted, missing, cutting}
 use Rattle.live_steps.proofs.Checking.{note_there, note_read}
 use Rattle.live_board.specs.Desk.{NotedAs, Checked, IsNotedFull, Exchanged, MayBeFull, Asked, Tried, TriedBelow, FreeBelow, CheckedBelow, LoadedBelow, Unmoved}
 use Rattle.live_board.proofs.Desks.{at_within, closed_open, open_back}
@@ -39,9 +40,9 @@ noted_else v k r j = at_other v.notes k j (note_after (get_or v.notes (k + 2 - 2
 pub noted_long : (v : View) (k r : ℕ) → length (noted (k + 2) r v).notes ≡ length v.notes
 noted_long v k r = length-set v.notes (k + 2 - 2) (note_after (get_or v.notes (k + 2 - 2) Vacant) r)
 
--- the view with other notes, counts, closings and parts
-abbrev pub beside : View → List Note → List ℕ → List ℕ → List Part → View
-beside v notes checks closings parts = board v v.log v.outcome v.stored notes checks closings parts
+-- the view with other notes, counts, closings, steps made and parts
+abbrev pub beside : View → List Note → List ℕ → List ℕ → List BoardStep → List Part → View
+beside v notes checks closings made parts = record (board v v.log v.outcome v.stored notes checks closings parts) { made = made }
 
 -- ---- A follower is closed, or not.
 
@@ -50,7 +51,7 @@ beside v notes checks closings parts = board v v.log v.outcome v.stored notes ch
 by_asked : (P : View → Type 0) (v w : View) (k : ℕ) → Asked v k w
     → ((r : ℕ) → NotedAs v k r → ((place : ℕ) → ¬ (IsNotedFull (noted (k + 2) r v) k place)) → P (noted (k + 2) r v))
     → ((r place : ℕ) → NotedAs v k r → IsNotedFull (noted (k + 2) r v) k place → P (cutting (k + 2) (noted (k + 2) r v)))
-    → ((r place n : ℕ) → NotedAs v k r → IsNotedFull (noted (k + 2) r v) k place → NotedAs (noted (k + 2) r v) k n → (n ≡ 0) ⊎ (cursor_of place None < n) → P (noted (k + 2) n (noted (k + 2) r v)))
+    → ((r place n : ℕ) → NotedAs v k r → IsNotedFull (noted (k + 2) r v) k place → NotedAs (noted (k + 2) r v) k n → (n ≡ 0) ⊎ (cursor_of place None < n) → P (missing (k + 2) n (noted (k + 2) r v)))
     → P w
 by_asked P v w k (u, (r, is, told), went) left hit miss =
     ⊎_elim exchanged (λ (x : (w ≡ u') × ((place : ℕ) → ¬ (IsNotedFull u' k place))). subst P (sym x.0) (left r told x.1)) (subst Went is went)
@@ -64,21 +65,21 @@ by_asked P v w k (u, (r, is, told), went) left hit miss =
     exchanged : ((place : ℕ) × IsNotedFull u' k place × Exchanged u' k place w) → P w
     exchanged (place, full, e) = ⊎_elim
         (λ (x : w ≡ cutting (k + 2) u'). subst P (sym x) (hit r place told full))
-        (λ (x : (n : ℕ) × (w ≡ noted (k + 2) n u') × NotedAs u' k n × ((n ≡ 0) ⊎ (cursor_of place None < n))). subst P (sym x.1) (miss r place x.0 told full x.2 x.3)) e
+        (λ (x : (n : ℕ) × (w ≡ missing (k + 2) n u') × NotedAs u' k n × ((n ≡ 0) ⊎ (cursor_of place None < n))). subst P (sym x.1) (miss r place x.0 told full x.2 x.3)) e
 
 -- What a try at the cursor k leads to: nothing was done, since its follower can't be full; or what a load leads to.
 pub by_try : (P : View → Type 0) (v w : View) (k : ℕ) → Tried v k w
     → ((MayBeFull v k → ⊥) → P v)
     → ((r : ℕ) → NotedAs v k r → ((place : ℕ) → ¬ (IsNotedFull (noted (k + 2) r v) k place)) → P (noted (k + 2) r v))
     → ((r place : ℕ) → NotedAs v k r → IsNotedFull (noted (k + 2) r v) k place → P (cutting (k + 2) (noted (k + 2) r v)))
-    → ((r place n : ℕ) → NotedAs v k r → IsNotedFull (noted (k + 2) r v) k place → NotedAs (noted (k + 2) r v) k n → (n ≡ 0) ⊎ (cursor_of place None < n) → P (noted (k + 2) n (noted (k + 2) r v)))
+    → ((r place n : ℕ) → NotedAs v k r → IsNotedFull (noted (k + 2) r v) k place → NotedAs (noted (k + 2) r v) k n → (n ≡ 0) ⊎ (cursor_of place None < n) → P (missing (k + 2) n (noted (k + 2) r v)))
     → P w
 by_try P v w k t skip left hit miss =
     ⊎_elim (λ (x : MayBeFull v k × Asked v k w). by_asked P v w k x.1 left hit miss) (λ (x : (MayBeFull v k → ⊥) × (w ≡ v)). subst P (sym x.1) (skip x.0)) t
 
 -- of the notes only that of the cursor k is another, and it is of no full follower
 pub record Tidied (v : View) (k : ℕ) (w : View) : Type 0 where
-  pub same : w ≡ beside v w.notes w.checks w.closings w.parts
+  pub same : w ≡ beside v w.notes w.checks w.closings w.made w.parts
   pub long : length w.notes ≡ length v.notes
   pub elsewhere : (j : ℕ) → j ≢ k → get_elem? w.notes j ≡ get_elem? v.notes j
   pub free : (j b : ℕ) → get_elem? w.notes k ≡ some (Open j b) → length v.log < b + v.setup.limits.capacity
@@ -120,7 +121,7 @@ tidied v w k t = by_try (Tidied v k) v w k t
 
 -- the notes below n are of no full follower, and the others as they were
 pub record TidiedBelow (n : ℕ) (v w : View) : Type 0 where
-  pub same : w ≡ beside v w.notes w.checks w.closings w.parts
+  pub same : w ≡ beside v w.notes w.checks w.closings w.made w.parts
   pub long : length w.notes ≡ length v.notes
   pub later : (k : ℕ) → n ≤ k → get_elem? w.notes k ≡ get_elem? v.notes k
   pub free : FreeBelow n w
@@ -138,7 +139,7 @@ tidied_below (suc n) v w (u, before, last) =
     let len : length w.log ≡ length u.log = ap (λ (x : View). length x.log) b.same in
     let cap : w.setup.limits.capacity ≡ u.setup.limits.capacity = ap (λ (x : View). x.setup.limits.capacity) b.same in
     record {
-      same = b.same ∙ ap (λ (x : View). beside x w.notes w.checks w.closings w.parts) a.same;
+      same = b.same ∙ ap (λ (x : View). beside x w.notes w.checks w.closings w.made w.parts) a.same;
       long = b.long ∙ a.long;
       later = λ k h. b.elsewhere k (λ e. let x : k ≡ n = e in omega arith) ∙ a.later k (omega arith);
       free = λ k j l less e. dite (ℕ_discrete k n)

@@ -1,5 +1,5 @@
 -- What a board does at its own seat for a follower whose part it carries.
-use Rattle.std.specs.Prelude.{◌≡◌, ℕ, ◌==◌, if◌then◌else◌, List, [], ◌∷◌, ◌++◌, map, length, drop, take, unwrap_or, Option, None}
+use Rattle.std.specs.Prelude.{◌≡◌, ℕ, ◌+◌, ◌==◌, if◌then◌else◌, List, [], ◌∷◌, ◌++◌, map, length, drop, take, unwrap_or, Option, None}
 use mathlib.Core.Option.{Option as Maybe, none, some}
 use lib.ListN.{get_elem?}
 use Rattle.c960_board.specs.Moves.{Triple}
@@ -51,7 +51,18 @@ items_of Nothing = []
 items_of (Over outcome) = []
 items_of Cut = []
 
--- a take at the place: only parts have changed, and what the one at the place has taken grew by what was answered
+-- of a part: the status was loaded for it, once, and it has seen the log's length and the outcome that the board knows
+abbrev pub HasLooked : View → Part → Part → Type 0
+HasLooked v p q = (q.loads ≡ p.loads + 1) × (q.seen ≡ length v.log) × (q.outcome ≡ v.outcome)
+
+-- what a take made of the part that took, by the answer: the status was loaded for each but `Cut`, for which nothing was done
+abbrev pub Looked : Taken → View → Part → Part → Type 0
+Looked (Move place m) v p q = HasLooked v p q
+Looked Nothing v p q = HasLooked v p q × (q.closing ≡ p.closing)
+Looked (Over outcome) v p q = HasLooked v p q × (q.closing ≡ p.closing)
+Looked Cut v p q = q ≡ p
+
+-- a take at the place: only parts have changed, what the one at the place has taken grew by what was answered, and what it has seen is the board's
 pub record TookAt (place : ℕ) (answer : Taken) (v w : View) : Type 0 where
   pub owns : w.owns ≡ v.owns
   pub setup : w.setup ≡ v.setup
@@ -60,3 +71,4 @@ pub record TookAt (place : ℕ) (answer : Taken) (v w : View) : Type 0 where
   pub notes : w.notes ≡ v.notes
   pub closings : w.closings ≡ v.closings
   pub parts : map holding_of w.parts ≡ map (with_taken place (items_of answer)) (map holding_of v.parts)
+  pub looked : (i : ℕ) (p : Part) → get_elem? v.parts i ≡ some p → p.place ≡ place → (q : Part) × (get_elem? w.parts i ≡ some q) × Looked answer v p q

@@ -7,7 +7,7 @@ use Rattle.live_steps.specs.declared.note.Note.{Note}
 use Rattle.live_steps.specs.declared.note.Note.TheVariants.{Vacant, Open}
 use Rattle.live_steps.specs.declared.view.View.{View}
 use Rattle.live_steps.specs.Words.{cursor_at, cursor_of, note_after}
-use Rattle.live_steps.specs.Views.{noted, cutting, followed, kept_part, storing, published}
+use Rattle.live_steps.specs.Views.{noted, missing, cutting, followed, kept_part, storing, published}
 use Rattle.live_steps.specs.Sound.{Follows}
 
 -- ---- A cursor is loaded.
@@ -31,7 +31,7 @@ IsNotedFull v k place = (joined : ℕ) × (get_elem? v.notes k ≡ some (Open jo
 abbrev pub Exchanged : View → ℕ → ℕ → View → Type 0
 Exchanged v k place w =
     (w ≡ cutting (cursor_at k) v)
-    ⊎ ((r : ℕ) × (w ≡ noted (cursor_at k) r v) × NotedAs v k r × ((r ≡ 0) ⊎ (cursor_of place None < r)))
+    ⊎ ((r : ℕ) × (w ≡ missing (cursor_at k) r v) × NotedAs v k r × ((r ≡ 0) ⊎ (cursor_of place None < r)))
 
 -- by what is noted of it, the follower at the cursor k may be a capacity behind
 abbrev pub MayBeFull : View → ℕ → Type 0
@@ -53,7 +53,7 @@ TriedBelow zero v w = w ≡ v
 TriedBelow (suc n) v w = (u : View) × TriedBelow n v u × Tried u n w
 
 -- A submit: each follower that may be full is asked, in the order of the cursors, then the move is stored, then published. Only an exchange that closes a follower adds to the
--- closings that the view lists (`cutting`).
+-- closings that the view lists (`cutting`); each step is one more of those that it lists as made, so that they were made in this order (`Order`).
 abbrev pub Submitted : Triple → View → View → Type 0
 Submitted m v w = (u : View) × TriedBelow v.setup.limits.followers v u × (w ≡ published m (storing m u))
 

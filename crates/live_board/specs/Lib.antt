@@ -1,5 +1,6 @@
 pub mod Seats
 pub mod Desk
+pub mod Order
 pub mod Takes
 pub mod Board
 pub mod Accounts

@@ -8,6 +8,7 @@ use Rattle.live_steps.specs.declared.note.Note.TheVariants.{Vacant, Open, Closed
 use Rattle.live_steps.specs.declared.view.Part.{Part}
 use Rattle.live_steps.specs.declared.view.View.{View}
 use Rattle.live_steps.specs.Views.{next_of, sees, learns}
+use Rattle.live_board.specs.Takes.{HasSeenNoLess}
 
 -- the closing that is noted
 abbrev pub closing_noted : Note → Option ℕ
@@ -15,7 +16,7 @@ closing_noted (Closed c) = Some c
 closing_noted (Open joined least) = None
 closing_noted Vacant = None
 
--- The follower had loaded the status and learned what its cursor said; it has taken nothing. Start, log, outcome and closings of the
+-- The follower had loaded the status and learned what its cursor said; it has taken nothing, and has seen no less than before. Start, log, outcome and closings of the
 -- board's view are as they were.
 -- Its list is the stretch of the board's log from where it joined, it has seen the board's length and outcome, and it knows the closing
 -- that the board notes of it, if there is one.
@@ -25,6 +26,7 @@ pub record Met (v : View) (p : Part) (w : View) (q : Part) : Type 0 where
   pub outcome : w.outcome ≡ v.outcome
   pub closings : w.closings ≡ v.closings
   pub learned : (status cursor : ℕ) × (q ≡ learns cursor (sees status p))
+  pub no_less : HasSeenNoLess p q
   pub seen : q.seen ≡ length v.log
   pub over : q.outcome ≡ v.outcome
   pub within : next_of q ≤ length v.log

@@ -14,10 +14,14 @@ use Rattle.live_board.specs.Seats.{FollowerSeat}
 abbrev pub StaysKnown : {A : Type 0} → Option A → Option A → Type 0
 StaysKnown {A} old new = (x : A) → old ≡ Some x → new ≡ Some x
 
--- whatever was answered: the follower stays where it is, and has seen no less, neither of the length nor of an outcome or a closing
+-- the part q has seen no less than p had, neither of the length nor of an outcome or a closing
+abbrev pub HasSeenNoLess : Part → Part → Type 0
+HasSeenNoLess p q = (p.seen ≤ q.seen) × StaysKnown p.outcome q.outcome × StaysKnown p.closing q.closing
+
+-- whatever was answered: the follower stays where it is, and has seen no less
 abbrev pub Stays : FollowerSeat → FollowerSeat → Type 0
 Stays f g = (g.table ≡ f.table) × (g.part.setup ≡ f.part.setup) × (g.part.place ≡ f.part.place) × (g.part.joined ≡ f.part.joined) × (g.part.before ≡ f.part.before)
-    × (f.part.seen ≤ g.part.seen) × StaysKnown f.part.outcome g.part.outcome × StaysKnown f.part.closing g.part.closing
+    × HasSeenNoLess f.part g.part
 
 -- the status was loaded in this call, and nothing was taken: the next place is the length that it said, and no closing is known
 abbrev pub FoundNone : Part → Part → Type 0

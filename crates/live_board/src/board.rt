@@ -17,6 +17,7 @@ ghost use Rattle.live_board.specs.Carried.{Carries, CarriesAt, cut_at, due_at, T
 ghost use Rattle.live_board.specs.Board.{from_place, game_of, IsLegalGame, IsNotYet, IsTooFarBack, setup_of};
 ghost use Rattle.live_board.specs.Desk.{Joined, LoadedBelow, NoneVacant, Searched, Submitted};
 ghost use Rattle.live_board.specs.Meeting.{Met};
+ghost use Rattle.live_board.specs.Order.{SubmittedInOrder};
 
 use crate::desk::Desk;
 use crate::follower::Follower;
@@ -128,12 +129,14 @@ impl Board {
     }
 
     /// Makes a move: its place in the log, and the outcome where it ends the game. Refused as by `Game::play`, and then nothing has
-    /// changed. Each follower that is open and a capacity behind is closed first.
+    /// changed. Each follower that is open and a capacity behind is closed first, in the order of their places; then the move is stored,
+    /// and then the status.
     pub fn submit(&mut self, m: Move) -> Result<(u16, Option<Outcome>), Refusal>
         ensures answer { result ≡ with_place (length self.old.knows.log) (play_answer (game_of self.old.knows) m) }
         ensures refused { OnErr result (self.new ≡ self.old) }
         ensures table { self.new.table ≡ self.old.table }
         ensures knows { OnOk result (Submitted m self.old.knows self.new.knows) }
+        ensures order { OnOk result (SubmittedInOrder self.old.knows self.new.knows) }
         ensures log { OnOk result (self.new.knows.log ≡ self.old.knows.log ++ m ∷ []) }
         ensures outcome { OnOk result (self.new.knows.outcome ≡ own_outcome self.old.knows.setup.start (self.old.knows.log ++ m ∷ [])) }
         ensures valid { IsLegalGame self.new.knows }

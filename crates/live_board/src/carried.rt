@@ -9,7 +9,7 @@ ghost use Rattle.live_steps.specs.declared.note.Note.TheVariants.{Vacant};
 ghost use Rattle.live_steps.specs.declared.view.Part.{Part};
 ghost use Rattle.live_steps.specs.Sound.{IsSound};
 ghost use Rattle.live_steps.specs.Views.{each_part, finds, followed, gains, left_at, next_of, only_at, sees};
-ghost use Rattle.live_steps.specs.Words.{length_in, move_word_at};
+ghost use Rattle.live_steps.specs.Words.{length_in, move_word_at, outcome_in};
 ghost use Rattle.live_board.specs.Carried.{Carries, cut_at};
 
 use crate::desk::Desk;
@@ -54,7 +54,7 @@ impl Desk {
     /// Loads the status.
     pub(crate) fn look(&mut self)
         ensures table { self.new.table ≡ self.old.table }
-        ensures knows { (status : ℕ) × (self.new.knows ≡ each_part (sees status) self.old.knows) × (length_in status ≡ length self.old.knows.log) }
+        ensures knows { (status : ℕ) × (self.new.knows ≡ each_part (sees status) self.old.knows) × (length_in status ≡ length self.old.knows.log) × (outcome_in status ≡ self.old.knows.outcome) }
         ensures sound { IsSound self.new.knows }
     {
         let shared = &self.table.shared;

@@ -6,7 +6,7 @@ ghost use Rattle.live_steps.specs.Sound.{IsSoundPart};
 ghost use Rattle.live_steps.specs.Views.{gains, holding, learns, next_of, sees};
 ghost use Rattle.live_steps.specs.Words.{closing_in, length_in, outcome_in};
 ghost use Rattle.live_board.specs.Accounts.{account_of};
-ghost use Rattle.live_board.specs.Takes.{Stays, StaysKnown, Took, TookOfGame};
+ghost use Rattle.live_board.specs.Takes.{HasSeenNoLess, Stays, StaysKnown, Took, TookOfGame};
 
 use crate::desk::LiveTable;
 use crate::gone::Gone;
@@ -190,11 +190,14 @@ impl Follower {
     }
 
     /// Gives its place on the board back: loads the status, then swaps its cursor for a vacant one. The account has its closing, as
-    /// the swap shows it, or else the length that it loaded. What the part that left had taken is a stretch of the log of a legal game.
+    /// the swap shows it, or else the length that it loaded: no less than it had seen, and a closing that it knew is in the account. So the
+    /// place that it would take next is not beyond the limit. What the part that left had taken is a stretch of the log of a legal game.
     pub fn leave(self) -> (Account, Gone)
         ensures table { result.1.table ≡ self.table }
         ensures none { result.1.knows.parts ≡ [] }
-        ensures gone { (status cursor : ℕ) × (result.1.knows.gone ≡ learns cursor (sees status self.part) ∷ []) × (result.0 ≡ account_of (learns cursor (sees status self.part))) }
+        ensures gone { (status cursor : ℕ) × (result.1.knows.gone ≡ learns cursor (sees status self.part) ∷ []) × (result.0 ≡ account_of (learns cursor (sees status self.part)))
+            × HasSeenNoLess self.part (learns cursor (sees status self.part)) }
+        ensures within { result.0.joined + result.0.taken ≤ result.0.limit }
         ensures headline { (p : Part) × (result.1.knows.gone ≡ p ∷ []) × IsSoundPart p }
     {
         let mut follower = self;

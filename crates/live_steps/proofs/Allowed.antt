@@ -21,7 +21,7 @@ use Rattle.live_steps.specs.declared.note.Note.TheVariants.{Vacant, Open as Open
 use Rattle.live_steps.specs.declared.view.Part.{Part}
 use Rattle.live_steps.specs.declared.view.View.{View}
 use Rattle.live_steps.specs.Words.{closing_in, cursor_at, move_word_at, header_word, status_word, cursor_of, outcome_number, outcome_numbered}
-use Rattle.live_steps.specs.Views.{next_of, starting, followed, kept_part, given_part, storing, published, finished, each_part, sees, finds, gains, learns, only_at, carrying, noted, cutting, left_at, taking_in, spent}
+use Rattle.live_steps.specs.Views.{next_of, starting, followed, kept_part, given_part, storing, published, finished, each_part, sees, finds, gains, learns, only_at, carrying, noted, missing, cutting, left_at, taking_in, spent}
 use Rattle.live_steps.specs.Shows.{Table, ShowsPart, Shows}
 use Rattle.live_steps.specs.Rule.{Kept, IsEvent}
 use Rattle.live_steps.specs.Plays.{Seat, follows, stores, publishes, finishes, looks, reads, takes, checks, cuts, leaves}
@@ -149,6 +149,13 @@ allows_reading z slots id m place s q _ seat _ =
       ),
     )
 
+-- a closing that a part knows is what its cursor says
+known_shown : (z : BoardSetup) (s : Table) (id : ℕ) (m : Seat) (word : ℕ) → Kept z s → get_elem? s.views id ≡ some m.0
+    → (i : ℕ) (p : Part) → get_elem? m.0.parts i ≡ some p → p.place + 2 ≡ word → (c : ℕ) → p.closing ≡ Some c → closing_in (get_or s.words word 0) ≡ Some c
+known_shown z s id m word q seat i p e at c known =
+    let h = q.shows.parts id m.0 seat i p e in
+    ap (λ (y : ℕ). closing_in (get_or s.words y 0)) (sym at) ∙ closing_shown z q.now s q.shows p h ∙ h.noticed c known
+
 -- 8
 pub allows_taking : (z : BoardSetup) (slots id : ℕ) (m : Seat) (i : ℕ) (p : Part) (x : Triple) → get_elem? m.0.parts i ≡ some p → p.loaded ≡ Some x → ((c : ℕ) → p.closing ≡ Some c → next_of p < c)
     → Allows (Kept z) slots id m (cursor_at p.place) (λ n. (n + 1) % 2 ^ 64) (takes (step slots (cursor_at p.place) 1 0 none) m)
@@ -164,9 +171,7 @@ allows_taking z slots id m i p x mine known unclosed s q _ seat _ =
       (
         told z s word ((n + 1) % 2 ^ 64) id m w seat kept,
         refl,
-        λ j o e at c e'.
-            let h = q.shows.parts id m.0 seat j o e in
-            ap (λ (y : ℕ). closing_in (get_or s.words y 0)) (sym at) ∙ closing_shown z q.now s q.shows o h ∙ h.noticed c e',
+        known_shown z s id m word q seat,
       ),
     )
 
@@ -185,7 +190,8 @@ allows_checking z slots id m k inside s q _ seat _ =
       (
         told z s word n id m w seat kept,
         refl,
-        λ owns note e. note_follows z q.now s q.shows k id m.0 inside seat owns note (ap (get_elem? m.0.notes) (sym at-k) ∙ e),
+        (λ owns note e. note_follows z q.now s q.shows k id m.0 inside seat owns note (ap (get_elem? m.0.notes) (sym at-k) ∙ e)),
+        known_shown z s id m word q seat,
       ),
     )
 
@@ -208,7 +214,7 @@ allows_cutting z slots id m k joined p inside owns note full s q _ seat _ =
     let kept = kept_event z s (after s word new id m w) q (Cut k) (law.0 hit) in
     (w, keeps, tt, kept, (told z s word new id m w seat kept, (λ _. refl), λ miss. absurd (miss hit))))
     (λ miss.
-    let w = noted word n m.0 in
+    let w = missing word n m.0 in
     let kept = kept_silent z s (after s word n id m w) q (law.1 miss) in (
       w,
       keeps,
@@ -239,8 +245,9 @@ allows_leaving z slots id m i p mine s q _ seat _ =
       (
         told z s word 0 id m w seat kept,
         refl,
-        λ j x d is. sound_part z q.now s q.shows (learns n x)
-            (subst (ShowsPart z q.now) (λ k. cond (eq-eqb (x.place + 2) word is k) (learns n x) x) (learned_ok z q.now s q.shows word x (q.shows.parts id m.0 seat j x d))),
+        (λ j x d is. sound_part z q.now s q.shows (learns n x)
+            (subst (ShowsPart z q.now) (λ k. cond (eq-eqb (x.place + 2) word is k) (learns n x) x) (learned_ok z q.now s q.shows word x (q.shows.parts id m.0 seat j x d)))),
+        known_shown z s id m word q seat,
       ),
     )
 

@@ -13,15 +13,17 @@ use Rattle.live_machine.proofs.Kept.{goes}
 use Rattle.live_steps.specs.declared.setup.BoardSetup.{BoardSetup}
 use Rattle.live_steps.specs.declared.note.Note.{Note}
 use Rattle.live_steps.specs.declared.note.Note.TheVariants.{Vacant, Open, Closed}
+use Rattle.live_steps.specs.declared.step.BoardStep.{BoardStep}
+use Rattle.live_steps.specs.declared.step.BoardStep.TheVariants.{CursorLoaded, CursorExchanged}
 use Rattle.live_steps.specs.declared.view.Part.{Part}
 use Rattle.live_steps.specs.declared.view.View.{View}
 use Rattle.live_steps.specs.Words.{mark, cursor_of, cursor_word, closing_in, note_after}
-use Rattle.live_steps.specs.Views.{next_of, learns, only_at, noted, cutting}
+use Rattle.live_steps.specs.Views.{next_of, learns, making, only_at, told_by_cursor, cutting}
 use Rattle.live_steps.specs.Shows.{Table, total, is_at, one_if, IsTrueNote, ShowsPart, ShowsBoard, Shows}
 use Rattle.live_steps.specs.Sound.{Follows}
 use Rattle.live_steps.specs.Plays.{Seat}
-use Rattle.live_steps.specs.Rule.{IsEvent}
-use Rattle.live_steps.specs.Kinds.{after, LoadsACursor, ClosesACursor}
+use Rattle.live_steps.specs.Rule.{IsEvent, IsSilent}
+use Rattle.live_steps.specs.Kinds.{Sits, after, LoadsACursor, ClosesACursor}
 use Rattle.live_steps.proofs.Notes.{follower, closing_is, note_loaded, place_noted, Notes, notes_set, notes_put}
 use Rattle.live_steps.proofs.Parts.{part_other, pick}
 use Rattle.live_steps.proofs.Steps.{Parts, near, turned, silent, each_ok, only_keep, follower_cases}
@@ -40,8 +42,9 @@ note_read (x ∷ xs) zero n e = some-injective x n e
 note_read (x ∷ xs) (suc k) n e = note_read xs k n e
 
 -- the board's view with another note, at a word that stays
-noted_ok : (z : BoardSetup) (a : SharedBoard) (s : Table) (r : Shows z a s) (k : ℕ) (v : View) → k < z.limits.followers → ShowsBoard z a s.words v → ShowsBoard z a s.words (noted (k + 2) (get_or s.words (k + 2) 0) v)
-noted_ok z a s r k v inside b =
+noted_ok : (step : BoardStep) (z : BoardSetup) (a : SharedBoard) (s : Table) (r : Shows z a s) (k : ℕ) (v : View) → k < z.limits.followers → ShowsBoard z a s.words v
+    → ShowsBoard z a s.words (making step (told_by_cursor (k + 2) (get_or s.words (k + 2) 0) v))
+noted_ok step z a s r k v inside b =
     let at-k : k + 2 - 2 ≡ k = omega arith in
     let n : ℕ = get_or s.words (k + 2) 0 in
     let old = note_there v.notes k (let l = b.noted in omega arith) in
@@ -82,13 +85,18 @@ learned_ok z a s r word p h =
     })
     (λ _. h)
 
-pub loads_a_cursor : LoadsACursor
-loads_a_cursor z a s id m r seat k inside =
+-- a step that tells the board what a cursor says, and changes no word
+told_silent : (step : BoardStep) (z : BoardSetup) (a : SharedBoard) (s : Table) (id : ℕ) (m : Seat) → Shows z a s → Sits s id m → (k : ℕ) → k < z.limits.followers
+    → IsSilent z a (after s (k + 2) (get_or s.words (k + 2) 0) id m (making step (told_by_cursor (k + 2) (get_or s.words (k + 2) 0) m.0)))
+told_silent step z a s id m r seat k inside =
     let word : ℕ = k + 2 in
     let n : ℕ = get_or s.words word 0 in
-    silent z a s r word id m (noted word n m.0) seat refl (λ _ b. noted_ok z a s r k m.0 inside b)
+    silent z a s r word id m (making step (told_by_cursor word n m.0)) seat refl (λ _ b. noted_ok step z a s r k m.0 inside b)
     (each_ok z a m.0.parts (only_at word (learns n)) (λ i p e. learned_ok z a s r word p (r.parts id m.0 seat i p e)))
     (λ j. total-map (is_at j) (only_at word (learns n)) (only_keep word j (learns n) (λ x. refl)) m.0.parts)
+
+pub loads_a_cursor : LoadsACursor
+loads_a_cursor z a s id m r seat k inside = told_silent (CursorLoaded (k + 2 - 2)) z a s id m r seat k inside
 
 -- what a note becomes where its cursor is loaded
 pub note_follows : (z : BoardSetup) (a : SharedBoard) (s : Table) (r : Shows z a s) (k id : ℕ) (v : View) → k < z.limits.followers → get_elem? s.views id ≡ some v → v.owns ≡ true
@@ -166,7 +174,7 @@ closes_a_cursor z a s id m r seat owns k joined p inside note full =
           let y = ap mark here.1 in
           hit z a s id m r seat owns k p inside full f has here.1 (omega arith))
           (follower_cases (a.followers k))),
-      λ _. loads_a_cursor z a s id m r seat k inside,
+      λ _. told_silent (CursorExchanged (k + 2 - 2)) z a s id m r seat k inside,
     )
 
 -- where the exchange fails, the follower has left or taken a move

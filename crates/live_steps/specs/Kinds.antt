@@ -20,7 +20,7 @@ use Rattle.live_steps.specs.declared.note.Note.TheVariants.{Vacant, Open as Open
 use Rattle.live_steps.specs.declared.view.Part.{Part}
 use Rattle.live_steps.specs.declared.view.View.{View}
 use Rattle.live_steps.specs.Words.{cursor_at, move_word_at, header_word, status_word, cursor_of}
-use Rattle.live_steps.specs.Views.{next_of, starting, followed, kept_part, given_part, storing, published, finished, each_part, sees, finds, gains, only_at, noted, cutting, left_at, carrying, taking_in, spent}
+use Rattle.live_steps.specs.Views.{next_of, starting, followed, kept_part, given_part, storing, published, finished, each_part, sees, finds, gains, only_at, noted, missing, cutting, left_at, carrying, taking_in, spent}
 use Rattle.live_steps.specs.Shows.{Table, Shows}
 use Rattle.live_steps.specs.Rule.{IsEvent, IsSilent}
 use Rattle.live_steps.specs.Plays.{Seat}
@@ -126,7 +126,7 @@ ClosesACursor =
     → (k joined p : ℕ) → k < z.limits.followers → get_elem? me.0.notes k ≡ some (OpenNote joined p) → p + z.limits.capacity ≡ length me.0.log
     → let word : ℕ = cursor_at k in
     (found s word ≡ cursor_of p None → IsEvent z a (Cut k) (after s word (cursor_of p (Some (length me.0.log))) id me (cutting word me.0)))
-    × (found s word ≢ cursor_of p None → IsSilent z a (after s word (found s word) id me (noted word (found s word) me.0)))
+    × (found s word ≢ cursor_of p None → IsSilent z a (after s word (found s word) id me (missing word (found s word) me.0)))
 
 -- 11. A follower swaps its cursor for a vacant one: a leave.
 abbrev pub SwapsOut : Type 0

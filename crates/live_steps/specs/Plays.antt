@@ -12,7 +12,7 @@ use Rattle.live_steps.specs.declared.note.Note.TheVariants.{Open}
 use Rattle.live_steps.specs.declared.view.Part.{Part}
 use Rattle.live_steps.specs.declared.view.View.{View}
 use Rattle.live_steps.specs.Words.{length_in, outcome_in, closing_in, place_in, note_after}
-use Rattle.live_steps.specs.Views.{next_of, next_word, followed, storing, published, finished, each_part, sees, finds, gains, learns, only_at, noted, cutting, left_at}
+use Rattle.live_steps.specs.Views.{next_of, next_word, followed, storing, published, finished, each_part, sees, finds, gains, learns, only_at, noted, missing, cutting, left_at}
 use Rattle.live_steps.specs.Sound.{IsSound, IsSoundPart, Follows}
 
 -- a seat: its view, and the slots that it has taken, which are none
@@ -52,9 +52,11 @@ reads st m r m' = Told m m' × ((i : ℕ) (p : Part) → get_elem? m.0.parts i �
     → (x : Triple) × IsMove x × (r ≡ move_code x) × (m'.0 ≡ each_part (finds st.word x) m.0) × (m.0.owns ≡ true → x ≡ move_at m.0.log (next_of p)))
 
 -- a closing that the part of this cursor knows is the one found
+abbrev pub ShowsClosing : Made → Seat → ℕ → Type 0
+ShowsClosing st m r = (i : ℕ) (p : Part) → get_elem? m.0.parts i ≡ some p → p.place + 2 ≡ st.word → (c : ℕ) → p.closing ≡ Some c → closing_in r ≡ Some c
+
 abbrev pub takes : Made → Seat → ℕ → Seat → Type 0
-takes st m r m' = Told m m' × (m'.0 ≡ each_part (only_at st.word (gains r)) m.0)
-    × ((i : ℕ) (p : Part) → get_elem? m.0.parts i ≡ some p → p.place + 2 ≡ st.word → (c : ℕ) → p.closing ≡ Some c → closing_in r ≡ Some c)
+takes st m r m' = Told m m' × (m'.0 ≡ each_part (only_at st.word (gains r)) m.0) × ShowsClosing st m r
 
 -- the note follows on the old one, and an open follower is at most a capacity behind
 abbrev pub Noted : Made → Seat → ℕ → Type 0
@@ -62,14 +64,14 @@ Noted st m r = m.0.owns ≡ true → (n : Note) → get_elem? m.0.notes (st.word
     → Follows n (note_after n r) × ((joined least : ℕ) → note_after n r ≡ Open joined least → length m.0.log ≤ least + m.0.setup.limits.capacity)
 
 abbrev pub checks : Made → Seat → ℕ → Seat → Type 0
-checks st m r m' = Told m m' × (m'.0 ≡ noted st.word r m.0) × Noted st m r
+checks st m r m' = Told m m' × (m'.0 ≡ noted st.word r m.0) × Noted st m r × ShowsClosing st m r
 
 -- where the exchange fails, the follower has left or taken a move
 abbrev pub cuts : Made → Seat → ℕ → Seat → Type 0
 cuts st m r m' = Told m m' × (r ≡ st.first → m'.0 ≡ cutting st.word m.0)
-    × (r ≢ st.first → (m'.0 ≡ noted st.word r m.0) × Noted st m r × ((r ≡ 0) ⊎ (st.first < r)))
+    × (r ≢ st.first → (m'.0 ≡ missing st.word r m.0) × Noted st m r × ((r ≡ 0) ⊎ (st.first < r)))
 
 -- the part that leaves learns its closing, as one that stays would
 abbrev pub leaves : Made → Seat → ℕ → Seat → Type 0
 leaves st m r m' = Told m m' × (m'.0 ≡ left_at st.word r m.0)
-    × ((i : ℕ) (p : Part) → get_elem? m.0.parts i ≡ some p → p.place + 2 ≡ st.word → IsSoundPart (learns r p))
+    × ((i : ℕ) (p : Part) → get_elem? m.0.parts i ≡ some p → p.place + 2 ≡ st.word → IsSoundPart (learns r p)) × ShowsClosing st m r

@@ -7,6 +7,8 @@ use Rattle.c960_game.specs.Ends.{own_outcome}
 use Rattle.live_steps.specs.declared.setup.BoardSetup.{BoardSetup}
 use Rattle.live_steps.specs.declared.note.Note.{Note}
 use Rattle.live_steps.specs.declared.note.Note.TheVariants.{Vacant, Open, Closed}
+use Rattle.live_steps.specs.declared.step.BoardStep.{BoardStep}
+use Rattle.live_steps.specs.declared.step.BoardStep.TheVariants.{CursorLoaded, CursorExchanged, CursorOpened, MoveStored, StatusStored}
 use Rattle.live_steps.specs.declared.view.Part.{Part}
 use Rattle.live_steps.specs.declared.view.View.{View}
 use Rattle.live_steps.specs.Words.{length_in, outcome_in, closing_in, note_after, move_word_at}
@@ -73,22 +75,27 @@ others (p ∷ ps) = ps
 
 abbrev pub board : View → List Triple → Option Outcome → Option Triple → List Note → List ℕ → List ℕ → List Part → View
 board v log outcome stored notes checks closings parts =
-    record { owns = v.owns; setup = v.setup; log = log; outcome = outcome; stored = stored; notes = notes; checks = checks; closings = closings; parts = parts; gone = v.gone }
+    record { owns = v.owns; setup = v.setup; log = log; outcome = outcome; stored = stored; notes = notes; checks = checks; closings = closings; made = v.made; parts = parts; gone = v.gone }
+
+-- the view, with one more step that the board made
+abbrev pub making : BoardStep → View → View
+making step v =
+    record { owns = v.owns; setup = v.setup; log = v.log; outcome = v.outcome; stored = v.stored; notes = v.notes; checks = v.checks; closings = v.closings; made = v.made ++ step ∷ []; parts = v.parts; gone = v.gone }
 
 -- 1: the board's view when the table is made
 abbrev pub starting : BoardSetup → View
-starting z = record { owns = true; setup = z; log = []; outcome = None; stored = None; notes = replicate z.limits.followers Vacant; checks = replicate z.limits.followers 0; closings = []; parts = []; gone = [] }
+starting z = record { owns = true; setup = z; log = []; outcome = None; stored = None; notes = replicate z.limits.followers Vacant; checks = replicate z.limits.followers 0; closings = []; made = []; parts = []; gone = [] }
 
 -- 2: a follower has joined at the cursor place k, from the place j
 abbrev pub followed : ℕ → ℕ → View → View
-followed k j v = board v v.log v.outcome v.stored (slice_set v.notes k (Open j j)) v.checks v.closings (newcomer k j v ∷ v.parts)
+followed k j v = making (CursorOpened k) (board v v.log v.outcome v.stored (slice_set v.notes k (Open j j)) v.checks v.closings (newcomer k j v ∷ v.parts))
 
 -- 3: the board without the part that it hands out, and the seat that gets it
 abbrev pub kept_part : View → View
 kept_part v = board v v.log v.outcome v.stored v.notes v.checks v.closings (others v.parts)
 
 abbrev pub carrying : BoardSetup → List Part → View
-carrying z ps = record { owns = false; setup = z; log = []; outcome = None; stored = None; notes = []; checks = []; closings = []; parts = ps; gone = [] }
+carrying z ps = record { owns = false; setup = z; log = []; outcome = None; stored = None; notes = []; checks = []; closings = []; made = []; parts = ps; gone = [] }
 
 abbrev pub given_part : View → View
 given_part v = carrying v.setup (first_of v.parts)
@@ -102,34 +109,43 @@ bare v = carrying v.setup []
 
 -- 4: a move is stored, and not yet published
 abbrev pub storing : Triple → View → View
-storing m v = board v v.log v.outcome (Some m) v.notes v.checks v.closings v.parts
+storing m v = making MoveStored (board v v.log v.outcome (Some m) v.notes v.checks v.closings v.parts)
 
 -- 5: it is published
 abbrev pub published : Triple → View → View
-published m v = board v (v.log ++ m ∷ []) (own_outcome v.setup.start (v.log ++ m ∷ [])) None v.notes v.checks v.closings v.parts
+published m v = making StatusStored (board v (v.log ++ m ∷ []) (own_outcome v.setup.start (v.log ++ m ∷ [])) None v.notes v.checks v.closings v.parts)
 
 -- 5: the game has this outcome
 abbrev pub finished : Option Outcome → View → View
-finished o v = board v v.log o v.stored v.notes v.checks v.closings v.parts
+finished o v = making StatusStored (board v v.log o v.stored v.notes v.checks v.closings v.parts)
 
 -- 6, 7 and 8: each part that the seat carries goes by f
 abbrev pub each_part : (Part → Part) → View → View
 each_part f v = board v v.log v.outcome v.stored v.notes v.checks v.closings (map f v.parts)
 
--- 9: the cursor was loaded, and says w
-abbrev pub noted : ℕ → ℕ → View → View
-noted word w v =
+-- the cursor says w: it is noted, and one load more is counted
+abbrev pub told_by_cursor : ℕ → ℕ → View → View
+told_by_cursor word w v =
     board v v.log v.outcome v.stored (slice_set v.notes (word - 2) (note_after (get_or v.notes (word - 2) Vacant) w))
     (slice_set v.checks (word - 2) (slice_index v.checks (word - 2) + 1)) v.closings (map (only_at word (learns w)) v.parts)
 
+-- 9: the cursor was loaded, and says w
+abbrev pub noted : ℕ → ℕ → View → View
+noted word w v = making (CursorLoaded (word - 2)) (told_by_cursor word w v)
+
+-- 10: the exchange found another word there, w
+abbrev pub missing : ℕ → ℕ → View → View
+missing word w v = making (CursorExchanged (word - 2)) (told_by_cursor word w v)
+
 -- 10: the follower at the cursor is closed
 abbrev pub cutting : ℕ → View → View
-cutting word v = board v v.log v.outcome v.stored (slice_set v.notes (word - 2) (Closed (length v.log))) v.checks (v.closings ++ (word - 2) ∷ []) v.parts
+cutting word v =
+    making (CursorExchanged (word - 2)) (board v v.log v.outcome v.stored (slice_set v.notes (word - 2) (Closed (length v.log))) v.checks (v.closings ++ (word - 2) ∷ []) v.parts)
 
 -- 11: the follower at the cursor, which said w, has left
 abbrev pub left_at : ℕ → ℕ → View → View
 left_at word w v =
-    record { owns = v.owns; setup = v.setup; log = v.log; outcome = v.outcome; stored = v.stored; notes = slice_set v.notes (word - 2) Vacant; checks = v.checks; closings = v.closings; parts = without word v.parts; gone = v.gone ++ map (learns w) (those_at word v.parts) }
+    record { owns = v.owns; setup = v.setup; log = v.log; outcome = v.outcome; stored = v.stored; notes = slice_set v.notes (word - 2) Vacant; checks = v.checks; closings = v.closings; made = v.made; parts = without word v.parts; gone = v.gone ++ map (learns w) (those_at word v.parts) }
 
 -- 12: a seat has taken in the parts of another, and that one is spent
 abbrev pub taking_in : View → View → View

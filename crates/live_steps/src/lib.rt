@@ -6,9 +6,11 @@ pub mod laws;
 mod note;
 pub mod plays;
 mod setup;
+mod step;
 mod view;
 pub mod words;
 
 pub use note::Note;
 pub use setup::BoardSetup;
+pub use step::BoardStep;
 pub use view::{LiveRule, Part, View};

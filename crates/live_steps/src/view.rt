@@ -3,6 +3,7 @@
 
 use crate::note::Note;
 use crate::setup::BoardSetup;
+use crate::step::BoardStep;
 use atomic_table::TableRule;
 use c960_board::Move;
 use c960_game::Outcome;
@@ -34,7 +35,7 @@ pub struct Part {
 
 /// What a seat knows.
 pub struct View {
-    /// Whether it is the board's. The fields from the log to the closings are the board's alone.
+    /// Whether it is the board's. The fields from the log to the steps made are the board's alone.
     pub owns: bool,
     /// What the board was opened with.
     pub setup: BoardSetup,
@@ -50,6 +51,8 @@ pub struct View {
     pub checks: LinkedList<u64>,
     /// The cursor places that it closed, in order.
     pub closings: LinkedList<u64>,
+    /// The steps that it made for itself, in order.
+    pub made: LinkedList<BoardStep>,
     /// The followers' parts that the seat carries.
     pub parts: LinkedList<Part>,
     /// The parts that left through this seat.

@@ -9,7 +9,7 @@ use Rattle.live_steps.specs.declared.note.Note.TheVariants.{Vacant, Open, Closed
 use Rattle.live_steps.specs.declared.view.Part.{Part}
 use Rattle.live_steps.specs.declared.view.View.{View}
 use Rattle.live_steps.specs.Words.{closing_in, note_after}
-use Rattle.live_steps.specs.Views.{noted, learns, only_at}
+use Rattle.live_steps.specs.Views.{noted, missing, learns, only_at}
 use Rattle.live_steps.specs.Sound.{Follows}
 use Rattle.live_steps.proofs.Parts.{pick, not_there}
 use Rattle.live_steps.proofs.Totals.{at_map_back}
@@ -121,7 +121,7 @@ tried_once v w k t = by_try (TriedOnce v k) v w k t
     })
     (λ r place n told full told' later.
     let u = noted (k + 2) r v in
-    let w' = noted (k + 2) n u in record {
+    let w' = missing (k + 2) n u in record {
       held = held_learned (k + 2) n u.parts ∙ held_learned (k + 2) r v.parts;
       others = λ j d none. noticed_other k j n u.parts d (noticed_other k j r v.parts d none);
       turns = λ a b e d.

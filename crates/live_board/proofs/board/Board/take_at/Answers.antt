@@ -14,7 +14,7 @@ use Rattle.live_steps.specs.Views.{sees}
 use Rattle.live_steps.specs.Sound.{IsSoundBoard}
 use Rattle.live_board.specs.Carried.{cut_at, due_at, TookAt}
 use Rattle.live_board.specs.Seats.{BoardSeat}
-use Rattle.live_board.proofs.Carrying.{before_closing, more_due, none_due, took_nothing, took_look, took_move}
+use Rattle.live_board.proofs.Carrying.{before_closing, more_due, none_due, took_cut, took_look, took_move}
 use Rattle.live_board.proofs.board.Board.take_at.Goals.{After-look, in-Some, in-None}
 use Rattle.live_board.proofs.board.Board.take_at.Goals as goal
 
@@ -26,7 +26,7 @@ pub closing_at-requires : goal.closing_at-requires
 closing_at-requires c = let q = c.requires in (q.0, q.1, ap (λ (h : BoardSeat). get_elem? h.knows.parts q.0) c.self.view_is ∙ q.2, q.3)
 
 pub returns-then-eq-clause-knows : goal.returns-then-eq-clause-knows
-returns-then-eq-clause-knows c = took_nothing c.args.cursor_place c.args.self.now.knows Cut refl
+returns-then-eq-clause-knows c = took_cut c.args.cursor_place c.args.self.now.knows
 
 -- the part that takes, before and after the status was loaded, where it does not stand at its closing
 module _ (c : After-look) where
@@ -87,7 +87,7 @@ returns-then-next-len-clause-knows c =
     let len = ap (λ (y : GameRecord). length y.log) c.self.invariant.game_is in
     let n = c.from-then-next-len.result in
     let took : TookAt c.args.cursor_place (Move n c.gain_at-m.result) v c.gain_at-m.new.self.knows =
-    took_move c.args.cursor_place n s.0 g.0 q.0 c.gain_at-m.result (sees s.0 q.1) v c.look.new.self.knows c.gain_at-m.new.self.knows (c.look.ensures.sound.board owns) s.1 s.2
+    took_move c.args.cursor_place n s.0 g.0 q.0 c.gain_at-m.result (sees s.0 q.1) v c.look.new.self.knows c.gain_at-m.new.self.knows (c.look.ensures.sound.board owns) s.1 s.2 s.3
     (omega (arith, len, c.len.ensures, c.if-next-len.true, c.from-then-next-len.ensures))
     (looked at) q.3 (q.4 ∙ sym c.from-then-next-len.ensures) g.1 in
     subst (λ (u : View). TookAt c.args.cursor_place (Move c.args.next c.gain_at-m.result) u c.gain_at-m.new.self.knows) x
@@ -115,6 +115,6 @@ returns-clause-knows c =
     let x = ap (λ (h : BoardSeat). h.knows) c.self.view_is in
     let s = c.look.ensures.knows in
     elim c.match-outcome.branch [
-      | in-Some w ↦ subst (λ (u : View). TookAt c.args.cursor_place c.match-outcome.result u c.look.new.self.knows) x (rw (w.result-is) (took_look c.args.cursor_place s.0 v c.look.new.self.knows (Over w.in-Some.outcome) refl s.1))
-      | in-None w ↦ subst (λ (u : View). TookAt c.args.cursor_place c.match-outcome.result u c.look.new.self.knows) x (rw (w.result-is) (took_look c.args.cursor_place s.0 v c.look.new.self.knows Nothing refl s.1))
+      | in-Some w ↦ subst (λ (u : View). TookAt c.args.cursor_place c.match-outcome.result u c.look.new.self.knows) x (rw (w.result-is) (took_look c.args.cursor_place s.0 v c.look.new.self.knows (Over w.in-Some.outcome) refl (λ p q has same. (has, same)) s.1 s.2 s.3))
+      | in-None w ↦ subst (λ (u : View). TookAt c.args.cursor_place c.match-outcome.result u c.look.new.self.knows) x (rw (w.result-is) (took_look c.args.cursor_place s.0 v c.look.new.self.knows Nothing refl (λ p q has same. (has, same)) s.1 s.2 s.3))
     ]

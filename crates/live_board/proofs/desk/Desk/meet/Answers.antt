@@ -10,6 +10,7 @@ use Rattle.live_steps.proofs.Allowed.{allows_sparing, allows_splitting, allows_j
 use Rattle.live_steps.proofs.Checking.{note_read}
 use Rattle.live_steps.proofs.Steps.{off}
 use Rattle.live_board.specs.Meeting.{Met}
+use Rattle.live_board.specs.Takes.{HasSeenNoLess}
 use Rattle.live_board.specs.Seats.{BoardSeat, FollowerSeat, NoneBefore, part_of}
 use Rattle.live_board.proofs.Desks.{desk_of, none_before_loaded, noted_is, noted_there}
 use Rattle.live_board.proofs.Followers.{follower_of, only_is, part_sound}
@@ -55,6 +56,15 @@ module _ (c : After-split_seat-out) where
 
   handed_sound : IsSound c.split_seat-out.result.me.0
   handed_sound = subst IsSound (sym (ap (λ m. m.0) c.split_seat-out.ensures.4)) (given_sound c.load-cursor.new.seat.me.0 c.load-cursor.ensures.2.0.1)
+
+  -- the part has seen no less than before
+  no_less : HasSeenNoLess (part_of c.follower.inside.seat.me.0) (learns c.load-cursor.result (sees c.load-status.result (part_of c.follower.inside.seat.me.0)))
+  no_less =
+      let p = part_of c.follower.inside.seat.me.0 in
+      let r = c.load-status.result in
+      let seen = c.load-status.ensures.2.2 0 p (ap (λ (u : View). get_elem? u.parts 0) (joined early)) in
+      let at-word : (sees r p).place + 2 ≡ c.cursor_at-word.result = ap (λ (y : ℕ). y + 2) (sym c.follower.invariant.place_is) ∙ sym c.cursor_at-word.ensures in
+      (seen.0, seen.2, c.load-cursor.ensures.2.3 0 (sees r p) (ap (λ (u : View). get_elem? u.parts 0) (looked early)) at-word)
 
 pub split_seat-seat-requires : goal.split_seat-seat-requires
 split_seat-seat-requires c = (search rules, search rules, allows_sparing _ _ _)
@@ -127,7 +137,7 @@ returns-clause-met c =
     let view = ap (λ m. m.0) c.split_seat-out.ensures.2 ∙ ap kept_part (whole late) in
     let own = c.load-status.ensures.2.3 (ap (λ (u : View). u.owns) (joined (early late)) ∙ owns) in
     let met = meets c.self.inside.seat.me.0 c.follower.inside.setup (part_of c.follower.inside.seat.me.0) c.follower.inside.place c.load-status.result c.load-cursor.result (sym c.follower.invariant.place_is) owns (subst IsSound (whole late) c.load-cursor.ensures.2.0.1)
-    (own.0 ∙ ap (λ (u : View). length u.log) (joined (early late))) (own.1 ∙ ap (λ (u : View). u.outcome) (joined (early late))) in
+    (own.0 ∙ ap (λ (u : View). length u.log) (joined (early late))) (own.1 ∙ ap (λ (u : View). u.outcome) (joined (early late))) (no_less late) in
     subst (λ (x : View × Part × View × Part). Met x.0 x.1 x.2 x.3) (λ k. (ap (λ (h : BoardSeat). h.knows) c.self.view_is k, ap (λ (h : FollowerSeat). h.part) c.follower.view_is k, sym view k, sym (ap part_of (handed late)) k)) met
 
 pub returns-clause-sound : goal.returns-clause-sound
