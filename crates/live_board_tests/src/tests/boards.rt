@@ -1,4 +1,4 @@
-//! What a board is opened with, and its positions.
+//! What a board is opened with, its moves and its positions.
 
 use crate::tests::games::{limits_of, move_of};
 use c960_board::{Position, read_fen};
@@ -64,6 +64,34 @@ fn its_positions_are_those_of_the_game(rt: HostRuntime) -> Result<(), Fail> {
         };
         assert!(rt; board.len() == 0);
         assert!(rt; board.outcome() == None);
+    }
+    Ok(())
+}
+
+#[test]
+fn its_start_and_its_moves_can_be_read(rt: HostRuntime) -> Result<(), Fail> {
+    let limits = limits_of(&rt, 1, 2, 1024);
+    for start in [0, 518, 959] {
+        let Ok(board) = Board::open(rt.alloc(), start, limits) else {
+            panic!(rt; "no board {start}");
+        };
+        assert!(rt; board.start() == start);
+        assert!(rt; board.move_at(0) == None);
+    }
+    let Ok(mut board) = Board::open(rt.alloc(), 518, limits) else {
+        panic!(rt; "no board");
+    };
+    for (text, _) in GAME {
+        assert!(rt; board.submit(move_of(&rt, text)).is_ok());
+    }
+    assert!(rt; board.start() == 518);
+    let mut place = 0u16;
+    for (text, _) in GAME {
+        assert!(rt; board.move_at(place) == Some(move_of(&rt, text)));
+        place = place.saturating_add(1);
+    }
+    for past in [4, 5, 65535] {
+        assert!(rt; board.move_at(past) == None);
     }
     Ok(())
 }
