@@ -6,7 +6,7 @@ ghost use Rattle.relay_pushing.specs.Connections.{Answered, Bars, Ends, IsUnmove
 use crate::keeper::Keeper;
 use c960_game::{Ending, Refusal};
 use relay_core::{BoardName, Reply, Step};
-use relay_messages::{Answer, decode, encode};
+use relay_messages::{Answer, Decoder, encode};
 use std::alloc::{AllocError, Global};
 use std::marker::Model;
 
@@ -15,6 +15,7 @@ use std::marker::Model;
 pub struct Conn {
     alloc: Global,
     opened: Vec<BoardName>,
+    decoder: Decoder,
 }
 
 impl Model for Conn {
@@ -33,6 +34,7 @@ impl Conn {
         Conn {
             alloc,
             opened: Vec::new(alloc),
+            decoder: Decoder::new(alloc),
         }
     }
 
@@ -94,7 +96,7 @@ impl Conn {
         ensures ok { IfOk result (λ answer. Leads (K.tells keeper.old) K.makes self.old keeper.old text.now answer self.new keeper.new) }
         ensures err { OnErr result (IsUnmoved self.old keeper.old self.new keeper.new) }
     {
-        match decode(self.alloc, text) {
+        match self.decoder.decode(text) {
             Ok(step) => Ok(Answer::Reply(self.reply(&step, keeper)?)),
             Err(fault) => Ok(Answer::Fault(fault)),
         }

@@ -2,5 +2,6 @@
 #![tactic(auto)]
 
 pub mod list_outlet;
+pub mod relay_keeper;
 #[cfg(test)]
 mod tests;
