@@ -1,2 +1,4 @@
+pub mod Lines
+pub mod Memory
 pub mod Opening
 pub mod Spectating

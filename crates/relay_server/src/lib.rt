@@ -8,6 +8,7 @@ mod deadline;
 mod gates;
 mod head;
 mod line;
+mod memory;
 mod outlet;
 mod registry;
 mod seat;
@@ -16,6 +17,7 @@ mod sessions;
 mod spectating;
 mod stream;
 mod talk;
+mod texts;
 mod threads;
 mod wakes;
 
