@@ -14,6 +14,8 @@ use Rattle.live_steps.specs.Views.{next_of}
 use Rattle.live_steps.specs.Sound.{BearsOut}
 use Rattle.live_board.specs.Seats.{FollowerSeat}
 use Rattle.live_board.specs.Takes.{Stays, Took, TookOfGame}
+use Rattle.relay_server.specs.declared.sessions.SessionEnd.{SessionEnd}
+use Rattle.relay_server.specs.declared.sessions.SessionEnd.TheVariants as ends
 
 -- a take of the follower gives this answer, and leads from f to g; what it has taken is of a legal game
 abbrev pub Gives : FollowerSeat → Taken → FollowerSeat → Type 0
@@ -63,3 +65,13 @@ pub record Sent (f g : FollowerSeat) (old new : Option (List (List ℕ))) (end :
   pub of_log : sent ++ lost ≡ stretch (next_of f.part) (next_of g.part) log
   pub gained : GainsAll old new (move_texts (next_of f.part) sent ++ end_texts end)
   pub ended : IsEnd log g.part end
+
+-- the end of a session after pushing ended so
+abbrev pub session_end : PushEnd → SessionEnd
+session_end (Over outcome) = ends.Over
+session_end Cut = ends.Cut
+session_end (Failed fault) = ends.Failed
+
+-- the session ended as its pushing did, and was sent what the follower took: these texts came behind those before
+abbrev pub Pushed : FollowerSeat → FollowerSeat → List (List ℕ) → List (List ℕ) → SessionEnd → Type 0
+Pushed f g old new ended = (end : PushEnd) × Sent f g (Some old) (Some new) end × (ended ≡ session_end end)

@@ -9,6 +9,7 @@ mod deadline;
 mod gates;
 mod head;
 mod line;
+mod memory;
 mod outlet;
 mod registry;
 mod seat;
@@ -17,6 +18,7 @@ mod sessions;
 mod spectating;
 mod stream;
 mod talk;
+mod texts;
 mod threads;
 mod wakes;
 

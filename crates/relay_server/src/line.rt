@@ -1,5 +1,10 @@
 //! A stream that puts off what need not be done before its peer is waited for.
 
+ghost use Rattle.std.specs.Prelude.{◌≡◌, ◌≤◌, true, [], length, take, drop, vec_len, OnOk, OnErr, IsErr};
+ghost use Rattle.std.specs.Io.{WritesAtMost};
+ghost use Rattle.std.specs.Io.KnownBytes.{Appends, Keeps, WriteAppends};
+ghost use Rattle.relay_server.specs.Lines.{written};
+
 use crate::broadcast::Broadcast;
 use crate::head::Head;
 use crate::stream::Stream;
@@ -16,12 +21,14 @@ const MOST_OUTPUT: usize = 65536;
 /// A stream whose request's head was gathered. What is written is kept back, and so are the wakes of a board's followers,
 /// until the stream itself is read, `send_now` is called, or too much was kept back. So the answers to commands that came in
 /// one piece leave in one piece, and one wake serves several moves.
+///
+/// What it was written is what the stream was written, and then what is kept back: nothing is lost, and nothing comes twice.
 #[derive(Drop)]
 pub(crate) struct Line<S> {
     stream: S,
     head: Head,
     output: Vec<u8>,
-    /// Whether a write failed. A part of it may have been sent, so nothing can be sent behind it.
+    /// Whether the stream failed. Nothing is sent any more.
     has_failed: bool,
     wakes: Wakes,
 }
@@ -44,19 +51,91 @@ impl<S: Read + Write> Line<S> {
     }
 
     /// Wakes whom it was put off to wake, and sends what was kept back. Once that has failed, nothing is sent any more.
-    pub(crate) fn send_now(&mut self) -> io::Result<()> {
+    ///
+    /// # Errors
+    ///
+    /// The stream failed, now or before. What it did not take is still kept back.
+    pub(crate) fn send_now(&mut self) -> io::Result<()>
+        ensures bytes { Keeps (written S.contents self.old) (written S.contents self.new) }
+        ensures sent { OnOk result (self.new.output.items ≡ []) }
+        ensures failed { OnErr result (self.new.has_failed ≡ true) }
+        ensures silent { self.old.has_failed ≡ true → IsErr result × (self.new.stream ≡ self.old.stream) }
+    {
         self.wakes.wake();
-        if self.output.is_empty() {
-            return Ok(());
-        }
         if self.has_failed {
             return Err(io::Error::from(ErrorKind::BrokenPipe));
         }
-        let sent = self.stream.write_all(self.output.as_slice());
-        self.output.clear();
-        self.has_failed = sent.is_err();
-        sent?;
+        let done = self.send_output();
+        self.has_failed = done.is_err();
+        done
+    }
+
+    /// Writes what was kept back to the stream, and keeps back what that did not take.
+    fn send_output(&mut self) -> io::Result<()>
+        ensures bytes { Keeps (written S.contents self.old) (written S.contents self.new) }
+        ensures sent { OnOk result (self.new.output.items ≡ []) }
+    {
+        if self.output.is_empty() {
+            return Ok(());
+        }
+        let (taken, done) = write_out(self.output.as_slice(), &mut self.stream);
+        remove_front(&mut self.output, taken);
+        done?;
         self.stream.flush()
+    }
+
+    /// Keeps these bytes back, behind what is kept back already.
+    fn keep_back(&mut self, bytes: &[u8]) -> io::Result<()>
+        ensures ok { OnOk result (Appends (written S.contents self.old) (written S.contents self.new) bytes.now) }
+        ensures err { OnErr result (Keeps (written S.contents self.old) (written S.contents self.new)) }
+    {
+        match self.output.extend_from_slice(bytes) {
+            Ok(()) => Ok(()),
+            Err(_) => Err(io::Error::from(ErrorKind::OutOfMemory)),
+        }
+    }
+}
+
+/// Writes the bytes until all are written or the stream fails: how many it took, in order, and whether it failed.
+fn write_out<S: Write>(bytes: &[u8], stream: &mut S) -> (usize, io::Result<()>)
+    ensures bound { result.0 ≤ length bytes.now }
+    ensures all { OnOk result.1 (result.0 ≡ length bytes.now) }
+    ensures bytes { Appends (S.contents stream.old) (S.contents stream.new) (take result.0 bytes.now) }
+{
+    let mut written = 0;
+    while written < bytes.len() {
+        match write_some(&bytes[written..], stream) {
+            Ok(0) => return (written, Err(io::Error::from(ErrorKind::WriteZero))),
+            Ok(n) => written += n,
+            Err(error) => return (written, Err(error)),
+        }
+    }
+    (written, Ok(()))
+}
+
+/// Writes once, and again as often as that was interrupted.
+fn write_some<S: Write>(bytes: &[u8], stream: &mut S) -> io::Result<usize>
+    ensures bound { WritesAtMost result bytes.now }
+    ensures bytes { WriteAppends (S.contents stream.old) (S.contents stream.new) result bytes.now }
+{
+    for _ in 0..u64::MAX {
+        match stream.write(bytes) {
+            Err(error) if error.kind() == ErrorKind::Interrupted => {}
+            done => return done,
+        }
+    }
+    Err(io::Error::from(ErrorKind::Interrupted))
+}
+
+/// Removes so many bytes at the front.
+fn remove_front(bytes: &mut Vec<u8>, n: usize)
+    requires { n ≤ vec_len bytes.old }
+    ensures { bytes.new.items ≡ drop n bytes.old.items }
+{
+    if n == bytes.len() {
+        bytes.clear();
+    } else {
+        bytes.drain(..n);
     }
 }
 
@@ -72,14 +151,14 @@ impl<S: Read + Write> Read for Line<S> {
 }
 
 impl<S: Read + Write> Write for Line<S> {
+    ghost contents = { written S.contents };
+
     fn write(&mut self, buf: &[u8]) -> io::Result<usize> {
-        if self.output.len() > MOST_OUTPUT {
+        if self.has_failed || self.output.len() > MOST_OUTPUT {
             self.send_now()?;
         }
-        match self.output.extend_from_slice(buf) {
-            Ok(()) => Ok(buf.len()),
-            Err(_) => Err(io::Error::from(ErrorKind::OutOfMemory)),
-        }
+        self.keep_back(buf)?;
+        Ok(buf.len())
     }
 
     fn flush(&mut self) -> io::Result<()> {

@@ -1,15 +1,20 @@
 //! Sessions: one connection from its handshake to its end.
 
+ghost use Rattle.std.specs.Prelude.{◌≡◌, ◌↔◌, Some};
+ghost use Rattle.relay_server.specs.Memory.{LacksMemory};
+ghost use Rattle.relay_server.specs.Spectating.{Pushed};
+
 use crate::head::Head;
 use crate::line::Line;
+use crate::memory::is_want_of_memory;
 use crate::outlet::SocketOutlet;
 use crate::registry::Registry;
 use crate::seat::Seat;
+use crate::spectating::Spectating;
 use crate::stream::Stream;
 use crate::talk::{Talk, TalkEnd};
 use relay_pushing::{Conn, Gate, Outlet, PushEnd};
 use std::alloc::Global;
-use std::io::ErrorKind;
 use std::sync::Wait;
 use std::time::Clock;
 use tungstenite::{Error, HandshakeError, WebSocketConfig};
@@ -100,8 +105,7 @@ fn shake_hands<C: Clock, S: Stream + Drop>(
 ) -> Result<SocketOutlet<S>, SessionEnd> {
     let head = match Head::read(clock, alloc, &mut stream) {
         Ok(head) => head,
-        Err(error) if error.kind() == ErrorKind::OutOfMemory => return Err(SessionEnd::Failed),
-        Err(_) => return Err(SessionEnd::NoHandshake),
+        Err(error) => return Err(end_unshaken(&Error::Io(error))),
     };
     let line = Line::new(alloc, stream, head, registry.most_wakes());
     match tungstenite::accept(alloc, line) {
@@ -113,8 +117,20 @@ fn shake_hands<C: Clock, S: Stream + Drop>(
             socket.set_config(config);
             Ok(SocketOutlet::new(alloc, socket))
         }
-        Err(HandshakeError::Failure(Error::OutOfMemory)) => Err(SessionEnd::Failed),
-        Err(_) => Err(SessionEnd::NoHandshake),
+        Err(HandshakeError::Failure(error)) => Err(end_unshaken(&error)),
+        Err(HandshakeError::Interrupted(_)) => Err(SessionEnd::NoHandshake),
+    }
+}
+
+/// How a session ends whose handshake failed: for want of memory, or because there was no handshake.
+fn end_unshaken(error: &Error) -> SessionEnd
+    ensures failed { (result ≡ SessionEnd.Failed) ↔ LacksMemory error.now }
+    ensures none { (result ≡ SessionEnd.NoHandshake) ↔ (LacksMemory error.now → ⊥) }
+{
+    if is_want_of_memory(error) {
+        SessionEnd::Failed
+    } else {
+        SessionEnd::NoHandshake
     }
 }
 
@@ -125,9 +141,21 @@ fn follow<R: Wait, S: Stream + Drop>(
     outlet: &mut SocketOutlet<S>,
     seat: &mut Seat<'_, R>,
 ) -> SessionEnd {
-    let Some(spectating) = seat.spectating() else {
-        return SessionEnd::Failed;
-    };
+    match seat.spectating() {
+        Some(spectating) => push(rt, alloc, outlet, spectating),
+        None => SessionEnd::Failed,
+    }
+}
+
+/// Pushes what is followed to the connection until its end, and closes the connection after `Over` and `Cut`.
+fn push<R: Wait, S: Stream + Drop>(
+    rt: &R,
+    alloc: Global,
+    outlet: &mut SocketOutlet<S>,
+    spectating: &mut Spectating,
+) -> SessionEnd
+    ensures { Pushed spectating.old.source spectating.new.source outlet.old.texts.items outlet.new.texts.items result }
+{
     match spectating.push(rt, alloc, outlet) {
         PushEnd::Over(_) => {
             let _ = outlet.close(NORMAL);

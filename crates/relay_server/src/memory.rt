@@ -1,0 +1,18 @@
+//! Want of memory, told from a failure of the device.
+
+ghost use Rattle.std.specs.Prelude.{◌≡◌, ◌↔◌, true};
+ghost use Rattle.relay_server.specs.Memory.{LacksMemory};
+
+use std::io::ErrorKind;
+use tungstenite::Error;
+
+/// Whether a call of a socket failed for want of memory. The socket found none, or its stream says so by the kind of its error.
+pub(crate) fn is_want_of_memory(error: &Error) -> bool
+    ensures { (result ≡ true) ↔ LacksMemory error.now }
+{
+    match error {
+        Error::OutOfMemory => true,
+        Error::Io(cause) => matches!(cause.kind(), ErrorKind::OutOfMemory),
+        _ => false,
+    }
+}
