@@ -35,6 +35,9 @@ TESTS = {
         "tests::memory::no_call_after_the_opening_takes_memory",
     ],
     "relay_messages_tests": [
+        "tests::answers::each_reply_has_its_text",
+        "tests::answers::each_outcome_has_its_text",
+        "tests::answers::each_refusal_and_each_fault_has_its_text",
         "tests::decoders::a_decoder_reads_texts_one_after_another",
         "tests::decoders::behind_want_of_memory_a_decoder_goes_on",
     ],
