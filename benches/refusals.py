@@ -30,6 +30,7 @@ from server import REQUEST, NotListening, Server, frame
 HERE = pathlib.Path(__file__).resolve().parent
 CRATES = HERE.parent / "crates"
 TESTS = {
+    "c960_rules_tests": ["tests::memory::a_long_list_of_moves_is_whole_or_wants_memory"],
     "c960_game_tests": [
         "tests::opening::each_start_opens_a_game_without_moves",
         "tests::memory::no_call_after_the_opening_takes_memory",
