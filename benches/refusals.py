@@ -30,11 +30,15 @@ from server import REQUEST, NotListening, Server, frame
 HERE = pathlib.Path(__file__).resolve().parent
 CRATES = HERE.parent / "crates"
 TESTS = {
+    "c960_rules_tests": ["tests::memory::a_long_list_of_moves_is_whole_or_wants_memory"],
     "c960_game_tests": [
         "tests::opening::each_start_opens_a_game_without_moves",
         "tests::memory::no_call_after_the_opening_takes_memory",
     ],
     "relay_messages_tests": [
+        "tests::answers::each_reply_has_its_text",
+        "tests::answers::each_outcome_has_its_text",
+        "tests::answers::each_refusal_and_each_fault_has_its_text",
         "tests::decoders::a_decoder_reads_texts_one_after_another",
         "tests::decoders::behind_want_of_memory_a_decoder_goes_on",
     ],

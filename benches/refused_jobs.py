@@ -1,15 +1,17 @@
 """What a job of the built program may do where one allocation is refused, for refusals.py.
 
-It does what it does with memory; or it answers one line with 12, and every other line as a relay does that never had that line; or it
-ends with status 4 and `fault 12 OutOfMemory`, behind whole answers to the lines before.
+It does what it does with memory; or it answers the line that asked for the allocation with 12, and every other line as a relay does that
+never had that line; or it ends with status 4 and `fault 12 OutOfMemory`, behind the answers to all lines before that line and to no other.
+Which line asks for an allocation is known: runs over the first lines alone tell how many allocations these ask for.
 """
 
+import bisect
 import itertools
 import os
 import pathlib
 import subprocess
 import sys
-from dataclasses import dataclass
+from dataclasses import dataclass, field
 
 CRATE = pathlib.Path(__file__).resolve().parent.parent / "crates/relay960"
 sys.path.insert(0, str(CRATE / "replays"))
@@ -22,8 +24,8 @@ NO_MEMORY, NO_BOARD, NO_FOLLOWER = refused(12, "OutOfMemory"), refused(1, "NoSuc
 GAME_OVER = refused(5, "GameOver")
 
 # The stored script of fourteen lines: an Open, a Follow, a Submit, two Takes, three Submits, four Takes, a Submit behind the end, a Leave.
-STORED = (CRATE / "stdin").read_bytes()
-STORED_ANSWERS = (CRATE / "stdout").read_bytes()
+STORED = (CRATE / "stdin").read_text().splitlines()
+STORED_ANSWERS = (CRATE / "stdout").read_text().splitlines()
 WITHOUT_THE_BOARD = [NO_MEMORY, NO_BOARD, NO_BOARD, *[NO_FOLLOWER] * 2, *[NO_BOARD] * 3, *[NO_FOLLOWER] * 4, NO_BOARD, NO_FOLLOWER]
 WITHOUT_THE_FOLLOWER = [
     *[OPENED, NO_MEMORY, played_last(0, None), *[NO_FOLLOWER] * 2],
@@ -34,28 +36,30 @@ WITHOUT_THE_FOLLOWER = [
 @dataclass(frozen=True)
 class Job:
     words: tuple
-    reads: bytes
-    prints: bytes
-    # What it prints where it answers one line with 12. Each of these is to come.
-    with_12: tuple = ()
+    # The lines that it reads, and what it prints for each; for none, where it reads nothing.
+    reads: list
+    prints: list
+    # What it prints where it answers the line of this number with 12. Each of these is to come.
+    with_12: dict = field(default_factory=dict)
 
-    def met(self, ended):
-        """What met the refusal: the job as a whole, one line, or nothing; None where something is wrong."""
+    def met(self, ended, line):
+        """What met the refusal, for which this line asked, or none where it is 0: the job as a whole, that line, or nothing; None where
+        something is wrong."""
         if ended.returncode == 4 and ended.stderr.endswith(b"fault 12 OutOfMemory\n"):
-            whole = ended.stdout.endswith(b"\n") or not ended.stdout
-            return "job" if whole and self.prints.startswith(ended.stdout) else None
+            before = max(line - 1, 0)
+            return "job" if ended.stdout == lines(self.prints[:before]) else None
         if ended.returncode or ended.stderr:
             return None
-        if ended.stdout == self.prints:
+        if ended.stdout == lines(self.prints):
             return "nothing"
-        return "line" if ended.stdout in self.with_12 else None
+        return "line" if line in self.with_12 and ended.stdout == lines(self.with_12[line]) else None
 
 
 JOBS = [
-    Job(("start", "0"), b"", b"bbqnnrkr/pppppppp/8/8/8/8/PPPPPPPP/BBQNNRKR w HFhf - 0 1\n"),
-    Job(("moves", "4k3/8/8/8/8/8/8/qRK5 w B - 0 1"), b"", b"b1a1 c1d1 c1c2 c1d2\ngoing\n"),
-    Job(PLAY, lines(move for move, _ in MATE), lines(answer for _, answer in MATE)),
-    Job(("script",), STORED, STORED_ANSWERS, (lines(WITHOUT_THE_BOARD), lines(WITHOUT_THE_FOLLOWER))),
+    Job(("start", "0"), [], ["bbqnnrkr/pppppppp/8/8/8/8/PPPPPPPP/BBQNNRKR w HFhf - 0 1"]),
+    Job(("moves", "4k3/8/8/8/8/8/8/qRK5 w B - 0 1"), [], ["b1a1 c1d1 c1c2 c1d2", "going"]),
+    Job(PLAY, [move for move, _ in MATE], [answer for _, answer in MATE]),
+    Job(("script",), STORED, STORED_ANSWERS, {1: WITHOUT_THE_BOARD, 2: WITHOUT_THE_FOLLOWER}),
 ]
 
 
@@ -69,18 +73,31 @@ def run_refused(number, words, allocator, mark, reads=b""):
         sys.exit(f"allocation {number}: {fault}")
 
 
+def allocations(job, allocator, mark):
+    """How many allocations the job asks for before it has a line, and up to the end of each line."""
+    asked, counts = 0, []
+    for some in range(len(job.reads) + 1):
+        while True:
+            run_refused(asked + 1, [PROGRAM, *job.words], allocator, mark, lines(job.reads[:some]))
+            if not mark.exists():
+                break
+            asked += 1
+        counts.append(asked)
+    return counts
+
+
 def refuse_in_job(job, allocator, mark):
     """Runs the job with each allocation refused, until none is; tells what met the refusals, and whether a run was wrong."""
-    met, printed = [], set()
+    met, printed, counts = [], set(), allocations(job, allocator, mark)
     for number in itertools.count(1):
-        ended = run_refused(number, [PROGRAM, *job.words], allocator, mark, job.reads)
+        ended = run_refused(number, [PROGRAM, *job.words], allocator, mark, lines(job.reads))
         if not mark.exists():
             break
-        met.append(job.met(ended))
+        met.append(job.met(ended, bisect.bisect_left(counts, number)))
         printed.add(ended.stdout)
         if met[-1] is None:
             print(f"{job.words[0]}, allocation {number}: status {ended.returncode}, printed {ended.stdout}, complained {ended.stderr}")
-    if not printed.issuperset(job.with_12):
+    if not printed.issuperset(map(lines, job.with_12.values())):
         print(f"{job.words[0]}: a line that ought to be answered with 12 where its allocation is refused was not")
         met.append(None)
     print(f"{job.words[0]}, {len(met)} allocations refused:", ", ".join(f"{who}: {met.count(who)}" for who in sorted({*met}, key=str)))

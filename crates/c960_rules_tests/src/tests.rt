@@ -7,6 +7,7 @@ mod counts;
 mod en_passant;
 mod first_moves;
 mod lists;
+mod memory;
 mod plain;
 mod promotion;
 mod reading;

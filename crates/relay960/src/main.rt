@@ -4,7 +4,7 @@
 mod program;
 
 use program::{Course, course_of};
-use relay960_serving::status_of_service;
+use relay960_serving::{serve_run, status_of_end};
 use relay960_words::{status_of_no_text, status_without_memory};
 use std::env;
 use std::io::ErrorKind;
@@ -16,7 +16,7 @@ fn main(rt: HostRuntime) -> ExitCode {
         Ok(args) => match args.collect::<Vec<String>>(alloc) {
             Ok(words) => match course_of(&rt, alloc, words.as_slice()) {
                 Course::Ended(status) => status,
-                Course::Serves(service) => status_of_service(&rt, alloc, &service),
+                Course::Serves(service) => status_of_end(&rt, serve_run(&rt, alloc, &service)),
             },
             Err(_) => status_without_memory(&rt),
         },

@@ -1,5 +1,5 @@
 -- Lemmas on lines that were answered one after another.
-use Rattle.std.proofs.Common.{ℕ, ◌+◌, List, [], ◌∷◌, ◌++◌, length, take, map, refl, sym, ap, ◌∙◌, subst}
+use Rattle.std.proofs.Common.{ℕ, ◌+◌, List, [], ◌∷◌, ◌++◌, length, take, map, Option, Some, refl, sym, ap, ◌∙◌, subst}
 use Rattle.std.proofs.Common.{append_assoc, append-nil}
 use Rattle.std.proofs.Math.Seq.{take-append-add}
 use Rattle.std.proofs.KnownBytes.{Appends-trans, Appends-nil}
@@ -24,7 +24,7 @@ Answers-append gives s t u (l ∷ ls) ms xs ys (answer, mid, rest, one, split, o
 
 -- a line is answered as its first 1,025 bytes are
 abbrev pub IsCut : {S : Type 0} → Giving S → Type 0
-IsCut {S} gives = (s : S) (l bytes : List ℕ) (t : S) → gives s (take 1025 l) bytes t → gives s l bytes t
+IsCut {S} gives = (s : S) (l : List ℕ) (bytes : Option (List ℕ)) (t : S) → gives s (take 1025 l) bytes t → gives s l bytes t
 
 -- and so are lines
 pub Answers-whole : {S : Type 0} (gives : Giving S) (s t : S) (ls : List (List ℕ)) (xs : List ℕ)
@@ -33,10 +33,10 @@ pub Answers-whole : {S : Type 0} (gives : Giving S) (s t : S) (ls : List (List �
 unfolding Answers
 Answers-whole gives s t [] xs cut a = a
 Answers-whole gives s t (l ∷ ls) xs cut (answer, mid, rest, one, split, others) =
-    (answer, mid, rest, cut s l answer mid one, split, Answers-whole gives mid t ls rest cut others)
+    (answer, mid, rest, cut s l (Some answer) mid one, split, Answers-whole gives mid t ls rest cut others)
 
 -- one line
-pub Answers-one : {S : Type 0} (gives : Giving S) (s t : S) (l xs : List ℕ) → gives s l xs t → Answers gives s (l ∷ []) xs t
+pub Answers-one : {S : Type 0} (gives : Giving S) (s t : S) (l xs : List ℕ) → gives s l (Some xs) t → Answers gives s (l ∷ []) xs t
 unfolding Answers
 Answers-one gives s t l xs one = (xs, t, [], one, sym (append-nil xs), (refl, refl))
 

@@ -145,6 +145,16 @@ pub last_line-none : (line : List ℕ) → length line ≡ 0 → last_line line 
 last_line-none [] none = refl
 last_line-none (b ∷ bs) none = absurd (omega arith)
 
+-- where nothing of it is kept there is none
+pub piece_none : (piece : List ℕ) → take 1025 piece ≡ [] → piece ≡ []
+piece_none [] none = refl
+piece_none (b ∷ bs) none = absurd (omega (arith, ap length none, length-take 1025 (b ∷ bs)))
+
+-- the lines of bytes that end with a line feed
+pub lines_ended : (bytes : List ℕ) → last_piece [] bytes ≡ [] → whole_lines [] bytes ≡ lines_of bytes
+unfolding lines_of
+lines_ended bytes none = sym (ap (λ l. whole_lines [] bytes ++ last_line l) none ∙ append-nil (whole_lines [] bytes))
+
 -- any other is one
 pub last_line-whole : (line : List ℕ) → (length line == 0) ≡ false → last_line line ≡ line ∷ []
 last_line-whole [] more = cc

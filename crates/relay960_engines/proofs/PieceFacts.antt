@@ -9,7 +9,7 @@ use Rattle.relay960_engines.specs.declared.fault.RunFault.TheVariants.{Read, Wri
 use Rattle.relay960_engines.specs.declared.progress.Progress.{Progress}
 use Rattle.relay960_engines.specs.Lines.{Giving, Between}
 use Rattle.relay960_engines.specs.Inner.Sending.{Outlet, Sends, Sent, SentPart}
-use Rattle.relay960_engines.specs.Inner.Taking.{IsPlain, kept_behind, kept_lines, kept_piece, Within, Taken, Unwritten, StopsIn}
+use Rattle.relay960_engines.specs.Inner.Taking.{IsPlain, kept_behind, kept_lines, kept_piece, Within, IsWithin, Taken, Halted, Unwritten, StopsIn}
 use Rattle.relay960_engines.proofs.LineFacts.{kept_lines-plain, kept_piece-plain, kept_lines-ended, kept_piece-ended, plain_front}
 use Rattle.relay960_engines.proofs.SendingFacts.{Sent-nil, Sent-none}
 use Rattle.relay960_engines.proofs.TakingFacts.{Taken-trans, within_before, stops_behind}
@@ -104,33 +104,45 @@ stops_at_bytes gives s p bounds xs end count old new within plain near inside pa
     stops_behind_plain gives s p bounds xs (bounds.bytes - p.taken) old new within (omega (arith, past, inside))
     (omega (arith, within.taken_within)) (plain_front xs end (bounds.bytes - p.taken) plain (omega (arith, past, near))) sends
 
--- the answer to a line was not written whole
+-- the bytes end one line
+line_alone : (line xs : List ℕ) (end : ℕ) → PlainBelow xs end → end < length xs → slice_index xs end ≡ 10
+    → kept_lines line (take (end + 1) xs) ≡ kept_behind line (take end xs) ∷ []
+line_alone line xs end plain below feed =
+    ap (kept_lines line) (sym (ended_front xs end below feed))
+    ∙ kept_lines-ended line (take end xs) (plain_front xs end end plain (omega arith))
+
+-- and no bound is passed by it
+line_within : (p : Progress) (bounds : Bounds) (xs : List ℕ) (end : ℕ) → PlainBelow xs end → end < length xs
+    → slice_index xs end ≡ 10 → Within bounds p → p.answered < bounds.lines → end + 1 ≤ bounds.bytes - p.taken
+    → IsWithin bounds p (take (end + 1) xs)
+line_within p bounds xs end plain below feed within few short =
+    let number : length (kept_lines p.line (take (end + 1) xs)) ≡ 1 = ap length (line_alone p.line xs end plain below feed) in
+    record {
+      lines_within = omega (arith, number, few);
+      bytes_within = omega (arith, short, within.taken_within, below, length-take (end + 1) xs);
+    }
+
+-- the answer to a line was not written whole, or there was no memory for it
 pub stops_at_line : {S : Type 0} (gives : Giving S) (s t : S) (p : Progress) (bounds : Bounds) (xs : List ℕ) (end : ℕ)
     (old new : Outlet) (fault : RunFault) → PlainBelow xs end → end < length xs → slice_index xs end ≡ 10 → Within bounds p
     → p.answered < bounds.lines → end + 1 ≤ bounds.bytes - p.taken
     → Unwritten gives s t (kept_behind p.line (take end xs) ∷ []) old new fault → StopsIn gives s t p bounds xs old new fault
-unfolding kept_lines
-stops_at_line gives s t p bounds xs end old new Write plain below feed within few short part =
-    let line : take end xs ++ 10 ∷ [] ≡ take (end + 1) xs = ended_front xs end below feed in
-    let lines : kept_lines p.line (take (end + 1) xs) ≡ kept_behind p.line (take end xs) ∷ [] =
-    ap (kept_lines p.line) (sym line) ∙ kept_lines-ended p.line (take end xs) (plain_front xs end end plain (omega arith)) in
-    let number : length (kept_lines p.line (take (end + 1) xs)) ≡ 1 = ap length lines in
-    record {
-      seen = take (end + 1) xs;
-      unseen = drop (end + 1) xs;
-      split = sym (take-append-drop (end + 1) xs);
-      within = record {
-        lines_within = omega (arith, number, few);
-        bytes_within = omega (arith, short, within.taken_within, below, length-take (end + 1) xs);
-      };
-      stop = subst (λ ls. SentPart (Between gives s t) ls old new) (sym lines) part;
-    }
-stops_at_line gives s t p bounds xs end old new OutOfMemory plain below feed within few short kept = record {
-  seen = [];
-  unseen = xs;
-  split = refl;
-  within = within_before bounds p within;
-  stop = (s, Sent-none gives s old new kept.0, kept.1);
+stops_at_line gives s t p bounds xs end old new Write plain below feed within few short part = record {
+  seen = take (end + 1) xs;
+  unseen = drop (end + 1) xs;
+  split = sym (take-append-drop (end + 1) xs);
+  within = line_within p bounds xs end plain below feed within few short;
+  stop = subst (λ ls. SentPart (Between gives s t) ls old new) (sym (line_alone p.line xs end plain below feed)) part;
+}
+stops_at_line gives s t p bounds xs end old new OutOfMemory plain below feed within few short halted = record {
+  seen = take (end + 1) xs;
+  unseen = drop (end + 1) xs;
+  split = sym (take-append-drop (end + 1) xs);
+  within = line_within p bounds xs end plain below feed within few short;
+  stop = (
+    ap (kept_piece p.line) (sym (ended_front xs end below feed)) ∙ kept_piece-ended p.line (take end xs),
+    subst (λ ls. Halted gives s t ls old new) (sym (line_alone p.line xs end plain below feed)) halted,
+  );
 }
 stops_at_line gives s t p bounds xs end old new Read plain below feed within few short none = absurd none
 stops_at_line gives s t p bounds xs end old new TooLong plain below feed within few short none = absurd none

@@ -1,19 +1,25 @@
 -- Lemmas on the answers to the lines of a live game.
 use Rattle.std.proofs.Common.{◌≡◌, ℕ, List, [], ◌∷◌, ◌++◌}
-use Rattle.std.proofs.Common.{refl, sym, ap, ◌∙◌, append_assoc}
+use Rattle.std.proofs.Common.{Option, Some, refl, sym, ap, ◌∙◌, append_assoc}
 use Rattle.c960_game.specs.Record.{GameRecord}
 use Rattle.relay960_engines.specs.Lines.{Giving, Answers}
 use Rattle.relay960_engines.specs.Play.{line_answer, game_after, line_answers}
+use Rattle.relay960_engines.specs.Inner.PlayCut.{IsAnswer}
 
 -- ---- The answers to lines are determined.
 
-pub given_answers : {S : Type 0} (gives : Giving S) (game : S → GameRecord)
-    → ((s : S) (l bytes : List ℕ) (t : S) → gives s l bytes t → (bytes ≡ line_answer (game s) l) × (game t ≡ game_after (game s) l))
+-- what an answerer with a game gives
+abbrev pub IsGiven : {S : Type 0} → Giving S → (S → GameRecord) → Type 0
+IsGiven {S} gives game =
+    (s : S) (l : List ℕ) (bytes : Option (List ℕ)) (t : S) → gives s l bytes t
+    → IsAnswer (game s) l bytes × (game t ≡ game_after (game s) l)
+
+pub given_answers : {S : Type 0} (gives : Giving S) (game : S → GameRecord) → IsGiven gives game
     → (s t : S) (ls : List (List ℕ)) (bytes : List ℕ) → Answers gives s ls bytes t → bytes ≡ line_answers (game s) ls
 unfolding Answers line_answers
 given_answers gives game law s t [] bytes (none, same) = none
 given_answers gives game law s t (l ∷ ls) bytes (answer, mid, rest, one, split, others) =
-    let (this, next) = law s l answer mid one in
+    let (this, next) = law s l (Some answer) mid one in
     split ∙ ap (λ x. x ++ rest) this
     ∙ ap (λ x. line_answer (game s) l ++ x) (given_answers gives game law mid t ls rest others)
     ∙ ap (λ g. line_answer (game s) l ++ line_answers g ls) next

@@ -6,17 +6,11 @@ use Rattle.c960_game.specs.Record.{GameRecord, opened}
 use Rattle.relay960_engines.specs.declared.bounds.Bounds.{Bounds}
 use Rattle.relay960_engines.specs.declared.fault.RunFault.{RunFault}
 use Rattle.relay960_engines.specs.declared.fault.RunFault.TheVariants.{Read, Write, TooLong, OutOfMemory, BadStart}
-use Rattle.relay960_engines.specs.Lines.{Giving, Answers, Between, Until}
-use Rattle.relay960_engines.specs.Play.{line_answer, game_after, line_answers, most_plies, Plays, Played, PlayStopped}
+use Rattle.relay960_engines.specs.Lines.{Giving, Answers, Before, Between}
+use Rattle.relay960_engines.specs.Play.{line_answers, most_plies, Plays, PlaysBefore, Played, PlayStopped}
 use Rattle.relay960_engines.specs.Runs.{Known, Done, Stopped}
-use Rattle.relay960_engines.proofs.PlayFacts.{given_answers, answers_before}
-use Rattle.relay960_engines.proofs.StopFacts.{Extends, done_said, reading_said, writing_within, past_said, memory_said, nothing_read}
-
--- what an answerer with a game gives
-abbrev pub IsGiven : {S : Type 0} → Giving S → (S → GameRecord) → Type 0
-IsGiven {S} gives game =
-    (s : S) (l bytes : List ℕ) (t : S) → gives s l bytes t
-    → (bytes ≡ line_answer (game s) l) × (game t ≡ game_after (game s) l)
+use Rattle.relay960_engines.proofs.PlayFacts.{IsGiven, given_answers, answers_before}
+use Rattle.relay960_engines.proofs.StopFacts.{Extends, done_said, reading_said, writing_within, past_said, memory_said, not_begun}
 
 -- the answers to lines begin those to more lines
 play_extends : (n : ℕ) → Extends (Plays n)
@@ -37,19 +31,22 @@ module _ {S : Type 0} (gives : Giving S) (game : S → GameRecord) (law : IsGive
   played (Ok count) done = (numbered, done_said _ (Plays n) (plays t) bounds old_input new_input a b count done)
 
   pub play_stopped : (ran : Result ℕ RunFault)
-      → IfErr ran (λ fault. Stopped (Until gives s t fault) bounds old_input new_input a b fault)
+      → IfErr ran (λ fault. Stopped (Between gives s t) (Before gives s t) bounds old_input new_input a b fault)
       → IfErr ran (λ fault. PlayStopped n bounds old_input new_input a b fault)
   play_stopped (Ok count) stopped = tt
   play_stopped (Err Read) stopped = (numbered, reading_said _ (Plays n) (plays t) bounds old_input new_input a b stopped)
   play_stopped (Err Write) stopped =
       inl (numbered, writing_within _ (Plays n) (plays t) bounds old_input new_input a b (play_extends n) stopped)
   play_stopped (Err TooLong) stopped = (numbered, past_said _ (Plays n) (plays t) bounds old_input new_input a b stopped)
-  play_stopped (Err OutOfMemory) stopped =
-      (numbered, memory_said _ (Plays n) (λ ls text given. plays given.0 ls text given.1) bounds old_input new_input a b stopped)
+  play_stopped (Err OutOfMemory) stopped = (
+    numbered,
+    memory_said _ (Plays n) (plays t) bounds old_input new_input a b _ (PlaysBefore n)
+        (λ ls text l given. plays given.0 ls text given.1) stopped,
+  )
   play_stopped (Err BadStart) stopped = absurd stopped
 
 -- there was no memory for the game: nothing was read
 pub starved_before : (n : ℕ) (bounds : Bounds) (input output : Known) → n < 960
     → PlayStopped n bounds input input output output OutOfMemory
 unfolding line_answers
-starved_before n bounds input output numbered = (numbered, nothing_read (Plays n) bounds input output refl)
+starved_before n bounds input output numbered = (numbered, not_begun (Plays n) (PlaysBefore n) bounds input output refl)

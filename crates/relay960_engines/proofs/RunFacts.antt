@@ -1,22 +1,22 @@
 -- Lemmas on a whole run: what was kept of the lines stands for the lines.
 use Rattle.std.proofs.Common.{◌≡◌, ℕ, ◌+◌, ◌≤◌, List, [], ◌++◌, length, take, map}
-use Rattle.std.proofs.Common.{refl, sym, ap, ◌∙◌, subst, inl, inr, arith, append-nil}
+use Rattle.std.proofs.Common.{◌∷◌, None, refl, sym, ap, ◌∙◌, subst, inl, inr, arith, append-nil}
 use Rattle.std.proofs.Common.{Result, Ok, Err, OnOk, IfOk, IfErr}
 use Rattle.std.proofs.lemmas.List.{length-map, length-append, map-append}
-use Rattle.std.specs.Io.KnownBytes.{Consumes}
+use Rattle.std.specs.Io.KnownBytes.{Appends, Consumes}
 use Rattle.relay960_engines.specs.declared.bounds.Bounds.{Bounds}
 use Rattle.relay960_engines.specs.declared.fault.RunFault.{RunFault}
 use Rattle.relay960_engines.specs.declared.fault.RunFault.TheVariants.{Read, Write, TooLong, OutOfMemory, BadStart}
 use Rattle.relay960_engines.specs.declared.progress.Progress.{Progress}
-use Rattle.relay960_engines.specs.Lines.{Giving, Answers, LedOn, Until, whole_lines, last_piece, last_line, lines_of, Between}
+use Rattle.relay960_engines.specs.Lines.{Giving, Answers, Before, whole_lines, last_piece, last_line, lines_of, Between}
 use Rattle.relay960_engines.specs.Runs.{Known, Wrote, WrotePart, Done, Stopped, IsPast}
 use Rattle.relay960_engines.specs.Inner.Sending.{settled, Sent}
-use Rattle.relay960_engines.specs.Inner.Taking.{kept_lines, kept_piece, Within, IsWithin, LastFits, TakenAll, Unwritten, StopsReading}
-use Rattle.relay960_engines.proofs.LineFacts.{kept_lines-take, kept_piece-take, last_line-take}
+use Rattle.relay960_engines.specs.Inner.Taking.{kept_lines, kept_piece, Within, IsWithin, LastFits, TakenAll, Halted, Unwritten, StopsReading}
+use Rattle.relay960_engines.proofs.LineFacts.{kept_lines-take, kept_piece-take, last_line-take, lines_ended, piece_none}
 use Rattle.relay960_engines.proofs.TakingFacts.{last_fits}
-use Rattle.relay960_engines.proofs.StopFacts.{nothing_read}
+use Rattle.relay960_engines.proofs.StopFacts.{not_begun}
 use Rattle.relay960_engines.proofs.AnsweredFacts.{IsCut, Wrote-trans, Wrote-part, Wrote-whole, WrotePart-whole}
-use Rattle.relay960_engines.proofs.SendingFacts.{Sent-kept, Sent-wrote, SentPart-wrote}
+use Rattle.relay960_engines.proofs.SendingFacts.{Sent-wrote, SentPart-wrote, halted_behind}
 
 -- ---- The lines of a run.
 
@@ -38,6 +38,68 @@ kept_all line piece bytes new left =
 
 kept_number : (line bytes : List ℕ) → line ≡ [] → length (kept_lines line bytes) ≡ length (whole_lines [] bytes)
 kept_number line bytes new = ap length (kept_whole line bytes new) ∙ length-map (whole_lines [] bytes) (take 1025)
+
+-- bytes of whose last piece nothing is kept end with a line feed
+ended_whole : (line bytes : List ℕ) → line ≡ [] → kept_piece line bytes ≡ [] → last_piece [] bytes ≡ []
+ended_whole line bytes new none =
+    piece_none (last_piece [] bytes)
+    (sym (kept_piece-take [] bytes) ∙ ap (λ l. kept_piece l bytes) (sym new) ∙ none)
+
+-- ---- The line at which a run stopped.
+
+-- the last of the images is that of the last
+pub record SplitMap {X Y : Type 0} (f : X → Y) (xs : List X) (ys : List Y) (y : Y) : Type 0 where
+  pub front : List X
+  pub last : X
+  pub split : xs ≡ front ++ last ∷ []
+  pub images : map f front ≡ ys
+  pub image : f last ≡ y
+
+map_split : {X Y : Type 0} (f : X → Y) (xs : List X) (ys : List Y) (y : Y) → map f xs ≡ ys ++ y ∷ [] → SplitMap f xs ys y
+map_split f [] [] y e = cc
+map_split f [] (z ∷ ys) y e = cc
+map_split f (x ∷ []) [] y e = record { front = []; last = x; split = refl; images = refl; image = cc }
+map_split f (x ∷ z ∷ xs) [] y e = cc
+map_split f (x ∷ xs) (z ∷ ys) y e =
+    let tail : map f xs ≡ ys ++ y ∷ [] = cc in
+    let head : f x ≡ z = cc in
+    let rest = map_split f xs ys y tail in
+    record {
+      front = x ∷ rest.front;
+      last = rest.last;
+      split = ap (λ l. x ∷ l) rest.split;
+      images = ap (λ l. f x ∷ l) rest.images ∙ ap (λ w. w ∷ ys) head;
+      image = rest.image;
+    }
+
+-- the lines before the last were answered, and there was no memory for the answer to the last
+pub record AtLine {S : Type 0} (gives : Giving S) (s t : S) (lines : List (List ℕ)) (a b : Known) : Type 0 where
+  pub before : List (List ℕ)
+  pub stopped : List ℕ
+  pub split : lines ≡ before ++ stopped ∷ []
+  pub answers : List ℕ
+  pub given : Before gives s t before answers stopped
+  pub written : Appends a b answers
+
+at_line : {S : Type 0} (gives : Giving S) (s t : S) (lines : List (List ℕ)) (a b : Known) → IsCut gives
+    → Halted gives s t (map (take 1025) lines) (settled a) (settled b) → AtLine gives s t lines a b
+at_line gives s t lines a b cut halted =
+    let whole = map_split (take 1025) lines halted.before halted.stopped halted.split in
+    let wrote = Wrote-whole gives s halted.mid whole.front a b cut
+    (subst (λ ls. Wrote (Between gives s halted.mid) ls a b) (sym whole.images)
+    (Sent-wrote gives s halted.mid halted.before a b halted.sent)) in
+    record {
+      before = whole.front;
+      stopped = whole.last;
+      split = whole.split;
+      answers = wrote.answers;
+      given = (
+        halted.mid,
+        wrote.given,
+        cut halted.mid whole.last None t (subst (λ l. gives halted.mid l None t) (sym whole.image) halted.unanswered),
+      );
+      written = wrote.written;
+    }
 
 -- ---- The end of a run that began with progress p.
 
@@ -66,17 +128,10 @@ module _ {S : Type 0} (gives : Giving S) (cut : IsCut gives) (s : S) (p : Progre
   few_bytes : (seen : List ℕ) → IsWithin bounds p seen → length seen ≤ bounds.bytes
   few_bytes seen within = omega (arith, within.bytes_within)
 
-  -- the same where the answer to one more line could not be made
-  wrote_until : (mid t : S) (b : Known) (seen : List ℕ) → Sent (Between gives s mid) (kept_lines p.line seen) (settled a) (settled b)
-      → LedOn gives mid t → Wrote (Until gives s t OutOfMemory) (whole_lines [] seen) a b
-  wrote_until mid t b seen wrote on =
-      let all = whole mid b seen wrote in
-      record { answers = all.answers; given = (mid, all.given, on); written = all.written }
-
   -- it stopped within the bytes of the reader
   pub stopped : (t : S) (b : Known) (fault : RunFault)
       → StopsReading gives s t p bounds old_input new_input a b fault
-      → Stopped (Until gives s t fault) bounds old_input new_input a b fault
+      → Stopped (Between gives s t) (Before gives s t) bounds old_input new_input a b fault
   stopped t b Read stops = elim stops.stop [
     | inl within ↦ absurd within.0.stop
     | inr at_read ↦ record {
@@ -128,16 +183,27 @@ module _ {S : Type 0} (gives : Giving S) (cut : IsCut gives) (s : S) (p : Progre
   ]
   stopped t b OutOfMemory stops = elim stops.stop [
     | inl (within, one) ↦
-        let (mid, wrote, on) = within.stop in
-        record {
+        let (none, halted) = within.stop in
+        let ended : last_piece [] within.seen ≡ [] = ended_whole p.line within.seen line none in
+        let all : whole_lines [] within.seen ≡ lines_of within.seen = lines_ended within.seen ended in
+        let at = at_line gives s t (lines_of within.seen) a b cut
+        (subst (λ ls. Halted gives s t ls (settled a) (settled b))
+        (kept_whole p.line within.seen line ∙ ap (map (take 1025)) all) halted) in
+        inr (record {
           seen = within.seen;
           unseen = within.unseen;
           ahead = one;
           read = subst (Consumes old_input new_input) within.split stops.read;
-          lines_within = few_lines within.seen within.within;
+          before = at.before;
+          stopped = at.stopped;
+          lines = at.split;
+          ended = inl ended;
+          lines_within = omega (arith, few_lines within.seen within.within, ap length all);
           bytes_within = few_bytes within.seen within.within;
-          wrote = wrote_until mid t b within.seen wrote on;
-        }
+          answers = at.answers;
+          given = at.given;
+          written = at.written;
+        })
     | inr at_read ↦ let other : OutOfMemory ≡ Read = at_read.0 in cc
   ]
   stopped t b BadStart stops = elim stops.stop [
@@ -182,7 +248,7 @@ module _ {S : Type 0} (gives : Giving S) (cut : IsCut gives) (s : S) (p : Progre
 
     -- the answer to the last line was not written whole
     pub stopped_last : Within bounds q → (ran : Result ℕ RunFault) → IfErr ran (λ fault. Unwritten gives t u (last_line q.line) (settled b) (settled c) fault)
-        → IfErr ran (λ fault. Stopped (Until gives s u fault) bounds old_input new_input a c fault)
+        → IfErr ran (λ fault. Stopped (Between gives s u) (Before gives s u) bounds old_input new_input a c fault)
     stopped_last within (Ok n) part = tt
     stopped_last within (Err Write) part = record {
       seen = took.input;
@@ -200,23 +266,33 @@ module _ {S : Type 0} (gives : Giving S) (cut : IsCut gives) (s : S) (p : Progre
             (SentPart-wrote gives t u (last_line q.line) b c part))),
       );
     }
-    stopped_last within (Err OutOfMemory) kept = record {
-      seen = took.input;
-      unseen = [];
-      ahead = omega arith;
-      read = subst (Consumes old_input new_input) (sym (append-nil took.input)) took.read;
-      lines_within = omega (arith, within.answered_within, took.took.count, kept_number p.line took.input line);
-      bytes_within = short within;
-      wrote = wrote_until t u c took.input
-          (Sent-kept gives s t (kept_lines p.line took.input) (settled a) (settled b) (settled c) took.took.sent kept.0) kept.1;
-    }
+    stopped_last within (Err OutOfMemory) halted =
+        let at = at_line gives s u (lines_of took.input) a c cut
+        (subst (λ ls. Halted gives s u ls (settled a) (settled c)) all_lines
+        (halted_behind gives s t u (kept_lines p.line took.input) (last_line q.line) (settled a) (settled b) (settled c)
+        took.took.sent halted)) in
+        inr (record {
+          seen = took.input;
+          unseen = [];
+          ahead = omega arith;
+          read = subst (Consumes old_input new_input) (sym (append-nil took.input)) took.read;
+          before = at.before;
+          stopped = at.stopped;
+          lines = at.split;
+          ended = inr (refl, took.at_end);
+          lines_within = omega (arith, last_within within, took.took.count, answered, all_number);
+          bytes_within = short within;
+          answers = at.answers;
+          given = at.given;
+          written = at.written;
+        })
     stopped_last within (Err Read) none = absurd none
     stopped_last within (Err TooLong) none = absurd none
     stopped_last within (Err BadStart) none = absurd none
 
 -- there was no memory for the line: nothing was read
 pub stopped_before : {S : Type 0} (gives : Giving S) (s : S) (bounds : Bounds) (input output : Known)
-    → Stopped (Until gives s s OutOfMemory) bounds input input output output OutOfMemory
+    → Stopped (Between gives s s) (Before gives s s) bounds input input output output OutOfMemory
 unfolding Answers
 stopped_before gives s bounds input output =
-    nothing_read (Until gives s s OutOfMemory) bounds input output (s, (refl, refl), inl refl)
+    not_begun (Between gives s s) (Before gives s s) bounds input output (refl, refl)

@@ -1,6 +1,6 @@
 -- Lemmas on the answers to the lines of a script.
 use Rattle.std.proofs.Common.{◌≡◌, ℕ, List, [], ◌∷◌, ◌++◌, Bool, true, false, ◌||◌, Result, Ok, Err}
-use Rattle.std.proofs.Common.{refl, sym, ap, ◌∙◌, subst, inl, inr, append_assoc}
+use Rattle.std.proofs.Common.{Option, Some, refl, sym, ap, ◌∙◌, subst, inl, inr, append_assoc}
 use Rattle.std.specs.List.{list_any}
 use Rattle.c960_game.specs.declared.refusal.Refusal.TheVariants as refusals
 use Rattle.c960_game.specs.Limits.{LimitNumbers}
@@ -145,7 +145,7 @@ pub record Told (limits : LimitNumbers) (h : History) (ls : List (List ℕ)) (by
   pub spelt : bytes ≡ answer_lines answers
   pub stands : Stands limits r history
 
-one_told : (limits : LimitNumbers) (r q : RelayRecord) (l : List ℕ) (answer : Answer) (h : History) → Stands limits r h
+pub one_told : (limits : LimitNumbers) (r q : RelayRecord) (l : List ℕ) (answer : Answer) (h : History) → Stands limits r h
     → LeadsTo r l answer q → (g : History) × AnswersLine limits h l answer g × Stands limits q g
 one_told limits r q l (Fault fault) h stands (says, same) = (h, (says, refl), subst (λ x. Stands limits x h) (sym same) stands)
 one_told limits r q l (Reply reply) h stands (step, says, leads) =
@@ -154,7 +154,8 @@ one_told limits r q l (Reply reply) h stands (step, says, leads) =
 
 -- what an answerer with a relay gives
 abbrev pub IsGivenBy : {S : Type 0} → Giving S → (S → RelayRecord) → Type 0
-IsGivenBy {S} gives relay = (s : S) (l bytes : List ℕ) (t : S) → gives s l bytes t → ScriptGives (relay s) l bytes (relay t)
+IsGivenBy {S} gives relay =
+    (s : S) (l : List ℕ) (bytes : Option (List ℕ)) (t : S) → gives s l bytes t → ScriptGives (relay s) l bytes (relay t)
 
 pub lines_told : {S : Type 0} (gives : Giving S) (relay : S → RelayRecord) → IsGivenBy gives relay
     → (limits : LimitNumbers) (s t : S) (h : History) (ls : List (List ℕ)) (bytes : List ℕ) → Stands limits (relay s) h
@@ -169,7 +170,7 @@ lines_told gives relay law limits s t h [] bytes stands (none, same) =
       stands = subst (λ x. Stands limits (relay x) h) (sym same) stands;
     }
 lines_told gives relay law limits s t h (l ∷ ls) bytes stands (text, mid, rest, one, split, others) =
-    let given = law s l text mid one in
+    let given = law s l (Some text) mid one in
     let (g, answered, after) = one_told limits (relay s) (relay mid) l given.answer h stands given.leads in
     let told = lines_told gives relay law limits mid t g ls rest after others in
     record {

@@ -1,6 +1,6 @@
 -- Lemmas on texts that are due to a writer before they are written.
 use Rattle.std.proofs.Common.{◌≡◌, ℕ, List, [], ◌∷◌, ◌++◌, refl, sym, ap, ◌∙◌, subst, append_assoc, append-nil}
-use Rattle.std.proofs.Common.{Result, Ok, Err, OnOk, OnErr, IfErr}
+use Rattle.std.proofs.Common.{Result, Ok, Err, OnOk, OnErr, IfErr, Some, None}
 use Rattle.std.proofs.KnownBytes.{Appends-trans, Appends-nil}
 use Rattle.std.specs.Io.KnownBytes.{Appends}
 use Rattle.relay960_engines.specs.declared.fault.RunFault.{RunFault}
@@ -9,7 +9,7 @@ use Rattle.relay960_engines.specs.Lines.{Giving, Answers, Between}
 use Rattle.relay960_engines.specs.Runs.{Known, Wrote, WrotePart}
 use Rattle.relay960_engines.specs.Writing.{AppendsPart}
 use Rattle.relay960_engines.specs.Inner.Sending.{Outlet, outlet, settled, Sends, Sent, SentPart}
-use Rattle.relay960_engines.specs.Inner.Taking.{Unwritten}
+use Rattle.relay960_engines.specs.Inner.Taking.{Halted, Unwritten}
 use Rattle.relay960_engines.proofs.AnsweredFacts.{Answers-append, Answers-one}
 use Rattle.relay960_engines.proofs.Prefixes.{part_before, part_behind}
 
@@ -145,29 +145,53 @@ SentPart-wrote gives s t ls a b sent = record { answers = sent.answers; given = 
 -- ---- One answer.
 
 pub sent_answer : {S T : Type 0} (gives : Giving S) (s t : S) (l xs : List ℕ) (a b : Outlet) (ran : Result T RunFault)
-    → gives s l xs t → OnOk ran (Sends a b xs) → OnOk ran (Sent (Between gives s t) (l ∷ []) a b)
+    → gives s l (Some xs) t → OnOk ran (Sends a b xs) → OnOk ran (Sent (Between gives s t) (l ∷ []) a b)
 sent_answer gives s t l xs a b (Ok done) one sends =
     record { answers = xs; given = Answers-one gives s t l xs one; sends = sends }
 sent_answer gives s t l xs a b (Err fault) one sends = tt
 
 -- a part of what was due and the answer behind it
-pub part_of_answer : {S : Type 0} (gives : Giving S) (s t : S) (l xs : List ℕ) (a b : Outlet) (e : RunFault) → gives s l xs t
+pub part_of_answer : {S : Type 0} (gives : Giving S) (s t : S) (l xs : List ℕ) (a b : Outlet) (e : RunFault) → gives s l (Some xs) t
     → e ≡ Write → AppendsPart a.held b.held (a.due ++ xs) → Unwritten gives s t (l ∷ []) a b e
 part_of_answer gives s t l xs a b e one is part =
     subst (λ f. Unwritten gives s t (l ∷ []) a b f) (sym is)
     (record { answers = xs; given = Answers-one gives s t l xs one; written = part })
 
 pub unsent_answer : {S T : Type 0} (gives : Giving S) (s t : S) (l xs : List ℕ) (a b : Outlet) (ran : Result T RunFault)
-    → gives s l xs t → OnErr ran (AppendsPart a.held b.held (a.due ++ xs)) → IfErr ran (λ fault. fault ≡ Write)
+    → gives s l (Some xs) t → OnErr ran (AppendsPart a.held b.held (a.due ++ xs)) → IfErr ran (λ fault. fault ≡ Write)
     → IfErr ran (λ fault. Unwritten gives s t (l ∷ []) a b fault)
 unsent_answer gives s t l xs a b (Ok done) one part is = tt
 unsent_answer gives s t l xs a b (Err fault) one part is = part_of_answer gives s t l xs a b fault one is part
 
 -- a part of what was due, where there was no memory for the answer
 pub unspelt_answer : {S : Type 0} (gives : Giving S) (s t : S) (l : List ℕ) (a b : Outlet) (e : RunFault)
-    → (xs : List ℕ) × gives s l xs t → e ≡ Write → AppendsPart a.held b.held a.due → Unwritten gives s t (l ∷ []) a b e
+    → (xs : List ℕ) × gives s l (Some xs) t → e ≡ Write → AppendsPart a.held b.held a.due → Unwritten gives s t (l ∷ []) a b e
 unspelt_answer gives s t l a b e (xs, one) is part =
     part_of_answer gives s t l xs a b e one is (part_before a.held b.held a.due xs part)
+
+-- what was due was written, and there was no memory for the answer
+pub halted_answer : {S : Type 0} (gives : Giving S) (s t : S) (l : List ℕ) (held b : Known) (due : List ℕ) → gives s l None t
+    → Appends held b due → Halted gives s t (l ∷ []) (outlet held due) (settled b)
+halted_answer gives s t l held b due none whole = record {
+  before = [];
+  stopped = l;
+  split = refl;
+  mid = s;
+  sent = Sent-none gives s (outlet held due) (settled b) (sends_nothing held b due whole);
+  unanswered = none;
+}
+
+-- the same behind lines that were answered
+pub halted_behind : {S : Type 0} (gives : Giving S) (s t u : S) (ls ms : List (List ℕ)) (a b c : Outlet)
+    → Sent (Between gives s t) ls a b → Halted gives t u ms b c → Halted gives s u (ls ++ ms) a c
+halted_behind gives s t u ls ms a b c first halted = record {
+  before = ls ++ halted.before;
+  stopped = halted.stopped;
+  split = ap (λ l. ls ++ l) halted.split ∙ sym (append_assoc ls halted.before (halted.stopped ∷ []));
+  mid = halted.mid;
+  sent = Sent-trans gives s t halted.mid ls halted.before a b c first halted.sent;
+  unanswered = halted.unanswered;
+}
 
 -- a part of what was due behind the answers
 pub unsettled_answers : {S : Type 0} (gives : Giving S) (s t : S) (ls : List (List ℕ)) (a b : Outlet) (c : Known) (e : RunFault)

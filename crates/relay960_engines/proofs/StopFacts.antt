@@ -1,10 +1,10 @@
 -- What a run has done, said of another relation between lines and answers.
 use Rattle.std.proofs.Common.{◌≡◌, ℕ, List, [], ◌++◌}
-use Rattle.std.proofs.Common.{sym, ap, ◌∙◌, subst, inl, inr, arith, append-nil}
-use Rattle.std.proofs.KnownBytes.{Consumes-nil, Appends-nil}
+use Rattle.std.proofs.Common.{sym, ap, ◌∙◌, subst, inl, inr, append-nil}
+use Rattle.std.proofs.KnownBytes.{Keeps-refl}
 use Rattle.relay960_engines.specs.declared.bounds.Bounds.{Bounds}
 use Rattle.relay960_engines.specs.Lines.{lines_of, whole_lines}
-use Rattle.relay960_engines.specs.Runs.{Answering, Known, Wrote, WrotePart, Done, StoppedReading, StoppedWriting, StoppedPast}
+use Rattle.relay960_engines.specs.Runs.{Answering, Halting, Known, Wrote, WrotePart, Done, StoppedReading, StoppedWriting, StoppedPast}
 use Rattle.relay960_engines.specs.Runs.{StoppedWithoutMemory, StoppedWithin}
 use Rattle.relay960_engines.proofs.LineFacts.{lines_before}
 use Rattle.relay960_engines.proofs.Prefixes.{part_before}
@@ -12,6 +12,10 @@ use Rattle.relay960_engines.proofs.Prefixes.{part_before}
 -- what answers lines by the one relation answers them by the other
 abbrev pub Implies : Answering → Answering → Type 0
 Implies A B = (ls : List (List ℕ)) (text : List ℕ) → A ls text → B ls text
+
+-- the same of lines before a line for whose answer there was no memory
+abbrev pub ImpliesBefore : Halting → Halting → Type 0
+ImpliesBefore H K = (ls : List (List ℕ)) (text l : List ℕ) → H ls text l → K ls text l
 
 -- the answers to lines begin those to these lines and more
 abbrev pub Extends : Answering → Type 0
@@ -59,16 +63,25 @@ module _ (A B : Answering) (implies : Implies A B) (bounds : Bounds) (old_input 
     wrote = all_said (whole_lines [] stopped.seen) stopped.wrote;
   }
 
-  pub memory_said : StoppedWithoutMemory A bounds old_input new_input a b → StoppedWithoutMemory B bounds old_input new_input a b
-  memory_said stopped = record {
-    seen = stopped.seen;
-    unseen = stopped.unseen;
-    ahead = stopped.ahead;
-    read = stopped.read;
-    lines_within = stopped.lines_within;
-    bytes_within = stopped.bytes_within;
-    wrote = all_said (whole_lines [] stopped.seen) stopped.wrote;
-  }
+  pub memory_said : (H K : Halting) → ImpliesBefore H K → StoppedWithoutMemory A H bounds old_input new_input a b
+      → StoppedWithoutMemory B K bounds old_input new_input a b
+  memory_said H K before (inl none) =
+      inl (record { no_line = implies [] [] none.no_line; unread = none.unread; unwritten = none.unwritten })
+  memory_said H K before (inr at) = inr (record {
+    seen = at.seen;
+    unseen = at.unseen;
+    ahead = at.ahead;
+    read = at.read;
+    before = at.before;
+    stopped = at.stopped;
+    lines = at.lines;
+    ended = at.ended;
+    lines_within = at.lines_within;
+    bytes_within = at.bytes_within;
+    answers = at.answers;
+    given = before at.before at.answers at.stopped at.given;
+    written = at.written;
+  })
 
   writing_said : StoppedWriting A bounds old_input new_input a b → StoppedWriting B bounds old_input new_input a b
   writing_said stopped = record {
@@ -111,15 +124,7 @@ module _ (A B : Answering) (implies : Implies A B) (bounds : Bounds) (old_input 
       let said = writing_said stopped in record { stopped = said; prefix = prefix_of extends said }
 
 -- nothing was read yet
-pub nothing_read : (A : Answering) (bounds : Bounds) (input output : Known) → A [] []
-    → StoppedWithoutMemory A bounds input input output output
-unfolding whole_lines
-nothing_read A bounds input output given = record {
-  seen = [];
-  unseen = [];
-  ahead = omega arith;
-  read = Consumes-nil input;
-  lines_within = omega arith;
-  bytes_within = omega arith;
-  wrote = record { answers = []; given = given; written = Appends-nil output };
-}
+pub not_begun : (A : Answering) (H : Halting) (bounds : Bounds) (input output : Known) → A [] []
+    → StoppedWithoutMemory A H bounds input input output output
+not_begun A H bounds input output none =
+    inl (record { no_line = none; unread = Keeps-refl input; unwritten = Keeps-refl output })

@@ -12,9 +12,9 @@ use Rattle.relay960_engines.specs.Lines.{Giving, Between, last_line}
 use Rattle.relay960_engines.specs.Runs.{Known, one_read}
 use Rattle.relay960_engines.specs.Writing.{AppendsPart}
 use Rattle.relay960_engines.specs.Inner.Sending.{Outlet, settled, Sent, SentPart}
-use Rattle.relay960_engines.specs.Inner.Taking.{kept_lines, kept_piece, Within, Taken, IsWithin, IsAtBound, StopsBy, StopsIn, StopsReading}
+use Rattle.relay960_engines.specs.Inner.Taking.{kept_lines, kept_piece, Within, Taken, IsWithin, IsAtBound, Halted, StopsBy, StopsIn, StopsReading}
 use Rattle.relay960_engines.proofs.LineFacts.{kept_lines-append, kept_piece-append}
-use Rattle.relay960_engines.proofs.SendingFacts.{Sent-nil, Sent-none_part, Sent-trans, Sent-part, Sent-settled, Sent-unsettled}
+use Rattle.relay960_engines.proofs.SendingFacts.{Sent-nil, Sent-none_part, Sent-trans, Sent-part, Sent-settled, Sent-unsettled, halted_behind}
 
 -- ---- Bytes that were taken.
 
@@ -97,11 +97,10 @@ stop_behind : {S : Type 0} (gives : Giving S) (s t u : S) (p q : Progress) (boun
 stop_behind gives s t u p q bounds xs seen unseen a b c Write first part =
     subst (λ ls. SentPart (Between gives s u) ls a c) (lines_behind p.line q.line xs seen first.piece)
     (Sent-part gives s t u (kept_lines p.line xs) (kept_lines q.line seen) a b c first.sent part)
-stop_behind {S} gives s t u p q bounds xs seen unseen a b c OutOfMemory first (mid, wrote, on) = (
-  mid,
-  subst (λ ls. Sent (Between gives s mid) ls a c) (lines_behind p.line q.line xs seen first.piece)
-      (Sent-trans gives s t mid (kept_lines p.line xs) (kept_lines q.line seen) a b c first.sent wrote),
-  on,
+stop_behind gives s t u p q bounds xs seen unseen a b c OutOfMemory first (none, halted) = (
+  kept_piece-append p.line xs seen ∙ ap (λ l. kept_piece l seen) (sym first.piece) ∙ none,
+  subst (λ ls. Halted gives s u ls a c) (lines_behind p.line q.line xs seen first.piece)
+      (halted_behind gives s t u (kept_lines p.line xs) (kept_lines q.line seen) a b c first.sent halted),
 )
 stop_behind gives s t u p q bounds xs seen unseen a b c TooLong first (more, wrote, bound) = (
   more,

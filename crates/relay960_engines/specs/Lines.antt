@@ -1,7 +1,5 @@
 -- The lines of a stream of bytes, and the answers to them.
-use Rattle.std.specs.Prelude.{ℕ, ◌≡◌, ◌==◌, ◌⊎◌, List, [], ◌∷◌, ◌++◌, cond}
-use Rattle.relay960_engines.specs.declared.fault.RunFault.{RunFault}
-use Rattle.relay960_engines.specs.declared.fault.RunFault.TheVariants.{Read, Write, TooLong, OutOfMemory, BadStart}
+use Rattle.std.specs.Prelude.{ℕ, ◌≡◌, ◌==◌, List, [], ◌∷◌, ◌++◌, cond, Option, Some, None}
 
 -- ---- Bytes to lines.
 
@@ -25,28 +23,21 @@ lines_of bytes = whole_lines [] bytes ++ last_line (last_piece [] bytes)
 
 -- ---- Lines to answers, one after another.
 
--- What an answerer gives: from a state a line is answered by these bytes, which leads to a state.
+-- What an answerer gives: from a state a line is answered by these bytes, or by none where there was no memory for them, which leads to
+-- a state.
 abbrev pub Giving : Type 0 → Type 1
-Giving S = S → List ℕ → List ℕ → S → Type 0
+Giving S = S → List ℕ → Option (List ℕ) → S → Type 0
 
 -- from state s the lines are answered one after another, by these bytes in all, which leads to state t
 unfoldable pub Answers : {S : Type 0} → Giving S → S → List (List ℕ) → List ℕ → S → Type 0
 Answers gives s [] bytes t = (bytes ≡ []) × (t ≡ s)
 Answers {S} gives s (l ∷ ls) bytes t =
-    (answer : List ℕ) × (mid : S) × (rest : List ℕ) × gives s l answer mid × (bytes ≡ answer ++ rest) × Answers gives mid ls rest t
+    (answer : List ℕ) × (mid : S) × (rest : List ℕ) × gives s l (Some answer) mid × (bytes ≡ answer ++ rest) × Answers gives mid ls rest t
 
 -- which bytes answer which lines between two states
 abbrev pub Between : {S : Type 0} → Giving S → S → S → List (List ℕ) → List ℕ → Type 0
 Between gives s t lines bytes = Answers gives s lines bytes t
 
--- where memory was wanting: nothing was answered after state s, or one line was whose answer could not be made, which led to state t
-abbrev pub LedOn : {S : Type 0} → Giving S → S → S → Type 0
-LedOn gives s t = (t ≡ s) ⊎ ((l : List ℕ) × (text : List ℕ) × gives s l text t)
-
--- the same where a run ends with a fault; where there was no memory for an answer, its line alone stands between the answers and state t
-abbrev pub Until : {S : Type 0} → Giving S → S → S → RunFault → List (List ℕ) → List ℕ → Type 0
-Until {S} gives s t OutOfMemory lines bytes = (mid : S) × Answers gives s lines bytes mid × LedOn gives mid t
-Until gives s t Read lines bytes = Answers gives s lines bytes t
-Until gives s t Write lines bytes = Answers gives s lines bytes t
-Until gives s t TooLong lines bytes = Answers gives s lines bytes t
-Until gives s t BadStart lines bytes = Answers gives s lines bytes t
+-- which bytes answer some lines from state s, where there was no memory for the answer to the line behind them, which led to state t
+abbrev pub Before : {S : Type 0} → Giving S → S → S → List (List ℕ) → List ℕ → List ℕ → Type 0
+Before {S} gives s t lines bytes l = (mid : S) × Answers gives s lines bytes mid × gives mid l None t

@@ -83,6 +83,10 @@ play_output n bytes = play_answers n (lines_of bytes)
 abbrev pub Plays : ℕ → List (List ℕ) → List ℕ → Type 0
 Plays n ls bytes = bytes ≡ play_answers n ls
 
+-- the same before a line for whose answer there was no memory: the game has gone on by it all the same
+abbrev pub PlaysBefore : ℕ → List (List ℕ) → List ℕ → List ℕ → Type 0
+PlaysBefore n ls bytes l = Plays n ls bytes
+
 -- the input was read to its end, its output was written, and it has that many lines, within both bounds
 abbrev pub Played : ℕ → Bounds → Known → Known → Known → Known → ℕ → Type 0
 Played n bounds old_input new_input old_output new_output count =
@@ -110,6 +114,6 @@ PlayStopped n bounds old_input new_input old_output new_output Write =
 PlayStopped n bounds old_input new_input old_output new_output TooLong =
     (n < 960) × StoppedPast (Plays n) bounds old_input new_input old_output new_output
 PlayStopped n bounds old_input new_input old_output new_output OutOfMemory =
-    (n < 960) × StoppedWithoutMemory (Plays n) bounds old_input new_input old_output new_output
+    (n < 960) × StoppedWithoutMemory (Plays n) (PlaysBefore n) bounds old_input new_input old_output new_output
 PlayStopped n bounds old_input new_input old_output new_output BadStart =
     NoStart n old_input new_input old_output new_output

@@ -1,11 +1,11 @@
 -- What a run over lines does, from what the reader holds and the writer was given before it to what they are after it. It is said of
 -- any relation that tells which bytes answer which lines; each engine has its own.
-use Rattle.std.specs.Prelude.{ℕ, ◌≡◌, ◌<◌, ◌≤◌, ◌⊎◌, List, [], ◌++◌, length, Option}
-use Rattle.std.specs.Io.KnownBytes.{Appends, Consumes, IsAtEnd}
+use Rattle.std.specs.Prelude.{ℕ, ◌≡◌, ◌<◌, ◌≤◌, ◌⊎◌, List, [], ◌∷◌, ◌++◌, length, Option}
+use Rattle.std.specs.Io.KnownBytes.{Appends, Consumes, IsAtEnd, Keeps}
 use Rattle.relay960_engines.specs.declared.bounds.Bounds.{Bounds}
 use Rattle.relay960_engines.specs.declared.fault.RunFault.{RunFault}
 use Rattle.relay960_engines.specs.declared.fault.RunFault.TheVariants.{Read, Write, TooLong, OutOfMemory, BadStart}
-use Rattle.relay960_engines.specs.Lines.{lines_of, whole_lines}
+use Rattle.relay960_engines.specs.Lines.{lines_of, last_piece, whole_lines}
 use Rattle.relay960_engines.specs.Writing.{AppendsPart}
 
 -- what a reader still holds and what a writer holds, where they tell it
@@ -15,6 +15,10 @@ Known = Option (List ℕ)
 -- which bytes answer which lines
 abbrev pub Answering : Type 1
 Answering = List (List ℕ) → List ℕ → Type 0
+
+-- which bytes answer some lines, where there was no memory for the answer to the line behind them
+abbrev pub Halting : Type 1
+Halting = List (List ℕ) → List ℕ → List ℕ → Type 0
 
 -- the lines' answers were written
 pub record Wrote (answering : Answering) (lines : List (List ℕ)) (old new : Known) : Type 0 where
@@ -80,27 +84,47 @@ pub record StoppedPast (answering : Answering) (bounds : Bounds) (old_input new_
   pub past : IsPast bounds seen
   pub wrote : Wrote answering (whole_lines [] seen) old_output new_output
 
--- there was no memory, for a line or an answer: the lines before it were answered, within both bounds
-pub record StoppedWithoutMemory (answering : Answering) (bounds : Bounds) (old_input new_input old_output new_output : Known) : Type 0 where
+-- there was no memory to begin: nothing was read, and nothing was written
+pub record NotBegun (answering : Answering) (old_input new_input old_output new_output : Known) : Type 0 where
+  pub no_line : answering [] []
+  pub unread : Keeps old_input new_input
+  pub unwritten : Keeps old_output new_output
+
+-- there was no memory for the answer to a line: the lines before it were answered, all of them, and neither it nor one behind it was;
+-- it ends within both bounds, and no more was read behind it than the last read gave
+pub record HaltedAtLine (halting : Halting) (bounds : Bounds) (old_input new_input old_output new_output : Known) : Type 0 where
   pub seen : List ℕ
   pub unseen : List ℕ
   pub ahead : length unseen ≤ one_read
   pub read : Consumes old_input new_input (seen ++ unseen)
-  pub lines_within : length (whole_lines [] seen) ≤ bounds.lines
+  pub before : List (List ℕ)
+  pub stopped : List ℕ
+  pub lines : lines_of seen ≡ before ++ stopped ∷ []
+  -- by its line feed, or with the input
+  pub ended : (last_piece [] seen ≡ []) ⊎ ((unseen ≡ []) × IsAtEnd new_input)
+  pub lines_within : length (lines_of seen) ≤ bounds.lines
   pub bytes_within : length seen ≤ bounds.bytes
-  pub wrote : Wrote answering (whole_lines [] seen) old_output new_output
+  pub answers : List ℕ
+  pub given : halting before answers stopped
+  pub written : Appends old_output new_output answers
+
+-- there was no memory, to begin or for the answer to a line
+abbrev pub StoppedWithoutMemory : Answering → Halting → Bounds → Known → Known → Known → Known → Type 0
+StoppedWithoutMemory answering halting bounds old_input new_input old_output new_output =
+    NotBegun answering old_input new_input old_output new_output
+    ⊎ HaltedAtLine halting bounds old_input new_input old_output new_output
 
 -- what a run that ends with a fault has done
-abbrev pub Stopped : Answering → Bounds → Known → Known → Known → Known → RunFault → Type 0
-Stopped answering bounds old_input new_input old_output new_output Read =
+abbrev pub Stopped : Answering → Halting → Bounds → Known → Known → Known → Known → RunFault → Type 0
+Stopped answering halting bounds old_input new_input old_output new_output Read =
     StoppedReading answering bounds old_input new_input old_output new_output
-Stopped answering bounds old_input new_input old_output new_output Write =
+Stopped answering halting bounds old_input new_input old_output new_output Write =
     StoppedWriting answering bounds old_input new_input old_output new_output
-Stopped answering bounds old_input new_input old_output new_output TooLong =
+Stopped answering halting bounds old_input new_input old_output new_output TooLong =
     StoppedPast answering bounds old_input new_input old_output new_output
-Stopped answering bounds old_input new_input old_output new_output OutOfMemory =
-    StoppedWithoutMemory answering bounds old_input new_input old_output new_output
-Stopped answering bounds old_input new_input old_output new_output BadStart = ⊥
+Stopped answering halting bounds old_input new_input old_output new_output OutOfMemory =
+    StoppedWithoutMemory answering halting bounds old_input new_input old_output new_output
+Stopped answering halting bounds old_input new_input old_output new_output BadStart = ⊥
 
 -- a write failed, and where the answers to lines begin those to more lines: what was written is a prefix of the answers to all
 -- lines of the bytes read

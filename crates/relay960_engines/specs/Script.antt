@@ -83,6 +83,15 @@ pub record Scripts (limits : LimitNumbers) (lines : List (List ℕ)) (bytes : Li
   pub spelt : bytes ≡ answer_lines answers
   pub exact : list_any is_want answers ≡ false → bytes ≡ answer_lines (answers_to limits [] lines)
 
+-- The bytes answer the lines before a line for whose answer there was no memory. That line was read, and the step that it commands was
+-- made: an answer to it there is, and it tells of no want of memory.
+pub record ScriptsBefore (limits : LimitNumbers) (lines : List (List ℕ)) (bytes l : List ℕ) : Type 0 where
+  pub scripts : Scripts limits lines bytes
+  pub answer : Answer
+  pub history : History
+  pub answered : AnswersLine limits scripts.given.history l answer history
+  pub no_want : is_want answer ≡ false
+
 -- ---- What a run does, from what the reader holds and the writer was given before it to what they are after it.
 
 -- the input was read to its end, its lines were answered, and there are n of them, within both bounds
@@ -99,5 +108,5 @@ ScriptStopped limits bounds old_input new_input old_output new_output Write =
 ScriptStopped limits bounds old_input new_input old_output new_output TooLong =
     StoppedPast (Scripts limits) bounds old_input new_input old_output new_output
 ScriptStopped limits bounds old_input new_input old_output new_output OutOfMemory =
-    StoppedWithoutMemory (Scripts limits) bounds old_input new_input old_output new_output
+    StoppedWithoutMemory (Scripts limits) (ScriptsBefore limits) bounds old_input new_input old_output new_output
 ScriptStopped limits bounds old_input new_input old_output new_output BadStart = ⊥

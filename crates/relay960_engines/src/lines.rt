@@ -2,7 +2,7 @@
 
 ghost use Rattle.std.specs.Prelude.{◌≡◌, ◌+◌, ◌≤◌, length, IfOk, IfErr, OnOk};
 ghost use Rattle.relay960_engines.specs.Failures.{reads_failed, writes_failed};
-ghost use Rattle.relay960_engines.specs.Lines.{Between, Until, last_line};
+ghost use Rattle.relay960_engines.specs.Lines.{Before, Between, last_line};
 ghost use Rattle.relay960_engines.specs.Runs.{Done, Stopped, Wrote};
 ghost use Rattle.relay960_engines.specs.Inner.Sending.{settled};
 ghost use Rattle.relay960_engines.specs.Inner.Taking.{StopsReading, TakenAll, Unwritten, Within};
@@ -84,8 +84,8 @@ fn answer_last<A: Answerer, W: WriteDevice>(
 ///
 /// `Read` where a read failed: the lines that ended before were answered. `Write` where a write failed: a prefix of the
 /// answers was written. `TooLong` where there is a byte behind the lines or behind the bytes that the bounds allow: the lines that end
-/// within both bounds were answered. `OutOfMemory` where there was no memory for the line or for an answer: the lines
-/// before were answered.
+/// within both bounds were answered. `OutOfMemory` where there was no memory to begin, and nothing was read; or for the answer to a
+/// line: all lines before it were answered, and neither it nor one behind it was.
 pub fn run_lines<R: ReadDevice, A: Answerer, W: WriteDevice>(
     alloc: Global,
     reader: &mut R,
@@ -95,8 +95,8 @@ pub fn run_lines<R: ReadDevice, A: Answerer, W: WriteDevice>(
 ) -> Result<u64, RunFault>
     ensures done { IfOk result (λ n. Done (Between A.gives answerer.old answerer.new) bounds (R.remaining reader.old)
         (R.remaining reader.new) (W.contents writer.old) (W.contents writer.new) n) }
-    ensures failed { IfErr result (λ fault. Stopped (Until A.gives answerer.old answerer.new fault) bounds
-        (R.remaining reader.old) (R.remaining reader.new) (W.contents writer.old) (W.contents writer.new) fault) }
+    ensures failed { IfErr result (λ fault. Stopped (Between A.gives answerer.old answerer.new)
+        (Before A.gives answerer.old answerer.new) bounds (R.remaining reader.old) (R.remaining reader.new) (W.contents writer.old) (W.contents writer.new) fault) }
     ensures reads_counted { R.failures reader.new ≡ reads_failed result (R.failures reader.old) }
     ensures writes_counted { W.failures writer.new ≡ writes_failed result (W.failures writer.old) }
 {

@@ -15,6 +15,7 @@ use crate::start::refuse;
 use c960_board::{Move, read_move};
 use c960_game::{Game, MOST_PLIES, Refusal};
 use std::alloc::{AllocError, Global};
+use std::borrow::CowSlice;
 
 /// The answerer of a live game.
 #[derive(Drop)]
@@ -43,19 +44,23 @@ impl Player {
 
 impl Answerer for Player {
     ghost use Rattle.std.specs.Prelude.{◌≡◌};
+    ghost use Rattle.std.proofs.Common.{refl};
     ghost use Rattle.relay960_engines.specs.Play.{game_after, line_answer};
-    ghost use Rattle.relay960_engines.specs.Inner.PlayCut.{answer_cut, game_cut};
+    ghost use Rattle.relay960_engines.specs.Inner.PlayCut.{IsAnswer, answer_cut, game_cut};
 
-    ghost gives = { λ s l bytes t. (bytes ≡ line_answer s.game l) × (t.game ≡ game_after s.game l) };
+    ghost gives = { λ s l bytes t. IsAnswer s.game l bytes × (t.game ≡ game_after s.game l) };
+
+    ghost spelt = { λ s l t given. (line_answer s.game l, (refl, given.1)) };
 
     ghost cut = { λ s l bytes t given. (answer_cut s.game l bytes given.0, game_cut s.game t.game l given.1) };
 
     #[tactic(auto, unfolding(crate::specs::Play::line_answer, crate::specs::Play::game_after))]
-    fn answer(&mut self, alloc: Global, line: &[u8]) -> Result<Vec<u8>, AllocError> {
-        match read_move(line) {
-            Ok(chess_move) => self.play(alloc, chess_move),
-            Err(fault) => fault_text(alloc, fault),
-        }
+    fn answer(&mut self, alloc: Global, line: &[u8]) -> Result<CowSlice<'static, u8>, AllocError> {
+        let text = match read_move(line) {
+            Ok(chess_move) => self.play(alloc, chess_move)?,
+            Err(fault) => fault_text(alloc, fault)?,
+        };
+        Ok(CowSlice::Owned(text))
     }
 }
 
@@ -68,7 +73,8 @@ impl Answerer for Player {
 /// `BadStart` from 960 on: nothing was read, and the refusal was written. `Read` where a read failed: the lines that ended
 /// before were answered. `Write` where a write failed: a prefix of the answers was written, or of the refusal. `TooLong`
 /// where there is a byte behind the lines or bytes that the limits allow: the lines that end within both were answered.
-/// `OutOfMemory` where there was no memory for the game or for an answer: the lines before were answered.
+/// `OutOfMemory` where there was no memory for the game, and nothing was read; or for an answer: all lines before its line were
+/// answered, and neither it nor one behind it was.
 pub fn play_run<R: ReadDevice, W: WriteDevice>(
     alloc: Global,
     number: u16,

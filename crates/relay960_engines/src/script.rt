@@ -1,9 +1,10 @@
 //! A script over a relay: each line is a command, and its answer is one line.
 
-ghost use Rattle.std.specs.Prelude.{◌≡◌, IfOk, IfErr};
+ghost use Rattle.std.specs.Prelude.{◌≡◌, false, IfOk, IfErr, OnErr};
+ghost use Rattle.std.specs.Cow.{cow_slice_items};
 ghost use Rattle.relay_messages.specs.Answers.{answer_text};
 ghost use Rattle.relay960_engines.specs.Failures.{reads_failed, writes_failed};
-ghost use Rattle.relay960_engines.specs.Script.{Ran, ScriptStopped};
+ghost use Rattle.relay960_engines.specs.Script.{Ran, ScriptStopped, is_want};
 ghost use Rattle.relay960_engines.specs.Writing.{line};
 
 use crate::answerer::Answerer;
@@ -11,10 +12,12 @@ use crate::devices::{ReadDevice, WriteDevice};
 use crate::fault::RunFault;
 use crate::limits::ScriptLimits;
 use crate::lines::run_lines;
-use relay_core::Stepper;
+use c960_game::Refusal;
+use relay_core::{Reply, Stepper};
 use relay_live::LiveRelay;
-use relay_messages::{Answer, Decoder, encode};
+use relay_messages::{Answer, Decoder, MessageFault, encode};
 use std::alloc::{AllocError, Global};
+use std::borrow::CowSlice;
 
 /// The answerer of a script, over any kind of relay.
 #[derive(Drop)]
@@ -26,13 +29,15 @@ pub struct Script<S: Stepper> {
 }
 
 impl<S: Stepper> Answerer for Script<S> {
-    ghost use Rattle.relay960_engines.specs.Inner.ScriptSteps.{ScriptGives, answers_cut};
+    ghost use Rattle.relay960_engines.specs.Inner.ScriptSteps.{ScriptGives, answers_cut, with_line};
 
     ghost gives = { λ s l bytes t. ScriptGives (S.record_of s.relay) l bytes (S.record_of t.relay) };
 
+    ghost spelt = { λ s l t given. with_line (S.record_of s.relay) l (S.record_of t.relay) given };
+
     ghost cut = { λ s l bytes t given. answers_cut (S.record_of s.relay) l bytes (S.record_of t.relay) given };
 
-    fn answer(&mut self, alloc: Global, line: &[u8]) -> Result<Vec<u8>, AllocError> {
+    fn answer(&mut self, alloc: Global, line: &[u8]) -> Result<CowSlice<'static, u8>, AllocError> {
         let answer = match self.decoder.decode(line) {
             Ok(command) => Answer::Reply(self.relay.step(command)),
             Err(fault) => Answer::Fault(fault),
@@ -42,12 +47,28 @@ impl<S: Stepper> Answerer for Script<S> {
 }
 
 /// The line of an answer.
-fn line_of(alloc: Global, answer: &Answer) -> Result<Vec<u8>, AllocError>
+fn made_line(alloc: Global, answer: &Answer) -> Result<Vec<u8>, AllocError>
     ensures { IfOk result (λ text. text.items ≡ line (answer_text answer.now)) }
 {
     let mut text = encode(alloc, answer)?;
     text.push('\n')?;
     Ok(text.into_bytes())
+}
+
+/// The line of an answer. That of one which tells of want of memory takes none, so that it can always be written.
+fn line_of(alloc: Global, answer: &Answer) -> Result<CowSlice<'static, u8>, AllocError>
+    ensures line { IfOk result (λ text. cow_slice_items text ≡ line (answer_text answer.now)) }
+    ensures no_want { OnErr result (is_want answer.now ≡ false) }
+{
+    match answer {
+        Answer::Reply(Reply::Refused(Refusal::OutOfMemory))
+        | Answer::Fault(MessageFault::OutOfMemory) => {
+            Ok(CowSlice::Borrowed(
+                b"{\"code\":12,\"name\":\"OutOfMemory\",\"reply\":\"refused\"}\n",
+            ))
+        }
+        _ => Ok(CowSlice::Owned(made_line(alloc, answer)?)),
+    }
 }
 
 /// Runs a script over a relay that has no board yet: it reads a command a line and writes, at the latest before it reads on, its
@@ -58,8 +79,8 @@ fn line_of(alloc: Global, answer: &Answer) -> Result<Vec<u8>, AllocError>
 ///
 /// `Read` where a read failed: the lines that ended before were answered. `Write` where a write failed: a prefix of the
 /// answers was written. `TooLong` where there is a byte behind the lines or bytes that the limits allow: the lines that end
-/// within both were answered. `OutOfMemory` where there was no memory for the relay or for the text of an answer: the lines
-/// before were answered.
+/// within both were answered. `OutOfMemory` where there was no memory for the relay, and nothing was read; or for the text of an
+/// answer, which tells of no want of memory: all lines before its line were answered, and neither it nor one behind it was.
 pub fn script_run<R: ReadDevice, W: WriteDevice>(
     alloc: Global,
     reader: &mut R,

@@ -7,4 +7,4 @@ mod status;
 
 pub use fault::ServeFault;
 pub use service::serve_run;
-pub use status::status_of_service;
+pub use status::status_of_end;

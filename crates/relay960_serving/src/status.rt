@@ -1,39 +1,15 @@
 //! How serving ended: what standard error is told, and the status of the program.
 
-ghost use Rattle.std.specs.Prelude.{◌≡◌, ◌⊎◌, MatchResult};
+ghost use Rattle.std.specs.Prelude.{◌≡◌, MatchResult};
 ghost use Rattle.relay960_serving.specs.Faults.{serve_fault_status};
 
 use crate::fault::ServeFault;
-use crate::service::serve_run;
 use relay_server::ServeEnd;
-use relay960_words::{Service, Status};
-use std::alloc::Global;
-use std::net::{Net, TcpListener, TcpStream};
-use std::sync::Wait;
-use std::thread::Threads;
-use std::time::Clock;
+use relay960_words::Status;
 
-/// Serves, tells on standard error how it ended, and gives the status: `Done` where all connections were met with, `DeviceFailed` where a
+/// Tells on standard error how serving ended, and gives the status: `Done` where all connections were met with, `DeviceFailed` where a
 /// device failed before, `OutOfMemory` where there was no memory.
-pub fn status_of_service<R>(rt: &R, alloc: Global, service: &Service) -> Status
-where
-    R: Net<Listener = TcpListener, Stream = TcpStream>
-        + Print
-        + Eprint
-        + Threads
-        + Wait
-        + Clock
-        + Clone
-        + Send
-        + Drop
-        + 'static,
-    ensures { (result ≡ Status.Done) ⊎ ((result ≡ Status.DeviceFailed) ⊎ (result ≡ Status.OutOfMemory)) }
-{
-    status_of_end(rt, serve_run(rt, alloc, service))
-}
-
-/// Tells on standard error how serving ended, and gives the status.
-fn status_of_end<E: Eprint>(rt: &E, ended: Result<ServeEnd, ServeFault>) -> Status
+pub fn status_of_end<E: Eprint>(rt: &E, ended: Result<ServeEnd, ServeFault>) -> Status
     ensures { MatchResult ended (λ end. result ≡ Status.Done) (λ fault. result ≡ serve_fault_status fault) }
 {
     match ended {

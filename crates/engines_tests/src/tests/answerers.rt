@@ -2,6 +2,7 @@
 
 use relay960_engines::Answerer;
 use std::alloc::{AllocError, Global};
+use std::borrow::CowSlice;
 
 /// It answers a line with the number of its bytes, of which it counts 1,025 at most, and has memory for so many answers.
 #[derive(Drop)]
@@ -10,22 +11,25 @@ pub struct Lengths {
 }
 
 impl Answerer for Lengths {
-    ghost use Rattle.std.specs.Prelude.{◌≡◌, ◌∷◌, [], ◌++◌, length, min, decimal};
-    ghost use Rattle.std.proofs.Common.{ap, ◌∙◌, arith};
+    ghost use Rattle.std.specs.Prelude.{◌≡◌, ◌∷◌, [], ◌++◌, length, min, decimal, IfSome};
+    ghost use Rattle.std.proofs.Common.{refl, ap, ◌∙◌, arith};
     ghost use Rattle.std.proofs.lemmas.List.{length-take};
+    ghost use Rattle.std.proofs.lemmas.Option.{IfSome_then};
 
-    ghost gives = { λ s line text t. text ≡ decimal (min (length line) 1025) ++ 10 ∷ [] };
+    ghost gives = { λ s line text t. IfSome text (λ bytes. bytes ≡ decimal (min (length line) 1025) ++ 10 ∷ []) };
 
-    ghost cut = { λ s line text t given.
-        given ∙ ap (λ n. decimal n ++ 10 ∷ []) (omega (arith, length-take 1025 line)) };
+    ghost spelt = { λ s line t given. (decimal (min (length line) 1025) ++ 10 ∷ [], refl) };
 
-    fn answer(&mut self, alloc: Global, line: &[u8]) -> Result<Vec<u8>, AllocError> {
+    ghost cut = { λ s line text t given. IfSome_then text given
+        (λ bytes same. same ∙ ap (λ n. decimal n ++ 10 ∷ []) (omega (arith, length-take 1025 line))) };
+
+    fn answer(&mut self, alloc: Global, line: &[u8]) -> Result<CowSlice<'static, u8>, AllocError> {
         if self.answers == 0 {
             return Err(AllocError);
         }
         self.answers -= 1;
         let mut text = line.len().min(1025).to_string(alloc)?;
         text.push_str("\n")?;
-        Ok(text.into_bytes())
+        Ok(CowSlice::Owned(text.into_bytes()))
     }
 }

@@ -1,6 +1,7 @@
 -- What the answerer of a script gives: a line is answered by what the relay replies to its command, or by its fault. A line is
 -- answered as its first 1,025 bytes are, since a longer one is too long for a command.
-use Rattle.std.specs.Prelude.{ℕ, ◌≡◌, List, take, Ok, Err}
+use Rattle.std.specs.Prelude.{ℕ, ◌≡◌, List, take, Option, Some, None, Ok, Err, false}
+use Rattle.std.proofs.Common.{refl}
 use Rattle.relay_core.specs.declared.step.Step.{Step}
 use Rattle.relay_core.specs.Leads.{Leads}
 use Rattle.relay_core.specs.State.{RelayRecord}
@@ -9,6 +10,7 @@ use Rattle.relay_messages.specs.declared.answer.Answer.{Answer}
 use Rattle.relay_messages.specs.declared.answer.Answer.TheVariants.{Reply, Fault}
 use Rattle.relay_messages.specs.Answers.{answer_text}
 use Rattle.relay_messages.specs.Decoding.{IsDecoding}
+use Rattle.relay960_engines.specs.Script.{is_want}
 use Rattle.relay960_engines.specs.Writing.{line}
 
 -- from relay r the line is answered so, which leads to relay q
@@ -16,16 +18,26 @@ abbrev pub LeadsTo : RelayRecord → List ℕ → Answer → RelayRecord → Typ
 LeadsTo r l (Fault fault) q = IsDecoding l (Err fault) × (q ≡ r)
 LeadsTo r l (Reply reply) q = (step : Step) × IsDecoding l (Ok step) × Leads r q step reply
 
+-- the bytes are the line of the answer; there are none for want of memory, which the line of an answer that tells of it does not take
+abbrev pub IsLineOf : Answer → Option (List ℕ) → Type 0
+IsLineOf answer (Some bytes) = bytes ≡ line (answer_text answer)
+IsLineOf answer None = is_want answer ≡ false
+
 -- the same, with the bytes of the answer
-pub record ScriptGives (r : RelayRecord) (l bytes : List ℕ) (q : RelayRecord) : Type 0 where
+pub record ScriptGives (r : RelayRecord) (l : List ℕ) (bytes : Option (List ℕ)) (q : RelayRecord) : Type 0 where
   pub answer : Answer
   pub leads : LeadsTo r l answer q
-  pub spelt : bytes ≡ line (answer_text answer)
+  pub spelt : IsLineOf answer bytes
+
+-- an answer has a line
+pub with_line : (r : RelayRecord) (l : List ℕ) (q : RelayRecord) → ScriptGives r l None q → (bytes : List ℕ) × ScriptGives r l (Some bytes) q
+with_line r l q given =
+    (line (answer_text given.answer), record { answer = given.answer; leads = given.leads; spelt = refl })
 
 leads_cut : (r : RelayRecord) (l : List ℕ) (answer : Answer) (q : RelayRecord) → LeadsTo r (take 1025 l) answer q → LeadsTo r l answer q
 leads_cut r l (Fault fault) q given = (decoding_of_front l (Err fault) given.0, given.1)
 leads_cut r l (Reply reply) q (step, says, leads) = (step, decoding_of_front l (Ok step) says, leads)
 
-pub answers_cut : (r : RelayRecord) (l bytes : List ℕ) (q : RelayRecord) → ScriptGives r (take 1025 l) bytes q → ScriptGives r l bytes q
+pub answers_cut : (r : RelayRecord) (l : List ℕ) (bytes : Option (List ℕ)) (q : RelayRecord) → ScriptGives r (take 1025 l) bytes q → ScriptGives r l bytes q
 answers_cut r l bytes q given =
     record { answer = given.answer; leads = leads_cut r l given.answer q given.leads; spelt = given.spelt }

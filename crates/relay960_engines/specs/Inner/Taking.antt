@@ -1,13 +1,13 @@
 -- What the bytes of a stream do to a run that keeps the first 1,025 bytes of a line.
-use Rattle.std.specs.Prelude.{ℕ, ◌≡◌, ◌≢◌, ◌+◌, ◌-◌, ◌<◌, ◌≤◌, ◌⊎◌, ◌==◌, nat_lt, List, [], ◌∷◌, ◌++◌, length, take, slice_index, cond}
+use Rattle.std.specs.Prelude.{ℕ, ◌≡◌, ◌≢◌, ◌+◌, ◌-◌, ◌<◌, ◌≤◌, ◌⊎◌, ◌==◌, nat_lt, List, [], ◌∷◌, ◌++◌, length, take, slice_index, cond, None}
 use Rattle.std.specs.Io.KnownBytes.{Consumes, IsAtEnd}
 use Rattle.relay960_engines.specs.declared.bounds.Bounds.{Bounds}
 use Rattle.relay960_engines.specs.declared.fault.RunFault.{RunFault}
 use Rattle.relay960_engines.specs.declared.fault.RunFault.TheVariants.{Read, Write, TooLong, OutOfMemory, BadStart}
 use Rattle.relay960_engines.specs.declared.progress.Progress.{Progress}
-use Rattle.relay960_engines.specs.Lines.{Giving, Between, LedOn, last_line}
+use Rattle.relay960_engines.specs.Lines.{Giving, Between, last_line}
 use Rattle.relay960_engines.specs.Runs.{Known, one_read}
-use Rattle.relay960_engines.specs.Inner.Sending.{Outlet, settled, Sends, Sent, SentPart}
+use Rattle.relay960_engines.specs.Inner.Sending.{Outlet, settled, Sent, SentPart}
 
 -- ---- Lines of which the first 1,025 bytes are kept.
 
@@ -66,10 +66,19 @@ pub record IsWithin (bounds : Bounds) (p : Progress) (seen : List ℕ) : Type 0 
 abbrev pub IsAtBound : Bounds → Progress → List ℕ → Type 0
 IsAtBound bounds p seen = (bounds.lines ≤ p.answered + length (kept_lines p.line seen)) ⊎ (bounds.bytes ≤ p.taken + length seen)
 
--- what was due and the lines' answers were not written whole, since a write failed; or there was no memory, and what was due was
+-- the answers to all lines but the last are written or due, and there was no memory for the answer to the last
+pub record Halted {S : Type 0} (gives : Giving S) (s t : S) (lines : List (List ℕ)) (old new : Outlet) : Type 0 where
+  pub before : List (List ℕ)
+  pub stopped : List ℕ
+  pub split : lines ≡ before ++ stopped ∷ []
+  pub mid : S
+  pub sent : Sent (Between gives s mid) before old new
+  pub unanswered : gives mid stopped None t
+
+-- what was due and the lines' answers were not written whole, since a write failed; or there was no memory for the last of them
 abbrev pub Unwritten : {S : Type 0} → Giving S → S → S → List (List ℕ) → Outlet → Outlet → RunFault → Type 0
 Unwritten gives s t lines old new Write = SentPart (Between gives s t) lines old new
-Unwritten gives s t lines old new OutOfMemory = Sends old new [] × LedOn gives s t
+Unwritten gives s t lines old new OutOfMemory = Halted gives s t lines old new
 Unwritten gives s t lines old new Read = ⊥
 Unwritten gives s t lines old new TooLong = ⊥
 Unwritten gives s t lines old new BadStart = ⊥
@@ -79,8 +88,8 @@ abbrev pub StopsBy : {S : Type 0} → Giving S → S → S → Progress → Boun
 StopsBy gives s t p bounds seen unseen old new Write = SentPart (Between gives s t) (kept_lines p.line seen) old new
 StopsBy gives s t p bounds seen unseen old new TooLong =
     (0 < length unseen) × Sent (Between gives s t) (kept_lines p.line seen) old new × IsAtBound bounds p seen
-StopsBy {S} gives s t p bounds seen unseen old new OutOfMemory =
-    (mid : S) × Sent (Between gives s mid) (kept_lines p.line seen) old new × LedOn gives mid t
+StopsBy gives s t p bounds seen unseen old new OutOfMemory =
+    (kept_piece p.line seen ≡ []) × Halted gives s t (kept_lines p.line seen) old new
 StopsBy gives s t p bounds seen unseen old new Read = ⊥
 StopsBy gives s t p bounds seen unseen old new BadStart = ⊥
 
