@@ -68,32 +68,32 @@ module _ (limits : LimitNumbers) (h : History) (k : RelayRecord) (st : Stands li
     answer = answers.Fault fault;
     is_text = is_text;
     is_asked = elim l.0 [
-      inl e ↦ inl (ap (answer_asked limits h boards) e)
-    | inr m ↦ inr (inl (let want = m.1 in cc))
+      | inl e ↦ inl (ap (answer_asked limits h boards) e)
+      | inr m ↦ inr (inl (let want = m.1 in cc))
     ];
     stands = subst (λ r. Stands limits r h) (sym l.1.keeper_is) st;
     boards_are = l.1.boards_are;
   }
   is_answered text bytes (answers.Reply reply) after later l is_text =
       elim l.2 [
-        inl made ↦
-          let new = made.made limits h st in
-          record {
-            answer = answers.Reply reply;
-            is_text = is_text;
-            is_asked = rw (read text l.0 l.1) (made_as_asked l.0 reply (may l.0 made.may) new.lawful.0);
-            stands = rw (read text l.0 l.1, may l.0 made.may) new;
-            boards_are = rw (read text l.0 l.1) made.boards_are;
-          }
-      | inr barred ↦
-          let why = bars l.0 barred.refusal barred.bars in
-          record {
-            answer = answers.Reply reply;
-            is_text = is_text;
-            is_asked = inl (rw (read text l.0 l.1, why.0) (ap answers.Reply (barred.reply_is ∙ ap Refused why.1)));
-            stands = rw (read text l.0 l.1, why.0) (subst (λ r. Stands limits r h) (sym barred.unmoved.keeper_is) st);
-            boards_are = rw (read text l.0 l.1) (barred.unmoved.boards_are ∙ sym (ap (conn.opened_after boards l.0) barred.reply_is));
-          }
+        | inl made ↦
+            let new = made.made limits h st in
+            record {
+              answer = answers.Reply reply;
+              is_text = is_text;
+              is_asked = rw (read text l.0 l.1) (made_as_asked l.0 reply (may l.0 made.may) new.lawful.0);
+              stands = rw (read text l.0 l.1, may l.0 made.may) new;
+              boards_are = rw (read text l.0 l.1) made.boards_are;
+            }
+        | inr barred ↦
+            let why = bars l.0 barred.refusal barred.bars in
+            record {
+              answer = answers.Reply reply;
+              is_text = is_text;
+              is_asked = inl (rw (read text l.0 l.1, why.0) (ap answers.Reply (barred.reply_is ∙ ap Refused why.1)));
+              stands = rw (read text l.0 l.1, why.0) (subst (λ r. Stands limits r h) (sym barred.unmoved.keeper_is) st);
+              boards_are = rw (read text l.0 l.1) (barred.unmoved.boards_are ∙ sym (ap (conn.opened_after boards l.0) barred.reply_is));
+            }
       ]
 
 pub abandons : (limits : LimitNumbers) (boards : List (List ℕ)) (h : History) (k later : RelayRecord) → Stands limits k h

@@ -40,10 +40,7 @@ impl RelayKeeper {
     {
         let names = Vec::with_capacity(alloc, usize::from(limits.boards()))?;
         let relay = Relay::new(alloc, limits)?;
-        Ok(RelayKeeper {
-            relay,
-            names,
-        })
+        Ok(RelayKeeper { relay, names })
     }
 
     /// Makes a step, and notes the name of the board that it opened.

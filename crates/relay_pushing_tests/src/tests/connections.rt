@@ -259,7 +259,9 @@ fn a_relay_answers_as_its_history_asks(rt: HostRuntime) {
         assert_eq!(rt; answer.as_str(), wanted);
     }
     keeper.finish(owner);
-    let answer = keeper.answer(&mut stranger, FOLLOW_B1.as_bytes()).expect(&rt, "memory");
+    let answer = keeper
+        .answer(&mut stranger, FOLLOW_B1.as_bytes())
+        .expect(&rt, "memory");
     assert_eq!(rt; answer.as_str(), FOLLOWING);
     assert!(rt; keeper.step(Step::Take(7)) == Reply::Took(Taken::Over(Outcome::Abandoned)));
 }
