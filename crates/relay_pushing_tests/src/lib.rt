@@ -2,6 +2,5 @@
 #![tactic(auto)]
 
 pub mod list_outlet;
-pub mod relay_keeper;
 #[cfg(test)]
 mod tests;

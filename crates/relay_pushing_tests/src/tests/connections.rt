@@ -1,13 +1,12 @@
 //! What connections are answered. The rows hold with ample memory, and where one allocation is refused, each in turn (`rt try --test
 //! --fail-alloc N`): then the call that wanted it says so, and made the whole step that was asked for, or none.
 
-use crate::relay_keeper::RelayKeeper;
 use crate::tests::connections::Keeping::{Makes, NotAsked, Refuses};
 use crate::tests::connections::Who::{Guest, Owner, Stranger};
 use crate::tests::fakes::{Desk, board};
-use c960_game::{Ending, Limits, Outcome, Refusal};
-use relay_core::{BoardName, Reply, Step, Taken};
-use relay_pushing::{Conn, Keeper};
+use c960_game::Ending;
+use relay_core::Step;
+use relay_pushing::Conn;
 use std::alloc::{AllocError, Global};
 use std::process::Abort;
 
@@ -185,20 +184,6 @@ fn new_desk(rt: &impl Abort, alloc: Global) -> (Desk, bool) {
     }
 }
 
-/// How the game of a board ended, as a spectator who comes now is told.
-fn outcome_of(keeper: &mut RelayKeeper, board: BoardName) -> Option<Outcome> {
-    let follow = Step::Follow(99, board, None);
-    if keeper.step(follow) == Reply::Refused(Refusal::OutOfMemory) {
-        let _ = keeper.step(follow);
-    }
-    let taken = keeper.step(Step::Take(99));
-    let _ = keeper.step(Step::Leave(99));
-    match taken {
-        Reply::Took(Taken::Over(outcome)) => Some(outcome),
-        _ => None,
-    }
-}
-
 #[test]
 fn a_connection_may_what_its_boards_let_it(rt: HostRuntime) {
     let (mut desk, was_refused) = new_desk(&rt, rt.alloc());
@@ -226,42 +211,4 @@ fn a_connection_may_what_its_boards_let_it(rt: HostRuntime) {
         Step::End(board("c"), Ending::Abandoned),
     ];
     assert_eq!(rt; desk.steps.as_slice().get(asked..), Some(ends.as_slice()));
-    // A game that was agreed drawn before stays so.
-    assert!(rt; outcome_of(&mut desk.keeper, board("b1")) == Some(Outcome::Agreed));
-    assert!(rt; outcome_of(&mut desk.keeper, board("a")) == Some(Outcome::Abandoned));
-    assert!(rt; outcome_of(&mut desk.keeper, board("c")) == Some(Outcome::Abandoned));
-}
-
-/// What an owner and a stranger are answered by a relay, before the owner goes.
-const ANSWERS: [(Who, &str, &str); 8] = [
-    (Stranger, SUBMIT, NO_SUCH),
-    (Owner, OPEN_B1, OPENED),
-    (Owner, SUBMIT, PLAYED),
-    (Owner, SUBMIT, ILLEGAL),
-    (Stranger, SUBMIT, NOT_YOURS),
-    (Stranger, END, NOT_YOURS),
-    (Stranger, OPEN_B1, EXISTS),
-    (Owner, FOLLOW_B1, WRONG_MODE),
-];
-
-#[test]
-fn a_relay_answers_as_its_history_asks(rt: HostRuntime) {
-    let limits = Limits::new(2, 1, 4, 16).expect(&rt, "limits");
-    let mut keeper = RelayKeeper::new(rt.alloc(), limits).expect(&rt, "memory");
-    let mut owner = Conn::new(rt.alloc());
-    let mut stranger = Conn::new(rt.alloc());
-    for (who, text, wanted) in ANSWERS {
-        let conn = match who {
-            Owner => &mut owner,
-            _ => &mut stranger,
-        };
-        let answer = keeper.answer(conn, text.as_bytes()).expect(&rt, "memory");
-        assert_eq!(rt; answer.as_str(), wanted);
-    }
-    keeper.finish(owner);
-    let answer = keeper
-        .answer(&mut stranger, FOLLOW_B1.as_bytes())
-        .expect(&rt, "memory");
-    assert_eq!(rt; answer.as_str(), FOLLOWING);
-    assert!(rt; keeper.step(Step::Take(7)) == Reply::Took(Taken::Over(Outcome::Abandoned)));
 }

