@@ -1,11 +1,12 @@
 "use strict";
 /*
- * The board on the page, which both pages share: 64 squares, shown from either side, the last move and a check marked.
+ * The board on a page: 64 squares, shown from either side, the last move and a check marked.
  * Where `chosen` is given, men can be moved: by clicking two squares, by dragging, and by keyboard (arrows, Enter, Escape).
- * A king that is dropped on its own rook castles. `chosen(from, to)` gets squares' numbers; what is legal, the relay says.
+ * A king that is dropped on its own rook castles. `chosen(from, to)` gets squares' numbers, and `goals(position, square)` gives those to
+ * which a man may go, which are shown when it is picked up. `put(cell, letter)` shows a man on a square, or none for "".
  */
-const createBoard = (holder, { chosen = null } = {}) => {
-  const view = { position: null, marks: [], whiteBelow: true, picked: null, focus: 4, usable: false };
+const createBoard = (holder, { chosen = null, goals = () => [], put = Pieces.put } = {}) => {
+  const view = { position: null, checked: null, marks: [], whiteBelow: true, picked: null, goals: [], focus: 4, usable: false };
   const cells = new Map();
   const grid = document.createElement("div");
   grid.className = "board";
@@ -28,13 +29,17 @@ const createBoard = (holder, { chosen = null } = {}) => {
     if (square === view.picked) {
       words.push("picked up");
     }
-    if (view.position && square === checked()) {
+    if (view.goals.includes(square)) {
+      words.push(mayPick(square) ? "castles here" : "may go here");
+    }
+    if (square === view.checked) {
       words.push("in check");
     }
     return words.join(", ");
   }
 
-  const checked = () => (Position.inCheck(view.position) ? Position.kingOf(view.position, view.position.turn) : null);
+  /** The square of the king that is in check, or null. */
+  const checked = (position) => (position && Position.inCheck(position) ? Position.kingOf(position, position.turn) : null);
 
   function makeCell(square) {
     const cell = document.createElement("div");
@@ -67,14 +72,15 @@ const createBoard = (holder, { chosen = null } = {}) => {
   function drawCell(square) {
     const cell = cells.get(square);
     const letter = view.position ? view.position.squares[square] : "";
-    const shown = cell.querySelector(".piece");
-    if (!shown || shown.dataset.piece !== letter) {
-      cell.replaceChildren(...(letter === "" ? [] : [Pieces.draw(letter)]));
-    }
+    put(cell, letter);
     cell.classList.toggle("last", view.marks.includes(square));
     cell.classList.toggle("picked", square === view.picked);
-    cell.classList.toggle("check", view.position !== null && square === checked());
-    cell.setAttribute("aria-label", label(square));
+    cell.classList.toggle("goal", view.goals.includes(square));
+    cell.classList.toggle("check", square === view.checked);
+    const words = label(square);
+    if (cell.getAttribute("aria-label") !== words) {
+      cell.setAttribute("aria-label", words);
+    }
     if (chosen) {
       cell.tabIndex = square === view.focus ? 0 : -1;
     }
@@ -100,8 +106,10 @@ const createBoard = (holder, { chosen = null } = {}) => {
   /** Shows a position, and the move that led to it where there is one. */
   function show(position, deed = null, moving = false) {
     view.position = position;
+    view.checked = checked(position);
     view.marks = deed ? marksOf(deed) : [];
     view.picked = null;
+    view.goals = [];
     draw();
     if (deed && moving) {
       if (deed.castling) {
@@ -129,6 +137,7 @@ const createBoard = (holder, { chosen = null } = {}) => {
 
   function pick(square) {
     view.picked = square;
+    view.goals = square === null ? [] : goals(view.position, square);
     draw();
   }
 

@@ -7,7 +7,7 @@ const Kept = (() => {
   function all() {
     try {
       const games = JSON.parse(localStorage.getItem(KEY));
-      return Array.isArray(games) ? games : [];
+      return Array.isArray(games) ? games.map((it) => ({ ...it, players: Players.of(it.players || {}) })) : [];
     } catch (fault) {
       return [];
     }

@@ -1,14 +1,47 @@
 "use strict";
 /*
  * A connection over WebSocket, and the waits between tries to come back: 0.5 s, doubled up to 10 s, at most 360 of them in a row,
- * which is an hour.
+ * which is an hour. A connection that is not made within 10 s is given up.
  */
 const Link = (() => {
   const FELL_BEHIND = 4001;
   const NORMAL = 1000;
+  const LOST = 1006;
+  const CONNECTING = 10;
 
-  const NO_ADDRESS = "This is no address: it begins with ws:// or wss://.";
-  const NO_RELAY = "This is no relay: it sent a text that a relay does not send here.";
+  /* A browser makes one connection to a server after another. So a page with many makes a few at a time, and the seconds of each count
+   * from its turn on. */
+  const turns = { most: 4, taken: 0, waiting: [] };
+
+  function nextTurns() {
+    while (turns.taken < turns.most && turns.waiting.length > 0) {
+      turns.taken += 1;
+      const turn = turns.waiting.shift();
+      turn.isTaken = true;
+      turn.begin();
+    }
+  }
+
+  /** Calls `begin` when its turn comes. */
+  function takeTurn(begin) {
+    const turn = { begin, isTaken: false };
+    turns.waiting.push(turn);
+    nextTurns();
+    return turn;
+  }
+
+  /** Ends a turn, or gives it up before it came. Ending it again changes nothing. */
+  function endTurn(turn) {
+    turns.waiting = turns.waiting.filter((it) => it !== turn);
+    if (turn.isTaken) {
+      turn.isTaken = false;
+      turns.taken -= 1;
+      nextTurns();
+    }
+  }
+
+  const NO_ADDRESS = "This is not an address. An address begins with ws:// or wss://.";
+  const NO_RELAY = "This is not a relay: it sent something that no relay sends.";
 
   function connect(address) {
     try {
@@ -24,36 +57,57 @@ const Link = (() => {
    * has `send` and `close`.
    */
   function open(address, { opened, heard, closed }) {
-    const socket = connect(address);
-    if (socket === null) {
-      setTimeout(() => closed({ fault: NO_ADDRESS }), 0);
-      return { send: () => {}, close: () => {} };
-    }
-    let ended = false;
+    const own = { socket: null, turn: null, limit: null, ended: false };
+    const made = () => {
+      clearTimeout(own.limit);
+      endTurn(own.turn);
+    };
     const close = () => {
-      ended = true;
-      socket.close();
+      own.ended = true;
+      made();
+      if (own.socket) {
+        own.socket.close();
+      }
     };
     const end = (why) => {
-      if (!ended) {
+      if (!own.ended) {
         close();
         closed(why);
       }
     };
-    socket.addEventListener("open", () => !ended && opened());
-    socket.addEventListener("message", (event) => {
-      const text = Texts.read(event.data);
-      if (!ended && (text === null || !heard(text))) {
-        end({ fault: NO_RELAY });
+    /* Where a policy of the page blocks the address, no close follows. Else one does, and says more. */
+    const ifClosed = () => own.socket.readyState === WebSocket.CLOSED && end({ code: LOST });
+
+    function begin() {
+      own.socket = connect(address);
+      if (own.socket === null) {
+        setTimeout(() => end({ fault: NO_ADDRESS }), 0);
+        return;
       }
-    });
-    socket.addEventListener("close", (event) => end({ code: event.code }));
-    return { send: (command) => socket.send(JSON.stringify(command)), close };
+      own.limit = setTimeout(() => end({ code: LOST }), 1000 * CONNECTING);
+      own.socket.addEventListener("open", () => {
+        made();
+        if (!own.ended) {
+          opened();
+        }
+      });
+      own.socket.addEventListener("error", () => setTimeout(ifClosed, 0));
+      own.socket.addEventListener("message", (event) => {
+        const text = Texts.read(event.data);
+        if (!own.ended && (text === null || !heard(text))) {
+          end({ fault: NO_RELAY });
+        }
+      });
+      own.socket.addEventListener("close", (event) => end({ code: event.code }));
+    }
+
+    own.turn = takeTurn(begin);
+    return { send: (command) => own.socket.send(JSON.stringify(command)), close };
   }
 
-  /** Waits that grow, and end after a while. */
-  function waits() {
-    const TRIES = 360;
+  /** Waits that grow, and end after a while, unless they are endless. */
+  function waits(isEndless = false) {
+    const TRIES = isEndless ? Infinity : 360;
     let tried = 0;
     let timer = null;
     return {

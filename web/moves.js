@@ -1,23 +1,28 @@
 "use strict";
 /*
- * The list of a game's moves on the page, with their places, and a cursor in it: the position shown is that of the cursor.
+ * The list of a game's moves on the page, and a cursor in it: the position shown is that of the cursor.
  * At the end the cursor follows the game; elsewhere it stays until it is sent back. `shown(index)` is called when it moves.
  */
 const createMoves = (holder, { shown }) => {
-  const list = { plies: [], cursor: -1, live: true };
+  const list = { origin: null, plies: [], cursor: -1, live: true, isLong: false };
+
+  /** A move as the list has it: in SAN, or in the long form with both squares. */
+  function written(index) {
+    const { deed, text, after } = list.plies[index];
+    const before = index > 0 ? list.plies[index - 1].after : list.origin.position;
+    return list.isLong ? Words.sheet(deed) + San.mark(after) : San.write(before, text);
+  }
 
   function button(ply, index) {
     const it = document.createElement("button");
     it.type = "button";
     it.className = "move";
+    it.tabIndex = -1; // The list is one stop for the Tab key. The arrows go through its moves.
     it.dataset.place = ply.place;
     it.dataset.index = index;
     const text = document.createElement("span");
-    text.textContent = Words.sheet(ply.deed, ply.check);
-    const place = document.createElement("span");
-    place.className = "place";
-    place.textContent = ply.place;
-    it.append(text, place);
+    text.textContent = written(index);
+    it.append(text);
     it.title = `${ply.text}, place ${ply.place}`;
     it.setAttribute("aria-label", words(ply));
     it.addEventListener("click", () => go(index));
@@ -27,17 +32,15 @@ const createMoves = (holder, { shown }) => {
   function note(ply) {
     const it = document.createElement("li");
     it.className = "gap";
-    it.textContent = ply.first === ply.place
-      ? `The move of place ${ply.first} was missed.`
-      : `The moves of places ${ply.first} to ${ply.place} were missed.`;
+    it.textContent = Words.missed(ply);
     return it;
   }
 
-  /** A move of the list to be read aloud, with its place. */
-  const words = (ply) => (ply.gap ? `places ${ply.first} to ${ply.place} were missed` : `place ${ply.place}, ${Words.spoken(ply.deed, ply.check)}`);
-
   /** The number of the full move that a ply belongs to: that of the position before it. */
   const numberOf = (ply) => ply.after.number - (ply.deed.colour === Position.BLACK ? 1 : 0);
+
+  /** A move of the list to be read aloud, with its number. */
+  const words = (ply) => (ply.gap ? Words.missed(ply) : `Move ${numberOf(ply)}, ${Words.spoken(ply.deed, ply.check)}`);
 
   function line(number) {
     const it = document.createElement("li");
@@ -86,26 +89,26 @@ const createMoves = (holder, { shown }) => {
     }
   }
 
-  /** A mating move has the sign of mate in the place of that of check. */
-  function markMate() {
-    const buttons = holder.querySelectorAll(".move[data-place]");
-    const text = buttons[buttons.length - 1].firstElementChild;
-    text.textContent = text.textContent.replace(/\+$/, "#");
+  /** Shows the moves in the long form, or in SAN. */
+  function write(isLong) {
+    list.isLong = isLong;
+    holder.querySelectorAll(".move[data-index]").forEach((it) => {
+      it.firstElementChild.textContent = written(Number(it.dataset.index));
+    });
   }
 
-  /** Shows another list of moves, or the same one with more at its end; `mate` says that its last move mates. */
-  function update(plies, mate = false) {
-    const grown = plies.length >= list.plies.length && list.plies.every((it, index) => it === plies[index]);
+  /** Shows another list of moves, or the same one with more at its end. */
+  function update({ origin, plies }) {
+    const isSame = (it, other) => it.place === other.place && it.first === other.first && it.text === other.text;
+    const grown = plies.length >= list.plies.length && list.plies.every((it, index) => isSame(it, plies[index]));
     const from = grown ? list.plies.length : 0;
     if (!grown) {
       holder.replaceChildren();
       list.live = true;
     }
-    plies.slice(from).forEach((ply, index) => addPly(ply, from + index));
+    list.origin = origin;
     list.plies = [...plies];
-    if (mate && plies.length > 0 && !plies[plies.length - 1].gap) {
-      markMate();
-    }
+    plies.slice(from).forEach((ply, index) => addPly(ply, from + index));
     if (list.live) {
       list.cursor = plies.length - 1;
     }
@@ -122,6 +125,7 @@ const createMoves = (holder, { shown }) => {
 
   return {
     update,
+    write,
     first: () => go(-1),
     back: () => go(list.cursor - 1),
     on: () => go(list.cursor + 1),

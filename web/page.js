@@ -1,11 +1,11 @@
 "use strict";
-/* What both pages show of a game: the board, whose turn it is, the list of moves, the outcome, and words for a screen reader. */
-const createPage = ({ chosen = null } = {}) => {
-  const MATES = ["white mates", "black mates"];
+/* What both pages show of a game: the board, whose turn it is, the list of moves, what is new, the outcome, and words for a screen reader. */
+const createPage = ({ browsed = () => {}, ...hand } = {}) => {
   const at = (id) => document.getElementById(id);
-  const board = createBoard(at("board"), { chosen });
-  const page = { record: createRecord(), told: 0, timer: null, seen: 0, usable: () => false };
+  const board = createBoard(at("board"), hand);
+  const page = { record: createRecord(), players: Players.NONE, origin: null, told: 0, timer: null, seen: 0, missed: 0, usable: () => false };
   const moves = createMoves(at("moves"), { shown });
+  const sounds = createSounds(at);
 
   /** The position under the cursor, and the move that led to it. */
   function current() {
@@ -20,8 +20,9 @@ const createPage = ({ chosen = null } = {}) => {
   function plate(holder, colour, position) {
     const turn = position !== null && page.record.outcome === null && position.turn === colour;
     const name = document.createElement("span");
-    name.className = `side ${colour === Position.WHITE ? "white" : "black"}`;
-    name.textContent = Words.colour(colour);
+    const side = colour === Position.WHITE ? "white" : "black";
+    name.className = `side ${side}`;
+    name.textContent = page.players[side] || Words.colour(colour);
     holder.classList.toggle("turn", turn);
     holder.replaceChildren(name);
     if (turn) {
@@ -55,6 +56,32 @@ const createPage = ({ chosen = null } = {}) => {
       holder.querySelector("b").textContent = Words.score(text);
       holder.querySelector("span").textContent = Words.outcome(text);
     }
+  }
+
+  /** Says with which start the game began, where that is known. */
+  function began() {
+    const { origin } = page.record;
+    if (origin !== page.origin) {
+      page.origin = origin;
+      const number = origin && Position.startNumber(origin.position);
+      at("began").hidden = number === null;
+      at("began").textContent = `Start number ${number}`;
+    }
+  }
+
+  /** Says which draws come near. */
+  function near() {
+    const { origin, outcome: ended } = page.record;
+    const words = origin && ended === null ? Words.near(Draws.of(page.record)) : [];
+    at("near").hidden = words.length === 0;
+    at("near").textContent = words.join(" ");
+  }
+
+  /** Says how many moves came while an earlier position was looked at. */
+  function newer() {
+    page.missed = moves.live() ? 0 : page.missed;
+    at("newer").hidden = page.missed === 0;
+    at("newer").textContent = `${page.missed} new ${page.missed === 1 ? "move" : "moves"} »`;
   }
 
   function draw(moving) {
@@ -95,21 +122,36 @@ const createPage = ({ chosen = null } = {}) => {
   function shown(index) {
     draw(true);
     const ply = page.record.plies[index];
-    const words = ply ? moves.words(index) : "The first position";
-    at("spoken").textContent = `${words}${moves.live() ? ". This is the present." : "."}`;
+    const words = ply ? moves.words(index) : "The start position";
+    newer();
+    at("spoken").textContent = `${words}${moves.live() ? ". This is the current position." : "."}`;
+    browsed();
   }
 
   /** Shows the record as it is now. Texts that come together are shown together. */
   function refresh() {
     clearTimeout(page.timer);
     page.timer = setTimeout(() => {
-      moves.update(page.record.plies, MATES.includes(page.record.outcome));
+      moves.update(page.record);
       const one = page.record.plies.length === page.seen + 1;
+      page.missed += Math.max(0, page.record.plies.length - page.seen);
       page.seen = page.record.plies.length;
       draw(one && moves.live());
       outcome();
+      began();
+      near();
+      newer();
+      at("save-pgn").hidden = page.record.origin === null;
       speak();
+      sounds.hear(page.record);
+      browsed();
     }, 0);
+  }
+
+  /** Puts a record that has all of the one shown in its place. */
+  function goOn(record) {
+    page.record = record;
+    refresh();
   }
 
   /** Puts another record in place of the one shown. */
@@ -117,7 +159,9 @@ const createPage = ({ chosen = null } = {}) => {
     page.record = record;
     page.told = 0;
     page.seen = 0;
-    moves.update([]);
+    page.missed = 0;
+    sounds.start();
+    moves.update(createRecord());
     board.show(null);
     board.name("Board");
     at("words").replaceChildren();
@@ -126,12 +170,23 @@ const createPage = ({ chosen = null } = {}) => {
     refresh();
   }
 
+  /** Names the players of the game that is shown. */
+  function named(players) {
+    page.players = players;
+    draw(false);
+  }
+
   function state(name, text) {
     const holder = at("state");
     holder.dataset.state = name;
     if (holder.textContent !== text) {
       holder.textContent = text;
     }
+  }
+
+  /** Saves the game that is shown, under the name of its board. */
+  function savePgn(name) {
+    Saved.file(`${name}.pgn`, Pgn.write(name, page.record, Players.tags(page.players)), "application/vnd.chess-pgn");
   }
 
   /** Adds a line to what happened. */
@@ -151,13 +206,13 @@ const createPage = ({ chosen = null } = {}) => {
     board.flip();
     draw(false);
   };
-  const acts = { first: moves.first, back: moves.back, on: moves.on, last: moves.last, flip: turn };
+  const acts = { first: moves.first, back: moves.back, on: moves.on, last: moves.last, newer: moves.last, flip: turn };
   Object.entries(acts).forEach(([id, act]) => at(id).addEventListener("click", () => (id === "flip" || page.record.origin) && act()));
 
   /* No letter is among them: who dictates or leans on a key would turn the board unawares. */
   const KEYS = { ArrowLeft: "back", ArrowRight: "on", Home: "first", End: "last" };
   document.addEventListener("keydown", (event) => {
-    const typing = event.target.closest("input, select, textarea, dialog");
+    const typing = event.target.closest("input:not([type=checkbox]), select, textarea, dialog");
     const act = KEYS[event.key];
     if (act && !typing && !event.ctrlKey && !event.altKey && !event.metaKey && !event.shiftKey) {
       event.preventDefault();
@@ -165,6 +220,16 @@ const createPage = ({ chosen = null } = {}) => {
     }
   });
 
+  at("long").checked = Settings.isOn("long");
+  moves.write(at("long").checked);
+  at("long").addEventListener("change", () => {
+    Settings.set("long", at("long").checked);
+    moves.write(at("long").checked);
+  });
+
   draw(false);
-  return { at, board, start, refresh, redraw: () => draw(false), state, notice, record: () => page.record, usableWhen: (test) => { page.usable = test; } };
+  return {
+    at, board, start, goOn, named, refresh, state, notice, savePgn,
+    redraw: () => draw(false), record: () => page.record, players: () => page.players, cursor: moves.cursor, usableWhen: (test) => { page.usable = test; },
+  };
 };

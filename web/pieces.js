@@ -63,5 +63,45 @@ const Pieces = (() => {
     return svg;
   }
 
-  return { draw };
+  /** Shows a piece on a square by its letter, or none for "". */
+  function put(cell, letter) {
+    const shown = cell.querySelector(".piece");
+    if (!shown || shown.dataset.piece !== letter) {
+      cell.replaceChildren(...(letter === "" ? [] : [draw(letter)]));
+    }
+  }
+
+  const COLOURS = ["fill", "stroke", "stroke-width", "stroke-linejoin", "stroke-linecap"];
+
+  /** A drawing of a piece as an image's address, in the colours of the page. */
+  function image(letter) {
+    const svg = draw(letter);
+    document.body.append(svg);
+    svg.querySelectorAll("path").forEach((it) => {
+      const style = getComputedStyle(it);
+      COLOURS.forEach((name) => it.setAttribute(name, style.getPropertyValue(name)));
+    });
+    svg.remove();
+    return `data:image/svg+xml,${encodeURIComponent(new XMLSerializer().serializeToString(svg))}`;
+  }
+
+  /** Gives the page rules of style by which each square with `data-man`, in a holder of the class `images`, shows that piece as an image. */
+  function giveImages() {
+    const sheet = new CSSStyleSheet();
+    [..."KQRBNPkqrbnp"].forEach((letter) => {
+      const man = `url("${image(letter)}")`;
+      sheet.insertRule(`.images .line .square[data-man="${letter}"] { background-image: ${man}; }`);
+      sheet.insertRule(`.images .line .square.check[data-man="${letter}"] { background-image: ${man}, var(--checked); }`);
+    });
+    document.adoptedStyleSheets = [...document.adoptedStyleSheets, sheet];
+  }
+
+  /** Shows a piece on a square as an image, for boards of which there are many: it costs no element and no layout. */
+  function putImage(cell, letter) {
+    if (cell.dataset.man !== letter) {
+      cell.dataset.man = letter;
+    }
+  }
+
+  return { draw, put, giveImages, putImage };
 })();

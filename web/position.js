@@ -1,7 +1,7 @@
 "use strict";
 /*
  * A position of Chess960: read from Shredder-FEN, written as Shredder-FEN, and the position after a move.
- * Which moves are legal is the relay's to say; what stands here needs a legal move.
+ * What stands here needs a legal move; which moves are legal says rules.js.
  * A square is its number, file + 8 * rank, both from 0. A piece is its letter, capital for White; "" is no piece.
  */
 const Position = (() => {
@@ -209,17 +209,21 @@ const Position = (() => {
     return read(`${low}/pppppppp/8/8/8/8/PPPPPPPP/${pieces} w ${rooks.toUpperCase()}${rooks} - 0 1`);
   }
 
-  /** The number of the start whose position this is, or null where it is no starting position. */
-  function startNumber(position) {
-    const fen = write(position);
-    for (let number = 0; number < 960; number += 1) {
-      if (write(start(number)) === fen) {
-        return number;
-      }
-    }
-    return null;
+  /** Scharnagl's number of an array, as eight letters: what `array` does, read backwards. */
+  function numberOf(pieces) {
+    const bishops = [1, 0].map((odd) => [...pieces].findIndex((it, file) => it === "B" && file % 2 === odd));
+    const others = [...pieces].filter((it) => it !== "B");
+    const knights = others.filter((it) => it !== "Q").flatMap((it, index) => (it === "N" ? [index] : []));
+    const pair = KNIGHTS.findIndex(([left, right]) => left === knights[0] && right === knights[1]);
+    return (bishops[0] - 1) / 2 + 4 * (bishops[1] / 2) + 16 * others.indexOf("Q") + 96 * pair;
   }
 
-  return { read, write, writePlacement, after, effect, movesMan, inCheck, kingOf, array, isStart, start, startNumber,
-    nameOf, squareOf, fileOf, rankOf, squareAt, colourOf, other, WHITE, BLACK };
+  /** The number of the start whose position this is, or null where it is no starting position. */
+  function startNumber(position) {
+    const number = numberOf(position.squares.slice(0, 8).join(""));
+    return isStart(number) && write(start(number)) === write(position) ? number : null;
+  }
+
+  return { read, write, writePlacement, writeRights, parts, after, effect, movesMan, attacked, inCheck, kingOf, array, isStart, start,
+    startNumber, nameOf, squareOf, fileOf, rankOf, squareAt, homeRank, pieceOf, colourOf, other, WHITE, BLACK, STRAIGHT, DIAGONAL, LEAPS };
 })();

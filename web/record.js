@@ -4,9 +4,12 @@
  * from 0. It takes the relay's texts in the order in which they come, drops what it has had, and says what it met:
  *   "joined"  the first position                    "moved"  a new move
  *   "had"     a place that it has had already       "gap"    places were missed; it goes on from a later position
- *   "other"   another game than before              "over"   the game has ended
+ *   "other"   another game than before, which       "over"   the game has ended
+ *             begins with this text: also one that
+ *             begins behind an end
  *   "lost"    a move that has no position before it, or moves no man there (only where texts are missing)
- * Its file is one text a line: first {"board":..,"record":1,"start":..}, then the relay's texts as they came.
+ * Its file is one text a line: first {"board":..,"record":1,"start":..}, perhaps with the players ("white", "black"), then the relay's texts
+ * as they came.
  */
 const createRecord = () => {
   const record = { origin: null, plies: [], next: 0, outcome: null };
@@ -37,6 +40,10 @@ const createRecord = () => {
     if (!record.origin) {
       begin(text.joined, position);
       return "joined";
+    }
+    if (record.outcome !== null) {
+      begin(text.joined, position);
+      return "other";
     }
     if (text.joined > record.next) {
       record.plies.push({ gap: true, place: text.joined - 1, first: record.next, after: position });
@@ -93,16 +100,34 @@ const createRecord = () => {
     return "over";
   }
 
+  /** Whether another record has the same game from the same place on, and at least as far. */
+  function isPartOf(other) {
+    const isSame = (it, index) => index < other.plies.length && it.place === other.plies[index].place && it.text === other.plies[index].text;
+    return record.origin !== null && other.origin.place === record.origin.place
+      && Position.write(other.origin.position) === Position.write(record.origin.position) && record.plies.every(isSame);
+  }
+
   /** Takes one text of a follower: following, move or over. */
   function take(text) {
     const takers = { following, move: moved, over };
     return takers[text.reply](text);
   }
 
-  return Object.assign(record, { take, present, positionAt });
+  return Object.assign(record, { take, present, positionAt, isPartOf });
 };
 
-/* What a record's file says: the board's name, the start number, and the texts of the moves from place 0. */
+/** The record of a game from its start: the number of that, its moves, and its outcome where it has one. */
+const recordOf = ({ start, moves, outcome = null }) => {
+  const record = createRecord();
+  record.take({ reply: "following", joined: 0, fen: Position.write(Position.start(start)) });
+  moves.forEach((move, place) => record.take({ reply: "move", place, move }));
+  if (outcome !== null) {
+    record.take({ reply: "over", outcome });
+  }
+  return record;
+};
+
+/* What a record's file says: the board's name, the start number, perhaps the players, and the texts of the moves from place 0. */
 const RecordFile = (() => {
   /** The lines of a file, of which the last may have been cut off in the middle. */
   function lines(content) {
@@ -136,13 +161,14 @@ const RecordFile = (() => {
     if (!Position.isStart(start)) {
       return { fault: "The record does not begin with a starting position." };
     }
-    return { board: String(head.board), start, moves: record.plies.map((it) => it.text), outcome: record.outcome };
+    return { board: String(head.board), start, players: Players.of(head), moves: record.plies.map((it) => it.text), outcome: record.outcome };
   }
 
   /** The content of a file for a game from its start. */
-  function write({ board, start, moves, outcome }) {
+  function write({ board, start, players, moves, outcome }) {
     const fen = Position.write(Position.start(start));
-    const texts = [{ board, record: 1, start }, { fen, joined: 0, reply: "following" }];
+    const named = Object.fromEntries(Object.entries(players).filter(([, name]) => name !== ""));
+    const texts = [{ board, record: 1, start, ...named }, { fen, joined: 0, reply: "following" }];
     moves.forEach((move, place) => texts.push({ move, place, reply: "move" }));
     if (outcome) {
       texts.push({ outcome, reply: "over" });

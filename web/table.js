@@ -1,455 +1,179 @@
 "use strict";
-/*
- * The page of a board's operator. It opens a board over a connection of its own, sends the moves that are played on the page, and
- * shows what the relay answers. The relay ends a game whose connection drops; the page then opens it anew, under a new name.
- */
+/* The page of a board's operator: the board and its operator (operator.js), the endings, the games that the browser keeps, and its controls. */
 (() => {
-  const page = createPage({ chosen: dropped });
-  const { at, state, notice } = page;
-  const NAMES = 20;
-  /*
-   * game: { id, board, start, outcome } of the board that is open; resend: moves still to be sent again; asked: { kind, move } of what
-   * the relay has not answered yet, or null. It is asked for one thing at a time, so that an answer is that to what was asked.
-   */
-  const table = { link: null, waits: Link.waits(), game: null, resend: [], names: 0, asked: null, playing: false, waiting: false, chosen: null };
+  const page = createPage({
+    chosen: (from, to) => entry.play(Position.nameOf(from) + Position.nameOf(to)),
+    goals: (position, square) => Rules.from(position, square).map((it) => Position.parts(it).to),
+    browsed,
+  });
+  const { at, state } = page;
+  const operator = createOperator({ ...page, begin, say, keep, opened, over, offer, entered: controls, server, isAlone: () => at("alone").checked });
+  const questions = createQuestions(at);
+  const start = createStart(page);
+  const report = createReport(stand);
+  const entry = createEntry({ page, questions, ready: operator.isReady, game: operator.game, say, submit: (move) => operator.enter({ cmd: "submit", move }) });
+  const anew = createAnew({
+    at,
+    back: operator.back,
+    open: (board, { start: from, players, moves }, count) => operator.open({ board, start: from, players, anew: true }, moves.slice(0, count)),
+  });
 
-  /** Whether a move or an ending may be entered. */
-  const ready = () => table.playing && table.asked === null && table.resend.length === 0;
+  page.usableWhen(operator.isReady);
 
-  page.usableWhen(ready);
+  /* What the operator shows. */
 
-  const moves = () => page.record().plies.map((it) => it.text);
-
-  /** All moves of the game, also those that are still to be sent again. */
-  const allMoves = () => [...moves(), ...table.resend];
+  function begin({ start: from, players }, plies) {
+    page.named(players);
+    page.start(recordOf({ start: from, moves: plies }));
+  }
 
   function say(text) {
     at("said").hidden = text === "";
     at("said").textContent = text;
   }
 
-  /* Opening a board. */
-
-  function open(game, resend) {
-    leave();
-    table.game = { id: `${Date.now()}-${game.board}`, outcome: null, ...game };
-    table.resend = [...resend];
-    table.names = 0;
-    table.waits = Link.waits();
-    say("");
-    const record = createRecord();
-    page.start(record);
-    record.take({ reply: "following", joined: 0, fen: Position.write(Position.start(game.start)) });
-    page.refresh();
-    connect();
+  function server() {
+    return at("server").value.trim();
   }
 
-  function connect() {
-    state("connecting", "Connecting …");
-    table.link = Link.open(at("server").value.trim(), { opened: askForBoard, heard, closed });
-    controls();
-  }
-
-  function ask(kind, command) {
-    table.asked = { kind, move: command.move };
-    table.link.send({ ...command, board: table.game.board });
-    page.redraw();
-    controls();
-  }
-
-  function askForBoard() {
-    ask("open", { cmd: "open", start: table.game.start });
-  }
-
-  function leave() {
-    table.waits.stop();
-    if (table.link) {
-      table.link.close();
-    }
-    table.link = null;
-    table.playing = false;
-    table.waiting = false;
-    table.asked = null;
-    table.resend = [];
-  }
-
-  /* What the relay answers. */
-
-  const TAKEN = { open: { opened, refused }, move: { played, refused }, end: { ended, refused } };
-
-  /** Takes an answer to what was asked, and answers whether it is one. */
-  function heard(text) {
-    const { asked } = table;
-    const take = asked && TAKEN[asked.kind][text.reply];
-    if (!take) {
-      return false;
-    }
-    table.asked = null;
-    const fits = take(text, asked) !== false;
-    controls();
-    return fits;
-  }
+  const entitle = (text) => { document.title = `${text} – Operate a board`; };
 
   function opened() {
-    table.playing = true;
-    table.waits.again();
-    document.title = `${table.game.board} – Operate a board`;
-    notice(`Board ${table.game.board} is open with start ${table.game.start}.`);
-    goOn();
+    entitle(operator.game().board);
   }
 
-  /** Sends the next move of a game that is opened anew, or says that the board is ready. */
-  function goOn() {
-    if (table.resend.length > 0) {
-      state("connecting", "Sending the moves again");
-      submit(table.resend[0]);
-      return;
-    }
-    state("live", `Board ${table.game.board} is open`);
-    page.refresh();
+  function over() {
+    const { board, outcome } = operator.game();
+    ["name", "white", "black"].forEach((it) => { at(it).value = ""; }); // A name is given once, and its players have played.
+    entitle(`${Words.score(outcome) || "No result"}, ${board}`);
   }
 
-  function submit(move) {
-    ask("move", { cmd: "submit", move });
-  }
+  /* The games that the browser keeps. */
 
-  /** A move was played; false where it is none of the game that this page has. */
-  function played({ place, outcome }, { move }) {
-    const again = table.resend.length > 0;
-    if (page.record().take({ reply: "move", place, move }) !== "moved") {
-      return false;
-    }
-    table.resend = table.resend.slice(1);
-    say("");
-    if (outcome !== null) {
-      over(outcome);
-    } else if (again) {
-      goOn();
-    }
-    keep();
-    page.refresh();
-    return true;
-  }
-
-  function ended({ outcome }) {
-    over(outcome);
-    keep();
-    page.refresh();
-  }
-
-  function over(outcome) {
-    table.game.outcome = outcome;
-    leave();
-    page.record().take({ reply: "over", outcome });
-    state("over", `The game on ${table.game.board} is over`);
-    notice(`${table.game.board}: ${Words.outcome(outcome)}`);
-  }
-
-  function refused(answer, { kind, move }) {
-    if (kind === "open" && answer.name === "BoardExists" && table.game.anew && table.names < NAMES) {
-      table.names += 1;
-      table.game.board = Words.nextName(table.game.board);
-      askForBoard();
-      return;
-    }
-    say((kind === "move" ? `${move}: ` : "") + Words.refusal(answer));
-    if (kind === "open") {
-      state("refused", `The board was not opened: ${Words.refusal(answer)}`);
-      giveUp();
-    } else if (table.resend.length > 0) {
-      notice(`Sending the moves again stopped at ${table.resend[0]}: ${Words.refusal(answer)}`);
-      table.resend = [];
-      goOn();
-    } else {
-      page.redraw();
-    }
-  }
-
-  /* A lost connection: the relay has ended the game. It is opened anew, at once or by a press. */
-
-  function closed({ fault }) {
-    table.link = null;
-    table.asked = null;
-    if (fault) {
-      state("refused", fault);
-      giveUp();
-    } else if (table.playing) {
-      lost();
-    } else {
-      tryAgain();
-    }
-    controls();
-  }
-
-  function lost() {
-    const sent = allMoves();
-    const again = { board: Words.nextName(table.game.board), start: table.game.start, anew: true };
-    notice(`The connection of ${table.game.board} was lost, so the relay ends its game as abandoned.`);
-    leave();
-    if (at("alone").checked) {
-      open(again, sent);
-    } else {
-      state("lost", `The connection of ${table.game.board} is lost`);
-      offer({ ...table.game, moves: sent });
-    }
-  }
-
-  function tryAgain() {
-    const seconds = table.waits.next(connect);
-    table.waiting = seconds !== null;
-    if (seconds === null) {
-      state("stopped", "No connection to the relay. It was tried often enough.");
-      giveUp();
-    } else {
-      state("lost", `No connection to the relay. It tries again in ${seconds} s.`);
-    }
-  }
-
-  /** Tries no more; the moves that the game had are offered to be opened anew. */
-  function giveUp() {
-    if (allMoves().length > 0) {
-      offer({ ...table.game, moves: allMoves() });
-    }
-    leave();
-    page.redraw();
-  }
-
-  /* Keeping games, and opening them anew. */
+  const now = () => new Date().toISOString();
 
   function keep() {
-    Kept.keep({ ...table.game, moves: moves(), saved: new Date().toISOString() });
-    list();
+    Kept.keep({ ...operator.game(), moves: operator.moves(), saved: now() });
+    anew.list();
   }
 
-  function list() {
-    const options = Kept.all().map((game) => {
-      const it = document.createElement("option");
-      const saved = new Date(game.saved).toLocaleString([], { dateStyle: "short", timeStyle: "short" });
-      it.value = game.id;
-      it.textContent = `${game.board}, start ${game.start}, ${game.moves.length} moves, ${saved}${game.outcome ? `, ${game.outcome}` : ""}`;
-      return it;
-    });
-    const none = document.createElement("option");
-    none.value = "";
-    none.textContent = options.length > 0 ? "choose one" : "none yet";
-    at("kept").replaceChildren(none, ...options);
-  }
-
-  /** Offers a game to be opened anew: { board, start, moves, outcome }, or { fault }. */
-  function offer(game) {
-    table.chosen = game.fault ? null : game;
-    if (game.fault) {
-      at("anew-said").textContent = game.fault;
-      return;
-    }
-    at("new-name").value = Words.nextName(game.board);
-    at("count").max = game.moves.length;
-    at("count").value = game.moves.length;
-    const ended = game.outcome && game.outcome !== "abandoned" ? ` It ended: ${Words.outcome(game.outcome)}` : "";
-    at("anew-said").textContent = `${game.board}: start ${game.start}, ${game.moves.length} moves.${ended}`;
-  }
-
-  async function readFile() {
-    const file = at("file").files[0];
-    if (!file) {
-      return;
-    }
-    at("kept").value = "";
-    const read = await file.text().then(RecordFile.read, () => ({ fault: "This file cannot be read." }));
-    if (at("file").files[0] === file) {
-      offer(read);
-    }
+  function offer(moves) {
+    anew.offer({ ...operator.game(), moves, saved: now() });
   }
 
   function save() {
-    const content = RecordFile.write({ ...table.game, moves: allMoves() });
-    const link = document.createElement("a");
-    link.href = URL.createObjectURL(new Blob([content], { type: "application/jsonl" }));
-    link.download = `${table.game.board}.record`;
-    link.click();
-    setTimeout(() => URL.revokeObjectURL(link.href), 1000);
-  }
-
-  /* Moves. */
-
-  const endRank = (square) => [0, 7].includes(Position.rankOf(square));
-
-  async function dropped(from, to) {
-    const position = page.record().present();
-    const pawn = position.squares[from].toLowerCase() === "p";
-    const { game } = table;
-    const letter = pawn && endRank(to) ? await promotion(position.turn) : "";
-    if (letter === null) {
-      return;
-    }
-    if (ready() && table.game === game) {
-      submit(Position.nameOf(from) + Position.nameOf(to) + letter);
-    } else {
-      say("No move can be played now.");
-    }
-  }
-
-  /** Asks for the piece that a pawn becomes; null where the operator goes back. */
-  function promotion(colour) {
-    const box = at("promotion");
-    at("choices").replaceChildren(..."qrbn".split("").map((letter) => {
-      const it = document.createElement("button");
-      it.type = "button";
-      it.dataset.kind = letter;
-      it.append(Pieces.draw(colour === Position.WHITE ? letter.toUpperCase() : letter), Words.kind(letter));
-      it.addEventListener("click", () => box.close(letter));
-      return it;
-    }));
-    box.returnValue = "";
-    box.showModal();
-    return new Promise((resolve) => {
-      box.addEventListener("close", () => resolve(box.returnValue || null), { once: true });
-    });
-  }
-
-  function typed() {
-    const text = at("move").value.trim();
-    if (!ready()) {
-      say("No move can be played now.");
-    } else if (Texts.isMove(text)) {
-      at("move").value = "";
-      submit(text);
-    } else {
-      say(`"${text}" is no move: it is two squares and, for a promotion, one of n, b, r, q.`);
-    }
+    const game = operator.game();
+    Saved.file(`${game.board}.record`, RecordFile.write({ ...game, moves: operator.allMoves() }), "application/jsonl");
   }
 
   /* Endings. */
 
-  const TESTED = "The relay tests it; a claim on a move not yet made is the arbiter's (Articles 9.2, 9.3).";
-  const GROUNDS = {
-    threefold: "the present position has appeared at least three times",
-    fifty: "the last fifty moves by each side were made without a capture and without a pawn move",
-  };
-
-  /** What is asked before an ending is sent, and the side that it needs: who resigns, or who has the move and so may claim. */
-  function question(button) {
-    const { how, side } = button.dataset;
-    if (!GROUNDS[how]) {
-      return { head: "End the game?", text: `${button.textContent}.`, yes: "End the game", side };
-    }
-    const claimant = Words.colour(page.record().present().turn);
-    const text = `${claimant}, to move, claims a draw: ${GROUNDS[how]}. ${TESTED}`;
-    return { head: "Claim a draw?", text, yes: "Claim", side: claimant.toLowerCase() };
-  }
-
-  function sure({ head, text, yes }) {
-    const box = at("sure");
-    at("sure-head").textContent = head;
-    at("sure-text").textContent = text;
-    at("sure-yes").textContent = yes;
-    box.returnValue = "";
-    box.showModal();
-    return new Promise((resolve) => {
-      box.addEventListener("close", () => resolve(box.returnValue === "yes"), { once: true });
-    });
-  }
-
-  async function end(button) {
-    const { game } = table;
-    const { side, ...words } = question(button);
-    if (!await sure(words)) {
+  /** Sends an ending once the operator has confirmed it, unless the game is another by then. */
+  async function confirmed(words, command, correct) {
+    const before = operator.game();
+    if (!await questions.sure(words)) {
       return;
     }
-    if (ready() && table.game === game) {
-      const command = { cmd: "end", how: button.dataset.how };
-      ask("end", side ? { ...command, side } : command);
-    } else {
-      say("The connection was lost meanwhile: nothing was entered.");
+    if (operator.game() !== before || !operator.enter(command, correct)) {
+      say("The connection was lost in the meantime. Nothing was entered.");
     }
+  }
+
+  function end(button) {
+    const { side, ...words } = questions.words(button, page.record().present().turn);
+    const command = { cmd: "end", how: button.dataset.how };
+    confirmed(words, side ? { ...command, side } : command);
+  }
+
+  /** The number of moves up to the position that is shown. */
+  const shownMoves = () => page.cursor() + 1;
+
+  /** Ends the game and reopens it under the next name, with the moves up to the position that is shown. */
+  function correct() {
+    const moves = operator.moves();
+    const kept = moves.slice(0, shownMoves());
+    const words = questions.correction(operator.game().board, kept.length, moves.length - kept.length);
+    confirmed(words, { cmd: "end", how: "abandoned" }, kept);
   }
 
   /* Controls. */
 
+  /** How the board stands, for a page that has this one in a tab. */
+  function stand() {
+    const { origin, outcome } = page.record();
+    const holder = at("state");
+    const turn = origin !== null && outcome === null ? page.record().present().turn : null;
+    const game = operator.game();
+    return { name: game ? game.board : at("name").value, state: holder.dataset.state, text: holder.textContent, near: at("near").textContent, outcome, turn };
+  }
+
+  /** A game is corrected from an earlier position, to which the operator has gone back. */
+  function browsed() {
+    at("correct").hidden = !operator.isOpen() || shownMoves() === operator.moves().length;
+    report();
+  }
+
+  /** The link that spectators need. A site's spectators have its channels, at another address. */
+  function spectators() {
+    const game = operator.game();
+    at("watch").hidden = game === null || location.protocol === "https:";
+    at("watch").href = game === null ? "" : Address.link("watch.html", { server: server(), board: game.board, players: Players.written(game.players) || null });
+  }
+
   function controls() {
-    const busy = table.link !== null || table.waiting;
+    const busy = !operator.isIdle();
+    const isOpen = operator.isOpen();
     document.body.classList.toggle("idle", !busy);
     at("opening").hidden = busy;
     at("anew").hidden = busy;
     at("alone-card").hidden = !busy;
-    at("give-up").hidden = !busy || table.playing;
-    at("ending").hidden = !table.playing;
-    at("ending").querySelectorAll("button").forEach((it) => it.setAttribute("aria-disabled", String(!ready())));
-    at("save").hidden = table.game === null;
-    at("typed").hidden = !table.playing;
+    at("give-up").hidden = !busy || isOpen;
+    at("ending").hidden = !isOpen;
+    at("ending").querySelectorAll("button").forEach((it) => it.setAttribute("aria-disabled", String(!operator.isReady())));
+    at("save").hidden = operator.game() === null;
+    at("typed").hidden = !isOpen;
+    spectators();
+    browsed();
   }
 
-  function array() {
-    const number = Number(at("start").value);
-    const valid = at("start").value !== "" && Position.isStart(number);
-    at("array").replaceChildren(...(valid ? [...Position.array(number)].map(Pieces.draw) : []));
-    if (valid && page.record().origin === null) {
-      page.board.show(Position.start(number));
-    }
-    at("array").setAttribute("aria-label", valid ? [...Position.array(number)].map(Words.kind).join(", ") : "");
-  }
-
-  function lot() {
-    const drawn = new Uint32Array(1);
-    do {
-      crypto.getRandomValues(drawn);
-    } while (drawn[0] >= 960 * Math.floor(2 ** 32 / 960));
-    at("start").value = drawn[0] % 960;
-    array();
-  }
-
-  at("array").setAttribute("role", "img");
-  at("start").addEventListener("input", array);
-  at("lot").addEventListener("click", lot);
   at("opening").addEventListener("submit", (event) => {
     event.preventDefault();
-    open({ board: at("name").value.trim(), start: Number(at("start").value), anew: false }, []);
-  });
-  at("typed").addEventListener("submit", (event) => {
-    event.preventDefault();
-    typed();
+    const players = { white: at("white").value.trim(), black: at("black").value.trim() };
+    operator.open({ board: at("name").value.trim(), start: Number(at("start").value), players, anew: false }, []);
   });
   at("ending").addEventListener("click", (event) => {
     const button = event.target.closest("button");
-    if (button && ready()) {
+    if (button && operator.isReady()) {
       end(button);
     }
   });
   at("give-up").addEventListener("click", () => {
-    giveUp();
-    state("idle", "No board open");
-    controls();
-  });
-  at("kept").addEventListener("change", () => {
-    const game = Kept.all().find((it) => it.id === at("kept").value);
-    if (game) {
-      at("file").value = "";
-      offer(game);
+    if (operator.stop()) {
+      state("idle", "No board open");
     }
   });
-  at("file").addEventListener("change", readFile);
+  at("correct").addEventListener("click", () => operator.isReady() && correct());
   at("save").addEventListener("click", save);
-  at("anew").addEventListener("submit", (event) => {
-    event.preventDefault();
-    if (table.chosen && at("new-name").value !== "") {
-      const { start } = table.chosen;
-      open({ board: at("new-name").value.trim(), start, anew: true }, table.chosen.moves.slice(0, Number(at("count").value)));
-    } else {
-      at("anew-said").textContent = "Choose a kept game or a record's file first.";
-    }
-  });
+  at("save-pgn").addEventListener("click", () => page.savePgn(operator.game().board));
   window.addEventListener("beforeunload", (event) => {
-    if (table.playing) {
+    if (operator.isOpen()) {
       event.preventDefault();
     }
   });
 
-  /* table.html?server=ws://HOST:PORT&board=NAME&start=N fills the fields in. */
-  const given = new URLSearchParams(location.search);
-  at("server").value = given.get("server") || at("server").value;
-  at("name").value = given.get("board") || "";
-  at("start").value = given.get("start") || at("start").value;
-  array();
-  list();
+  /* table.html?server=ws://HOST:PORT&board=NAME&start=N&players=A–B fills the fields in; with &open it opens the board. */
+  at("server").value = Address.get("server") || at("server").value;
+  at("name").value = Address.get("board") || "";
+  at("start").value = Address.get("start") || at("start").value;
+  const players = Players.read(Address.get("players") || "");
+  at("white").value = players.white;
+  at("black").value = players.black;
+  page.named(players);
+  start.show();
+  anew.list();
+  anew.offerLast(at("name").value);
   controls();
+  if (Address.has("open") && at("opening").checkValidity()) {
+    at("opening").requestSubmit();
+  }
 })();

@@ -1,11 +1,24 @@
 #!/bin/sh
-# Tries watch.html and table.html in a real browser, beside the built program. It needs, of Debian:
-#     apt-get install chromium python3-websockets
-# and crates/relay960/out/relay960, which ./run.sh builds. Words are passed on: ./test.sh mate crash tries these two alone,
-# ./test.sh --pictures ../docs/pictures takes the pictures of the guides. It uses no address but loopback.
+# Tries what the pages know of chess beside Stockfish and PyChess, then watch.html, table.html, tables.html and round.html in Chromium, and in
+# Firefox and WebKit what a person does most, beside the built program (or the one that RELAY960 names). Words are passed on: ./test.sh chess
+# tries the first alone, ./test.sh mate crash these two in Chromium, ./test.sh firefox all of it in Firefox, ./test.sh webkit mate one in WebKit,
+# and ./test.sh --pictures ../docs/pictures takes the pictures of the guides. It uses no address but loopback.
 set -eu
 cd "$(dirname "$0")"
-RELAY960="${RELAY960:-$(pwd)/../crates/relay960/out/relay960}"
-[ -x "$RELAY960" ] || { echo "there is no $RELAY960: build it with ./run.sh < crates/relay960/stdin"; exit 1; }
-export RELAY960
-exec /usr/bin/python3 tests/pages.py "$@"
+top=$(cd .. && pwd)
+# shellcheck disable=SC1091
+. "$top/tools/trial.sh"
+if [ "${1:-chess}" = chess ]; then
+    begin_trial nodejs pychess stockfish pgn-extract
+    /usr/bin/python3 tests/chess.py
+    [ $# -eq 0 ] || exit 0
+fi
+case ${1:-} in
+    firefox) begin_trial firefox-esr python3-websockets ;;
+    webkit) begin_trial webkit2gtk-driver xvfb python3-websockets ;;
+    *) begin_trial chromium openssl python3-websockets ;;
+esac
+/usr/bin/python3 tests/pages.py "$@"
+[ $# -eq 0 ] || exit 0
+./test.sh firefox
+exec ./test.sh webkit

@@ -1,11 +1,12 @@
 "use strict";
 /*
- * The texts that a relay sends, one JSON object each, told apart by `reply`. A page that was given a wrong address may get anything:
- * what is none of these texts is no relay's.
+ * The texts that a relay sends, one JSON object each, told apart by `reply`, and those that a feed adds in a channel. A page that was
+ * given a wrong address may get anything: what is none of these texts is no relay's.
  */
 const Texts = (() => {
   const isText = (it) => typeof it === "string";
   const isPlace = (it) => Number.isInteger(it) && it >= 0;
+  const isName = (it) => isText(it) && /^[A-Za-z0-9_-]{1,32}$/.test(it);
   const isMove = (it) => isText(it) && /^[a-h][1-8][a-h][1-8][nbrq]?$/.test(it);
   const FEN = /^[pnbrqkPNBRQK1-8]+(\/[pnbrqkPNBRQK1-8]+){7} [wb] (-|[A-Ha-h]{1,4}) (-|[a-h][36]) \d+ \d+$/;
   const isFen = (it) => isText(it) && FEN.test(it) && Position.write(Position.read(it)) === it;
@@ -20,6 +21,8 @@ const Texts = (() => {
     ["move", { place: isPlace, move: isMove }],
     ["over", { outcome: isText }],
     ["cut", {}],
+    ["beat", { time: isPlace }],
+    ["next", { board: isName }],
   ]);
 
   /** Whether a value read from JSON is a relay's text. */

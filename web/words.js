@@ -9,31 +9,33 @@ const Words = (() => {
     "black resigns": ["1–0", "Black resigned. White wins."],
     "agreed": ["½–½", "Draw by agreement."],
     "abandoned": ["", "Ended without a result: the game was abandoned, or its board lost its connection."],
-    "threefold": ["½–½", "Draw: the position stood for the third time and a player claimed it."],
-    "fifty moves": ["½–½", "Draw: fifty moves by each side without a capture or a pawn move, and a player claimed it."],
-    "fivefold": ["½–½", "Draw: the position stood for the fifth time."],
-    "seventy-five moves": ["½–½", "Draw: seventy-five moves by each side without a capture or a pawn move."],
+    "threefold": ["½–½", "Draw by threefold repetition, claimed by a player."],
+    "fifty moves": ["½–½", "Draw by the fifty-move rule, claimed by a player."],
+    "fivefold": ["½–½", "Draw by fivefold repetition."],
+    "seventy-five moves": ["½–½", "Draw by the seventy-five-move rule."],
   };
+
+  const ILLEGAL = "This move is not legal here.";
 
   const REFUSALS = {
     NoSuchBoard: "The relay has no board of this name.",
-    BoardExists: "The relay has had a board of this name already. A name is given once in a run: choose another.",
-    BadStart: "The start number has to be from 0 to 959.",
-    TooManyBoards: "The relay has as many boards as it may have. It has to be started with more.",
+    BoardExists: "That name is taken. Choose another.",
+    BadStart: "The start number must be from 0 to 959.",
+    TooManyBoards: "The relay has no room for another board. Restart it with a higher limit.",
     GameOver: "The game on this board has ended.",
-    Illegal: "This move is not legal in the present position.",
-    LogFull: "The game has as many moves as the relay keeps for one game. End it.",
-    ClaimRefused: "The claim is refused: the claimant does not have the move, or the position gives no ground for it.",
-    TooManyFollowers: "The board has as many followers as it may have.",
-    OutOfMemory: "The relay had no memory for this. Try again.",
-    NotYourBoard: "This board was opened by another connection, and only that one may play on it.",
-    WrongMode: "The relay does not take this command here.",
-    TooFarBack: "The relay no longer gives moves from so far back.",
-    NotYet: "The game has not come as far as that yet.",
+    Illegal: ILLEGAL,
+    LogFull: "The game has reached the relay's limit of moves. End it.",
+    ClaimRefused: "Claim refused: the position does not support it.",
+    TooManyFollowers: "The board has no room for another spectator.",
+    OutOfMemory: "The relay is out of memory. Try again.",
+    NotYourBoard: "This board belongs to another operator.",
+    WrongMode: "The relay does not accept this command here.",
+    TooFarBack: "The relay no longer has moves from that far back.",
+    NotYet: "The game has not got that far yet.",
     NotJson: "The relay could not read the command.",
     NotObject: "The relay could not read the command.",
     UnknownCommand: "The relay does not know this command.",
-    BadField: "The relay could not read a part of the command: a board's name has 1 to 32 of A–Z, a–z, 0–9, _ and -.",
+    BadField: "The relay could not read part of the command. A board's name has 1 to 32 of A–Z, a–z, 0–9, _ and -.",
   };
 
   const KINDS = { k: "king", q: "queen", r: "rook", b: "bishop", n: "knight", p: "pawn" };
@@ -41,13 +43,15 @@ const Words = (() => {
 
   const outcome = (text) => (OUTCOMES[text] || ["", text])[1];
   const score = (text) => (OUTCOMES[text] || ["", text])[0];
-  const refusal = (answer) => `${REFUSALS[answer.name] || "The relay refused this."} (${answer.code} ${answer.name})`;
+  const refusal = (answer) => REFUSALS[answer.name] || "The relay refused this.";
+  /** A refusal for the log, with its code and name in the protocol. */
+  const coded = (answer) => `${refusal(answer)} (${answer.code} ${answer.name})`;
   const kind = (piece) => KINDS[piece.toLowerCase()];
   const colour = (letter) => COLOURS[letter];
   const piece = (letter) => `${letter === letter.toUpperCase() ? "white" : "black"} ${kind(letter)}`;
 
-  /** A move as score sheets have it, with both squares: Ng1-f3, e5xd6 e.p., a7-a8=Q, O-O. */
-  function sheet(deed, check) {
+  /** A move in the long form, with both squares: Ng1-f3, e5xd6 e.p., a7-a8=Q, O-O. It has the sign of a check where it is said to be one. */
+  function sheet(deed, check = false) {
     const sign = check ? "+" : "";
     if (deed.castling) {
       return (deed.castling.wing === "g" ? "O-O" : "O-O-O") + sign;
@@ -75,6 +79,36 @@ const Words = (() => {
     return `${who} ${kind(deed.man)} ${from} ${takes} ${Position.nameOf(deed.to)}${passing}${promoted}${tail}`;
   }
 
+  /** What is to be said of a gap in the moves. */
+  function missed({ first, place }) {
+    const count = place - first + 1;
+    return count === 1 ? "1 half-move was missed." : `${count} half-moves were missed.`;
+  }
+
+  /* The half-moves from which a draw is told to come near, may be claimed, and ends the game; and so of the times a position appears. */
+  const CLOCK = { near: 80, claim: 100, end: 150 };
+  const TIMES = ["", "", "twice", "three times", "four times"];
+
+  function clock(halfMoves) {
+    if (halfMoves < CLOCK.near) {
+      return [];
+    }
+    const count = `${halfMoves} half-moves without a capture or a pawn move`;
+    return [halfMoves < CLOCK.claim ? `${count}. At ${CLOCK.claim} a draw can be claimed.`
+      : `${count}. A draw can be claimed. At ${CLOCK.end} the game is drawn.`];
+  }
+
+  function appearances(times, isWhole) {
+    if (!TIMES[times]) {
+      return [];
+    }
+    const count = `This position has occurred ${isWhole ? "" : "at least "}${TIMES[times]}`;
+    return [times < 3 ? `${count}. At the third time a draw can be claimed.` : `${count}. A draw can be claimed. At the fifth time the game is drawn.`];
+  }
+
+  /** What is to be said of draws that come near, a sentence or two for each. */
+  const near = ({ halfMoves, times, isWhole }) => [...clock(halfMoves), ...appearances(times, isWhole)];
+
   /** Where the men of a position stand, in words, a list for each side. */
   function placement(position) {
     const side = (letter) => {
@@ -92,8 +126,8 @@ const Words = (() => {
   }
 
   /**
-   * The name under which a board is opened anew: r1-1, r1-1_2, r1-1_3 and so on, at most 32 letters long. It is counted behind "_",
-   * since tables are counted behind "-": the game of r1-1 that is opened anew must not have the name of the next table.
+   * The name under which a board is reopened: r1-1, r1-1_2, r1-1_3 and so on, at most 32 letters long. It is counted behind "_",
+   * since tables are counted behind "-": the game of r1-1 that is reopened must not have the name of the next table.
    */
   function nextName(name) {
     const found = /^(.+)_(\d{1,3})$/.exec(name);
@@ -101,5 +135,19 @@ const Words = (() => {
     return (found ? found[1] : name).slice(0, 32 - tail.length) + tail;
   }
 
-  return { outcome, score, refusal, kind, colour, piece, sheet, spoken, placement, nextName };
+  /** So many next names, in their order. */
+  function nextNames(name, count) {
+    const names = [];
+    while (names.length < count) {
+      names.push(nextName(names.length > 0 ? names[names.length - 1] : name));
+    }
+    return names;
+  }
+
+  const HEIRS = 99;
+
+  /** Whether the game of a board may go on under this name. */
+  const isHeir = (name, board) => nextNames(board, HEIRS).includes(name);
+
+  return { ILLEGAL, outcome, score, refusal, coded, kind, colour, piece, sheet, spoken, missed, near, placement, nextName, nextNames, isHeir };
 })();

@@ -3,139 +3,33 @@ import asyncio
 import json
 import pathlib
 import random
-import subprocess
 import sys
 import tempfile
 import time
 
 import websockets
 
-from browser import PATIENCE, Browser
-from relay import Client, Player, Relay, Told, Wire, fens, start_fen
+import back
+import contrast
+import gone
+import notation
+import rounds
+import senses
+import tabs
+from relay_client.browser import Browser
+from relay_client.client import Client
+from relay_client.firefox import Firefox
+from relay_client.program import Player, fens, start_fen
+from relay_client.relay import Relay
+from relay_client.webkit import WebKit
+from relay_client.wire import Wire
+from steps import WEB, enter, listed, open_table, placement, said, say_end, shows, state, text, to_square, unfold, until_moves, until_state, url, watch
+from told import Told
 
-WEB = pathlib.Path(__file__).resolve().parent.parent
 RECORDER = WEB.parent / "examples" / "recorder" / "record.py"
 SEED = 960
 GAMES = 6
 PLIES = 60
-
-PLACEMENT = """(() => {
-  const rows = [...document.querySelectorAll(".square")].map((it) => {
-    const box = it.getBoundingClientRect();
-    const man = it.querySelector(".piece");
-    return {x: box.x, y: box.y, name: it.dataset.square, man: man ? man.dataset.piece : "1",
-            drawn: !man || (man.getBoundingClientRect().width > 8 && man.querySelectorAll("path").length > 1)};
-  });
-  const lines = new Map();
-  rows.forEach((it) => { const key = Math.round(it.y); lines.set(key, [...(lines.get(key) || []), it]); });
-  const ordered = [...lines.entries()].sort((a, b) => a[0] - b[0]).map(([, it]) => it.sort((a, b) => a.x - b.x));
-  return {names: ordered.flat().map((it) => it.name), men: ordered.map((it) => it.map((cell) => cell.man).join("")), drawn: rows.every((it) => it.drawn)};
-})()"""
-
-
-def tightened(rank):
-    """A rank's men with a run of vacant squares as its length."""
-    text = ""
-    for man in rank:
-        if man == "1" and text[-1:].isdigit():
-            text = text[:-1] + str(int(text[-1]) + 1)
-        else:
-            text += man
-    return text
-
-
-async def placement(page):
-    """The placement that a page shows, read off where its men stand on the screen, in the form of a FEN's first field."""
-    seen = await page.run(PLACEMENT)
-    assert seen["drawn"], "a man is not drawn"
-    names = [file + rank for rank in "87654321" for file in "abcdefgh"]
-    if seen["names"] == names:
-        ranks = seen["men"]
-    else:
-        assert seen["names"] == names[::-1], "the squares are out of order"
-        ranks = [it[::-1] for it in seen["men"][::-1]]
-    return "/".join(tightened(it) for it in ranks)
-
-
-def url(name, **given):
-    words = "&".join(f"{key}={value}" for key, value in given.items())
-    return f"{(WEB / name).as_uri()}?{words}"
-
-
-async def state(page):
-    return await page.run('document.querySelector("#state").dataset.state')
-
-
-async def until_state(page, name, seconds=PATIENCE):
-    await page.until(f'document.querySelector("#state").dataset.state === "{name}"', seconds)
-
-
-async def text(page, selector):
-    return await page.run(f'document.querySelector("{selector}").textContent')
-
-
-async def until_moves(page, count, seconds=PATIENCE):
-    await page.until(f'document.querySelectorAll(".move[data-place]").length === {count}', seconds)
-
-
-async def listed(page):
-    """The places and moves of the list, in its order."""
-    return await page.run('[...document.querySelectorAll(".move[data-place]")].map((it) => [Number(it.dataset.place), it.title.split(",")[0]])')
-
-
-async def open_table(browser, relay, board, start, address=None):
-    page = await browser.open(url("table.html", server=address or relay.address, board=board, start=start))
-    await page.click("#opening .main")
-    await until_state(page, "live")
-    return page
-
-
-async def watch(browser, relay, board, address=None, **more):
-    return await browser.open(url("watch.html", server=address or relay.address, board=board, **more))
-
-
-async def to_square(page, name):
-    """Goes to a square by the arrow keys, from the square that has the focus."""
-    at = await page.run('document.activeElement.dataset.square')
-    for _ in range(abs(ord(name[0]) - ord(at[0]))):
-        await page.press("ArrowRight" if name[0] > at[0] else "ArrowLeft")
-    for _ in range(abs(int(name[1]) - int(at[1]))):
-        await page.press("ArrowUp" if name[1] > at[1] else "ArrowDown")
-
-
-async def enter(page, move, way):
-    """Plays a move on a table's page by clicking, dragging, typing or keys."""
-    start, goal = f"[data-square={move[:2]}]", f"[data-square={move[2:4]}]"
-    if way == "type":
-        await page.fill("#move", move)
-        await page.press("Enter")
-        return
-    if way == "drag":
-        await page.drag(start, goal)
-    elif way == "click":
-        await page.click(start)
-        await page.click(goal)
-    else:
-        await page.run('document.querySelector(".square[tabindex=\\"0\\"]").focus()')
-        await to_square(page, move[:2])
-        await page.press("Enter")
-        await to_square(page, move[2:4])
-        await page.press("Enter")
-    if len(move) == 5:
-        await page.until('document.querySelector("#promotion").open')
-        await page.click(f"#choices [data-kind={move[4]}]")
-
-
-async def shows(page, count, fen, what):
-    await until_moves(page, count)
-    await page.until(f'document.querySelector("#fen").value === {json.dumps(fen)}')
-    assert await placement(page) == fen.split(" ")[0], (what, fen, await placement(page))
-
-
-async def say_end(page, selector):
-    await page.click(selector)
-    await page.until('document.querySelector("#sure").open')
-    await page.click("#sure .main")
 
 
 def weigh(moves, fen, chance):
@@ -261,15 +155,17 @@ async def try_mate(browser):
         await until_state(page, "over")
         assert "Black wins by checkmate." in await text(page, "#outcome")
         assert "0–1" in await text(page, "#outcome")
-        assert "Qd8-h4#" in await text(page, "#moves")
+        for written in ("Qh4#", "Qd8-h4#"):
+            assert written in await text(page, "#moves"), await text(page, "#moves")
+            await page.click("#long")
         assert await page.run('document.querySelector(".square.check").dataset.square') == "e1"
     await seer.until('document.querySelector("#spoken").textContent.includes("Black wins by checkmate.")')
     assert await seer.run('document.querySelector("#spoken").getAttribute("aria-live")') == "polite"
     await seer.press("Home")
     assert await placement(seer) == "rnbqkbnr/pppppppp/8/8/8/8/PPPPPPPP/RNBQKBNR"
-    assert await text(seer, "#spoken") == "The first position."
+    assert await text(seer, "#spoken") == "The start position."
     await seer.press("ArrowRight")
-    assert await text(seer, "#spoken") == "place 0, White: pawn f2 to f3."
+    assert await text(seer, "#spoken") == "Move 1, White: pawn f2 to f3."
     for page in (seer, table):
         await page.press("f")
         assert await page.run('document.querySelector(".square").dataset.square') == "a8", "a letter turned the board"
@@ -318,6 +214,36 @@ async def try_access(browser):
         await page.close()
 
 
+async def try_seen_whole(browser):
+    """The whole board is in sight on screens of several sizes, also beside a message, in the dark, and with less motion; a list of moves is one stop for the Tab key; a title has the result."""
+    relay = await Relay().start()
+    table = await open_table(browser, relay, "b1", 518)
+    seer = await watch(browser, relay, "b1")
+    for ply, move in enumerate(["f2f3", "e7e5", "g2g4"], 1):
+        await enter(table, move, "type")
+        await until_moves(table, ply)
+    await until_moves(seer, 3)
+    await enter(table, "e2e5", "type")
+    await table.until('!document.querySelector("#said").hidden')
+    for page in (table, seer):
+        for media in ({}, {"prefers_color_scheme": "dark", "prefers_reduced_motion": "reduce"}):
+            await page.media(**media)
+            for width, height in ((844, 390), (390, 800), (1366, 768), (1280, 900)):
+                await page.resize(width, height)
+                await page.run("scrollTo(0, 0)")
+                low, wide = await page.run('[document.querySelector(".board").getBoundingClientRect().bottom - innerHeight, document.documentElement.scrollWidth - innerWidth]')
+                assert low <= 0 and wide <= 0, (await text(page, "h1"), width, height, low, wide)
+        assert await page.run('[...document.querySelectorAll("#moves, #moves *")].filter((it) => it.tabIndex >= 0).map((it) => it.id)') == ["moves"]
+    await enter(table, "d8h4", "type")
+    for page, words in ((table, "0–1, b1 – Operate a board"), (seer, "0–1, b1 – Watch a board")):
+        await until_state(page, "over")
+        await page.until(f"document.title === {json.dumps(words)}")
+        assert not page.faults, page.faults
+    assert await table.run('document.querySelector("#name").value') == ""
+    await table.close()
+    await seer.close()
+
+
 NAMED = ["button", "textbox", "spinbutton", "combobox", "checkbox", "grid", "table", "gridcell", "cell", "region"]
 
 
@@ -329,20 +255,21 @@ async def try_refusals(browser):
     await enter(table, "e2e5", "click")
     await table.until('document.querySelector("#said").textContent.includes("not legal")')
     await enter(table, "e2x", "type")
-    await table.until('document.querySelector("#said").textContent.includes("is no move")')
+    await table.until('document.querySelector("#said").textContent.includes("is not a move")')
     await say_end(table, "#ending [data-how=threefold]")
-    await table.until('document.querySelector("#said").textContent.includes("claim is refused")')
+    await table.until('document.querySelector("#said").textContent.includes("Claim refused")')
     moves = ["g1f3", "g8f6", "f3g1", "f6g8", "g1f3", "g8f6", "f3g1", "f6g8", "e2e4"]
     for ply, move in enumerate(moves, 1):
         await enter(table, move, "type")
         await until_moves(table, ply)
     assert await table.run('document.querySelector("#said").hidden')
     await enter(table, "e7e5", "type")
-    await table.until('document.querySelector("#said").textContent.includes("LogFull")')
+    await table.until('document.querySelector("#said").textContent.includes("reached the relay\'s limit")')
+    assert "(7 LogFull)" in await text(table, "#notices") and "LogFull" not in await said(table)
     await say_end(table, '#ending [data-side=black]')
     await until_state(table, "over")
     assert "Black resigned. White wins." in await text(table, "#outcome")
-    for board, word in (("b1", "BoardExists"), ("b2", "TooManyBoards")):
+    for board, word in (("b1", "That name is taken"), ("b2", "no room for another board")):
         await table.fill("#name", board)
         await table.click("#opening .main")
         await table.until(f'document.querySelector("#said").textContent.includes("{word}")')
@@ -362,7 +289,7 @@ async def try_threefold(browser):
         await enter(table, move, "type")
         await until_moves(table, ply)
     await say_end(table, "#ending [data-how=threefold]")
-    await until_claimed(table, seer, "third time")
+    await until_claimed(table, seer, "threefold repetition")
 
 
 async def try_fifty(browser):
@@ -376,13 +303,13 @@ async def try_fifty(browser):
         await enter(table, move, "type")
         await until_moves(table, ply)
     await say_end(table, "#ending [data-how=fifty]")
-    await table.until('document.querySelector("#said").textContent.includes("claim is refused")')
+    await table.until('document.querySelector("#said").textContent.includes("Claim refused")')
     assert await state(table) == "live"
     await enter(table, moves[99], "type")
     await until_moves(table, 100)
     assert await table.run('document.querySelector("#said").hidden')
     await say_end(table, "#ending [data-how=fifty]")
-    await until_claimed(table, seer, "fifty moves by each side")
+    await until_claimed(table, seer, "the fifty-move rule")
 
 
 async def until_claimed(table, seer, words):
@@ -410,10 +337,6 @@ def quiet_game(start, plies, chance):
         player.close()
 
 
-async def said(page):
-    return await page.run('document.querySelector("#said").hidden ? "" : document.querySelector("#said").textContent')
-
-
 async def try_order(browser):
     """One thing is asked at a time, and an answer is that to what was asked: a claim, a move, and moves that are sent again."""
     async with Told() as relay:
@@ -429,7 +352,7 @@ async def try_order(browser):
         await table.click("#ending [data-how=agreed]")
         assert await said(table) == "No move can be played now." and not await table.run('document.querySelector("#sure").open')
         await relay.refuses(8, "ClaimRefused")
-        await table.until('document.querySelector("#said").textContent.startsWith("The claim is refused")')
+        await table.until('document.querySelector("#said").textContent.startsWith("Claim refused")')
         await enter(table, "e2e4", "type")
         await relay.hears(cmd="submit", board="b1", move="e2e4")
         await table.click("#ending [data-how=threefold]")
@@ -471,7 +394,7 @@ async def try_meanwhile(browser):
         await until_moves(table, 1)
         await table.click("#ending [data-how=fifty]")
         await table.until('document.querySelector("#sure").open')
-        await relay.socket.close()
+        await relay.forgets("b1")
         await relay.hears(cmd="open", board="b1_2", start=518)
         await table.run('HTMLAnchorElement.prototype.click = () => {}; window.write = RecordFile.write; '
                         'RecordFile.write = (game) => { window.game = game; return write(game); }')
@@ -482,7 +405,7 @@ async def try_meanwhile(browser):
         await relay.plays(0)
         await until_moves(table, 1)
         await table.click("#sure .main")
-        await table.until('document.querySelector("#said").textContent.includes("nothing was entered")')
+        await table.until('document.querySelector("#said").textContent.includes("Nothing was entered")')
         assert relay.asked.empty() and await state(table) == "live"
         await enter(table, "e7e5", "type")
         await relay.hears(cmd="submit", board="b1_2", move="e7e5")
@@ -515,7 +438,7 @@ async def try_strangers(browser):
                 assert await state(page) == "connecting"
                 await relay.says_so(strange)
                 await until_state(page, "refused")
-                assert "This is no relay" in await text(page, "#state"), await text(page, "#state")
+                assert "This is not a relay" in await text(page, "#state"), await text(page, "#state")
                 await asyncio.wait_for(relay.socket.wait_closed(), 10)
         await table.click("#opening .main")
         await relay.hears(cmd="open", board="b1", start=518)
@@ -552,21 +475,21 @@ async def try_claims(browser):
         await relay.says(reply="opened")
         await until_state(table, "live")
         for colour, move in (("White", "g1f3"), ("Black", "g8f6")):
-            for how, label, ground in (("threefold", "Claim: threefold repetition", "has appeared at least three times"),
+            for how, label, ground in (("threefold", "Claim: threefold repetition", "has occurred at least three times"),
                                        ("fifty", "Claim: fifty moves", "fifty moves by each side")):
                 assert await text(table, f"#ending [data-how={how}]") == label
                 await table.click(f"#ending [data-how={how}]")
                 await table.until('document.querySelector("#sure").open')
                 words = await text(table, "#sure-text")
                 assert words.startswith(f"{colour}, to move, claims a draw: ") and ground in words, words
-                assert "The relay tests it" in words and "9.2, 9.3" in words, words
+                assert "The relay checks the claim." in words and "for the arbiter." in words, words
                 assert await text(table, "#sure-head") == "Claim a draw?" and await text(table, "#sure .main") == "Claim"
                 await table.press("Enter")
                 await table.until('!document.querySelector("#sure").open')
                 await say_end(table, f"#ending [data-how={how}]")
                 await relay.hears(cmd="end", board="b1", how=how, side=colour.lower())
                 await relay.refuses(8, "ClaimRefused")
-                await table.until('document.querySelector("#said").textContent.startsWith("The claim is refused")')
+                await table.until('document.querySelector("#said").textContent.startsWith("Claim refused")')
             await enter(table, move, "type")
             await relay.hears(cmd="submit", board="b1", move=move)
             await relay.plays(0 if colour == "White" else 1)
@@ -675,12 +598,12 @@ async def try_middle(browser):
     await until_moves(first, 3)
     await until_state(present, "live")
     assert await placement(present) == fens(518, moves[:3])[-1].split(" ")[0]
-    assert "Joined at place 3." in await text(present, "#notices")
+    assert "Joined after 3 half-moves." in await text(present, "#notices")
     for move in moves[3:]:
         await client.submit("b1", move)
     late = await watch(browser, relay, "b1")
     await until_state(late, "live")
-    assert "no longer gives the first moves" in await text(late, "#notices")
+    assert "no longer has the first moves" in await text(late, "#notices")
     await client.submit("b1", "d7c6")
     final = fens(518, [*moves, "d7c6"])[-1]
     for page, count in ((first, 8), (present, 5), (late, 1)):
@@ -778,7 +701,7 @@ LONG = long_game()
 
 
 async def try_crash(browser):
-    """The relay is killed and started anew: the table opens its game under a new name and play goes on; spectators come back."""
+    """The relay is killed and started anew: the table opens its game under a new name and play goes on; spectators go with it."""
     relay = await Relay().start()
     start, moves = 387, ["e2e4", "e7e5", "f1g1", "f8g8", "d2d4", "e5d4"]
     table = await open_table(browser, relay, "b1", start)
@@ -796,26 +719,21 @@ async def try_crash(browser):
     await until_moves(table, 6)
     print(f"    play went on {time.monotonic() - began:.1f} s after the relay was back")
     assert await listed(table) == [[place, move] for place, move in enumerate(moves)]
-    await until_state(seer, "refused")
+    await seer.until('document.querySelector("#notices").textContent.includes("b1 goes on as b1_2, which is shown now.")')
     second = await watch(browser, relay, "b1_2")
-    await until_moves(second, 6)
+    for page in (seer, second):
+        await until_moves(page, 6)
     await enter(table, "c2c3", "drag")
     final = fens(start, [*moves, "c2c3"])[-1]
-    await shows(table, 7, final, "anew")
-    await shows(second, 7, final, "anew")
-    client = await Client.to(relay.address)
-    await client.open("b1", start)
-    await client.submit("b1", *moves, "c2c3")
-    await shows(seer, 7, final, "the same name in a new run")
-    assert await listed(seer) == [[place, move] for place, move in enumerate([*moves, "c2c3"])]
     for page in (table, seer, second):
+        await shows(page, 7, final, "anew")
+        assert await listed(page) == [[place, move] for place, move in enumerate([*moves, "c2c3"])]
         assert not page.faults, page.faults
         await page.close()
-    await client.close()
 
 
 async def try_table_wire(browser):
-    """A table's lost connection while the relay goes on: its game ends as abandoned, and it opens a new board by itself."""
+    """A table's lost connection while the relay goes on: its game ends as abandoned, and it opens a new board by itself, to which a spectator goes."""
     relay = await Relay().start()
     wire = await Wire(relay.port).mend()
     table = await open_table(browser, relay, "b1", 200, address=wire.address)
@@ -834,8 +752,9 @@ async def try_table_wire(browser):
     await wire.mend()
     await table.until('document.querySelector("#state").textContent === "Board b1_2 is open"')
     await until_moves(table, 12)
-    await seer.click("#anew")
+    await seer.until('document.querySelector("#name").value === "b1_2"')
     await until_moves(seer, 12)
+    assert "b1 goes on as b1_2" in await text(seer, "#notices") and await state(seer) == "live"
     assert await listed(seer) == [[place, move] for place, move in enumerate(moves)]
     await table.close()
     await seer.close()
@@ -862,14 +781,14 @@ async def try_channel(browser):
     async with websockets.serve(channel, "127.0.0.1", 0, compression=None, ping_interval=None) as server:
         port = server.sockets[0].getsockname()[1]
         seer = await browser.open(url("watch.html", channel=f"ws://127.0.0.1:{port}/sub", board="b1"))
-        for it in [following(0), *told(0, 2), following(0), *told(0, 3), *told(2, 4)]:
+        for it in [following(0), {"reply": "beat", "time": int(time.time())}, *told(0, 2), following(0), *told(0, 3), *told(2, 4)]:
             said.put_nowait(it)
         await shows(seer, 4, after[3], "channel")
         assert await listed(seer) == [[place, move] for place, move in enumerate(moves[:4])]
         for it in [following(5), *told(5, 6), {"outcome": "agreed", "reply": "over"}]:
             said.put_nowait(it)
         await shows(seer, 5, after[5], "channel after a gap")
-        assert "The move of place 4 was missed." in await text(seer, "#moves")
+        assert "1 half-move was missed." in await text(seer, "#moves")
         await until_state(seer, "over")
         said.put_nowait({"fen": start_fen(0), "joined": 0, "reply": "following"})
         await shows(seer, 0, start_fen(0), "another game")
@@ -965,6 +884,7 @@ async def try_next(browser):
     await client.submit("b1", "e2e4")
     seer = await watch(browser, relay, "b1")
     await until_moves(seer, 1)
+    await unfold(seer)
     await seer.fill("#name", "b2")
     await seer.click("#source .main")
     await until_state(seer, "refused")
@@ -977,11 +897,21 @@ async def try_next(browser):
     await client.close()
 
 
+OTHERS = {"firefox": Firefox, "webkit": WebKit}
+# What is tried in these too: what a person does most. Without a device for sound it makes none, so sounds are not among it.
+OFTEN = ["games", "castling", "mate", "typed", "goals", "next", "wire", "cut", "on_its_way", "ending_lost", "correct", "crash", "kept_pgn", "records", "list",
+         "newer", "round", "tabs", "tabs_attention", "tabs_from_disk"]
+
+
 async def main():
     words = sys.argv[1:]
     pictures = words[1] if words[:1] == ["--pictures"] else None
-    tries = {name[4:]: it for name, it in globals().items() if name.startswith("try_")}
-    browser = await Browser().start()
+    other = OTHERS.get(words[0]) if words else None
+    words = (words[1:] or OFTEN) if other else words
+    modules = (back, contrast, gone, notation, rounds, senses, tabs)
+    tries = {name[4:]: it for module in (globals(), *map(vars, modules)) for name, it in module.items() if name.startswith("try_")}
+    # A test's site makes its own certificate.
+    browser = await (other().start() if other else Browser().start("--ignore-certificate-errors"))
     failed = []
     began = time.monotonic()
     try:

@@ -1,0 +1,99 @@
+"use strict";
+/*
+ * The form for a game that the page has no longer: one of those that this browser kept, or of a record's file. `back(game)` goes on with it
+ * under its name, `open(board, game, count)` reopens it under this name with so many of its moves.
+ */
+const createAnew = ({ at, back, open }) => {
+  /* The game that is offered: { board, start, players, moves, outcome }, and its `id` and the date when it was `saved` where it was kept. */
+  let chosen = null;
+
+  function list() {
+    const options = Kept.all().map((game) => {
+      const it = document.createElement("option");
+      const saved = new Date(game.saved).toLocaleString([], { dateStyle: "short", timeStyle: "short" });
+      it.value = game.id;
+      const players = Players.written(game.players);
+      const words = [game.board, players, `start ${game.start}`, `${game.moves.length} moves`, saved, game.outcome];
+      it.textContent = words.filter(Boolean).join(", ");
+      return it;
+    });
+    const none = document.createElement("option");
+    none.value = "";
+    none.textContent = options.length > 0 ? "choose one" : "none yet";
+    at("kept").replaceChildren(none, ...options);
+  }
+
+  /** Offers a game, or says why there is none: { fault }. */
+  function offer(offered) {
+    chosen = offered.fault ? null : offered;
+    at("go-on").hidden = chosen === null || Boolean(chosen.outcome);
+    at("kept-pgn").hidden = chosen === null;
+    if (offered.fault) {
+      at("anew-said").textContent = offered.fault;
+      return;
+    }
+    at("go-on").textContent = `Continue ${offered.board}`;
+    at("new-name").value = Words.nextName(offered.board);
+    at("count").max = offered.moves.length;
+    at("count").value = offered.moves.length;
+    const outcome = offered.outcome && offered.outcome !== "abandoned" ? ` It ended: ${Words.outcome(offered.outcome)}` : "";
+    at("anew-said").textContent = `${offered.board}: start ${offered.start}, ${offered.moves.length} moves.${outcome}`;
+  }
+
+  /**
+   * Offers the last game that has no end, so that it is not overlooked when the page was loaded again: of this board if one is named, also
+   * where it goes on under a next name.
+   */
+  function offerLast(board) {
+    const last = Kept.all().find((it) => !it.outcome && (board === "" || it.board === board || Words.isHeir(it.board, board)));
+    if (last) {
+      at("kept").value = last.id;
+      offer(last);
+    }
+  }
+
+  async function readFile() {
+    const file = at("file").files[0];
+    if (!file) {
+      return;
+    }
+    at("kept").value = "";
+    const read = await file.text().then(RecordFile.read, () => ({ fault: "This file cannot be read." }));
+    if (at("file").files[0] === file) {
+      offer(read);
+    }
+  }
+
+  function choose() {
+    const kept = Kept.all().find((it) => it.id === at("kept").value);
+    if (kept) {
+      at("file").value = "";
+      offer(kept);
+    }
+  }
+
+  function submit() {
+    if (chosen && at("new-name").value !== "") {
+      open(at("new-name").value.trim(), chosen, Number(at("count").value));
+    } else {
+      at("anew-said").textContent = "Choose a saved game or a record file first.";
+    }
+  }
+
+  /** Saves the game that is offered as PGN, with the day on which it was kept. */
+  function savePgn() {
+    const { board, players, saved } = chosen;
+    Saved.file(`${board}.pgn`, Pgn.write(board, recordOf(chosen), Players.tags(players), new Date(saved)), "application/vnd.chess-pgn");
+  }
+
+  at("kept").addEventListener("change", choose);
+  at("file").addEventListener("change", readFile);
+  at("go-on").addEventListener("click", () => back(chosen));
+  at("kept-pgn").addEventListener("click", savePgn);
+  at("anew").addEventListener("submit", (event) => {
+    event.preventDefault();
+    submit();
+  });
+
+  return { list, offer, offerLast };
+};

@@ -1,0 +1,387 @@
+"use strict";
+/*
+ * What follows one board for a page: at a relay, or in a channel that a feed fills from it. After a lost connection it comes back from
+ * the place after the last that is shown, so that nothing is missed and nothing shown twice. It compares the position there with the
+ * one that is shown, so that never another game is shown as the one before. Where a game that was lost goes on under its next name, it
+ * goes there by itself.
+ *
+ * `view` is what shows the game:
+ *   record()                     the record that it shows
+ *   start(record)                shows another record
+ *   goOn(record)                 shows a record that has all of the one shown, and more
+ *   refresh()                    the record that it shows has changed
+ *   state(name, text, short)     how the connection is, in a sentence and in two or three words
+ *   notice(text)                 something happened that has to be known
+ *   renamed(board)               the game goes on under this name
+ *   entered()                    the follower is in another state
+ */
+const createFollower = (view) => {
+  const ASK_AGAIN = 2;
+  const ASKS = 5400; // Three hours: a spectator may open the page long before the round.
+  const LATER = ["NoSuchBoard", "TooManyFollowers", "OutOfMemory"];
+  const SHORT = { NoSuchBoard: "Not open yet", TooManyFollowers: "No room", OutOfMemory: "No memory" };
+  const HEIRS = 3; // How many next names a lost game is looked for under.
+  const SILENT = 45; // Seconds: a feed gives a sign every 15.
+  const KEPT = 5; // Seconds in which a channel hands out what it kept.
+  const SETTLED = 100; // Milliseconds after which no other text follows that a channel kept,
+  const PASSED = 500; // and behind the name of the next board.
+
+  /* What is wanted, the waits between tries to connect, how often a board was asked for in a row, and why it was refused or the connection
+   * lost, as it was said last. */
+  const wish = { server: "", board: "", from: "first", kind: "relay", isPatient: false, waits: Link.waits(), asks: 0, said: null };
+
+  /*
+   * The states, and what belongs to each. `behind` says that the relay closed the connection because this follower fell behind.
+   *   idle                            nothing is followed
+   *   connecting  link, behind        the connection is being made
+   *   lost        behind              there is no connection; it is tried again by itself
+   * At a relay:
+   *   asking      link, behind, names, from   it is asked for the first of these boards, from that place on or from now on (null)
+   *   waiting     link, timer         it refused for now, and is asked again
+   *   live        link                it tells the game
+   *   over        link                it told the end
+   * At a channel, which has been read since a time; `sign` is when it showed last that it is fed, `beat` is what its last beat says, and
+   * `kept` has the texts that it kept, from its oldest on, until they are shown together:
+   *   listening   link, since, sign, beat, kept, timer    it has shown no sign
+   *   hearing     the same                                its signs come
+   *   silent      the same                                for 45 s there was none
+   *   ended       the same                                it told the end; another game may come, or the name under which this one goes on
+   */
+  const texts = { following: heard, move: heard, over: heard, beat, next: passedOn, settle, goOn };
+  const ways = { begin, stop, closed, broken };
+  const phase = createPhase({
+    idle: { begin },
+    connecting: { ...ways, connected },
+    lost: { begin, stop, retry },
+    asking: { ...ways, following: joined, refused },
+    waiting: { ...ways, ask },
+    live: { ...ways, move: told, over: told, cut: () => {} },
+    over: { ...ways, closed: ended },
+    listening: { ...ways, ...texts, tick },
+    hearing: { ...ways, ...texts, tick },
+    silent: { ...ways, ...texts },
+    ended: { ...ways, ...texts },
+  }, view.entered);
+
+  const isChannel = () => wish.kind === "channel";
+  const address = () => (isChannel() ? `${wish.server.replace(/\/+$/, "")}/${wish.board}` : wish.server);
+
+  /** Says how the connection is, unless the end of the game is what is to be said. */
+  function pill(name, text, short) {
+    if (view.record().outcome === null) {
+      view.state(name, text, short);
+    }
+  }
+
+  /* The connection. */
+
+  function connect(behind = false) {
+    pill("connecting", "Connecting …", "Connecting …");
+    const lost = ({ code, fault }) => phase.take(fault ? "broken" : "closed", fault || code);
+    const texted = (text) => phase.take(text.reply, text);
+    const link = Link.open(address(), { opened: () => phase.take("connected"), heard: texted, closed: lost });
+    phase.go("connecting", { link, behind });
+  }
+
+  function connected({ link, behind }) {
+    if (isChannel()) {
+      reached();
+      listen({ link, since: Date.now(), sign: null, beat: null, kept: [] });
+    } else {
+      ask({ link, behind });
+    }
+  }
+
+  function reached() {
+    wish.waits.again();
+    wish.said = null;
+  }
+
+  function broken(_, fault) {
+    view.state("refused", fault, "No relay");
+    phase.take("stop");
+  }
+
+  function closed({ timer }, code) {
+    clearTimeout(timer);
+    const behind = code === Link.FELL_BEHIND;
+    const why = behind ? "The relay closed this page's connection because it fell behind." : "No connection to the server.";
+    const seconds = wish.waits.next(() => phase.take("retry"));
+    if (view.record().outcome === null && (behind || wish.said !== why)) {
+      view.notice(behind ? `The relay closed the connection after ${view.record().next} half-moves, because this page fell behind (4001).` : why);
+    }
+    wish.said = why;
+    if (seconds === null) {
+      pill("stopped", `${why} Gave up. Press Watch to try again.`, "No connection");
+      phase.take("stop");
+    } else {
+      pill(behind ? "behind" : "lost", `${why} Trying again in ${seconds} s.`, behind ? "Fell behind" : "No connection");
+      phase.go("lost", { behind });
+    }
+  }
+
+  function retry({ behind }) {
+    connect(behind);
+  }
+
+  function stop({ link, timer }) {
+    clearTimeout(timer);
+    wish.waits.stop();
+    if (link) {
+      link.close();
+    }
+    phase.go("idle");
+  }
+
+  /* The texts of a game. */
+
+  /** Says what a text of the game met. */
+  function say(met, { plies, origin } = view.record()) {
+    if (met === "joined" && origin.place > 0) {
+      view.notice(`Joined after ${origin.place} half-moves.`);
+    } else if (met === "gap") {
+      view.notice(`${Words.missed(plies[plies.length - 1])} The relay no longer has them.`);
+    } else if (met === "other") {
+      view.notice("This board was reopened with another game, which is shown now.");
+    } else if (met === "lost") {
+      view.notice("A move came without the position before it, and is not shown.");
+    }
+  }
+
+  function finish() {
+    view.state("over", view.record().outcome === "abandoned" ? "Ended without a result" : "The game is over", "Over");
+  }
+
+  function live() {
+    view.state("live", "Live", "Live");
+  }
+
+  /** Forgets the game that was shown. */
+  function forget() {
+    view.start(createRecord());
+  }
+
+  /** Goes to the board on which the game goes on. */
+  function rename(board) {
+    view.notice(`${wish.board} goes on as ${board}, which is shown now.`);
+    wish.board = board;
+    view.renamed(board);
+    forget();
+  }
+
+  /* A relay. */
+
+  /** The boards under which the game may be found: its own until that has ended, and the next ones. */
+  function names() {
+    const heirs = Words.nextNames(wish.board, HEIRS);
+    return view.record().outcome === null ? [wish.board, ...heirs] : heirs;
+  }
+
+  function ask({ link, behind }) {
+    follow({ link, behind, names: names() });
+  }
+
+  /** Asks for the first of the names: from its next place on, where it is the board that is shown. */
+  function follow(asked) {
+    const shown = view.record().origin !== null && asked.names[0] === wish.board;
+    const first = wish.from === "first" ? 0 : null;
+    followFrom(asked, shown ? view.record().next : first);
+  }
+
+  function followFrom({ link, behind, names: boards }, from) {
+    phase.go("asking", { link, behind, names: boards, from });
+    const command = { cmd: "follow", board: boards[0], spectator: 0 };
+    link.send(from === null ? command : { ...command, from });
+  }
+
+  /** The relay tells the position from which its moves come. Where it is none of the game that is shown, the other one is, from its start. */
+  function joined({ link, names: [board] }, text) {
+    if (board !== wish.board) {
+      rename(board);
+    }
+    const met = view.record().take(text);
+    say(met);
+    wish.asks = 0;
+    reached();
+    if (met === "other") {
+      link.close();
+      wish.from = "first";
+      forget();
+      connect();
+      return;
+    }
+    view.refresh();
+    live();
+    phase.go("live", { link });
+  }
+
+  function told({ link }, text) {
+    say(view.record().take(text));
+    view.refresh();
+    if (text.reply === "over") {
+      finish();
+      phase.go("over", { link });
+    }
+  }
+
+  /** Writes a refusal with its code into the log, once for several in a row. */
+  function log(answer) {
+    const text = Words.coded(answer);
+    if (wish.said !== text) {
+      view.notice(text);
+    }
+    wish.said = text;
+  }
+
+  function refused(asked, answer) {
+    const [board, ...others] = asked.names;
+    const shown = view.record().origin !== null && board === wish.board;
+    if (answer.name === "TooFarBack" && asked.from !== null) {
+      if (shown && !asked.behind) {
+        view.notice("The relay no longer has the next moves, so this may be another game. It is shown from the current position.");
+        forget();
+      } else if (!shown) {
+        view.notice("The relay no longer has the first moves of this game. It is shown from the current position.");
+      }
+      followFrom(asked, null);
+    } else if (answer.name === "NotYet") {
+      view.notice("This board has fewer moves than before, so it was reopened. Its game is shown from the first move.");
+      forget();
+      followFrom(asked, 0);
+    } else if (answer.name === "NoSuchBoard" && others.length > 0) {
+      follow({ ...asked, names: others });
+    } else if (LATER.includes(answer.name) && (wish.isPatient || wish.asks < ASKS)) {
+      wish.asks += 1;
+      log(answer);
+      pill("refused", `${Words.refusal(answer)} Asking again every ${ASK_AGAIN} s.`, SHORT[answer.name]);
+      phase.go("waiting", { link: asked.link, timer: setTimeout(() => phase.take("ask"), 1000 * ASK_AGAIN) });
+    } else {
+      log(answer);
+      pill("refused", Words.refusal(answer), "Refused");
+      phase.take("stop");
+    }
+  }
+
+  /** The relay has closed the connection behind the end. A game that was abandoned may go on under its next name, which is waited for. */
+  function ended() {
+    if (view.record().outcome === "abandoned") {
+      connect();
+    } else {
+      phase.take("stop");
+    }
+  }
+
+  /* A channel. */
+
+  /** What a channel shows at present: that it has no game, that it has one and is fed, or that it has one and has shown no sign. */
+  function listen(value) {
+    const { origin, outcome } = view.record();
+    if (outcome !== null) {
+      finish();
+      phase.go("ended", value);
+    } else if (origin !== null && value.sign !== null) {
+      live();
+      phase.go("hearing", value);
+    } else {
+      const [text, short] = origin === null ? ["The channel has no game yet.", "Not open yet"] : ["Waiting for a signal …", "Waiting …"];
+      view.state("connecting", `Connected. ${text}`, short);
+      phase.go("listening", value);
+    }
+  }
+
+  /** Whether the channel may still be handing out what it kept. */
+  const isKept = ({ since }) => Date.now() - since < 1000 * KEPT;
+
+  /** The value after a text: what a channel kept is no sign of the present, but for a beat that tells its time. */
+  function signed(value, { reply, time }) {
+    const said = reply === "beat" ? 1000 * time : null;
+    const isFresh = !isKept(value) || (said !== null && Math.abs(Date.now() - said) < 1000 * SILENT);
+    return { ...value, sign: isFresh ? Date.now() : value.sign, beat: said || value.beat };
+  }
+
+  function heard(value, text) {
+    clearTimeout(value.timer);
+    const now = signed(value, text);
+    if (now.kept === null) {
+      say(view.record().take(text));
+      view.refresh();
+      listen(now);
+      return;
+    }
+    now.kept.push(text);
+    phase.go(now.name, { ...now, timer: setTimeout(() => phase.take("settle"), SETTLED) });
+    if (!isKept(value)) {
+      phase.take("settle");
+    }
+  }
+
+  function beat(value, text) {
+    const now = signed(value, text);
+    if (now.kept === null) {
+      listen(now);
+    } else {
+      phase.go(now.name, now);
+    }
+  }
+
+  /** Shows what the channel kept. It tells the whole game again, so what was shown before is compared with it. */
+  function settle(value) {
+    clearTimeout(value.timer);
+    const before = view.record();
+    const record = createRecord();
+    value.kept.forEach(record.take);
+    if (record.origin === null) {
+      value.kept.forEach((text) => say(before.take(text)));
+      view.refresh();
+    } else if (before.isPartOf(record)) {
+      view.goOn(record);
+    } else {
+      say(before.origin === null ? "joined" : "other", record);
+      view.start(record);
+    }
+    listen({ ...value, kept: null });
+  }
+
+  /** The feed says under which name the game goes on. A channel may have kept that from before another game of its board. */
+  function passedOn(value, { board }) {
+    clearTimeout(value.timer);
+    phase.go("ended", { ...value, timer: setTimeout(() => phase.take("goOn", board), PASSED) });
+  }
+
+  function goOn({ link }, board) {
+    link.close();
+    rename(board);
+    connect();
+  }
+
+  /** Each second: a channel without a sign for too long says so. */
+  function tick(value) {
+    if (view.record().origin !== null && Date.now() - (value.sign || value.since) >= 1000 * SILENT) {
+      const time = value.sign || value.beat;
+      const clock = time && new Date(time).toLocaleTimeString([], { hour: "2-digit", minute: "2-digit", hourCycle: "h23" });
+      const text = clock ? `No signal since ${clock}` : "No signal";
+      view.state("silent", text, text);
+      phase.go("silent", value);
+    }
+  }
+
+  setInterval(() => phase.take("tick"), 1000);
+
+  /* What a page wants. */
+
+  function begin(_, given) {
+    phase.take("stop");
+    Object.assign(wish, given, { waits: Link.waits(given.isPatient), asks: 0, said: null });
+    forget();
+    connect();
+  }
+
+  return {
+    /** Follows what is given: { server, board, from, kind, isPatient }. A patient follower never gives up. */
+    begin: (given) => phase.take("begin", given),
+    /** Answers false where nothing was followed. */
+    stop: () => phase.take("stop"),
+    isIdle: () => phase.is("idle"),
+    board: () => wish.board,
+  };
+};

@@ -1,0 +1,29 @@
+"use strict";
+/* The boards of a round as a list has them, one a line: a name, perhaps the number of the start, perhaps the players. r1-1 518 Carlsen – Caruana */
+const Lines = (() => {
+  function readLine(line) {
+    const [, name, start, players] = /^(\S+)(?:\s+(\d{1,3})(?=\s|$))?\s*(.*)$/.exec(line);
+    return { name, start: start === undefined ? null : Number(start), players: Players.read(players) };
+  }
+
+  const read = (text) => text.split("\n").map((it) => it.trim()).filter((it) => it !== "").map(readLine);
+
+  /** Why these can be no boards of a round, or "". */
+  function fault(boards) {
+    const names = boards.map((it) => it.name);
+    const wrong = names.find((it, index) => !Address.isName(it) || names.indexOf(it) !== index);
+    if (wrong !== undefined) {
+      return Address.isName(wrong) ? `${wrong} stands here twice.` : `${wrong} is no board's name: it has 1 to 32 of A–Z, a–z, 0–9, _ and -.`;
+    }
+    const far = boards.find((it) => it.start !== null && !Position.isStart(it.start));
+    return far ? `${far.name}: the start number is from 0 to 959.` : "";
+  }
+
+  /** The players of all boards as an address has them, or null where there are none. */
+  function players(boards) {
+    const text = boards.map((it) => Players.written(it.players)).join(";");
+    return /^;*$/.test(text) ? null : text;
+  }
+
+  return { read, fault, players };
+})();

@@ -1,0 +1,111 @@
+"use strict";
+/*
+ * A game as PGN, which other chess programs read. It is written as examples/recorder/pgn.py writes it. A record that has a gap gives what
+ * stands behind the last gap, from the position there on.
+ */
+const Pgn = (() => {
+  /* The score, what a reader is told of the end, and the word of the PGN standard (9.8.1) for it. */
+  const ENDS = {
+    "white mates": ["1-0", "White mates.", "normal"],
+    "black mates": ["0-1", "Black mates.", "normal"],
+    "stalemate": ["1/2-1/2", "Stalemate.", "normal"],
+    "white resigns": ["0-1", "White resigns.", "normal"],
+    "black resigns": ["1-0", "Black resigns.", "normal"],
+    "agreed": ["1/2-1/2", "Draw agreed.", "normal"],
+    "threefold": ["1/2-1/2", "Draw claimed: threefold repetition.", "normal"],
+    "fifty moves": ["1/2-1/2", "Draw claimed: fifty moves.", "normal"],
+    "fivefold": ["1/2-1/2", "Draw by fivefold repetition.", "normal"],
+    "seventy-five moves": ["1/2-1/2", "Draw by seventy-five moves.", "normal"],
+    "abandoned": ["*", "Abandoned: the game ended without a result, or its board lost its connection.", "abandoned"],
+  };
+  const GOING_ON = ["*", "", "unterminated"];
+  const FIRST = ["Event", "Site", "Date", "Round", "White", "Black", "Result"];
+  const WIDTH = 79;
+
+  const isRook = (position, rook) => (square) => position.squares[square] === position.squares[rook];
+
+  /** A right to castle: K or Q where its rook is the outermost on its side of the king, else the rook's file. */
+  function right(position, colour, file) {
+    const home = colour === Position.WHITE ? 0 : 7;
+    const king = Position.fileOf(Position.kingOf(position, colour));
+    const files = [...Array(8).keys()].filter((it) => (file > king ? it > file : it < file));
+    const barred = files.map((it) => Position.squareAt(it, home)).some(isRook(position, Position.squareAt(file, home)));
+    const wing = file > king ? "K" : "Q";
+    const letter = barred ? "ABCDEFGH"[file] : wing;
+    return colour === Position.WHITE ? letter : letter.toLowerCase();
+  }
+
+  /** The FEN of a position as most programs read it: rights as KQkq, and a file only where that is ambiguous. */
+  function fen(position) {
+    const fields = Position.write(position).split(" ");
+    const letters = (colour) => [...position.rights[colour]].sort((a, b) => b - a).map((it) => right(position, colour, it));
+    fields[2] = [...letters(Position.WHITE), ...letters(Position.BLACK)].join("") || "-";
+    return fields.join(" ");
+  }
+
+  /** The position from which all moves are known, and these moves. */
+  function known({ origin, plies }) {
+    const gap = plies.map((it) => Boolean(it.gap)).lastIndexOf(true);
+    return { position: gap < 0 ? origin.position : plies[gap].after, moves: plies.slice(gap + 1).map((it) => it.text) };
+  }
+
+  /** The moves in SAN with their numbers. */
+  function numbered(position, moves) {
+    const words = [];
+    let present = position;
+    moves.forEach((text, index) => {
+      if (present.turn === Position.WHITE) {
+        words.push(`${present.number}.`);
+      } else if (index === 0) {
+        words.push(`${present.number}...`);
+      }
+      words.push(San.write(present, text));
+      present = Position.after(present, text);
+    });
+    return words;
+  }
+
+  /** Words on lines of at most 79 letters. */
+  function filled(words) {
+    const lines = [""];
+    for (const word of words) {
+      const line = lines[lines.length - 1];
+      if (line !== "" && line.length + 1 + word.length > WIDTH) {
+        lines.push(word);
+      } else {
+        lines[lines.length - 1] = line === "" ? word : `${line} ${word}`;
+      }
+    }
+    return lines.join("\n");
+  }
+
+  const quoted = (value) => `"${value.trim().replace(/\s+/g, " ").replace(/[\\"]/g, "\\$&")}"`;
+
+  /** The seven tags that each game has, in their order, and behind them the others by their names. */
+  function tags(given) {
+    const others = Object.keys(given).filter((it) => !FIRST.includes(it)).sort();
+    return [...FIRST, ...others].map((name) => `[${name} ${quoted(given[name] || "?")}]\n`).join("");
+  }
+
+  /** A day as PGN has it, or its word for one that is not known. */
+  function day(date) {
+    if (Number.isNaN(date.getTime())) {
+      return "????.??.??";
+    }
+    const two = (number) => String(number).padStart(2, "0");
+    return `${date.getFullYear()}.${two(date.getMonth() + 1)}.${two(date.getDate())}`;
+  }
+
+  /** The PGN of a record that has a position, of a game that was played at this date. `labels` has what the relay does not know: Event, White and so on. */
+  function write(board, record, labels = {}, date = new Date()) {
+    const { position, moves } = known(record);
+    const [score, said, termination] = ENDS[record.outcome] || GOING_ON;
+    const words = [...numbered(position, moves), ...(said ? `{${said}}`.split(" ") : []), score];
+    const head = tags({
+      Date: day(date), Result: score, BoardName: board, FEN: fen(position), SetUp: "1", Termination: termination, Variant: "Chess960", ...labels,
+    });
+    return `${head}\n${filled(words)}\n`;
+  }
+
+  return { write };
+})();

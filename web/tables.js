@@ -1,0 +1,156 @@
+"use strict";
+/*
+ * The boards of a round for one operator, each in a tab: its page (table.html) is a frame, with a connection of its own and the browser's
+ * one key. A frame tells how its board stands (report.js), and the tab shows it, so that no board that wants attention is overlooked.
+ *     tables.html?server=ws://HOST:PORT&boards=r1-1,r1-2&starts=518,387&players=A–B;C–D
+ */
+(() => {
+  const at = (id) => document.getElementById(id);
+  const server = Address.get("server") || "ws://127.0.0.1:9600";
+  const OPENING = "sirvandu.opening"; // The address whose boards are to be opened when it is shown first, and not when it is loaded again.
+  const tabs = [];
+
+  /* What is said of a board. */
+
+  /** What a board wants: "alarm", "near" or nothing, and else whether it is over, live or none yet. */
+  function wants({ state, near, outcome }) {
+    if (outcome !== null) {
+      return "over";
+    }
+    if (["lost", "refused", "stopped"].includes(state)) {
+      return "alarm";
+    }
+    return near !== "" ? "near" : state === "live" ? "live" : "idle";
+  }
+
+  function stand({ state, text, near, outcome, turn }) {
+    if (outcome !== null) {
+      return `${Words.score(outcome) || "No result"}: ${Words.outcome(outcome)}`;
+    }
+    const whose = turn === null ? "" : `${Words.colour(turn)} to move`;
+    return state === "live" ? [whose, near].filter((it) => it !== "").join(". ") : text;
+  }
+
+  /** The first sentence or two of that: a tab has little room. */
+  const inShort = (text) => text.split(". ").slice(0, 2).join(". ");
+
+  function sum() {
+    const count = (name) => tabs.filter((it) => it.told && wants(it.told) === name).length;
+    const alarms = count("alarm");
+    const words = [[count("live") + count("near"), "open"], [count("over"), "over"], [alarms, "without connection"]];
+    const text = words.filter(([number]) => number > 0).map(([number, word]) => `${number} ${word}`).join(", ");
+    at("state").dataset.state = alarms > 0 ? "lost" : count("live") + count("near") > 0 ? "live" : "idle";
+    at("state").textContent = text || (tabs.length > 0 ? "No board open" : "No boards");
+  }
+
+  function hear({ source, data }) {
+    const tab = tabs.find((it) => it.frame.contentWindow === source);
+    if (tab && data && data.board) {
+      tab.told = data.board;
+      tab.name.textContent = tab.told.name;
+      tab.button.title = stand(tab.told);
+      tab.stand.textContent = inShort(tab.button.title);
+      tab.button.dataset.wants = wants(tab.told);
+      sum();
+    }
+  }
+
+  /* The tabs. */
+
+  function show(tab) {
+    tabs.forEach((it) => {
+      const isShown = it === tab;
+      it.frame.classList.toggle("shown", isShown);
+      it.button.setAttribute("aria-selected", String(isShown));
+      it.button.tabIndex = isShown ? 0 : -1;
+    });
+  }
+
+  const STEPS = { ArrowLeft: -1, ArrowRight: 1, Home: -Infinity, End: Infinity };
+
+  function key(event) {
+    const step = STEPS[event.key];
+    if (step !== undefined) {
+      const index = tabs.findIndex((it) => it.button === event.currentTarget);
+      const tab = tabs[Math.max(0, Math.min(tabs.length - 1, index + step))];
+      event.preventDefault();
+      show(tab);
+      tab.button.focus();
+    }
+  }
+
+  function make(tag, className, text) {
+    const it = document.createElement(tag);
+    it.className = className;
+    it.textContent = text;
+    return it;
+  }
+
+  function add({ name, players }, start, opens) {
+    const button = make("button", "tab", "");
+    const tab = { button, frame: document.createElement("iframe"), name: make("b", "", name), stand: make("span", "stand", ""), told: null };
+    button.type = "button";
+    button.setAttribute("role", "tab");
+    button.id = `tab-${tabs.length}`;
+    button.append(tab.name, make("span", "players", Players.written(players)), tab.stand);
+    button.addEventListener("click", () => show(tab));
+    button.addEventListener("keydown", key);
+    tab.frame.title = name;
+    tab.frame.src = Address.link("table.html", {
+      server, board: name, start, players: Lines.players([{ players }]), open: opens ? "" : null,
+    });
+    tabs.push(tab);
+    at("tabs").append(button);
+    at("frames").append(tab.frame);
+  }
+
+  /* The form. It makes the address that shows the boards; when it is shown first they are opened. */
+
+  const lines = () => Lines.read(at("lines").value);
+
+  function submit(event) {
+    event.preventDefault();
+    const wanted = lines();
+    const address = Address.link(location.pathname, {
+      server: at("server").value.trim(),
+      boards: wanted.map((it) => it.name).join(","),
+      starts: wanted.map((it) => (it.start === null ? Number(at("start").value) : it.start)).join(","),
+      players: Lines.players(wanted),
+    });
+    sessionStorage.setItem(OPENING, new URL(address, location.href).search);
+    location.assign(address);
+  }
+
+  /** Whether the boards were asked for by the form just now. */
+  function isAsked() {
+    const asked = sessionStorage.getItem(OPENING);
+    sessionStorage.removeItem(OPENING);
+    return asked !== null && asked === location.search;
+  }
+
+  function fill() {
+    const boards = Address.boards();
+    const starts = (Address.get("starts") || "").split(",");
+    const opens = isAsked();
+    boards.forEach((board, index) => add(board, starts[index] || "518", opens));
+    at("server").value = server;
+    at("lines").value = boards.map((it, index) => `${it.name} ${starts[index] || ""} ${Players.written(it.players)}`.replace(/ +/g, " ").trim()).join("\n");
+    at("settings").open = boards.length === 0;
+    at("watch").hidden = boards.length === 0 || location.protocol === "https:"; // A site's spectators have its channels, at another address.
+    at("watch").href = Address.link("round.html", {
+      server, boards: boards.map((it) => it.name).join(","), players: Lines.players(boards),
+    });
+    if (tabs.length > 0) {
+      show(tabs[0]);
+    }
+    sum();
+  }
+
+  const wrong = Address.wrongNames();
+  at("said").hidden = wrong.length === 0;
+  at("said").textContent = `No board can have this name: ${wrong.join(", ")}.`;
+  addEventListener("message", hear);
+  at("lines").addEventListener("input", () => at("lines").setCustomValidity(Lines.fault(lines())));
+  at("source").addEventListener("submit", submit);
+  fill();
+})();

@@ -1,0 +1,445 @@
+"""The tests of what the pages know of chess, without a browser; test.sh starts them. rules.js is compared with Stockfish, san.js with PyChess."""
+import json
+import random
+import re
+import shutil
+import subprocess
+import sys
+import time
+
+from pychess.Utils.const import CASTLE_KR, FISCHERRANDOMCHESS
+from pychess.Utils.lutils import lmove
+from pychess.Utils.lutils.LBoard import LBoard
+from pychess.Utils.lutils.lmovegen import genAllMoves
+
+from relay_client.program import PROGRAM, Player, start_fen
+from scripts import Scripts
+
+SEED = 960
+HELPERS = """
+const perft = (position, depth) => {
+  const moves = Rules.legal(position);
+  return depth === 1 ? moves.length : moves.reduce((sum, it) => sum + perft(Position.after(position, it), depth - 1), 0);
+};
+const counts = (fen, depth) => {
+  const position = Position.read(fen);
+  const count = (it) => (depth === 1 ? 1 : perft(Position.after(position, it), depth - 1));
+  return Object.fromEntries(Rules.legal(position).map((it) => [it, count(it)]));
+};
+const written = (fen) => {
+  const position = Position.read(fen);
+  return Rules.legal(position).map((it) => [it, San.write(position, it)]);
+};
+const read = (fen, texts) => texts.map((it) => San.read(Position.read(fen), it));
+const draws = (texts) => {
+  const record = createRecord();
+  texts.forEach((it) => record.take(it));
+  return Draws.of(record);
+};
+const castles = (fen, move) => Position.effect(Position.read(fen), move).castling !== null;
+const checked = (fen) => Position.inCheck(Position.read(fen));
+const next = (fen, move) => Position.write(Position.after(Position.read(fen), move));
+"""
+
+
+def chess():
+    """The pages' scripts of chess, in node."""
+    scripts = Scripts("position", "rules", "san", "texts", "record", "draws", "pgn")
+    scripts.run(HELPERS)
+    return scripts
+
+
+# Stockfish.
+
+class Stockfish:
+    """Stockfish as it counts: the moves of a position, each with the number of lines of so many plies that it begins."""
+
+    def __init__(self):
+        path = shutil.which("stockfish") or "/usr/games/stockfish"
+        self.process = subprocess.Popen([path], stdin=subprocess.PIPE, stdout=subprocess.PIPE, text=True)
+        self.say("setoption name UCI_Chess960 value true")
+
+    def say(self, line):
+        self.process.stdin.write(f"{line}\n")
+        self.process.stdin.flush()
+
+    def counts(self, fen, depth):
+        self.say(f"position fen {fen}")
+        self.say(f"go perft {depth}")
+        found = {}
+        for line in self.process.stdout:
+            if line.startswith("Nodes searched"):
+                return found
+            move, _, count = line.strip().partition(": ")
+            if count.isdigit():
+                found[move] = int(count)
+        raise RuntimeError("Stockfish ended")
+
+    def __enter__(self):
+        return self
+
+    def __exit__(self, *_):
+        self.say("quit")
+        self.process.wait()
+        self.process.stdin.close()
+        self.process.stdout.close()
+
+
+# Castling, pins, captures en passant and promotions of many kinds; then castling where it is hard to tell whether it is legal: the rook
+# shields the king and leaves, king and rook change places, the king stays, the rook passes an attacked square.
+POSITIONS = [
+    ("r3k2r/p1ppqpb1/bn2pnp1/3PN3/1p2P3/2N2Q1p/PPPBBPPP/R3K2R w HAha - 0 1", 3),
+    ("8/2p5/3p4/KP5r/1R3p1k/8/4P1P1/8 w - - 0 1", 4),
+    ("r3k2r/Pppp1ppp/1b3nbN/nP6/BBP1P3/q4N2/Pp1P2PP/R2Q1RK1 w ha - 0 1", 3),
+    ("rnbq1k1r/pp1Pbppp/2p5/8/2B5/8/PPP1NnPP/RNBQK2R w H - 1 8", 3),
+    ("n1n5/PPPk4/8/8/8/8/4Kppp/5N1N b - - 0 1", 3),
+    ("4k3/8/8/8/8/8/8/rRK5 w B - 0 1", 3),
+    ("4k3/8/8/8/8/8/8/1RK5 w B - 0 1", 3),
+    ("1r2k3/8/8/8/8/8/8/R1K5 w A - 0 1", 3),
+    ("4k3/8/8/8/8/8/8/RK5R w HA - 0 1", 3),
+    ("kr6/8/8/8/8/8/8/5KR1 w Gb - 0 1", 3),
+    ("4k3/8/8/KPp4r/8/8/8/8 w - c6 0 2", 3),
+]
+
+
+def castling_position(chance):
+    """A white king between its rooks, with both rights, and some other men by chance."""
+    files = sorted(chance.sample(range(8), 3))
+    squares = dict(zip(files, "RKR"))
+    vacant = [it for it in range(64) if it not in squares]
+    chance.shuffle(vacant)
+    squares[next(it for it in vacant if it >= 56)] = "k"
+    for man in chance.choices("rqbnrqbnRQBNp", k=chance.randrange(2, 7)):
+        squares[vacant.pop(next(index for index, it in enumerate(vacant) if it not in squares and (man != "p" or 8 <= it < 56)))] = man
+    ranks = ["".join(squares.get(8 * rank + file, "1") for file in range(8)) for rank in range(7, -1, -1)]
+    return f"{'/'.join(ranks)} w {'ABCDEFGH'[files[2]]}{'ABCDEFGH'[files[0]]} - 0 1"
+
+
+def try_counts():
+    """As many lines of play as Stockfish counts: from starts, from positions with all special moves, and with castlings by chance."""
+    chance = random.Random(SEED)
+    lines = castled = 0
+    starts = [(start_fen(it), 3) for it in [518, 0, 959, *chance.sample(range(960), 17)]]
+    by_chance = [(castling_position(chance), 1) for _ in range(600)]
+    with chess() as pages, Stockfish() as stockfish:
+        checks = "(fen) => { const it = Position.read(fen); it.turn = Position.BLACK; return Position.inCheck(it); }"
+        by_chance = [it for it in by_chance if not pages.call(checks, it[0])]
+        for fen, depth in [*starts, *POSITIONS, *by_chance]:
+            had, expected = pages.call("counts", fen, depth), stockfish.counts(fen, depth)
+            assert had == expected, (fen, depth, set(had.items()) ^ set(expected.items()))
+            lines += sum(had.values())
+            castled += depth == 1 and any(fen.split("/")[7].split(" ")[0][ord(it[2]) - 97] == "R" and it[3] == "1" for it in had if it[1] == "1")
+    print(f"    {lines} lines of play; {len(by_chance)} positions by chance, castling legal in {castled}")
+    assert lines > 300_000 and len(by_chance) > 200 and 50 < castled < len(by_chance) - 50
+
+
+# PyChess.
+
+def board_of(fen):
+    board = LBoard(FISCHERRANDOMCHESS)
+    board.applyFen(fen)
+    return board
+
+
+def peers(board):
+    """The legal moves of PyChess by the relay's texts."""
+    found = {}
+    for move in genAllMoves(board):
+        board.applyMove(move)
+        if not board.opIsChecked():
+            board.popMove()
+            found[lmove.toAN(board, move, short=True, castleNotation=CASTLE_KR)] = move
+        else:
+            board.popMove()
+    return found
+
+
+def check_position(pages, fen):
+    """Compares the SAN of all legal moves of a position, written and read. Answers them."""
+    board = board_of(fen)
+    moves = peers(board)
+    had = dict(pages.call("written", fen))
+    expected = {text: lmove.toSAN(board, move) for text, move in moves.items()}
+    assert had == expected, (fen, set(had.items()) ^ set(expected.items()))
+    again = pages.call("read", fen, list(expected.values()))
+    assert again == [[it] for it in expected], (fen, [it for it in zip(expected.items(), again) if it[1] != [it[0][0]]])
+    for text, move in moves.items():
+        assert lmove.parseSAN(board, had[text]) == move, (fen, text, had[text])
+    return had
+
+
+def try_san():
+    """The SAN of all legal moves in 200 games by chance is what PyChess writes, and each reads what the other wrote."""
+    chance = random.Random(SEED)
+    seen = []
+    with chess() as pages:
+        for _ in range(200):
+            fen = start_fen(chance.randrange(960))
+            for ply in range(100):
+                moves = pages.run(f"Rules.legal(Position.read({json.dumps(fen)}))") if ply % 4 else check_position(pages, fen)
+                if not moves:
+                    break
+                seen += moves.values() if isinstance(moves, dict) else []
+                fen = pages.call("next", fen, chance.choice(list(moves)))
+    kinds = {"castlings": "O-O", "promotions": "=", "checks": "+", "mates": "#", "captures": "x"}
+    found = {name: sum(sign in it for it in seen) for name, sign in kinds.items()}
+    found["told apart"] = sum(it[0] in "NRQB" and len(it.strip("+#").replace("x", "")) > 3 for it in seen)
+    print(f"    {len(seen)} moves, of them {', '.join(f'{count} {name}' for name, count in found.items())}")
+    assert len(seen) > 50000 and min(found.values()) > 10
+
+
+# The built program.
+
+def try_program():
+    """The legal moves and the positions of games by chance are those of the built program."""
+    chance = random.Random(SEED + 1)
+    with chess() as pages:
+        for _ in range(10):
+            with Player(chance.randrange(960)) as player:
+                for _ in range(60):
+                    moves = player.legal()
+                    assert sorted(pages.call("counts", player.fen, 1)) == sorted(moves), player.fen
+                    if not moves:
+                        break
+                    fen, move = player.fen, chance.choice(moves)
+                    assert pages.call("next", fen, move) == player.play(move), (fen, move)
+
+
+class Script:
+    """A run of the built program over a script, which answers each command."""
+
+    def __init__(self):
+        self.process = subprocess.Popen([PROGRAM, "script", "--boards", "256"], stdin=subprocess.PIPE, stdout=subprocess.PIPE, text=True)
+
+    def ask(self, **command):
+        self.process.stdin.write(f"{json.dumps(command)}\n")
+        self.process.stdin.flush()
+        return json.loads(self.process.stdout.readline())
+
+    def __enter__(self):
+        return self
+
+    def __exit__(self, *_):
+        self.process.stdin.close()
+        self.process.wait()
+        self.process.stdout.close()
+
+
+def following(fen, moves, joined=0):
+    """What a follower is told of a game from a position on."""
+    return [{"reply": "following", "joined": joined, "fen": fen}] + [{"reply": "move", "place": place, "move": move} for place, move in enumerate(moves, joined)]
+
+
+def to_and_fro(legal, moves, chance):
+    """A move by chance, with a liking for going back to where a piece came from, and for double steps of pawns."""
+    back = moves[-2][2:4] + moves[-2][:2] if len(moves) > 1 else ""
+    if back in legal and chance.random() < 0.75:
+        return back
+    double = [it for it in legal if it[0] == it[2] and it[1] + it[3] in ("24", "75")]
+    return chance.choice(double if double and chance.random() < 0.1 else legal)
+
+
+def try_claims():
+    """In games to and fro, the built program grants a claim of the third time exactly where the pages say that there can be one."""
+    chance = random.Random(SEED + 2)
+    granted = refused = 0
+    with chess() as pages, Script() as script:
+        for number in range(100):
+            board, start, moves = f"b{number}", chance.randrange(960), []
+            fen = start_fen(start)
+            script.ask(cmd="open", board=board, start=start)
+            for ply in range(80):
+                told = pages.call("draws", following(start_fen(start), moves))
+                answer = script.ask(cmd="end", board=board, how="threefold", side="black" if ply % 2 else "white")
+                assert told["isWhole"] and (answer["reply"] == "ended") == (told["times"] >= 3), (start, moves, told, answer)
+                granted += answer["reply"] == "ended"
+                refused += told["times"] == 2
+                if answer["reply"] == "ended":
+                    break
+                moves.append(to_and_fro(list(pages.call("counts", fen, 1)), moves, chance))
+                if script.ask(cmd="submit", board=board, move=moves[-1])["outcome"] is not None:
+                    break
+                fen = pages.call("next", fen, moves[-1])
+    print(f"    {granted} claims granted, {refused} refused at the second time")
+    assert granted > 30 and refused > 100
+
+
+# pgn-extract.
+
+PGN = "(texts) => { const it = createRecord(); texts.forEach((text) => it.take(text)); return Pgn.write(\"b1\", it, { White: 'A \"B\"' }); }"
+SCORES = {"white mates": "1-0", "black mates": "0-1", "white resigns": "0-1", "black resigns": "1-0", "abandoned": "*", None: "*"}
+
+
+def extracted(texts):
+    """The tags and the moves that pgn-extract reads in PGN, of which it may not complain; the moves in the relay's words."""
+    path = shutil.which("pgn-extract") or "/usr/games/pgn-extract"
+    ran = subprocess.run([path, "-s", "-w100000", "-Wuci"], input="\n".join(texts), capture_output=True, text=True, check=True)
+    assert ran.stderr == "", ran.stderr
+    parts = [it for it in ran.stdout.split("\n\n") if it.strip()]
+    for tags, words in zip(parts[::2], parts[1::2], strict=True):
+        yield dict(re.findall(r'^\[(\w+) "(.*)"\]$', tags, re.M)), re.sub(r"\{[^}]*\}", "", words).lower().split()
+
+
+def game_told(pages, chance, outcome):
+    """The texts of a game by chance, whole or from a later place on, and its moves."""
+    fen = start_fen(chance.randrange(960))
+    begin, told, moves = chance.choice((0, 0, 5, 20)), fen, []
+    for ply in range(chance.randrange(begin, 120)):
+        legal = list(pages.call("counts", fen, 1))
+        castlings = [it for it in legal if pages.call("castles", fen, it)]
+        if not legal:
+            break
+        move = chance.choice(castlings or legal)
+        moves += [move] if ply >= begin else []
+        fen = pages.call("next", fen, move)
+        told = fen if ply + 1 == begin else told
+    by_itself = "stalemate" if not pages.call("counts", fen, 1) else None
+    if by_itself and pages.call("checked", fen):
+        by_itself = "black mates" if " w " in fen else "white mates"
+    end = by_itself or outcome
+    return following(told, moves, begin) + ([{"reply": "over", "outcome": end}] if end else []), moves, end
+
+
+def try_pgn():
+    """pgn-extract reads the PGN of 70 games by chance, whole or from a later place on, and finds their moves and results."""
+    chance = random.Random(SEED + 3)
+    ends = [None, *SCORES, "agreed", "threefold", "fifty moves", "fivefold", "seventy-five moves"]
+    ends = [it for it in ends if it not in ("white mates", "black mates")]
+    with chess() as pages:
+        games = [game_told(pages, chance, ends[number % len(ends)]) for number in range(70)]
+        castled = sum(pages.call(PGN, texts).count(" O-O") for texts, _, _ in games)
+        read = list(extracted([pages.call(PGN, texts) for texts, _, _ in games]))
+    for (texts, moves, end), (tags, words) in zip(games, read, strict=True):
+        score = SCORES.get(end, "1/2-1/2")
+        assert words == [*moves, score] and tags["Result"] == score, (texts, words)
+        assert (tags["White"], tags["Black"], tags["Variant"], tags["SetUp"]) == ('A \\"B\\"', "?", "Chess960", "1"), tags
+        assert tags["FEN"].split(" ")[0] == texts[0]["fen"].split(" ")[0], tags
+    assert castled > 20 and sum(" b " in texts[0]["fen"] for texts, _, _ in games) > 10
+
+
+# Tables.
+
+START = "rnbqkbnr/pppppppp/8/8/8/8/PPPPPPPP/RNBQKBNR w HAha - 0 1"
+BOTH = "r3k2r/8/8/8/8/8/8/R3K2R w HAha - 0 1"
+KNIGHTS = "4k3/8/8/8/8/5N2/8/1N2K3 w - - 0 1"
+LAST_STEP = "1n2k3/P7/8/8/8/8/8/4K3 w - - 0 1"
+PASSING = "4k3/8/8/3pP3/8/8/8/4K3 w - d6 0 2"
+PINNED = "4r1k1/8/8/8/4N3/8/8/1N2K3 w - - 0 1"
+ROOKS = "4k3/8/8/1R6/8/8/4K3/1R6 w - - 0 1"
+QUEENS = "1k6/8/8/8/4Q2Q/8/8/K6Q w - - 0 1"
+ON_D1 = "4k3/8/8/8/8/8/8/R2K3R w HA - 0 1"
+
+# A position, what is written, and the moves that it may mean; None where it is no move's text.
+READ = [
+    (START, "e4 e2e4 e2-e4 e4+", ["e2e4"]),
+    (START, "Nf3 nf3 Ngf3 N1f3 Ng1f3 Ng1-f3 g1f3", ["g1f3"]),
+    (START, "e5 Nd2 e2xe4 Nxf3 O-O O-O-O e1g1 Kg1 e1h1 e2 e7e5 e2e4q Kxe2", []),
+    (START, "hello e9 i4 4e N Nf O-O-O-O constructor valueOf __proto__ e2e4e5 e4! e8=K e8=P", None),
+    (BOTH, "O-O 0-0 o-o e1g1 e1-g1 Kg1 Ke1g1 Ke1-g1 e1h1 Kh1 O-O+", ["e1h1"]),
+    (BOTH, "O-O-O 0-0-0 o-o-o e1c1 Kc1 e1a1 Ke1c1", ["e1a1"]),
+    (BOTH, "Kf1 e1f1", ["e1f1"]),
+    (BOTH, "Rxh8 Rxh8+ Rhxh8 h1h8 h1xh8", ["h1h8"]),
+    (BOTH, "Kxg1 Kxh1 e1g1q Kb1 h1e1 g1 Ke3 Kg2 e8g8 Ka1c1 K2g1", []),
+    ("4k3/8/8/8/8/5r2/8/4K2R w H - 0 1", "O-O e1g1 e1h1", []),
+    ("4k3/8/8/8/8/8/8/5K1R w H - 0 1", "f1g1 Kg1", ["f1g1"]),
+    ("4k3/8/8/8/8/8/8/5K1R w H - 0 1", "O-O f1h1 Kh1", ["f1h1"]),
+    ("4k3/8/8/8/8/8/8/6KR w H - 0 1", "O-O g1h1 g1g1 Kg1", ["g1h1"]),
+    ("4k3/8/8/8/8/8/8/6KR w H - 0 1", "g1a2 Ka2 g1e1", []),
+    ("4k3/8/8/8/8/8/8/6K1 w - - 0 1", "g1g1 Kg1 O-O", []),
+    (ON_D1, "O-O d1g1 d1f1 Kf1 Kg1 d1h1", ["d1h1"]),
+    (ON_D1, "O-O-O d1b1 Kb1 d1a1", ["d1a1"]),
+    (ON_D1, "Kc1 d1c1", ["d1c1"]),
+    ("4k3/8/8/8/8/8/8/RK5R w HA - 0 1", "O-O b1d1 b1g1 Kd1", ["b1h1"]),
+    ("4k3/8/8/8/8/8/8/RK5R w HA - 0 1", "O-O-O b1a1", ["b1a1"]),
+    (KNIGHTS, "Nd2", ["b1d2", "f3d2"]),
+    (KNIGHTS, "Nbd2 N1d2 Nb1d2 b1d2", ["b1d2"]),
+    (KNIGHTS, "Nfd2 N3d2 Nf3d2 f3d2", ["f3d2"]),
+    (PINNED, "Nd2 Nbd2", ["b1d2"]),
+    (LAST_STEP, "a8=Q a8Q a8q a7a8q a7a8=Q a8=q", ["a7a8q"]),
+    (LAST_STEP, "a8 a7a8", ["a7a8q", "a7a8r", "a7a8b", "a7a8n"]),
+    (LAST_STEP, "axb8=N ab8=N axb8N a7b8n", ["a7b8n"]),
+    (LAST_STEP, "axb8 ab8 a7b8", ["a7b8q", "a7b8r", "a7b8b", "a7b8n"]),
+    (LAST_STEP, "b8=N xb8=N", []),
+    (PASSING, "exd6 ed6 e5d6 e5xd6", ["e5d6"]),
+    (PASSING, "d6 xd6", []),
+    ("4k3/8/8/8/8/2p5/1P1B4/4K3 w - - 0 1", "bxc3 bc3 b2c3", ["b2c3"]),
+    ("4k3/8/8/8/8/2p5/1P1B4/4K3 w - - 0 1", "Bxc3 Bc3 d2c3", ["d2c3"]),
+    ("8/8/8/8/8/8/8/8 w - - 0 1", "e4 Ke2 O-O e1g1", []),
+]
+
+# Words with a space in them.
+SPACED = [(PASSING, "exd6 e.p.", ["e5d6"]), (PASSING, "e5xd6 e.p.+", ["e5d6"]), (START, " e4 ", ["e2e4"]), (START, "", None), (START, "e4 e5", None)]
+
+# A position, a move, and how it is written.
+WRITTEN = [
+    (START, "e2e4", "e4"), (START, "g1f3", "Nf3"), (BOTH, "e1a1", "O-O-O"), (BOTH, "e1h1", "O-O"), (BOTH, "h1h8", "Rxh8+"), (PASSING, "e5d6", "exd6"),
+    (KNIGHTS, "b1d2", "Nbd2"), (KNIGHTS, "f3d2", "Nfd2"), (PINNED, "b1d2", "Nd2"), (ROOKS, "b1b3", "R1b3"), (ROOKS, "b5b3", "R5b3"),
+    (QUEENS, "h4e1", "Qh4e1"), (QUEENS, "h1e1", "Q1e1"), (QUEENS, "e4e1", "Qee1"), (LAST_STEP, "a7b8n", "axb8=N"), (LAST_STEP, "a7a8r", "a8=R"),
+    ("4k3/P7/8/8/8/8/8/4K3 w - - 0 1", "a7a8q", "a8=Q+"),
+    ("5k2/8/8/8/8/8/8/4K2R w H - 0 1", "e1h1", "O-O+"),
+    ("rnbqkbnr/pppp1ppp/8/4p3/6P1/5P2/PPPPP2P/RNBQKBNR b HAha g3 0 2", "d8h4", "Qh4#"),
+    ("7k/8/6K1/8/8/8/8/5Q2 w - - 0 1", "f1f7", "Qf7"),
+]
+
+
+# A position, the moves from it, and how often the last position has appeared.
+KNIGHTS_ROUND = "g8f6 g1f3 f6g8 f3g1 "
+ROOKS_ROUND = "h1h2 h8h7 h2h1 h7h8 "
+APPEARED = [
+    (START, "", 1), (START, "g1f3 g8f6 f3g1 f6g8", 2), (START, "g1f3 g8f6 f3g1 f6g8 " * 2, 3), (START, "g1f3 g8f6 f3g1", 1),
+    (START, "g1f3 g8f6 f3g1 f6g8 e2e4", 1),
+    # A double step where no pawn can capture: the positions are the same.
+    (START, f"e2e4 {KNIGHTS_ROUND}", 2), (START, f"e2e4 {2 * KNIGHTS_ROUND}", 3),
+    # One where a pawn can capture en passant, which it can only once.
+    (START, f"g1f3 d7d5 f3g1 d5d4 e2e4 {KNIGHTS_ROUND}", 1), (START, f"g1f3 d7d5 f3g1 d5d4 e2e4 {2 * KNIGHTS_ROUND}", 2),
+    # One where the pawn stands beside but is pinned, and one where it is not.
+    ("3k4/8/8/8/3p4/8/4P3/3QK3 w - - 0 1", "e2e4 d8c8 d1d2 c8d8 d2d1", 2),
+    ("3k4/8/8/8/3p4/8/4P3/2Q1K3 w - - 0 1", "e2e4 d8c8 c1c2 c8d8 c2c1", 1),
+    # The first round of the rooks loses rights to castle.
+    (START, f"h2h4 h7h5 {ROOKS_ROUND}", 1), (START, f"h2h4 h7h5 {2 * ROOKS_ROUND}", 2),
+]
+
+
+def try_appearances():
+    """How often a position has appeared, by the Laws: the men, the side to move, rights to castle, and captures en passant that can be made."""
+    with chess() as pages:
+        for fen, moves, times in APPEARED:
+            told = pages.call("draws", following(fen, moves.split()))
+            assert told["times"] == times and told["isWhole"], (fen, moves, told)
+        late = "4k2r/8/8/8/8/8/4P3/R3K3 w - - 7 30"
+        gap = [*following(late.replace(" 7 ", " 0 "), ["a1b1"], 4), *following("4k2r/8/8/8/8/8/4P3/2R1K3 b - - 3 31", [], 7)]
+        for texts, is_whole in ((following(late, [], 4), False), (following(late, ["a1b1", "h8g8"], 4), False), (following(late, ["e2e4"], 4), True),
+                                (gap, False), ([*gap, *following("", ["h8h1"], 7)[1:]], False), ([*gap, *following("", ["h8h7", "e2e3"], 7)[1:]], True)):
+            told = pages.call("draws", texts)
+            assert told["isWhole"] == is_whole and told["times"] == 1, (texts, told)
+
+
+def try_tables():
+    """What people write is read as the rules of notation and of castling ask for, and an ambiguous move has all its candidates."""
+    with chess() as pages:
+        told = [(fen, words.split(), moves) for fen, words, moves in READ] + [(fen, [text], moves) for fen, text, moves in SPACED]
+        for fen, words, moves in told:
+            for text, had in zip(words, pages.call("read", fen, words), strict=True):
+                assert had == moves, (fen, text, had, moves)
+        for fen, move, san in WRITTEN:
+            had = dict(pages.call("written", fen))[move]
+            assert had == san, (fen, move, had)
+
+
+def main():
+    tries = {name[4:]: it for name, it in globals().items() if name.startswith("try_")}
+    failed = 0
+    began = time.monotonic()
+    for name in sys.argv[1:] or tries:
+        try:
+            tries[name]()
+            print(f"ok      {name}: {tries[name].__doc__}", flush=True)
+        except Exception as fault:
+            failed += 1
+            print(f"failed  {name}: {type(fault).__name__} {fault}", flush=True)
+    print(f"chess: {len(sys.argv[1:] or tries) - failed} passed, {failed} failed in {time.monotonic() - began:.0f} s")
+    return 1 if failed else 0
+
+
+if __name__ == "__main__":
+    sys.exit(main())

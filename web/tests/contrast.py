@@ -1,0 +1,166 @@
+"""Tests of how well the pages can be seen and gone through: contrasts and the focus, by scripts over each page's own tree; pages.py runs them with its own."""
+import json
+
+from relay_client.client import Client
+from relay_client.relay import Relay
+from steps import enter, open_table, text, until_moves, until_state, url, watch
+
+# WCAG 2.1: text 4.5:1 (1.4.3), large text 3:1, edges of controls 3:1 (1.4.11). What is disabled does not count.
+SCRIPT = """(() => {
+  const parsed = (text) => {
+    const numbers = (text.match(/-?[\\d.]+(e-?\\d+)?/g) || []).map(Number);
+    const [r, g, b, a = 1] = text.startsWith("color(srgb") ? [...numbers.slice(0, 3).map((it) => 255 * it), ...numbers.slice(3)] : numbers;
+    return {r, g, b, a};
+  };
+  const over = (top, low) => Object.fromEntries(["r", "g", "b"].map((it) => [it, top.a * top[it] + (1 - top.a) * low[it]]).concat([["a", 1]]));
+  const light = ({r, g, b}) => {
+    const part = (it) => (it / 255 <= 0.04045 ? it / 255 / 12.92 : ((it / 255 + 0.055) / 1.055) ** 2.4);
+    return 0.2126 * part(r) + 0.7152 * part(g) + 0.0722 * part(b);
+  };
+  const ratio = (one, other) => { const [low, high] = [light(one), light(other)].sort((a, b) => a - b); return (high + 0.05) / (low + 0.05); };
+  const ground = (it) => (it === null ? {r: 255, g: 255, b: 255, a: 1} : over(parsed(getComputedStyle(it).backgroundColor), ground(it.parentElement)));
+  const isSeen = (it) => it.checkVisibility({checkVisibilityCSS: true, checkOpacity: true}) && it.getClientRects().length > 0 && !it.closest(".unseen, .blank");
+  const isOff = (it) => it.closest(":disabled, [aria-disabled=true]") !== null;
+  const name = (it) => `${it.tagName.toLowerCase()}${it.id && "#" + it.id}${[...it.classList].map((one) => "." + one).join("")}`;
+  const opacity = (it) => (it === null ? 1 : Number(getComputedStyle(it).opacity) * opacity(it.parentElement));
+  const faults = [];
+  let texts = 0, edges = 0;
+
+  function text(it, pseudo) {
+    const style = getComputedStyle(it, pseudo);
+    const size = parseFloat(style.fontSize);
+    const isLarge = size >= 24 || (size >= 18.66 && Number(style.fontWeight) >= 700);
+    const colour = parsed(style.color);
+    const had = ratio(over({...colour, a: colour.a * opacity(it)}, ground(it)), ground(it));
+    texts += 1;
+    if (had < (isLarge ? 3 : 4.5)) faults.push(`text ${name(it)}${pseudo || ""} ${had.toFixed(2)}: ${it.textContent.trim().slice(0, 20)}`);
+  }
+
+  function edge(it) {
+    const style = getComputedStyle(it);
+    const around = ground(it.parentElement);
+    const line = parseFloat(style.borderTopWidth) > 0 ? ratio(over(parsed(style.borderTopColor), around), around) : 0;
+    const had = Math.max(line, ratio(ground(it), around));
+    edges += 1;
+    if (had < 3) faults.push(`edge ${name(it)} ${had.toFixed(2)}`);
+  }
+
+  for (const it of document.body.querySelectorAll("*")) {
+    if (!isSeen(it) || isOff(it) || it.closest("svg, option")) continue;
+    if ([...it.childNodes].some((one) => one.nodeType === 3 && one.data.trim() !== "")) text(it);
+    if (it.matches("input:not([type=checkbox], [type=file]), select, textarea") && (it.value !== "" || it.tagName === "SELECT")) text(it);
+    for (const pseudo of ["::before", "::after"]) {
+      if (/^"[^"]+"$/.test(getComputedStyle(it, pseudo).content)) text(it, pseudo);
+    }
+    if (it.matches("button:not(.move), input:not([type=checkbox], [type=file]), select, textarea")) edge(it);
+  }
+
+  /* The men on their squares by their bodies or their outlines, and the edge of the last move on its squares and beside plain ones. */
+  const plain = ["light", "dark"].map((it) => document.querySelector(`.square.${it}:not(.last, .check, .picked)`)).filter(Boolean).map(ground);
+  for (const it of document.querySelectorAll(".square .piece")) {
+    const [body] = it.querySelectorAll(".body");
+    const cell = ground(it.closest(".square"));
+    const style = getComputedStyle(body);
+    const had = Math.max(ratio(parsed(style.fill), cell), it.classList.contains("white") ? ratio(parsed(style.stroke), cell) : 0);
+    if (had < 3) faults.push(`man ${it.dataset.piece} on ${it.closest(".square").dataset.square} ${had.toFixed(2)}`);
+  }
+  for (const it of document.querySelectorAll(".square.last")) {
+    const line = parsed((/rgba?\\([^)]*\\)|color\\([^)]*\\)/.exec(getComputedStyle(it).boxShadow) || ["rgba(0, 0, 0, 0)"])[0]);
+    const had = Math.min(...[ground(it), ...plain].map((one) => ratio(over(line, one), one)));
+    if (had < 3) faults.push(`last move on ${it.dataset.square} ${had.toFixed(2)}`);
+  }
+  return {texts, edges, faults};
+})()"""
+
+
+async def looked_at(page, what):
+    for scheme in ("light", "dark"):
+        await page.scheme(scheme)
+        had = await page.run(SCRIPT)
+        assert had["texts"] > 10 and had["edges"] > 0, (what, had)
+        assert not had["faults"], f"{what}, {scheme}: {json.dumps(had['faults'], ensure_ascii=False, indent=1)}"
+
+
+async def try_contrast(browser):
+    """Texts have a contrast of 4.5:1, edges of controls, men and the last move of 3:1, in both themes, on all pages."""
+    relay = await Relay().start()
+    idle = await browser.open(url("table.html", server=relay.address))
+    await looked_at(idle, "table, idle")
+    table = await open_table(browser, relay, "b1", 518)
+    for ply, move in enumerate(["g1f3", "g8f6", "f3g1", "f6g8"], 1):
+        await enter(table, move, "type")
+        await until_moves(table, ply)
+    await enter(table, "e2e5", "type")
+    await table.until('!document.querySelector("#said").hidden && !document.querySelector("#near").hidden')
+    await table.run('document.querySelectorAll("details").forEach((it) => { it.open = true; })')
+    await looked_at(table, "table, playing")
+    seer = await watch(browser, relay, "b1")
+    await until_moves(seer, 4)
+    await seer.run('document.querySelectorAll("details").forEach((it) => { it.open = true; })')
+    await looked_at(seer, "watch")
+    await table.click("#ending [data-how=agreed]")
+    await table.until('document.querySelector("#sure").open')
+    await table.click("#sure .main")
+    await until_state(table, "over")
+    await looked_at(table, "table, over")
+    client = await Client.to(relay.address)
+    await client.open("b2")
+    await client.submit("b2", "e2e4")
+    round_page = await browser.open(url("round.html", server=relay.address, boards="b1,b2,b3", players="Carlsen–Caruana"))
+    await round_page.until('document.querySelectorAll(".tile[data-state=live], .tile[data-state=over]").length === 2')
+    await round_page.run('document.querySelector("#settings").open = true')
+    await looked_at(round_page, "round")
+    tabs = await browser.open(url("tables.html", server=relay.address, boards="b4,b5", players="So–Ding"))
+    await tabs.run('document.querySelector("#settings").open = true')
+    await looked_at(tabs, "tables")
+    for style, fault in (("--soft: #999", "text "), ("--field: #ccc", "edge "), ("--last-edge: #8a8", "last move "), ("--dark: #445", "man ")):
+        await seer.scheme("light")
+        await seer.run(f'document.documentElement.style = "{style}"')
+        assert any(it.startswith(fault) for it in (await seer.run(SCRIPT))["faults"]), f"{style} was not noticed"
+    for page in (idle, table, seer, round_page, tabs):
+        assert not page.faults, page.faults
+        await page.close()
+    await client.close()
+
+
+FOCUSED = """(() => {
+  const it = document.activeElement;
+  const style = getComputedStyle(it);
+  return {name: `${it.tagName} ${it.id || it.className}`, isPage: it === document.body, place: [...document.querySelectorAll("*")].indexOf(it),
+          isRinged: it.matches(":focus-visible") && (style.outlineStyle !== "none" || style.boxShadow !== "none")};
+})()"""
+CONTROLS = """[...document.querySelectorAll("*")].map((it, place) => [it, place]).filter(([it]) => it.tabIndex >= 0 && !it.disabled
+  && it.matches("button, input, select, textarea, summary, a[href], [tabindex]") && it.checkVisibility({checkVisibilityCSS: true})).map(([, place]) => place)"""
+
+
+async def tabbed(page):
+    """What the Tab key goes to, from the page's head to its foot."""
+    await page.front()
+    await page.run('document.body.tabIndex = -1; document.body.focus(); document.body.removeAttribute("tabindex")')
+    stops = []
+    while True:
+        await page.press("Tab")
+        stop = await page.run(FOCUSED)
+        if stop["isPage"] or stop["place"] in [it["place"] for it in stops]:
+            return stops
+        stops.append(stop)
+
+
+async def try_focus(browser):
+    """The Tab key goes to each control in sight, in the order in which they stand, and each shows that it has the focus."""
+    relay = await Relay().start()
+    table = await open_table(browser, relay, "b1", 518)
+    await enter(table, "e4", "type")
+    await until_moves(table, 1)
+    seer = await watch(browser, relay, "b1")
+    await until_moves(seer, 1)
+    idle = await browser.open(url("table.html", server=relay.address))
+    round_page = await browser.open(url("round.html", server=relay.address, boards="b1,b2"))
+    await round_page.until('document.querySelectorAll(".tile[data-state=live]").length === 1')
+    tabs = await browser.open(url("tables.html", server=relay.address))
+    for page, least in ((table, 15), (seer, 9), (idle, 15), (round_page, 3), (tabs, 4)):
+        stops = await tabbed(page)
+        assert [it["place"] for it in stops] == await page.run(CONTROLS), (await text(page, "h1"), stops)
+        assert len(stops) >= least and all(it["isRinged"] for it in stops), (await text(page, "h1"), len(stops), [it for it in stops if not it["isRinged"]])
+        assert not page.faults, page.faults
+        await page.close()
