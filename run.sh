@@ -1,5 +1,7 @@
 #!/bin/sh
-# Builds the proved program and runs it with the words given: ./run.sh start 518
+# Proves the program and every crate below it, builds it, and runs it with the words given: ./run.sh start 518
+# Standard error tells how far the proofs are. Where nothing has changed since, the program starts at once. ./try.sh runs it unproved.
 set -e
-cd "$(dirname "$0")/crates/relay960"
-exec rt run -- "$@"
+here=$(cd "$(dirname "$0")" && pwd)
+python3 -B "$here/tools/build.py"
+exec "$here/crates/relay960/out/relay960" "$@"

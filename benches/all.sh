@@ -1,8 +1,8 @@
 #!/bin/sh
 # Measures what docs/BENCHMARKS.md tells of the rules, of games and of scripts, programs beside one another in each round.
-#   NEW=.. COUNT=.. [OLD=..] [OLD_COUNT=..] [RELAY=..] [ROUNDS=3] benches/all.sh FOLDER
-# NEW and OLD are programs relay960, COUNT and OLD_COUNT programs bench960, RELAY a program bench_relay. FOLDER holds the games and the lines, which are
-# made at the first run. It needs Debian's package stockfish. Each line printed is: what, which program, wall seconds, processor seconds.
+#   NEW=.. BENCH=.. [OLD=..] [OLD_BENCH=..] [ROUNDS=3] benches/all.sh FOLDER
+# NEW and OLD are programs relay960, BENCH and OLD_BENCH programs bench960. FOLDER holds the games and the lines, which are made at the first run.
+# It needs Debian's package stockfish. Each line printed is: what, which program, wall seconds, processor seconds, memory.
 set -eu
 here=$(cd "$(dirname "$0")" && pwd)
 folder=$1
@@ -26,25 +26,35 @@ timed() {
     /usr/bin/time -o took -f "$what|$which|%e|%U %S|%M kB" "$@"
     cat took
 }
-for round in $(seq "${ROUNDS:-3}"); do
+program_of() {
+    case $1 in
+        OLD) echo "$OLD" ;;
+        NEW) echo "$NEW" ;;
+        OLD_BENCH) echo "$OLD_BENCH" ;;
+        BENCH) echo "$BENCH" ;;
+    esac
+}
+for _ in $(seq "${ROUNDS:-3}"); do
     for kind in chance shuffle; do
         for which in ${OLD:+OLD} NEW; do
-            eval "program=\$$which"
+            program=$(program_of "$which")
             timed "play $kind" "$which" sh -c 'for game in "games/$1"/*; do "$0" play "${game##*.}" < "$game"; done > "answers-$1-$2"' "$program" "$kind" "$which"
         done
     done
     for followers in 0 1 64; do
         for which in ${OLD:+OLD} NEW; do
-            eval "program=\$$which"
+            program=$(program_of "$which")
             timed "script $followers" "$which" sh -c '"$0" script --boards 256 --followers 64 --plies 16384 < "lines-$1" > "answers-script-$1-$2"' "$program" "$followers" "$which"
         done
     done
-    timed "positions" COUNT sh -c '"$0" deep > answers-count' "$COUNT"
-    [ -z "${OLD_COUNT-}" ] || timed "positions" OLD_COUNT sh -c '"$0" deep > answers-old-count' "$OLD_COUNT"
+    for which in ${OLD_BENCH:+OLD_BENCH} BENCH; do
+        program=$(program_of "$which")
+        timed "positions" "$which" sh -c '"$0" positions deep > "answers-positions-$1"' "$program" "$which"
+        timed "relay" "$which" sh -c '"$0" relay < "$1/../crates/bench960/stdin" > "answers-relay-$2"' "$program" "$here" "$which"
+    done
     for position in 'rnbqkbnr/pppppppp/8/8/8/8/PPPPPPPP/RNBQKBNR w HAha - 0 1|6' \
         'r3k2r/p1ppqpb1/bn2pnp1/3PN3/1p2P3/2N2Q1p/PPPBBPPP/R3K2R w HAha - 0 1|5' 'n1n5/PPPk4/8/8/8/8/4Kppp/5N1N b - - 0 1|6'; do
         timed "positions of ${position%% *}" Stockfish sh -c 'printf "setoption name UCI_Chess960 value true\nposition fen %s\ngo perft %s\nquit\n" "${0%|*}" "${0#*|}" | /usr/games/stockfish > answers-stockfish' "$position"
     done
-    [ -z "${RELAY-}" ] || timed "relay" RELAY sh -c '"$0" < "$1/../crates/bench_relay/stdin" > answers-relay' "$RELAY" "$here"
 done
 cat /proc/loadavg

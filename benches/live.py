@@ -7,14 +7,13 @@ know no rules of chess: they send at once, and again at the pace at which a live
 are the medians, with the least and the greatest. Memory is the most that a process had resident in runs that only open boards.
 """
 import argparse
-import os
 import statistics
 import subprocess
 import tempfile
 from pathlib import Path
 
 HERE = Path(__file__).resolve().parent
-CRATE = HERE.parent / "crates" / "bench_live"
+CRATE = HERE.parent / "crates" / "bench960"
 SOURCES = Path("/usr/share/cargo/registry")
 # Each library with the sources and flags that it is built by, those that it needs first.
 LIBRARIES = [
@@ -45,7 +44,7 @@ def build_peers(folder):
 
 def lines(words):
     """What a program says of its work: of each piece how much it was, and the nanoseconds that passed and that processors worked."""
-    with open(CRATE.parent / "bench_relay/stdin") as moves:
+    with open(CRATE / "stdin") as moves:
         ran = subprocess.run(words, stdin=moves, stdout=subprocess.DEVNULL, stderr=subprocess.PIPE, text=True, check=True)
     for line in ran.stderr.splitlines():
         what, _, numbers = line.rpartition(": ")
@@ -85,15 +84,15 @@ def main():
     words = argparse.ArgumentParser()
     words.add_argument("--boards", type=int, default=100)
     words.add_argument("--rounds", type=int, default=5)
-    words.add_argument("--program", default=CRATE / "out" / "bench_live", type=Path)
+    words.add_argument("--program", default=CRATE / "out" / "bench960", type=Path)
     given = words.parse_args()
     with tempfile.TemporaryDirectory() as folder:
         build_peers(folder)
         peers = f"{folder}/live_peers"
-        programs = {"live_board": [given.program], "tokio": [peers, "broadcast"], "crossbeam": [peers, "bounded"]}
+        programs = {"live_board": [given.program, "live"], "tokio": [peers, "broadcast"], "crossbeam": [peers, "bounded"]}
         rounds = {name: [] for name in programs}
         for _ in range(given.rounds):
-            own = dict(lines([given.program, str(given.boards)]))
+            own = dict(lines([*programs["live_board"], str(given.boards)]))
             count, wall, _ = own["submits, followers 0"]
             rounds["live_board"].append(own)
             for name in ("tokio", "crossbeam"):

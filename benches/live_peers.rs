@@ -1,4 +1,4 @@
-//! What others reach at the work of `bench_live`, in the same lines: one sender, and followers of which each takes each item once, none lost.
+//! What others reach at the work of `bench960 live`, in the same lines: one sender, and followers of which each takes each item once, none lost.
 //! By the word `broadcast` tokio's `broadcast`, one queue for all; by `bounded` crossbeam's `bounded`, a queue for each follower, and the
 //! sender sends to all. The second word is the number of senders, the third the nanoseconds between two items at the pace of a game. Where
 //! a fourth word comes, it does no more than open so many senders, each with as many followers as the third says.

@@ -14,6 +14,7 @@ was done before. The last line counts what met the refusal, and the status is 1 
 last. The tests are those that `rt test` built.
 """
 import collections
+import io
 import itertools
 import os
 import pathlib
@@ -23,39 +24,45 @@ import subprocess
 import sys
 import tempfile
 
-from refused_jobs import refuse_in_jobs, run_refused
-from runs import PATIENCE
-from server import REQUEST, NotListening, Server, frame
-
 HERE = pathlib.Path(__file__).resolve().parent
 CRATES = HERE.parent / "crates"
+# First, since this folder has a games.py of its own.
+sys.path[:0] = [str(HERE.parent / "tools"), str(CRATES / "relay960/replays")]
+
+from refused_jobs import refuse_in_jobs, run_refused  # noqa: E402
+from relay_client.frames import REQUEST, frame, read_frame  # noqa: E402
+from relay_client.program import PATIENCE  # noqa: E402
+from relay_client.server import NotListening, Server  # noqa: E402
+
 TESTS = {
-    "c960_rules_tests": ["tests::memory::a_long_list_of_moves_is_whole_or_wants_memory"],
-    "c960_game_tests": [
-        "tests::opening::each_start_opens_a_game_without_moves",
-        "tests::memory::no_call_after_the_opening_takes_memory",
+    "c960_tests": [
+        "tests::rules::memory::a_long_list_of_moves_is_whole_or_wants_memory",
+        "tests::game::opening::each_start_opens_a_game_without_moves",
+        "tests::game::memory::no_call_after_the_opening_takes_memory",
     ],
-    "relay_messages_tests": [
-        "tests::answers::each_reply_has_its_text",
-        "tests::answers::each_outcome_has_its_text",
-        "tests::answers::each_refusal_and_each_fault_has_its_text",
-        "tests::decoders::a_decoder_reads_texts_one_after_another",
-        "tests::decoders::behind_want_of_memory_a_decoder_goes_on",
-    ],
-    "live_board_tests": ["tests::memory::one_allocation_may_be_refused"],
     "relay_tests": [
-        "tests::memory::a_refused_run_makes_no_step",
-        "tests::memory::a_refused_step_is_accepted_when_made_again",
-        "tests::memory::the_steps_after_an_opening_and_a_follow_are_answered_whatever_is_refused",
+        "tests::live_boards::memory::one_allocation_may_be_refused",
+        "tests::relays::memory::a_refused_run_makes_no_step",
+        "tests::relays::memory::a_refused_step_is_accepted_when_made_again",
+        "tests::relays::memory::the_steps_after_an_opening_and_a_follow_are_answered_whatever_is_refused",
     ],
-    "relay_pushing_tests": [
+    "relay_texts_tests": [
         "tests::connections::a_connection_may_what_its_boards_let_it",
+        "tests::connections::a_relay_answers_as_its_history_asks",
         "tests::live::cut_pushed_from_a_live_board",
         "tests::live::who_was_closed_may_leave_with_nothing_taken",
         "tests::pushing::cut_pushed",
         "tests::pushing::nothing_is_waited_for_and_is_no_text",
+        "tests::messages::answers::each_reply_has_its_text",
+        "tests::messages::answers::each_outcome_has_its_text",
+        "tests::messages::answers::each_refusal_and_each_fault_has_its_text",
+        "tests::messages::decoders::a_decoder_reads_texts_one_after_another",
+        "tests::messages::decoders::behind_want_of_memory_a_decoder_goes_on",
     ],
-    "relay_server_tests": ["tests::refusals::a_refusal_ends_the_boards_and_leaves_no_seat_taken"],
+    "relay_server_tests": [
+        "tests::sessions::refusals::a_name_that_stands_takes_no_memory",
+        "tests::sessions::refusals::a_refusal_ends_the_boards_and_leaves_no_seat_taken",
+    ],
 }
 OWNER = ['{"cmd":"open","board":"b1","start":518}', '{"cmd":"submit","board":"b1","move":"e2e4"}']
 GUEST = ['{"cmd":"follow","board":"b1","spectator":9,"from":0}']
@@ -65,6 +72,8 @@ END = [b'{"outcome":"abandoned","reply":"over"}', b"close 1000"]
 FOLLOWED = [FOLLOWING, b'{"move":"e2e4","place":0,"reply":"move"}', *END]
 NO_MEMORY = b'{"code":12,"name":"OutOfMemory","reply":"refused"}'
 NO_BOARD = [b'{"code":1,"name":"NoSuchBoard","reply":"refused"}', b"close 1000"]
+# Of a connection for which there was no memory to start its session, standard error is told.
+TURNED_AWAY = b"no descriptor or thread for a connection: turned away\n"
 # None says that what was asked for had been done already, as a command that is made a second time would.
 ANSWERS = {*OWNED, *FOLLOWED, *NO_BOARD, NO_MEMORY}
 
@@ -79,11 +88,10 @@ def talk(port, texts):
                 data += more
         except (ConnectionResetError, BrokenPipeError):
             pass
-    rest = data.partition(b"\r\n\r\n")[2]
-    while len(rest) >= 2:
-        payload = rest[2 : 2 + rest[1]]
-        told.append(b"close %d" % struct.unpack(">H", payload[:2]) if rest[0] == 0x88 else payload)
-        rest = rest[2 + rest[1] :]
+    frames = data.partition(b"\r\n\r\n")[2]
+    stream = io.BytesIO(frames)
+    while stream.tell() < len(frames):
+        told.append(read_frame(stream.read).encode())
     return told
 
 
@@ -97,13 +105,13 @@ def met(refused, allocator):
     except NotListening as fault:
         _, said, status = fault.args
         return "start" if status == 4 and said.endswith(b"fault 12 OutOfMemory\n") else None
-    except (ConnectionRefusedError, struct.error):
-        return None  # it said that it listens, and accepted nobody; or it sent a close without a code
+    except (ConnectionRefusedError, AssertionError, ValueError, struct.error):
+        return None  # it said that it listens, and accepted nobody; or it sent a frame that is none of a text or a close
     except (TimeoutError, subprocess.TimeoutExpired) as fault:
         sys.exit(f"allocation {refused}: the server does not answer, or does not end: {fault}")
     if not ANSWERS.issuperset(itertools.chain(owner, *guests)):
         return None
-    if said not in (b"served 4, failed 0\n", b"served 3, failed 1\n"):
+    if said not in (b"served 4, failed 0\n", TURNED_AWAY + b"served 3, failed 1\n"):
         return None
     if owner == OWNED:
         return {3: "nothing", 2: "guest"}.get(guests.count(FOLLOWED))

@@ -8,28 +8,24 @@ Which line asks for an allocation is known: runs over the first lines alone tell
 import bisect
 import itertools
 import os
-import pathlib
 import subprocess
 import sys
 from dataclasses import dataclass, field
 
-CRATE = pathlib.Path(__file__).resolve().parent.parent / "crates/relay960"
-sys.path.insert(0, str(CRATE / "replays"))
+from games import MATE, PLAY
+from relay_client.program import PATIENCE, PROGRAM, TOP
+from relay_client.texts import GAME_OVER, NO_BOARD, NO_FOLLOWER, NO_MEMORY, OPENED, played
+from runs import lines
 
-from games import MATE, PLAY  # noqa: E402
-from relays import OPENED, played_last, refused  # noqa: E402
-from runs import PATIENCE, PROGRAM, lines  # noqa: E402
-
-NO_MEMORY, NO_BOARD, NO_FOLLOWER = refused(12, "OutOfMemory"), refused(1, "NoSuchBoard"), refused(9, "NoSuchFollower")
-GAME_OVER = refused(5, "GameOver")
+CRATE = TOP / "crates/relay960"
 
 # The stored script of fourteen lines: an Open, a Follow, a Submit, two Takes, three Submits, four Takes, a Submit behind the end, a Leave.
 STORED = (CRATE / "stdin").read_text().splitlines()
 STORED_ANSWERS = (CRATE / "stdout").read_text().splitlines()
 WITHOUT_THE_BOARD = [NO_MEMORY, NO_BOARD, NO_BOARD, *[NO_FOLLOWER] * 2, *[NO_BOARD] * 3, *[NO_FOLLOWER] * 4, NO_BOARD, NO_FOLLOWER]
 WITHOUT_THE_FOLLOWER = [
-    *[OPENED, NO_MEMORY, played_last(0, None), *[NO_FOLLOWER] * 2],
-    *[played_last(1, None), played_last(2, None), played_last(3, "black mates"), *[NO_FOLLOWER] * 4, GAME_OVER, NO_FOLLOWER],
+    *[OPENED, NO_MEMORY, played(0), *[NO_FOLLOWER] * 2],
+    *[played(1), played(2), played(3, "black mates"), *[NO_FOLLOWER] * 4, GAME_OVER, NO_FOLLOWER],
 ]
 
 

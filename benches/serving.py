@@ -13,10 +13,16 @@ import pathlib
 import signal
 import statistics
 import subprocess
+import sys
 import tempfile
 import time
 
 HERE = pathlib.Path(__file__).resolve().parent
+sys.path.append(str(HERE.parent / "tools"))
+
+from relay_client.ports import come_up, free_port  # noqa: E402
+from relay_client.program import PROGRAM  # noqa: E402
+
 
 NGINX = """
 daemon off; master_process on; worker_processes {workers}; worker_rlimit_nofile 20000; pid {room}/nginx.pid; error_log {room}/error.log;
@@ -52,8 +58,7 @@ class Server:
     def __init__(self, kind, words, room, port):
         self.kind, self.port = kind, port
         self.process = subprocess.Popen(words, stdout=subprocess.DEVNULL, stderr=open(f"{room}/{kind}.err", "w"))
-        time.sleep(1)
-        if self.process.poll() is not None:
+        if not come_up({port}):
             raise SystemExit(open(f"{room}/{kind}.err").read())
 
     def stop(self):
@@ -62,9 +67,8 @@ class Server:
 
 
 def servers(names, binary, room):
-    port = 9710
     for name in names:
-        port += 1
+        port = free_port()
         if name.startswith("relay"):
             words = [binary, "serve", "--port", str(port), "--boards", "256", "--followers", "1024", "--capacity", "1024", "--plies", "1024"]
             yield name, Server("relay", words, room, port)
@@ -86,7 +90,7 @@ def main():
     words.add_argument("--followers", type=int, default=100, help="of connects: how many connections")
     words.add_argument("--moves", type=int, default=1000)
     words.add_argument("--rounds", type=int, default=7)
-    words.add_argument("--binary", default=str(HERE.parent / "crates/relay960/out/relay960"))
+    words.add_argument("--binary", default=str(PROGRAM))
     given = words.parse_args()
     with tempfile.TemporaryDirectory() as room:
         os.chmod(room, 0o755)

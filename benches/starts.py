@@ -15,7 +15,7 @@ def of_stockfish():
 
 
 def of_bench960(program):
-    lines = subprocess.run([program, "starts"], stdout=subprocess.PIPE, text=True, check=True).stdout.splitlines()
+    lines = subprocess.run([program, "positions", "starts"], stdout=subprocess.PIPE, text=True, check=True).stdout.splitlines()
     return [int(line.split()[2]) for line in lines]
 
 

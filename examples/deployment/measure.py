@@ -1,7 +1,7 @@
 #!/usr/bin/python3
 """Measures what boards and followers take of the machine: starts the built program on loopback and reads /proc.
 
-    RELAY960=../../crates/relay960/out/relay960 ./measure.py        (Debian: apt-get install python3-websockets)
+    ./measure.py        (Debian: apt-get install python3-websockets; RELAY960 names another program than the built one)
 
 Each line is one run, as a row of a table: the boards, the followers of each, `--capacity` and `--plies`; the memory that is resident when
 nothing is connected, when all are, and when a hundred moves were played on every board; threads and descriptors when all are connected;
@@ -11,6 +11,7 @@ next move is sent when the one before has come everywhere, so nobody is cut. Wor
 import asyncio
 import json
 import os
+import pathlib
 import resource
 import statistics
 import sys
@@ -18,9 +19,10 @@ import time
 
 import websockets
 
-PROGRAM = os.environ["RELAY960"]
-PORT = 9691
-ADDRESS = f"ws://127.0.0.1:{PORT}"
+sys.path.append(str(pathlib.Path(__file__).resolve().parents[2] / "tools"))
+
+from relay_client.relay import Relay  # noqa: E402
+
 HOP = ["g1h3", "g8h6", "h3g1", "h6g8"]
 OTHER_HOP = ["b1a3", "b8a6", "a3b1", "a6b8"]
 RUNS = [(1, 64, 1024, 1024), (16, 64, 64, 1024), (16, 64, 1024, 1024), (64, 0, 1024, 1024), (64, 0, 1024, 16384), (64, 16, 1024, 1024),
@@ -62,8 +64,8 @@ class Count:
             await asyncio.wait_for(self.there.wait(), 120)
 
 
-async def connect():
-    return await websockets.connect(ADDRESS, ping_interval=None, compression=None, open_timeout=60)
+async def connect(relay):
+    return await websockets.connect(relay.address, ping_interval=None, compression=None, open_timeout=60)
 
 
 async def ask(socket, wanted, **command):
@@ -72,9 +74,9 @@ async def ask(socket, wanted, **command):
     assert answer["reply"] == wanted, answer
 
 
-async def follow(board, ready, got):
+async def follow(relay, board, ready, got):
     """Follows a board until the connection ends."""
-    socket = await connect()
+    socket = await connect(relay)
     await ask(socket, "following", cmd="follow", board=board, spectator=0)
     ready.add()
     try:
@@ -97,29 +99,26 @@ async def play(operators, followers, got):
 
 
 async def measure(boards, followers, capacity, plies):
-    limits = {"port": PORT, "boards": boards, "followers": max(1, followers), "capacity": capacity, "plies": plies}
-    words = [word for name, value in limits.items() for word in (f"--{name}", str(value))]
-    server = await asyncio.create_subprocess_exec(PROGRAM, "serve", *words, stdout=asyncio.subprocess.PIPE)
+    relay = await Relay(boards=boards, followers=max(1, followers), capacity=capacity, plies=plies).start()
+    pid = relay.server.process.pid
     tasks = []
     try:
-        await server.stdout.readline()
-        began = status(server.pid)
-        operators = [await connect() for _ in range(boards)]
+        began = status(pid)
+        operators = [await connect(relay) for _ in range(boards)]
         for board, operator in enumerate(operators):
             await ask(operator, "opened", cmd="open", board=f"b{board}", start=518)
         ready, got = Count(), Count()
         for board in range(boards):
             for first in range(0, followers, 50):
-                tasks += [asyncio.create_task(follow(f"b{board}", ready, got)) for _ in range(min(50, followers - first))]
+                tasks += [asyncio.create_task(follow(relay, f"b{board}", ready, got)) for _ in range(min(50, followers - first))]
                 await ready.reach(len(tasks))
-        connected = status(server.pid)
+        connected = status(pid)
         waits = await play(operators, len(tasks), got)
-        played = status(server.pid)
+        played = status(pid)
         print(f"| {boards} | {followers} | {capacity:,} | {plies:,} | {began[0]:.1f} MB | {connected[0]:.1f} MB | {played[0]:.1f} MB | "
               f"{connected[1]:,} | {connected[2]:,} | {statistics.median(waits):.0f} to {max(waits):.0f} ms |", flush=True)
     finally:
-        server.kill()
-        await server.wait()
+        await relay.kill()
         for task in tasks:
             task.cancel()
         await asyncio.gather(*tasks, return_exceptions=True)

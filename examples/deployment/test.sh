@@ -1,22 +1,24 @@
 #!/bin/sh
-# Tries the files of this folder on loopback: the units, the manual page, and nginx with TLS before a relay, with a certificate and a
-# password made for the trial. It needs, of Debian:
-#     apt-get install nginx-light libnginx-mod-nchan redis-server python3-websockets chromium openssl systemd mandoc
-# and crates/relay960/out/relay960. Its last line says what came.
+# Tries the Debian package and what a site does with it, on loopback: the package is made, installed under a folder of the trial, and run
+# from there; the units and the manual page are looked at; a site's nginx with TLS includes the two files for it, with a certificate and a
+# password made for the trial; a renewed certificate is taken over, and the relay is restarted in the middle of a game. RELAY960 names another program than the built one. Its last line
+# says what came.
 set -eu
 cd "$(dirname "$0")"
-RELAY960="${RELAY960:-$(pwd)/../../crates/relay960/out/relay960}"
-[ -x "$RELAY960" ] || { echo "there is no $RELAY960: build it with ./run.sh < crates/relay960/stdin"; exit 1; }
-export RELAY960
-
-ports=../many_spectators/ports.py
-$ports free 9110 9379 9443 9600
+top=$(cd ../.. && pwd)
+# shellcheck disable=SC1091
+. "$top/tools/trial.sh"
+begin_trial nginx-light libnginx-mod-nchan redis-server python3-websockets chromium openssl systemd mandoc dpkg qrencode
+ports() { /usr/bin/python3 -m relay_client.ports "$@"; }
+ports free 9110 9379 9443 9600 9960
 run=$(mktemp -d)
 chmod 755 "$run"
+root=$run/root
 pids=""
 stop() {
     status=$?
     trap - EXIT INT TERM
+    for name in feed relay; do [ ! -f "$run/$name.pid" ] || pids="$pids $(cat "$run/$name.pid")"; done
     for pid in $pids; do kill "$pid" 2> /dev/null || true; done
     wait || true
     rm -rf "$run"
@@ -26,36 +28,86 @@ trap stop EXIT
 trap 'exit 130' INT
 trap 'exit 143' TERM
 
-# The units, with the program where it was built; mandoc on the manual page.
-sed "s|/usr/bin/relay960|$RELAY960|" relay960.service > "$run/relay960.service"
-sed "s|/usr/lib/relay960/feed.py|$(pwd)/../many_spectators/feed.py|" relay960-feed.service > "$run/relay960-feed.service"
-systemd-analyze verify --man=no "$run/relay960.service" "$run/relay960-feed.service"
+# The package, installed under $root. Only root may install; anybody may unpack.
+package=$("$top/package.sh" "$run" | tail -n 1)
+mkdir -p "$root/var/lib/dpkg/info" "$root/var/lib/dpkg/updates"
+: > "$root/var/lib/dpkg/status"
+if [ "$(id -u)" -eq 0 ]; then
+    dpkg --root="$root" --force-depends --log=/dev/null -i "$package" > "$run/dpkg.log" 2>&1 || { cat "$run/dpkg.log"; exit 1; }
+    [ "$(dpkg-query --admindir="$root/var/lib/dpkg" -W -f '${Status}' relay960)" = "install ok installed" ]
+else
+    dpkg-deb -x "$package" "$root"
+fi
+[ "$("$root/usr/bin/relay960" start 518)" = "rnbqkbnr/pppppppp/8/8/8/8/PPPPPPPP/RNBQKBNR w HAha - 0 1" ]
+# Its files name each other by where they stand on a site.
+sed -i "s|/usr/share/relay960|$root&|g; s|/etc/relay960|$root&|g; s|/usr/lib/relay960|$root&|g; s|/usr/bin/relay960|$root&|g
+s|/var/log/nginx/|$run/|g" \
+    "$root"/etc/relay960/nginx/*.conf "$root"/usr/lib/systemd/system/*.service
+echo "ok      package"
+systemd-analyze verify --man=no "$root"/usr/lib/systemd/system/*.service
 echo "ok      units"
-mandoc -T lint -W style ../../docs/relay960.1
+mandoc -T lint -W style "$root/usr/share/man/man1/relay960.1.gz"
 echo "ok      manual page"
 
-# The whole set, in the folder's copy with its own certificate, password and pages.
-cp -r ../many_spectators "$run/many_spectators"
-cp -r ../../web "$run/pages"
-mkdir "$run/site"
-cp nginx.conf "$run/site/nginx.conf"
-ln -s ../pages "$run/site/pages"
+# A hall, from the package's own files.
+echo "b1 518 White – Black" > "$run/round"
+PYTHONPATH='' "$root/usr/lib/relay960/hall.py" --address 127.0.0.1 --port 9960 "$run/round" > "$run/hall.log" 2>&1 &
+hall=$!
+pids="$pids $hall"
+ports wait 9960 || { cat "$run/hall.log"; exit 1; }
+kill "$hall"
+wait "$hall"
+echo "ok      hall"
+
+# A site with a certificate and a password.
+site=$run/site
+mkdir "$site"
+cp trial.conf "$site/nginx.conf"
+ln -s "$root/etc/relay960/nginx" "$site/relay960"
 openssl req -x509 -newkey ec -pkeyopt ec_paramgen_curve:prime256v1 -nodes -days 1 -subj /CN=localhost \
-    -addext subjectAltName=DNS:localhost,IP:127.0.0.1 -keyout "$run/site/key.pem" -out "$run/site/certificate.pem" 2> /dev/null
-printf 'arbiter:%s\n' "$(openssl passwd -6 secret960)" > "$run/site/operators"
-nginx -p "$run/site" -c "$run/site/nginx.conf" -t -q 2> "$run/nginx.log" || { cat "$run/nginx.log"; exit 1; }
-echo "ok      nginx.conf"
-redis-server "$run/many_spectators/redis.conf" --dir "$run" > "$run/redis.log" 2>&1 &
+    -addext subjectAltName=DNS:localhost,IP:127.0.0.1 -keyout "$site/key.pem" -out "$site/certificate.pem" 2> /dev/null
+printf 'arbiter:%s\n' "$(openssl passwd -6 secret960)" > "$root/etc/relay960/operators"
+if [ "$(id -u)" -eq 0 ]; then
+    chown root:www-data "$root/etc/relay960/operators"
+    chmod 640 "$root/etc/relay960/operators"
+fi
+nginx -p "$site" -c "$site/nginx.conf" -t -q 2> "$run/nginx.log" || { cat "$run/nginx.log"; exit 1; }
+echo "ok      nginx"
+redis-server "$root/etc/relay960/redis.conf" --dir "$run" > "$run/redis.log" 2>&1 &
 pids="$pids $!"
-"$RELAY960" serve --port 9600 --boards 64 --capacity 1024 > "$run/relay.log" 2>&1 &
+ports wait 9379
+nginx -p "$site" -c "$site/nginx.conf" > "$run/nginx.log" 2>&1 &
 pids="$pids $!"
-$ports wait 9379 9600
-nginx -p "$run/site" -c "$run/site/nginx.conf" > "$run/nginx.log" 2>&1 &
-pids="$pids $!"
-"$run/many_spectators/feed.py" hall > "$run/feed.log" 2>&1 &
-pids="$pids $!"
-if $ports wait 9110 9443 && /usr/bin/python3 test_site.py "$run/site/certificate.pem"; then
-    echo "passed: units, manual page, nginx with TLS"
+
+# What a site and the hook for renewed certificates call: systemctl, here on the processes of the trial.
+mkdir "$run/bin"
+cat > "$run/bin/systemctl" <<END
+#!/bin/sh
+set -eu
+case "\$*" in
+    "reload nginx") kill -HUP "\$(cat "$site/nginx.pid")" ;;
+    "restart relay960-feed")
+        [ ! -f "$run/feed.pid" ] || kill "\$(cat "$run/feed.pid")"
+        PYTHONPATH= "$root/usr/lib/relay960/feed.py" --names "$root/etc/relay960/feed" >> "$run/feed.log" 2>&1 &
+        echo \$! > "$run/feed.pid" ;;
+    "restart relay960")
+        [ ! -f "$run/relay.pid" ] || kill "\$(cat "$run/relay.pid")"
+        until /usr/bin/python3 -m relay_client.ports free 9600 > /dev/null; do sleep 0.1; done
+        "$root/usr/bin/relay960" serve --port 9600 --forever --boards 64 --capacity 1024 --grace 120 >> "$run/relay.log" 2>&1 &
+        echo \$! > "$run/relay.pid" ;;
+    "stop relay960") kill "\$(cat "$run/relay.pid")"; rm "$run/relay.pid" ;;
+    "reload relay960-feed") kill -HUP "\$(cat "$run/feed.pid")" ;;
+    *) echo "no such call: systemctl \$*" >&2; exit 1 ;;
+esac
+END
+chmod +x "$run/bin/systemctl"
+echo hall > "$root/etc/relay960/feed"
+"$run/bin/systemctl" restart relay960
+"$run/bin/systemctl" restart relay960-feed
+export SITE_FEED="$root/etc/relay960/feed"
+export SITE_HOOK="$root/usr/lib/relay960/certificate-renewed" SITE_FOLDER="$site" SITE_LOGS="$run"
+if ports wait 9110 9443 9600 && PATH="$run/bin:$PATH" /usr/bin/python3 test_site.py "$site/certificate.pem"; then
+    echo "passed: package, units, manual page, nginx with TLS, a renewed certificate, a restarted relay"
 else
     tail -n 5 "$run"/*.log
     echo "failed"

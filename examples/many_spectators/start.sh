@@ -1,17 +1,18 @@
 #!/bin/sh
 # Starts a relay, Redis, two nginx with nchan and the feed, all on loopback: ./start.sh, or ./start.sh BOARD.. for other boards than
-# b1 to b4. Ctrl-C ends them all. It needs, of Debian:
-#     apt-get install nginx-light libnginx-mod-nchan redis-server python3-websockets
-# and crates/relay960/out/relay960, which ./run.sh at the repository's top builds.
+# b1 to b4. Ctrl-C ends them all. The relay is the built program, or the one that RELAY960 names.
 #
 # Boards are opened at ws://127.0.0.1:9600; spectators watch at ws://127.0.0.1:9100/sub/BOARD and ws://127.0.0.1:9101/sub/BOARD.
 set -eu
 cd "$(dirname "$0")"
 [ $# -gt 0 ] || set -- b1 b2 b3 b4
-RELAY960="${RELAY960:-$(pwd)/../../crates/relay960/out/relay960}"
+top=$(cd ../.. && pwd)
+# shellcheck disable=SC1091
+. "$top/tools/trial.sh"
+begin_trial nginx-light libnginx-mod-nchan redis-server python3-websockets
 RELAY_PORT="${RELAY_PORT:-9600}"
-[ -x "$RELAY960" ] || { echo "there is no $RELAY960: build it with ./run.sh < crates/relay960/stdin"; exit 1; }
-./ports.py free 9100 9101 9110 9379 "$RELAY_PORT"
+ports() { /usr/bin/python3 -m relay_client.ports "$@"; }
+ports free 9100 9101 9110 9379 "$RELAY_PORT"
 run="${RUN:-$(mktemp -d)}"
 chmod 755 "$run"
 pids=""
@@ -31,9 +32,9 @@ begin() {
     pids="$! $pids"
     echo $! > "$run/$name.pid"
 }
-whole() { ./ports.py wait "$@" || { tail -n 5 "$run"/*.log; exit 1; }; }
+whole() { ports wait "$@" || { tail -n 5 "$run"/*.log; exit 1; }; }
 begin redis redis-server "$PWD/redis.conf" --dir "$run"
-begin relay "$RELAY960" serve --port "$RELAY_PORT" --boards 64 --capacity 1024
+begin relay "$RELAY960" serve --port "$RELAY_PORT" --forever --boards 64 --capacity 1024 --grace 120
 whole 9379 "$RELAY_PORT"
 begin nginx-a nginx -p "$run" -c "$PWD/nginx-a.conf"
 begin nginx-b nginx -p "$run" -c "$PWD/nginx-b.conf"

@@ -1,10 +1,13 @@
 #!/bin/sh
-# Tries the whole set: 1,000 subscribers of four boards with whole games, and the feed killed and started anew in between. It needs
-# what start.sh needs, and takes about a minute. Its last line says what came.
+# Tries the whole set beside the built program (or the one that RELAY960 names): 1,000 subscribers of four boards with whole games, and the
+# feed killed and started anew in between; then relays that are started anew, games that go on under another name, and beats. It takes some
+# 40 seconds. Its last line says what came.
 set -eu
 cd "$(dirname "$0")"
-RELAY960="${RELAY960:-$(pwd)/../../crates/relay960/out/relay960}"
-[ -x "$RELAY960" ] || { echo "there is no $RELAY960: build it with ./run.sh < crates/relay960/stdin"; exit 1; }
-export RELAY960
+top=$(cd ../.. && pwd)
+# shellcheck disable=SC1091
+. "$top/tools/trial.sh"
+begin_trial nginx-light libnginx-mod-nchan redis-server python3-websockets
+# shellcheck disable=SC3045  # dash has it
 ulimit -n 8192 2> /dev/null || true
 exec /usr/bin/python3 test_channels.py

@@ -1,6 +1,5 @@
 """The test of the channels; test.sh starts it. Every subscriber must have each place of its board once, in order, then the outcome."""
 import asyncio
-import contextlib
 import json
 import os
 import pathlib
@@ -13,35 +12,17 @@ import time
 
 import websockets
 
-HERE = pathlib.Path(__file__).resolve().parent
-PROGRAM = os.environ["RELAY960"]
+import test_gone
+from feeds import RELAY, RELAY_PORT, feed, running, until
+from relay_client.client import Client
+from relay_client.program import game_by_chance
+from relay_client.relay import Relay
+
 BOARDS = ["t1", "t2", "t3", "t4"]
 SUBSCRIBERS = 1000
 LATE = 40
 PLIES = 120
 PORTS = (9100, 9101)
-RELAY_PORT = "9690"
-RELAY = f"ws://127.0.0.1:{RELAY_PORT}"
-SMALL_PORT = "9691"
-
-
-def whole_game(start, chance):
-    """A game of legal moves by chance, until it ends or has so many plies, and whether it has ended by itself."""
-    player = subprocess.Popen([PROGRAM, "play", str(start)], stdin=subprocess.PIPE, stdout=subprocess.PIPE, text=True)
-    fen = subprocess.run([PROGRAM, "start", str(start)], capture_output=True, text=True, check=True).stdout.strip()
-    moves = []
-    while len(moves) < PLIES:
-        listed = subprocess.run([PROGRAM, "moves", fen], capture_output=True, text=True, check=True).stdout.splitlines()
-        if listed[1] != "going":
-            break
-        moves.append(chance.choice(listed[0].split()))
-        player.stdin.write(moves[-1] + "\n")
-        player.stdin.flush()
-        fen = player.stdout.readline().strip()
-    player.stdin.close()
-    player.wait()
-    player.stdout.close()
-    return moves
 
 
 class Subscriber:
@@ -64,7 +45,7 @@ class Subscriber:
             self.moves.append(text["move"])
         elif text["reply"] == "following":
             self.follows += 1
-        else:
+        elif text["reply"] == "over":
             self.outcomes.append(text["outcome"])
 
     def right(self, game):
@@ -74,34 +55,15 @@ class Subscriber:
 
 async def play(board, start, game, half, relay=RELAY):
     """An operator: plays a board's game, waits in its middle, and ends it."""
-    async with websockets.connect(relay, ping_interval=None, compression=None) as socket:
-        async def ask(**command):
-            await socket.send(json.dumps(command))
-            answer = json.loads(await socket.recv())
-            assert answer["reply"] != "refused", answer
-        await ask(cmd="open", board=board, start=start)
-        for place, move in enumerate(game):
-            if place == len(game) // 2:
-                await half.wait()
-            await ask(cmd="submit", board=board, move=move)
-            await asyncio.sleep(0.01)
-        await ask(cmd="end", board=board, how="agreed")
-
-
-@contextlib.asynccontextmanager
-async def running(*words, **options):
-    """A process that has ended when the block has."""
-    process = await asyncio.create_subprocess_exec(*words, cwd=HERE, **options)
-    try:
-        yield process
-    finally:
-        with contextlib.suppress(ProcessLookupError):
-            process.terminate()
-        await process.wait()
-
-
-def feed(*boards, relay=RELAY, **options):
-    return running("./feed.py", "--relay", relay, *boards, **options)
+    operator = await Client.to(relay)
+    await operator.open(board, start)
+    for place, move in enumerate(game):
+        if place == len(game) // 2:
+            await half.wait()
+        await operator.submit(board, move)
+        await asyncio.sleep(0.01)
+    await operator.end(board)
+    await operator.close()
 
 
 async def subscribe_all(subscribers):
@@ -120,15 +82,6 @@ async def subscribe_all(subscribers):
             return tasks
         await asyncio.sleep(0.1)
     raise AssertionError(f"{count} of {len(subscribers)} subscribers were connected in a minute")
-
-
-async def until(test, seconds=60):
-    """Waits until a test is true."""
-    for _ in range(200 * seconds):
-        if test():
-            return
-        await asyncio.sleep(0.005)
-    raise AssertionError(f"not within {seconds} s")
 
 
 async def disturb(run, subscribers, half):
@@ -164,29 +117,27 @@ async def gives_up_one_board():
 
 async def waits_on_one_connection(game, start):
     """Whether waiting takes one connection for each board: of four, two boards leave two to open them, and four are served."""
-    relay = f"ws://127.0.0.1:{SMALL_PORT}"
+    small = await Relay(connections=4).start()
     half = asyncio.Event()
     half.set()
-    async with running(PROGRAM, "serve", "--port", SMALL_PORT, "--connections", "4",
-                       stdout=subprocess.PIPE, stderr=subprocess.PIPE) as small:
-        await asyncio.wait_for(small.stdout.readline(), 20)
-        async with feed("w1", "w2", "--wait", "0.05", relay=relay, stdout=subprocess.DEVNULL, stderr=subprocess.PIPE) as process:
+    try:
+        async with feed("w1", "w2", "--wait", "0.05", relay=small.address, stdout=subprocess.DEVNULL, stderr=subprocess.PIPE) as process:
             said = [await asyncio.wait_for(process.stderr.readline(), 20) for _ in "12"]
             await asyncio.sleep(2)
-            try:
-                await asyncio.wait_for(asyncio.gather(*(play(it, start, game, half, relay) for it in ("w1", "w2"))), 60)
-                _, more = await asyncio.wait_for(process.communicate(), 60)
-                _, served = await asyncio.wait_for(small.communicate(), 20)
-            except (OSError, asyncio.TimeoutError, websockets.WebSocketException):
-                return False
-    return (sorted(said) == [b"w1: refused 1 NoSuchBoard\n", b"w2: refused 1 NoSuchBoard\n"] and more == b""
-            and process.returncode == 0 and served == b"served 4, failed 0\n")
+            await asyncio.wait_for(asyncio.gather(*(play(it, start, game, half, small.address) for it in ("w1", "w2"))), 60)
+            _, more = await asyncio.wait_for(process.communicate(), 60)
+            await asyncio.wait_for(small.has_served(4), 20)
+    except (AssertionError, OSError, asyncio.TimeoutError, websockets.WebSocketException):
+        return False
+    finally:
+        await small.kill()
+    return sorted(said) == [b"w1: refused 1 NoSuchBoard\n", b"w2: refused 1 NoSuchBoard\n"] and more == b"" and process.returncode == 0
 
 
 async def main():
     chance = random.Random(960)
     starts = [chance.randrange(960) for _ in BOARDS]
-    games = {board: whole_game(start, chance) for board, start in zip(BOARDS, starts)}
+    games = {board: game_by_chance(start, chance, PLIES) for board, start in zip(BOARDS, starts)}
     with tempfile.TemporaryDirectory(ignore_cleanup_errors=True) as run:
         env = {**os.environ, "RUN": run, "RELAY_PORT": RELAY_PORT}
         async with running("./start.sh", *BOARDS, env=env, stdout=subprocess.PIPE) as everything:
@@ -211,10 +162,11 @@ async def tried(games, starts, run):
         status = await asyncio.wait_for(third.wait(), 60)
     refused = await refuses_one_board() and await gives_up_one_board()
     waited = await waits_on_one_connection(games[BOARDS[0]], starts[0])
+    gone = await test_gone.tried()
     right = sum(it.right(games[it.board]) for it in subscribers)
     came_late = sum(it.right(games[it.board]) for it in late)
     moves = ", ".join(f"{len(games[it])}" for it in BOARDS)
-    passed = right == SUBSCRIBERS and came_late == LATE and status == 0 and refused and waited
+    passed = right == SUBSCRIBERS and came_late == LATE and status == 0 and refused and waited and gone
     print(f"{'passed' if passed else 'failed'}: {right} of {SUBSCRIBERS} subscribers and {came_late} of {LATE} late ones had every place "
           f"once and in order; games of {moves} moves in {took:.1f} s; the feed was killed twice, and "
           f"{'told' if refused else 'did not tell'} of boards that are refused or not opened; waiting for a board took "

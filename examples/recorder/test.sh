@@ -1,11 +1,12 @@
 #!/bin/sh
-# Tries the recorder beside the built program: lost connections, and relays started anew with the same game, another, or none. It needs,
-# of Debian:
-#     apt-get install python3-websockets
-# and crates/relay960/out/relay960. It uses no address but loopback, and takes some ten seconds. Its last line says what came.
+# Tries the recorder beside the built program (or the one that RELAY960 names): lost connections, and relays started anew with the same
+# game, another, or none; and 200 games as PGN, which pgn-extract and Stockfish read. It uses no address but loopback. The records take some
+# ten seconds, the games some minutes: ./test.sh 24 plays 24 of them. The last line of each says what came.
 set -eu
 cd "$(dirname "$0")"
-RELAY960="${RELAY960:-$(pwd)/../../crates/relay960/out/relay960}"
-[ -x "$RELAY960" ] || { echo "there is no $RELAY960: build it with ./run.sh < crates/relay960/stdin"; exit 1; }
-export RELAY960
-exec /usr/bin/python3 test_record.py
+top=$(cd ../.. && pwd)
+# shellcheck disable=SC1091
+. "$top/tools/trial.sh"
+begin_trial python3-websockets pgn-extract stockfish
+/usr/bin/python3 test_record.py
+exec /usr/bin/python3 test_pgn.py "${1:-200}"

@@ -5,10 +5,12 @@ import pathlib
 import sys
 import tempfile
 
-HERE = pathlib.Path(__file__).resolve().parent
-sys.path.insert(0, str(HERE.parents[1] / "web" / "tests"))
-from relay import PROGRAM, Client, Relay, Wire, free_port, start_fen  # noqa: E402
+from relay_client.client import Client
+from relay_client.program import start_fen
+from relay_client.relay import Relay
+from relay_client.wire import Wire
 
+HERE = pathlib.Path(__file__).resolve().parent
 PATIENCE = 30  # Seconds: a machine that is busy with proofs needs some.
 MOVES = ["e2e4", "e7e5", "g1f3", "g8f6", "b1c3", "b8c6"]
 
@@ -65,7 +67,7 @@ async def anew(relay, start, moves, outcome=True):
     await client.open("b1", start)
     await client.submit("b1", *moves)
     if outcome:
-        await client.ask(cmd="end", board="b1", how="agreed")
+        await client.end("b1")
     return client
 
 
@@ -92,9 +94,8 @@ async def try_wire(folder):
     for count, move in enumerate(MOVES, 1):
         await client.submit("b1", move)
         await recorder.until(count)
-        for writer in list(wire.writers):
-            writer.transport.abort()
-    await client.ask(cmd="end", board="b1", how="agreed")
+        wire.drop()
+    await client.end("b1")
     await recorder.ended(0, 518, MOVES, "agreed")
     wire.server.close()
 
@@ -109,27 +110,18 @@ async def try_tries(folder):
 
 async def try_connections(folder):
     """Waiting takes one connection, however often the board is asked for: a relay of two has one left to open it, and serves two."""
-    port = free_port()
-    relay = await asyncio.create_subprocess_exec(PROGRAM, "serve", "--port", str(port), "--connections", "2",
-                                                 stdout=asyncio.subprocess.PIPE, stderr=asyncio.subprocess.PIPE)
-    try:
-        await asyncio.wait_for(relay.stdout.readline(), PATIENCE)
-        recorder = await Recorder.start(folder, f"ws://127.0.0.1:{port}")
-        asked = [await asyncio.wait_for(recorder.process.stderr.readline(), PATIENCE) for _ in range(10)]
-        assert asked == [b"refused: 1 NoSuchBoard\n"] * 10, asked
-        client = await Client.to(f"ws://127.0.0.1:{port}")
-        await client.open("b1", 518)
-        await recorder.until(0)
-        await client.submit("b1", *MOVES)
-        await client.ask(cmd="end", board="b1", how="agreed")
-        await recorder.ended(0, 518, MOVES, "agreed")
-        await client.socket.close()
-        _, said = await asyncio.wait_for(relay.communicate(), PATIENCE)
-        assert said == b"served 2, failed 0\n" and relay.returncode == 0, (said, relay.returncode)
-    finally:
-        if relay.returncode is None:
-            relay.kill()
-            await relay.wait()
+    relay = await Relay(connections=2).start()
+    recorder = await Recorder.start(folder, relay.address)
+    asked = [await asyncio.wait_for(recorder.process.stderr.readline(), PATIENCE) for _ in range(10)]
+    assert asked == [b"b1: refused 1 NoSuchBoard\n"] * 10, asked
+    client = await Client.to(relay.address)
+    await client.open("b1", 518)
+    await recorder.until(0)
+    await client.submit("b1", *MOVES)
+    await client.end("b1")
+    await recorder.ended(0, 518, MOVES, "agreed")
+    await client.close()
+    await relay.has_served(2)
 
 
 async def try_waiting(folder):
@@ -138,7 +130,7 @@ async def try_waiting(folder):
     recorder = await Recorder.start(folder, relay.address, "--tries", "3")
     _, said = await asyncio.wait_for(recorder.process.communicate(), PATIENCE)
     assert recorder.process.returncode == 2 and not recorder.file.exists(), recorder.process.returncode
-    assert said == b"refused: 1 NoSuchBoard\n" * 3 + b"b1: given up after 3 tries in a row that brought nothing new\n", said
+    assert said == b"b1: refused 1 NoSuchBoard\n" * 3 + b"b1: given up after 3 tries in a row that brought nothing new\n", said
 
 
 async def try_start(folder):
@@ -178,7 +170,7 @@ async def try_same(folder):
     client = await anew(relay, 518, MOVES[:3], outcome=False)
     await asyncio.sleep(0.5)
     await client.submit("b1", *MOVES[3:])
-    await client.ask(cmd="end", board="b1", how="agreed")
+    await client.end("b1")
     await recorder.ended(0, 518, MOVES, "agreed")
 
 
@@ -215,7 +207,7 @@ async def try_nothing(folder):
     await relay.start()
     client = await Client.to(relay.address)
     await client.open("b1", 518)
-    await client.ask(cmd="end", board="b1", how="agreed")
+    await client.end("b1")
     recorder = await Recorder.start(folder, relay.address, "--tries", "2")
     await recorder.ended(0, 518, [], "agreed")
 
@@ -230,8 +222,56 @@ async def try_file(folder):
     assert file.read_text() == "kept\n"
 
 
+async def try_pgn(folder):
+    """The PGN has each move when it comes, without a result until the end, and two boards in one file."""
+    file = pathlib.Path(folder, "round.pgn")
+    relay = await Relay().start()
+    client = await Client.to(relay.address)
+    await client.open("b1", 518)
+    await client.open("b2", 0)
+    recorder = await Recorder.start(folder, relay.address, "b2", f"{folder}/b2.record", "--pgn", str(file), "--players", "b2", "A", 'B "C"')
+    for move, text in zip(MOVES, ("1. e4 *", "1. e4 e5 *", "1. e4 e5 2. Nf3 *")):
+        await client.submit("b1", move)
+        for _ in range(20 * PATIENCE):
+            if file.exists() and f"\n{text}\n" in file.read_text():
+                break
+            await asyncio.sleep(0.05)
+        assert f"\n{text}\n" in file.read_text(), file.read_text()
+    await client.end("b1")
+    await client.ask(cmd="end", board="b2", how="resign", side="white")
+    await recorder.ended(0, 518, MOVES[:3], "agreed")
+    first, second = file.read_text().split("\n\n[")
+    assert first.endswith("1. e4 e5 2. Nf3 {Draw agreed.} 1/2-1/2") and '[Result "1/2-1/2"]' in first, first
+    assert second.endswith("{White resigns.} 0-1\n") and '[White "A"]\n[Black "B \\"C\\""]\n[Result "0-1"]' in second, second
+    assert '[FEN "bbqnnrkr/pppppppp/8/8/8/8/PPPPPPPP/BBQNNRKR w KQkq - 0 1"]' in second, second
+    assert {it.name for it in pathlib.Path(folder).iterdir()} == {"b1.record", "b2.record", "round.pgn"}
+
+
+async def try_pgn_there(folder):
+    """A PGN that is there already is left as it is, and no record is begun."""
+    file = pathlib.Path(folder, "round.pgn")
+    file.write_text("kept\n")
+    recorder = await Recorder.start(folder, "ws://127.0.0.1:1", "--pgn", str(file))
+    _, said = await asyncio.wait_for(recorder.process.communicate(), PATIENCE)
+    assert recorder.process.returncode == 1 and said == f"{file} is there already\n".encode(), said
+    assert file.read_text() == "kept\n" and not recorder.file.exists()
+
+
+async def try_pgn_unwritten(folder):
+    """Where the PGN cannot be written, that is said, and the record is whole."""
+    relay = await Relay().start()
+    client = await Client.to(relay.address)
+    await client.open("b1", 518)
+    recorder = await Recorder.start(folder, relay.address, "--pgn", f"{folder}/none/round.pgn")
+    await client.submit("b1", *MOVES[:2])
+    await client.end("b1")
+    said = await recorder.ended(0, 518, MOVES[:2], "agreed")
+    assert said.count("round.pgn is not written: ") == 4, said
+
+
 async def main():
-    tries = {name[4:]: it for name, it in globals().items() if name.startswith("try_")}
+    wanted = sys.argv[1:]
+    tries = {name[4:]: it for name, it in globals().items() if name.startswith("try_") and (not wanted or name[4:] in wanted)}
     failed = []
     for name, it in tries.items():
         with tempfile.TemporaryDirectory() as folder:

@@ -1,93 +1,71 @@
-//! Counts positions by the list of legal moves, to be timed from outside.
+//! The benchmarks, a word for each: `positions` counts positions, `relay` makes steps of a relay, `live` plays live boards. Without a word it
+//! makes a short run of each.
 #![tactic(auto)]
 
-use c960_board::{Position, read_fen};
-use c960_rules::{Lawful, legal_moves, play};
-use std::alloc::{AllocError, Global};
+mod crowds;
+mod live;
+mod moves;
+mod positions;
+mod relay;
+
+use moves::read_moves;
+use std::alloc::Global;
+use std::process::ExitCode;
+use std::thread::Threads;
+use std::time::{Clock, CpuClock};
 use std::{env, io};
 
-/// How many sequences of so many plies the position has.
-fn count(alloc: Global, lawful: &Lawful, plies: u8) -> Result<u64, AllocError> {
-    let moves = legal_moves(alloc, lawful)?;
-    if plies <= 1 {
-        return Ok(moves.len() as u64);
-    }
-    let mut sum: u64 = 0;
-    let position = lawful.position();
-    if position.half_moves() < 65535 && position.number() < 65535 {
-        for m in moves.iter() {
-            if let Some(next) = play(lawful, *m) {
-                sum = sum.wrapping_add(count(alloc, &next, plies - 1)?);
-            }
-        }
-    }
-    Ok(sum)
-}
-
-/// The count of the position of a text, and 0 where it is none.
-fn count_of(alloc: Global, text: &[u8], plies: u8) -> Result<u64, AllocError> {
-    let Ok(position) = read_fen(text) else {
-        return Ok(0);
-    };
-    let Ok(lawful) = Lawful::of(position) else {
-        return Ok(0);
-    };
-    count(alloc, &lawful, plies)
-}
-
-/// The three positions that are counted: the standard array, one with castling and captures all over, one of pawns that promote.
-const STANDARD: &[u8] = b"rnbqkbnr/pppppppp/8/8/8/8/PPPPPPPP/RNBQKBNR w HAha - 0 1";
-
-const MIDDLE: &[u8] = b"r3k2r/p1ppqpb1/bn2pnp1/3PN3/1p2P3/2N2Q1p/PPPBBPPP/R3K2R w HAha - 0 1";
-
-const PAWNS: &[u8] = b"n1n5/PPPk4/8/8/8/8/4Kppp/5N1N b - - 0 1";
-
-/// What is counted: without a word few plies, by the word `deep` as many as a second or more takes, by the word `starts` the 960 starts.
+/// What is run.
+#[derive(Clone, Copy)]
 enum Job {
-    Few,
-    Deep,
-    Starts,
+    /// Each benchmark, as it runs without words of its own.
+    Each,
+    Positions,
+    Relay,
+    Live,
 }
 
-/// The job that the first word names.
-fn job_of(words: &[String]) -> Job {
-    match words.get(1) {
-        Some(word) if word.as_str() == "deep" => Job::Deep,
-        Some(word) if word.as_str() == "starts" => Job::Starts,
-        _ => Job::Few,
+/// The job that the first word names, if there is one of its name.
+fn job_of(words: &[String]) -> Option<Job> {
+    let Some(word) = words.get(1) else {
+        return Some(Job::Each);
+    };
+    match word.as_str() {
+        "positions" => Some(Job::Positions),
+        "relay" => Some(Job::Relay),
+        "live" => Some(Job::Live),
+        _ => None,
     }
 }
 
-/// Counts the three positions.
-fn count_positions(rt: &HostRuntime, plies: [u8; 3]) -> io::Result<()> {
-    let alloc = rt.alloc();
-    let standard = count_of(alloc, STANDARD, plies[0])?;
-    println!(rt; "518 {} {standard}", plies[0])?;
-    let middle = count_of(alloc, MIDDLE, plies[1])?;
-    println!(rt; "{} {middle}", plies[1])?;
-    let pawns = count_of(alloc, PAWNS, plies[2])?;
-    println!(rt; "{} {pawns}", plies[2])
-}
-
-/// Counts four plies from each start, a line each.
-fn count_starts(rt: &HostRuntime) -> io::Result<()> {
-    let alloc = rt.alloc();
-    for number in 0..960 {
-        if let Some(position) = Position::start(number) {
-            if let Ok(lawful) = Lawful::of(position) {
-                let four = count(alloc, &lawful, 4)?;
-                println!(rt; "{number} 4 {four}")?;
-            }
+/// Runs the benchmarks of the job, with the words that stand behind its name.
+fn run<R: Input + Print + Eprint + Clock + CpuClock + Threads>(
+    rt: &R,
+    alloc: Global,
+    job: Job,
+    words: &[String],
+) -> io::Result<()> {
+    match job {
+        Job::Positions => positions::run(rt, alloc, words),
+        Job::Relay => relay::run(rt, alloc, read_moves(rt, alloc)?.as_slice(), words),
+        Job::Live => live::run(rt, alloc, read_moves(rt, alloc)?.as_slice(), words),
+        Job::Each => {
+            positions::run(rt, alloc, words)?;
+            let moves = read_moves(rt, alloc)?;
+            relay::run(rt, alloc, moves.as_slice(), words)?;
+            live::run(rt, alloc, moves.as_slice(), words)
         }
     }
-    Ok(())
 }
 
-fn main(rt: HostRuntime) -> io::Result<()> {
-    let words = env::args(&rt)?.collect::<Vec<String>>(rt.alloc())?;
-    match job_of(words.as_slice()) {
-        Job::Few => count_positions(&rt, [4, 3, 4]),
-        Job::Deep => count_positions(&rt, [6, 5, 6]),
-        Job::Starts => count_starts(&rt),
-    }
+fn main(rt: HostRuntime) -> io::Result<ExitCode> {
+    let alloc = rt.alloc();
+    let words = env::args(&rt)?.collect::<Vec<String>>(alloc)?;
+    let words = words.as_slice();
+    let Some(job) = job_of(words) else {
+        eprintln!(&rt; "the first word is positions, relay or live")?;
+        return Ok(ExitCode::from(2));
+    };
+    run(&rt, alloc, job, words.get(2..).unwrap_or(&[]))?;
+    Ok(ExitCode::SUCCESS)
 }

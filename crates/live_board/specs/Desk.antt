@@ -67,6 +67,10 @@ FreeBelow n v = (k joined least : ℕ) → k < n → get_elem? v.notes k ≡ som
 abbrev pub NoneVacant : View → Type 0
 NoneVacant v = (k : ℕ) → get_elem? v.notes k ≡ some Vacant → ⊥
 
+-- none of the first n places is noted vacant
+abbrev pub NoneVacantBelow : ℕ → View → Type 0
+NoneVacantBelow n v = (k : ℕ) → k < n → get_elem? v.notes k ≡ some Vacant → ⊥
+
 -- the first n cursors were loaded, each once, and nothing else was done
 abbrev pub CheckedBelow : ℕ → View → View → Type 0
 CheckedBelow zero v w = w ≡ v

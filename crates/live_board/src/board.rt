@@ -1,6 +1,6 @@
 //! A live board: a game, and its log on a table that its followers read.
 
-ghost use Rattle.std.specs.Prelude.{◌≡◌, ◌↔◌, ℕ, ◌+◌, ◌<◌, ◌≤◌, ◌⊎◌, [], ◌∷◌, ◌++◌, length, slice_get, Some, None, Err, IfOk, IfErr, IsSome, OnErr, OnOk, MatchOption};
+ghost use Rattle.std.specs.Prelude.{◌≡◌, ◌↔◌, ℕ, ◌+◌, ◌<◌, ◌≤◌, ◌⊎◌, [], ◌∷◌, ◌++◌, length, slice_get, Some, None, Err, IfOk, IfErr, IfSome, IsSome, OnErr, OnOk, MatchOption};
 ghost use mathlib.Core.Option.{some};
 ghost use lib.ListN.{get_elem?};
 ghost use Rattle.c960_game.specs.Ending.{named_outcome};
@@ -15,7 +15,7 @@ ghost use Rattle.live_steps.specs.Views.{each_part, finished, followed, left_at,
 ghost use Rattle.live_board.specs.Accounts.{account_of};
 ghost use Rattle.live_board.specs.Carried.{Carries, CarriesAt, cut_at, due_at, TookAt};
 ghost use Rattle.live_board.specs.Board.{from_place, game_of, IsLegalGame, IsNotYet, IsTooFarBack, setup_of};
-ghost use Rattle.live_board.specs.Desk.{Joined, LoadedBelow, NoneVacant, Searched, Submitted};
+ghost use Rattle.live_board.specs.Desk.{Joined, LoadedBelow, NoneVacant, NoneVacantBelow, Searched, Submitted};
 ghost use Rattle.live_board.specs.Meeting.{Met};
 ghost use Rattle.live_board.specs.Order.{SubmittedInOrder};
 
@@ -208,6 +208,7 @@ impl Board {
     /// The first cursor place that is noted vacant.
     pub fn vacant_place(&self) -> Option<u64>
         ensures place { MatchOption result (NoneVacant self.now.knows) (λ k. (k < self.now.knows.setup.limits.followers) × (get_elem? self.now.knows.notes k ≡ some Vacant)) }
+        ensures first { IfSome result (λ k. NoneVacantBelow k self.now.knows) }
         ensures valid { IsLegalGame self.now.knows }
     {
         self.desk.vacant()

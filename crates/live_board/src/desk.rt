@@ -13,7 +13,7 @@ ghost use Rattle.live_machine.specs.Limits.{AreBoardLimits};
 ghost use Rattle.live_steps.specs.declared.note.Note.TheVariants.{Open, Vacant};
 ghost use Rattle.live_steps.specs.Sound.{IsSound, IsSoundPart};
 ghost use Rattle.live_steps.specs.Views.{finished, followed, kept_part, newcomer, published, starting, storing};
-ghost use Rattle.live_board.specs.Desk.{Asked, Checked, CheckedBelow, Exchanged, FreeBelow, IsNotedFull, LoadedBelow, MayBeFull, NoneVacant, Searched, Tried, TriedBelow, Unmoved};
+ghost use Rattle.live_board.specs.Desk.{Asked, Checked, CheckedBelow, Exchanged, FreeBelow, IsNotedFull, LoadedBelow, MayBeFull, NoneVacant, NoneVacantBelow, Searched, Tried, TriedBelow, Unmoved};
 ghost use Rattle.live_board.specs.Meeting.{Met};
 ghost use Rattle.live_board.specs.Seats.{NoneBefore};
 
@@ -216,7 +216,8 @@ impl Desk {
     /// The place that is noted of an open follower there, else the log's length.
     fn noted_at(&self, place: u64) -> u64
         requires { place < self.now.knows.setup.limits.followers }
-        ensures { (joined next : ℕ) → get_elem? self.now.knows.notes place ≡ some (Open joined next) → result ≤ next }
+        ensures open { (joined next : ℕ) → get_elem? self.now.knows.notes place ≡ some (Open joined next) → result ≡ next }
+        ensures unopened { ((joined next : ℕ) → get_elem? self.now.knows.notes place ≡ some (Open joined next) → ⊥) → result ≡ length self.now.knows.log }
     {
         match self.notes[place as usize] {
             Note::Open { next, .. } => next,
@@ -291,6 +292,7 @@ impl Desk {
     /// The first place that is noted vacant.
     pub fn vacant(&self) -> Option<u64>
         ensures place { MatchOption result (NoneVacant self.now.knows) (λ k. (k < self.now.knows.setup.limits.followers) × (get_elem? self.now.knows.notes k ≡ some Vacant)) }
+        ensures first { IfSome result (λ k. NoneVacantBelow k self.now.knows) }
         ensures sound { IsSound self.now.knows }
     {
         for place in 0..self.notes.len() {

@@ -1,7 +1,10 @@
 #!/usr/bin/env -S python3 -B
 """Runs the built program on worked cases, which stand beside this file as tables, and compares all that it writes and its status."""
 
+import pathlib
 import sys
+
+sys.path.append(str(pathlib.Path(__file__).resolve().parents[3] / "tools"))
 
 import games
 import limits

@@ -2,28 +2,13 @@
 
 from collections import Counter
 
+from relay_client.texts import CUT, OPENED, following, follows, moved, opens, played, refused, submits, takes
 from runs import Run, lines
-from scripts import OPENED, following, move, played, refused
 
 TOO_MANY_BOARDS = refused(4, "TooManyBoards")
 TOO_MANY_FOLLOWERS = refused(11, "TooManyFollowers")
 LOG_FULL = refused(7, "LogFull")
-CUT = '{"reply":"cut"}'
-
-
-def opens(board, start=518):
-    return f'{{"cmd":"open","board":"{board}","start":{start}}}'
-
-
-def follows(board, spectator):
-    return f'{{"cmd":"follow","board":"{board}","spectator":{spectator}}}'
-
-
-def submits(board, text):
-    return f'{{"cmd":"submit","board":"{board}","move":"{text}"}}'
-
-
-TAKE = '{"cmd":"take","spectator":1}'
+TAKE = takes(1)
 
 # Two boards, two followers and three moves, with the answers within the default limits.
 TWO_BOARDS = [
@@ -34,8 +19,8 @@ TWO_BOARDS = [
     (submits("a", "e2e4"), played(0)),
     (submits("a", "e7e5"), played(1)),
     (submits("a", "g1f3"), played(2)),
-    (TAKE, move("e2e4", 0)),
-    (TAKE, move("e7e5", 1)),
+    (TAKE, moved("e2e4", 0)),
+    (TAKE, moved("e7e5", 1)),
 ]
 
 
@@ -99,7 +84,7 @@ def full_queue(options, capacity):
     """A follower that is a capacity behind is closed by the next move, and has its moves."""
     moves = long_game(capacity + 1)
     given = [opens("b"), follows("b", 1)] + [submits("b", text) for text in moves] + [TAKE] * (capacity + 1)
-    answers = [OPENED, following(), *map(played, range(capacity + 1)), *map(move, moves, range(capacity)), CUT]
+    answers = [OPENED, following(), *map(played, range(capacity + 1)), *map(moved, moves, range(capacity)), CUT]
     return Run(("script", *options), reads=lines(given), prints=lines(answers))
 
 

@@ -1,7 +1,7 @@
 """Lines of a script that are no command, each with its fault."""
 
+from relay_client.texts import BAD_FIELD, NO_FOLLOWER, NOT_JSON, NOT_OBJECT, OPENED, UNKNOWN_COMMAND
 from runs import Run, lines
-from scripts import BAD_FIELD, NO_FOLLOWER, NOT_JSON, NOT_OBJECT, OPENED, UNKNOWN_COMMAND
 
 NO_JSON = [
     b" ",

@@ -1,13 +1,10 @@
 """A run of the built program: its words, what it reads, and what it has to print, complain of and end with."""
 
-import pathlib
 import subprocess
 import sys
 from dataclasses import dataclass
 
-PROGRAM = pathlib.Path(__file__).resolve().parent.parent / "out/relay960"
-# Seconds: more than any run takes, on a slow machine too.
-PATIENCE = 300
+from relay_client.program import PATIENCE, PROGRAM
 
 
 @dataclass(frozen=True)

@@ -1,49 +1,26 @@
 """Scripts over a relay: a worked script, and the lines that give no command."""
 
+from relay_client.texts import (BAD_FIELD, GAME_OVER, NO_FOLLOWER, NOT_JSON, NOT_OBJECT, OPENED, UNKNOWN_COMMAND, following, moved, played,
+                                refused)
 from runs import Run, lines
 
-START = "rnbqkbnr/pppppppp/8/8/8/8/PPPPPPPP/RNBQKBNR w HAha - 0 1"
 OPEN = '{"cmd":"open","board":"b1","start":518}'
-
-
-def following(joined=0, fen=START):
-    return f'{{"fen":"{fen}","joined":{joined},"reply":"following"}}'
-
-
-def played(place, outcome="null"):
-    return f'{{"outcome":{outcome},"place":{place},"reply":"played"}}'
-
-
-def move(text, place):
-    return f'{{"move":"{text}","place":{place},"reply":"move"}}'
-
-
-def refused(code, name):
-    return f'{{"code":{code},"name":"{name}","reply":"refused"}}'
-
-
-OPENED = '{"reply":"opened"}'
-NOT_JSON = refused(21, "NotJson")
-NOT_OBJECT = refused(22, "NotObject")
-UNKNOWN_COMMAND = refused(23, "UnknownCommand")
-BAD_FIELD = refused(24, "BadField")
-NO_FOLLOWER = refused(9, "NoSuchFollower")
 
 # A script of the shortest mate, which a spectator follows, each line with its answer.
 MATE = [
     (OPEN, OPENED),
     ('{"cmd":"follow","board":"b1","spectator":1}', following()),
     ('{"cmd":"submit","board":"b1","move":"f2f3"}', played(0)),
-    ('{"cmd":"take","spectator":1}', move("f2f3", 0)),
+    ('{"cmd":"take","spectator":1}', moved("f2f3", 0)),
     ('{"cmd":"take","spectator":1}', '{"reply":"nothing"}'),
     ('{"cmd":"submit","board":"b1","move":"e7e5"}', played(1)),
     ('{"cmd":"submit","board":"b1","move":"g2g4"}', played(2)),
-    ('{"cmd":"submit","board":"b1","move":"d8h4"}', played(3, '"black mates"')),
-    ('{"cmd":"take","spectator":1}', move("e7e5", 1)),
-    ('{"cmd":"take","spectator":1}', move("g2g4", 2)),
-    ('{"cmd":"take","spectator":1}', move("d8h4", 3)),
+    ('{"cmd":"submit","board":"b1","move":"d8h4"}', played(3, "black mates")),
+    ('{"cmd":"take","spectator":1}', moved("e7e5", 1)),
+    ('{"cmd":"take","spectator":1}', moved("g2g4", 2)),
+    ('{"cmd":"take","spectator":1}', moved("d8h4", 3)),
     ('{"cmd":"take","spectator":1}', '{"outcome":"black mates","reply":"over"}'),
-    ('{"cmd":"submit","board":"b1","move":"a2a3"}', refused(5, "GameOver")),
+    ('{"cmd":"submit","board":"b1","move":"a2a3"}', GAME_OVER),
     ('{"cmd":"leave","spectator":1}', '{"cut":false,"joined":0,"limit":4,"reply":"left","taken":4}'),
 ]
 MATE_SCRIPT = lines(line for line, _ in MATE)

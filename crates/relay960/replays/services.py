@@ -6,10 +6,15 @@ import subprocess
 import sys
 import time
 
-from runs import PATIENCE, PROGRAM
-from server import Server, first_line, free_port
+from relay_client.ports import free_port
+from relay_client.program import PATIENCE, PROGRAM
+from relay_client.server import Server, first_line
 
 DEFAULT_PORT = 9600
+
+# What a newcomer is told for whom there is no room, and what standard error is told of the first of several.
+NO_ROOM = b"HTTP/1.1 503 Service Unavailable\r\nConnection: close\r\nContent-Length: 0\r\n\r\n"
+ONE_LINE = b"no descriptor or thread for a connection: turned away\n"
 
 
 def compare(what, found, wanted):
@@ -46,27 +51,74 @@ def connections(count):
 
 
 def few_descriptors():
-    """The three standard streams, the listener and one connection."""
-    resource.setrlimit(resource.RLIMIT_NOFILE, (5, 5))
+    """The three standard streams, the listener, the descriptor in reserve and one connection."""
+    resource.setrlimit(resource.RLIMIT_NOFILE, (6, 6))
+
+
+def told(peer):
+    """All that a peer is sent until its connection ends."""
+    texts = b""
+    while piece := peer.recv(4096):
+        texts += piece
+    return texts
 
 
 def too_few_descriptors():
-    """A connection that there is no descriptor for counts as failed, each time that it is tried, and the one before it is served."""
+    """A connection that there is no descriptor for is told so and counts as failed; the one before it is served."""
     with Server("--connections", "3", preexec_fn=few_descriptors) as server:
         # The first says nothing, so that its session lasts as long as a handshake may, and keeps its descriptor meanwhile.
-        with connection(server), connection(server):
-            server.has_served(1, failed=2)
+        with connection(server):
+            for _ in range(2):
+                with connection(server) as turned_away:
+                    turned_away.sendall(b"GET / HTTP/1.1\r\n")
+                    compare("without a descriptor", told(turned_away), NO_ROOM)
+            compare("at the end", server.ended(), (b"", ONE_LINE + b"served 1, failed 2\n", 0))
+
+
+def refused_by_the_system():
+    """Once the last connection was accepted nobody listens any more, while its session still lasts."""
+    with Server("--connections", "1") as server:
+        with connection(server) as last:
+            for _ in range(100):
+                try:
+                    connection(server).close()
+                except ConnectionRefusedError:
+                    break
+                time.sleep(0.02)
+            else:
+                sys.exit("behind the last connection the port still takes others")
+            compare("the server's status while its last session lasts", server.process.poll(), None)
+            last.shutdown(socket.SHUT_WR)
+        server.has_served(1)
+
+
+def without_an_end():
+    """With --forever it accepts on behind any number."""
+    with Server("--forever") as server:
+        for _ in range(300):
+            connection(server).close()
+        with connection(server) as one:
+            one.shutdown(socket.SHUT_WR)
+            compare("the 301st connection", one.recv(1), b"")
+        compare("the server's status", server.process.poll(), None)
 
 
 def a_descriptor_comes_back():
-    """Where there is none for the next connection it is tried again after a pause: once the one before has ended, there is."""
+    """Once a connection has ended its descriptor serves another one, and the newcomers in between are told that there is no room."""
     with Server("--connections", "10000", preexec_fn=few_descriptors) as server:
-        with connection(server) as one, connection(server) as other:
-            time.sleep(0.5)
+        with connection(server) as one:
+            with connection(server) as turned_away:
+                compare("without a descriptor", told(turned_away), NO_ROOM)
             one.close()
-            # It is told by its end that no request came; by a reset, that it was never met.
-            other.shutdown(socket.SHUT_WR)
-            compare("behind a descriptor that came back", other.recv(1), b"")
+        for _ in range(100):
+            with connection(server) as other:
+                other.shutdown(socket.SHUT_WR)
+                # It is told by its end that no request came.
+                if told(other) == b"":
+                    break
+            time.sleep(0.02)
+        else:
+            sys.exit("behind a descriptor that came back all are turned away")
         compare("the server's status while it serves", server.process.poll(), None)
 
 
@@ -93,4 +145,6 @@ def all_services():
         connections(count)
     too_few_descriptors()
     a_descriptor_comes_back()
-    return 6 + default_port()
+    refused_by_the_system()
+    without_an_end()
+    return 8 + default_port()

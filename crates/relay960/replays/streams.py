@@ -4,8 +4,10 @@ import os
 import subprocess
 import sys
 
-from runs import PATIENCE, PROGRAM, Run, lines
-from scripts import MATE_SCRIPT, NOT_JSON
+from relay_client.program import PATIENCE, PROGRAM
+from relay_client.texts import NOT_JSON
+from runs import Run, lines
+from scripts import MATE_SCRIPT
 from starts import PROMOTION, UNLAWFUL
 
 # Words whose output is refused, with what stands on their input.
@@ -17,6 +19,7 @@ WRITING = [
     (("moves", ""), b""),
     (("play", "960"), b""),
     (("play", "518"), b"e9e4\nf2f4\n"),
+    (("--version",), b""),
     ((), MATE_SCRIPT),
     (("script",), MATE_SCRIPT),
 ]

@@ -1,4 +1,4 @@
-"""Words that name no job, with the text that they get: on standard error with status 2, for help too."""
+"""Words that name no job, with the text that they get: on standard error with status 2, for help too. And the version, which is a job."""
 
 from runs import Run
 
@@ -15,7 +15,8 @@ Commands:
   help    Print this message or the help of the given subcommand(s)
 
 Options:
-  -h, --help  Print help
+  -h, --help     Print help
+  -V, --version  Print version
 
 Without a command: script, with the default limits
 """
@@ -72,6 +73,9 @@ Usage: relay960 serve [OPTIONS]
 Options:
       --port <port>                The port of 127.0.0.1 on which it listens [default: 9600]
       --connections <connections>  How many connections it accepts before it ends [default: 1000000]
+      --forever                    Accept connections without an end, in place of --connections
+      --until-input-ends           End in order when standard input ends
+      --grace <grace>              How many seconds a board waits for an operator with a key to come back [default: 0]
       --boards <boards>            How many boards there may be [default: 16]
       --followers <followers>      How many followers a board may have [default: 64]
       --capacity <capacity>        How many moves a follower's queue holds [default: 64]
@@ -114,11 +118,16 @@ TEXTS = [
     (("start", "65536"), out_of_range(65536, "<N>", 0, 65535)),
     (("play", "65536"), out_of_range(65536, "<N>", 0, 65535)),
     (("start", "-1"), error("unexpected argument '-1' found\n\n  tip: to pass '-1' as a value, use '-- -1'", "start <N>")),
+    (("script", "--version"), error("unexpected argument '--version' found", "script [OPTIONS]")),
     (("moves", "8/8/8/8", "w"), error("unexpected argument 'w' found", "moves <FEN>")),
     (("serve", "--port", "0"), out_of_range(0, "--port <port>", 1, 65535)),
     (("serve", "--port", "65536"), out_of_range(65536, "--port <port>", 1, 65535)),
     (("serve", "--connections", "0"), out_of_range(0, "--connections <connections>", 1, 1000000)),
     (("serve", "--connections", "1000001"), out_of_range(1000001, "--connections <connections>", 1, 1000000)),
+    *[(("serve", f"--{name}", value), out_of_range(value, f"--{name} <{name}>", 0, most))
+      for name, most in (("grace", 3600),) for value in (str(most + 1), "4294967296")],
+    *[(("serve", "--forever", *given), error("the argument '--connections <connections>' cannot be used with '--forever'", "serve [OPTIONS]"))
+      for given in (("--connections", "5"), ("--connections=1000000",))],
     *[((job, f"--{name}", value), out_of_range(value, f"--{name} <{name}>", 1, most))
       for job in ("script", "serve")
       for name, most in (("boards", 256), ("followers", 1024), ("capacity", 1024), ("plies", 16384))
@@ -132,4 +141,11 @@ OTHERS = [
     *[("script", f"--{name}", value) for name in ("boards", "followers", "capacity", "plies") for value in ("-1", "")],
 ]
 
-RUNS = [Run(words, complains=text, status=2) for words, text in TEXTS] + [Run(words, complains=None, status=2) for words in OTHERS]
+# What asks for the version first, with or without more words behind it.
+VERSIONS = [("--version",), ("-V",), ("--version", "start", "518")]
+
+RUNS = [
+    *[Run(words, complains=text, status=2) for words, text in TEXTS],
+    *[Run(words, complains=None, status=2) for words in OTHERS],
+    *[Run(words, prints=b"relay960 0.1.0\n") for words in VERSIONS],
+]

@@ -1,6 +1,6 @@
 -- What a job has done, and the status with which the program ends: from what the input holds and the output was given before it to
 -- what they are after it.
-use Rattle.std.specs.Prelude.{ℕ, ◌≡◌, ◌⊎◌, nat_lt, cond, Bool, List}
+use Rattle.std.specs.Prelude.{ℕ, ◌≡◌, ◌⊎◌, nat_lt, cond, codes, Bool, List}
 use Rattle.std.specs.Io.KnownBytes.{Appends, Keeps}
 use Rattle.c960_game.specs.Limits.{LimitNumbers}
 use Rattle.relay960_engines.specs.declared.fault.RunFault.{RunFault}
@@ -11,11 +11,12 @@ use Rattle.relay960_engines.specs.Play.{Played, PlayStopped}
 use Rattle.relay960_engines.specs.Script.{Ran, ScriptStopped}
 use Rattle.relay960_engines.specs.Runs.{Known}
 use Rattle.relay960_engines.specs.Start.{start_line}
+use Rattle.relay960_engines.specs.Version.{version_line}
 use Rattle.relay960_engines.specs.Writing.{AppendsPart}
 use Rattle.relay960_words.specs.declared.status.Status.{Status}
 use Rattle.relay960_words.specs.declared.status.Status.TheVariants as status
 use Rattle.relay960_words.specs.declared.order.Job.{Job}
-use Rattle.relay960_words.specs.declared.order.Job.TheVariants.{Start, Moves, Play, Script}
+use Rattle.relay960_words.specs.declared.order.Job.TheVariants.{Start, Moves, Play, Script, Version}
 
 abbrev pub fault_status : RunFault → Status
 fault_status Read = status.DeviceFailed
@@ -48,12 +49,19 @@ ScriptEnds limits old_input new_input old_output new_output s =
     ⊎ ((fault : RunFault) × (s ≡ fault_status fault)
     × ScriptStopped limits greatest_bounds old_input new_input old_output new_output fault)
 
--- the job was done so, and ends with status s; `start` and `moves` read nothing
+-- done with the line of this version, or a device failed, with a prefix of it
+abbrev pub VersionEnds : Known → Known → Status → Type 0
+VersionEnds old new s =
+    ((s ≡ status.Done) × Appends old new (version_line (codes "0.1.0")))
+    ⊎ ((s ≡ status.DeviceFailed) × AppendsPart old new (version_line (codes "0.1.0")))
+
+-- the job was done so, and ends with status s; `start`, `moves` and `--version` read nothing
 abbrev pub Ends : Job → Known → Known → Known → Known → Status → Type 0
 Ends (Start n) old_input new_input old_output new_output s = Keeps old_input new_input × StartEnds n old_output new_output s
 Ends (Moves fen) old_input new_input old_output new_output s = Keeps old_input new_input × MovesEnds fen.now old_output new_output s
 Ends (Play n) old_input new_input old_output new_output s = PlayEnds n old_input new_input old_output new_output s
 Ends (Script limits) old_input new_input old_output new_output s = ScriptEnds limits old_input new_input old_output new_output s
+Ends Version old_input new_input old_output new_output s = Keeps old_input new_input × VersionEnds old_output new_output s
 
 -- the same over streams that do not tell what they hold
 abbrev pub EndsSomehow : Job → Status → Type 0

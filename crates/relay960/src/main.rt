@@ -2,10 +2,11 @@
 #![tactic(auto)]
 
 mod program;
+mod serving;
 
 use program::{Course, course_of};
-use relay960_serving::{serve_run, status_of_end};
 use relay960_words::{status_of_no_text, status_without_memory};
+use serving::{serve_run, status_of_end};
 use std::env;
 use std::io::ErrorKind;
 use std::process::ExitCode;

@@ -4,9 +4,9 @@ ghost use Rattle.std.specs.Prelude.{◌≡◌, MatchResult, cond};
 ghost use Rattle.relay960.specs.Statuses.{Ends, EndsSomehow, fault_status};
 
 use relay960_engines::{
-    RunFault, ScriptLimits, default_limits, moves_run, play_run, script_run, start_run,
+    RunFault, ScriptLimits, default_limits, moves_run, play_run, script_run, start_run, version_run,
 };
-use relay960_words::{Job, Order, Service, Status, order_of};
+use relay960_words::{Job, Order, Service, Status, VERSION, order_of};
 use std::alloc::Global;
 use std::convert::AsStr;
 use std::io;
@@ -67,6 +67,7 @@ pub fn status_of_job<E: Eprint, R: Read, W: Write>(
             let bounds = ScriptLimits::greatest(*limits);
             status_of_lines(err, script_run(alloc, reader, writer, bounds))
         }
+        Job::Version => status_of_line(err, version_run(VERSION, writer)),
     }
 }
 
@@ -77,6 +78,16 @@ fn status_of_run<R: Eprint>(rt: &R, ran: Result<bool, RunFault>) -> Status
     match ran {
         Ok(true) => Status::Done,
         Ok(false) => Status::Refused,
+        Err(fault) => status_of_fault(rt, fault),
+    }
+}
+
+/// The status of a line that cannot be refused: it is done, or a fault ended it, which is told on standard error.
+fn status_of_line<R: Eprint>(rt: &R, ran: Result<(), RunFault>) -> Status
+    ensures { MatchResult ran (λ _. result ≡ Status.Done) (λ fault. result ≡ fault_status fault) }
+{
+    match ran {
+        Ok(()) => Status::Done,
         Err(fault) => status_of_fault(rt, fault),
     }
 }

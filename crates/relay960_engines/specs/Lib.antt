@@ -2,6 +2,7 @@ pub mod Writing
 pub mod Faults
 pub mod Failures
 pub mod Start
+pub mod Version
 pub mod Moves
 pub mod Limits
 pub mod Lines

@@ -1,5 +1,5 @@
-//! The engines of the program `relay960`: the lines of a start number and of a position, a live game over lines, a script over
-//! a relay, and the line engine below these two. They read from any reader and write to any writer, and know no words of a
+//! The engines of the program `relay960`: the lines of a start number, of a position and of the version, a live game over lines, a
+//! script over a relay, and the line engine below these two. They read from any reader and write to any writer, and know no words of a
 //! command line.
 #![tactic(auto)]
 
@@ -19,6 +19,7 @@ mod play_texts;
 mod progress;
 mod script;
 mod start;
+mod version;
 mod writing;
 
 pub use answerer::Answerer;
@@ -31,3 +32,4 @@ pub use moves::moves_run;
 pub use play::play_run;
 pub use script::script_run;
 pub use start::start_run;
+pub use version::version_run;

@@ -2,11 +2,14 @@
 #![tactic(auto)]
 
 mod fault;
+mod options;
 mod order;
 mod status;
+mod version;
 mod words;
 
 pub use fault::{status_of_no_text, status_without_memory};
-pub use order::{Job, Order, Service};
+pub use order::{Connections, Job, Order, Service};
 pub use status::Status;
+pub use version::VERSION;
 pub use words::order_of;

@@ -22,15 +22,30 @@ pub enum Job<'a> {
     Play(u16),
     /// To run a script over a relay with these limits.
     Script(Limits),
+    /// To print the program's name and version.
+    Version,
 }
 
-/// What is served: a relay with these limits, on this port of 127.0.0.1, to this many connections.
+/// What is served: a relay with these limits, on this port of 127.0.0.1.
 #[derive(Clone, Copy, PartialEq, Eq, Debug)]
 pub struct Service {
     /// The port.
     pub port: u16,
     /// How many connections are accepted.
-    pub connections: u32,
+    pub connections: Connections,
+    /// Whether serving ends when standard input does, if it has not ended before.
+    pub until_input_ends: bool,
+    /// How many seconds a board waits for its operator to come back, where that has a key.
+    pub grace: u16,
     /// The limits of the relay.
     pub limits: Limits,
+}
+
+/// How many connections are accepted before serving ends.
+#[derive(Clone, Copy, PartialEq, Eq, Debug)]
+pub enum Connections {
+    /// So many.
+    Count(u32),
+    /// As many as come: serving does not end by itself.
+    Forever,
 }

@@ -1,19 +1,27 @@
 //! The words of the command line, read by `clap`.
 
-ghost use Rattle.std.specs.Prelude.{IfErr};
+ghost use Rattle.std.specs.Prelude.{◌≡◌, false, IfErr, IfOk, List, MatchResult, ℕ, Ok, Some, codes, map};
+ghost use Rattle.clap.specs.Words.{app_of, first_value, found_of, kind_of, one_text, subcommand_of, subcommand_rows_of};
+ghost use Rattle.clap.specs.Walk.{rows_of};
+ghost use Rattle.relay960_words.specs.CommandLine as line;
 ghost use Rattle.relay960_words.specs.Statuses.{IsFault};
 
 use crate::fault::status_of_error;
-use crate::order::{Job, Order, Service};
+use crate::options::{with_limits, with_service};
+use crate::order::{Connections, Job, Order, Service};
 use crate::status::Status;
-use c960_game::{Limits, MOST_BOARDS, MOST_CAPACITY, MOST_FOLLOWERS, MOST_PLIES};
+use crate::version::VERSION;
+use c960_game::Limits;
 use clap::error::ErrorKind;
+use clap::parser::ValueSource;
 use clap::{Arg, ArgAction, ArgMatches, Command, Error, value_parser};
 use std::alloc::{AllocError, Global};
 use std::convert::AsStr;
 use std::str::FromStr;
 
-fn start_command<'a>(alloc: Global) -> Result<Command<'a>, AllocError> {
+fn start_command<'a>(alloc: Global) -> Result<Command<'a>, AllocError>
+    ensures { IfOk result (λ c. app_of c ≡ line.start_command) }
+{
     let number = Arg::new(alloc, "N")
         .help("Scharnagl's number of the position, 0 to 959")
         .required(true)
@@ -24,7 +32,9 @@ fn start_command<'a>(alloc: Global) -> Result<Command<'a>, AllocError> {
         .arg(number)
 }
 
-fn moves_command<'a>(alloc: Global) -> Result<Command<'a>, AllocError> {
+fn moves_command<'a>(alloc: Global) -> Result<Command<'a>, AllocError>
+    ensures { IfOk result (λ c. app_of c ≡ line.moves_command) }
+{
     let fen = Arg::new(alloc, "FEN")
         .help("The position in Shredder-FEN, as one word")
         .required(true)
@@ -34,7 +44,9 @@ fn moves_command<'a>(alloc: Global) -> Result<Command<'a>, AllocError> {
         .arg(fen)
 }
 
-fn play_command<'a>(alloc: Global) -> Result<Command<'a>, AllocError> {
+fn play_command<'a>(alloc: Global) -> Result<Command<'a>, AllocError>
+    ensures { IfOk result (λ c. app_of c ≡ line.play_command) }
+{
     let number = Arg::new(alloc, "N")
         .help("Scharnagl's number of the start, 0 to 959")
         .required(true)
@@ -45,65 +57,30 @@ fn play_command<'a>(alloc: Global) -> Result<Command<'a>, AllocError> {
         .arg(number)
 }
 
-/// An option of `script` and `serve`: a limit from 1 on.
-fn limit_option<'a>(
-    alloc: Global,
-    name: &'static str,
-    help: &'static str,
-    most: u16,
-    default: &'static str,
-) -> Arg<'a> {
-    Arg::new(alloc, name)
-        .long(name)
-        .help(help)
-        .action(ArgAction::Set)
-        .value_parser(value_parser!(u16).range(1..=i64::from(most)))
-        .default_value(default)
-}
-
-/// The command with the options of a relay's limits.
-fn with_limits<'a>(alloc: Global, command: Command<'a>) -> Result<Command<'a>, AllocError> {
-    let boards = "How many boards there may be";
-    let followers = "How many followers a board may have";
-    let capacity = "How many moves a follower's queue holds";
-    let plies = "How many plies a game may have";
-    command
-        .arg(limit_option(alloc, "boards", boards, MOST_BOARDS, "16"))?
-        .arg(limit_option(alloc, "followers", followers, MOST_FOLLOWERS, "64"))?
-        .arg(limit_option(alloc, "capacity", capacity, MOST_CAPACITY, "64"))?
-        .arg(limit_option(alloc, "plies", plies, MOST_PLIES, "1024"))
-}
-
-fn script_command<'a>(alloc: Global) -> Result<Command<'a>, AllocError> {
+fn script_command<'a>(alloc: Global) -> Result<Command<'a>, AllocError>
+    ensures { IfOk result (λ c. app_of c ≡ line.script_command) }
+{
     let command = Command::new(alloc, "script").about(
         "Run a relay: read a command a line as JSON, print its answer",
     );
     with_limits(alloc, command)
 }
 
-fn serve_command<'a>(alloc: Global) -> Result<Command<'a>, AllocError> {
-    let port = Arg::new(alloc, "port")
-        .long("port")
-        .help("The port of 127.0.0.1 on which it listens")
-        .action(ArgAction::Set)
-        .value_parser(value_parser!(u16).range(1..=65535))
-        .default_value("9600");
-    let connections = Arg::new(alloc, "connections")
-        .long("connections")
-        .help("How many connections it accepts before it ends")
-        .action(ArgAction::Set)
-        .value_parser(value_parser!(u32).range(1..=1_000_000))
-        .default_value("1000000");
-    let command = Command::new(alloc, "serve")
-        .about("Serve a relay over WebSocket: answer commands, push moves to followers")
-        .arg(port)?
-        .arg(connections)?;
-    with_limits(alloc, command)
+fn serve_command<'a>(alloc: Global) -> Result<Command<'a>, AllocError>
+    ensures { IfOk result (λ c. app_of c ≡ line.serve_command) }
+{
+    let command = Command::new(alloc, "serve").about(
+        "Serve a relay over WebSocket: answer commands, push moves to followers",
+    );
+    with_limits(alloc, with_service(alloc, command)?)
 }
 
-fn program_command<'a>(alloc: Global) -> Result<Command<'a>, AllocError> {
+fn program_command<'a>(alloc: Global) -> Result<Command<'a>, AllocError>
+    ensures { IfOk result (λ c. app_of c ≡ line.program) }
+{
     Command::new(alloc, "relay960")
         .about("A relay for live Chess960 games")
+        .version(VERSION)
         .after_help("Without a command: script, with the default limits")
         .subcommand(start_command(alloc)?)?
         .subcommand(moves_command(alloc)?)?
@@ -122,7 +99,10 @@ pub fn order_of<'a, R: Eprint, S: AsStr>(
     alloc: Global,
     words: &'a [S],
 ) -> Result<Order<'a>, Status>
-    ensures { IfErr result IsFault }
+    ensures order { IfOk result (line.WordsAskFor (map S.text words.now)) }
+    ensures version { line.AskForVersion (map S.text words.now)
+        → MatchResult result (λ order. order ≡ Order.Run Job.Version) (λ status. status ≡ Status.OutOfMemory) }
+    ensures status { IfErr result IsFault }
 {
     match read_order(alloc, words) {
         Ok(order) => Ok(order),
@@ -131,54 +111,134 @@ pub fn order_of<'a, R: Eprint, S: AsStr>(
 }
 
 /// What the words ask for; else `clap`'s error, whose text is for the user. Words that ask for help are such an error too.
-fn read_order<'a, S: AsStr>(alloc: Global, words: &'a [S]) -> Result<Order<'a>, Error> {
-    let matches = program_command(alloc)?.try_get_matches_from(words)?;
+fn read_order<'a, S: AsStr>(alloc: Global, words: &'a [S]) -> Result<Order<'a>, Error>
+    ensures order { IfOk result (line.WordsAskFor (map S.text words.now)) }
+    ensures version { line.AskForVersion (map S.text words.now)
+        → MatchResult result (λ order. order ≡ Order.Run Job.Version) (λ error. kind_of error ≡ ErrorKind.OutOfMemory) }
+{
+    match program_command(alloc)?.try_get_matches_from(words) {
+        Ok(matches) => given_order(alloc, words, &matches),
+        Err(error) if error.kind() == ErrorKind::DisplayVersion => Ok(Order::Run(Job::Version)),
+        Err(error) => Err(error),
+    }
+}
+
+/// What the words ask for that have these matches.
+fn given_order<'a, S: AsStr>(
+    alloc: Global,
+    words: &'a [S],
+    matches: &ArgMatches<'a>,
+) -> Result<Order<'a>, Error>
+    ensures { subcommand_rows_of matches.now ≡ subcommand_of line.program (map S.text words.now)
+        → IfOk result (line.WordsAskFor (map S.text words.now)) }
+{
     match matches.subcommand() {
-        Some(("start", given)) => Ok(Order::Run(Job::Start(number_of(alloc, given, "N")?))),
-        // `clap` answers an error where the text is missing, so `unwrap_or` is never needed here.
-        Some(("moves", given)) => Ok(Order::Run(Job::Moves(given.get_str("FEN").unwrap_or("")))),
-        Some(("play", given)) => Ok(Order::Run(Job::Play(number_of(alloc, given, "N")?))),
-        Some(("serve", given)) => Ok(Order::Serve(service_of(alloc, given)?)),
-        Some((_, given)) => Ok(Order::Run(Job::Script(limits_of(alloc, given)?))),
+        Some((name, given)) => command_order(alloc, name, given),
         // With the program's name alone, a script has its defaults.
         None => {
             let given = script_command(alloc)?.try_get_matches_from(words)?;
-            Ok(Order::Run(Job::Script(limits_of(alloc, &given)?)))
+            command_order(alloc, "script", &given)
         }
     }
 }
 
-/// The number that is given under this name, or that stands for it by default.
-fn number_of<T: FromStr>(alloc: Global, given: &ArgMatches, name: &str) -> Result<T, Error>
-where
-    T::Err: Drop,
+/// What the command of that name asks for, with what was given to it.
+fn command_order<'a>(alloc: Global, name: &str, given: &ArgMatches<'a>) -> Result<Order<'a>, Error>
+    ensures { IfOk result (line.AsksFor name.now (rows_of (found_of given.now))) }
 {
-    match given.get_one::<T>(name) {
-        Some(number) => Ok(number),
-        // `clap` has seen to it that there is one.
-        None => Err(program_command(alloc)?.error(
-            ErrorKind::MissingRequiredArgument,
-            "a number is missing",
+    match name {
+        "start" => Ok(Order::Run(Job::Start(value_of(alloc, given, "N")?))),
+        "moves" => Ok(Order::Run(Job::Moves(text_of(alloc, given, "FEN")?))),
+        "play" => Ok(Order::Run(Job::Play(value_of(alloc, given, "N")?))),
+        "script" => Ok(Order::Run(Job::Script(limits_of(alloc, given)?))),
+        "serve" => Ok(Order::Serve(service_of(alloc, given)?)),
+        // `clap` has seen to it that it is one of these.
+        _ => Err(program_command(alloc)?.error(
+            ErrorKind::InvalidSubcommand,
+            "there is no such command",
         )?),
     }
 }
 
+/// The text that is given under this name.
+fn text_of<'a>(alloc: Global, given: &ArgMatches<'a>, name: &str) -> Result<&'a str, Error>
+    ensures { IfOk result (λ text. first_value (found_of given.now) name.now ≡ Some text.now) }
+{
+    match given.get_str(name) {
+        Some(text) => Ok(text),
+        // `clap` has seen to it that there is one.
+        None => Err(program_command(alloc)?.error(
+            ErrorKind::MissingRequiredArgument,
+            "a text is missing",
+        )?),
+    }
+}
+
+/// The value that is given under this name, or that stands for it by default.
+fn value_of<T: FromStr>(alloc: Global, given: &ArgMatches, name: &str) -> Result<T, Error>
+where
+    T::Err: Drop,
+    ensures { IfOk result (λ n. (t : List ℕ) × (one_text (found_of given.now) name.now ≡ Some t) × T.from_str_gives t (Ok n)) }
+{
+    match given.get_one::<T>(name) {
+        Some(value) => Ok(value),
+        // `clap` has seen to it that there is one.
+        None => Err(program_command(alloc)?.error(
+            ErrorKind::MissingRequiredArgument,
+            "a value is missing",
+        )?),
+    }
+}
+
+/// Whether the flag of this name is given.
+fn flag_of(alloc: Global, given: &ArgMatches, name: &str) -> Result<bool, Error>
+    ensures { IfOk result (line.HasFlag (rows_of (found_of given.now)) name.now) }
+{
+    value_of::<bool>(alloc, given, name)
+}
+
+/// The count of connections that is given, or that there is none. Both at once are refused.
+fn connections_of(alloc: Global, given: &ArgMatches) -> Result<Connections, Error>
+    ensures { IfOk result (line.HasConnections (rows_of (found_of given.now))) }
+{
+    if !flag_of(alloc, given, "forever")? {
+        return Ok(Connections::Count(value_of(alloc, given, "connections")?));
+    }
+    match given.value_source("connections") {
+        Some(ValueSource::CommandLine) => {
+            Err(
+                serve_command(alloc)?.bin_name("relay960 serve")?.error(
+                    ErrorKind::ArgumentConflict,
+                    "the argument '--connections <connections>' cannot be used with '--forever'",
+                )?,
+            )
+        }
+        _ => Ok(Connections::Forever),
+    }
+}
+
 /// The service that is given.
-fn service_of(alloc: Global, given: &ArgMatches) -> Result<Service, Error> {
+fn service_of(alloc: Global, given: &ArgMatches) -> Result<Service, Error>
+    ensures { IfOk result (line.HasService (rows_of (found_of given.now))) }
+{
     Ok(Service {
-        port: number_of(alloc, given, "port")?,
-        connections: number_of(alloc, given, "connections")?,
+        port: value_of(alloc, given, "port")?,
+        connections: connections_of(alloc, given)?,
+        until_input_ends: flag_of(alloc, given, "until-input-ends")?,
+        grace: value_of(alloc, given, "grace")?,
         limits: limits_of(alloc, given)?,
     })
 }
 
 /// The limits that are given.
-fn limits_of(alloc: Global, given: &ArgMatches) -> Result<Limits, Error> {
+fn limits_of(alloc: Global, given: &ArgMatches) -> Result<Limits, Error>
+    ensures { IfOk result (line.HasLimits (rows_of (found_of given.now))) }
+{
     let limits = Limits::new(
-        number_of(alloc, given, "boards")?,
-        number_of(alloc, given, "followers")?,
-        number_of(alloc, given, "capacity")?,
-        number_of(alloc, given, "plies")?,
+        value_of(alloc, given, "boards")?,
+        value_of(alloc, given, "followers")?,
+        value_of(alloc, given, "capacity")?,
+        value_of(alloc, given, "plies")?,
     );
     match limits {
         Some(limits) => Ok(limits),

@@ -39,7 +39,7 @@ impl Conn {
     }
 
     /// Whether the connection opened the board.
-    fn owns(&self, board: BoardName) -> bool
+    fn has_opened(&self, board: BoardName) -> bool
         ensures { result ≡ is_among board self.now }
     {
         self.opened.contains(&board)
@@ -48,12 +48,12 @@ impl Conn {
     /// Why the connection may not make the step, if it may not.
     fn refusal<K: Keeper>(&self, step: &Step, keeper: &K) -> Option<Refusal>
         ensures some { IfSome result (λ refusal. Bars (K.tells keeper.now) self.now step.now refusal) }
-        ensures none { IfNone result (MayMake self.now step.now) }
+        ensures none { IfNone result (MayMake (K.tells keeper.now) self.now step.now) }
     {
         match *step {
             Step::Open(_, _) => None,
             Step::Submit(board, _) | Step::End(board, _) => {
-                if self.owns(board) {
+                if self.has_opened(board) || keeper.owns(&board) {
                     None
                 } else if keeper.knows(&board) {
                     Some(Refusal::NotYourBoard)
@@ -62,10 +62,10 @@ impl Conn {
                 }
             }
             Step::Follow(_, _, _) => {
-                if self.opened.is_empty() {
-                    None
-                } else {
+                if !self.opened.is_empty() || keeper.owns_any() {
                     Some(Refusal::WrongMode)
+                } else {
+                    None
                 }
             }
             Step::Take(_) | Step::Leave(_) => Some(Refusal::WrongMode),
@@ -105,8 +105,9 @@ impl Conn {
     /// Answers one text: the fault of its decoding; the refusal where the connection may not make the step that it says; else
     /// the reply to that step, which the keeper made.
     ///
-    /// A connection may not take or leave, and not follow once it has opened a board (`WrongMode`); it may submit to and end
-    /// the boards that it opened, and no others (`NotYourBoard`, or `NoSuchBoard` where the keeper knows no such board).
+    /// A connection may not take or leave, and not follow once it has opened a board, or where the keeper tells that one belongs to it
+    /// (`WrongMode`); it may submit to and end the boards that it opened and those that the keeper tells to be its own, and no others
+    /// (`NotYourBoard`, or `NoSuchBoard` where the keeper knows no such board).
     ///
     /// # Errors
     ///
@@ -114,7 +115,7 @@ impl Conn {
     #[tactic(auto, using(crate::proofs::Stops::stopped_after))]
     pub fn answer<K: Keeper>(&mut self, text: &[u8], keeper: &mut K) -> Result<String, AllocError>
         ensures ok { IfOk result (λ s. Answered (K.tells keeper.old) K.makes self.old keeper.old text.now (string_bytes s) self.new keeper.new) }
-        ensures err { OnErr result (Stopped K.makes self.old keeper.old text.now self.new keeper.new) }
+        ensures err { OnErr result (Stopped (K.tells keeper.old) K.makes self.old keeper.old text.now self.new keeper.new) }
     {
         let answer = self.answer_to(text, keeper)?;
         encode(self.alloc, &answer)
@@ -127,5 +128,14 @@ impl Conn {
         for board in self.opened.iter() {
             let _ = keeper.step(Step::End(*board, Ending::Abandoned));
         }
+    }
+
+    /// Parts with the connection where its boards are to outlive it: they are handed back, in the order of opening. No step is made, since
+    /// no keeper is asked.
+    pub fn part(self) -> Vec<BoardName>
+        ensures { result.items ≡ self }
+    {
+        let Conn { opened, .. } = self;
+        opened
     }
 }

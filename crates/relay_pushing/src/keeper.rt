@@ -9,16 +9,25 @@ use relay_core::{BoardName, Reply, Step};
 pub trait Keeper {
     ghost use Rattle.relay_core.specs.declared.step.Step.{Step};
     ghost use Rattle.relay_core.specs.declared.reply.Reply.{Reply};
+    ghost use Rattle.relay_pushing.specs.Connections.{Question, Knows, Owns, OwnsAny};
 
-    /// In this state, asked whether it knows the board of this name, it may answer so.
-    ghost tells: { Self → List ℕ → Bool → Type 0 };
+    /// In this state it may answer this question so.
+    ghost tells: { Self → Question → Bool → Type 0 };
 
     /// In this state it may make the step with this reply, which leads to that state.
     ghost makes: { Self → Step → Reply → Self → Type 0 };
 
     /// Whether a board of this name was opened.
     fn knows(&self, board: &BoardName) -> bool
-        ensures { tells self.now board.now result };
+        ensures { tells self.now (Knows board.now) result };
+
+    /// Whether the board belongs to the connection, be it that another one opened it.
+    fn owns(&self, board: &BoardName) -> bool
+        ensures { tells self.now (Owns board.now) result };
+
+    /// Whether a board belongs to the connection, be it that another one opened it.
+    fn owns_any(&self) -> bool
+        ensures { tells self.now OwnsAny result };
 
     /// Makes one step.
     fn step(&mut self, step: Step) -> Reply

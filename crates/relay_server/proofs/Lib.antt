@@ -1,2 +1,5 @@
+pub mod Given
 pub mod Named
 pub mod Stretches
+pub mod Told
+pub mod Owned

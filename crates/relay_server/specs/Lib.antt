@@ -1,4 +1,8 @@
 pub mod Broadcasting
+pub mod Dues
+pub mod Heads
+pub mod Holding
+pub mod Keys
 pub mod Lines
 pub mod Memory
 pub mod Opening

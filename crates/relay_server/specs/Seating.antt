@@ -1,5 +1,5 @@
 -- What the seat of a connection at the registry replies.
-use Rattle.std.specs.Prelude.{◌≡◌, ◌⊎◌, ℕ, List, Bool, true, false, cond, Option, Result, Ok, Err}
+use Rattle.std.specs.Prelude.{◌≡◌, ◌⊎◌, ℕ, List, Bool, Option, None, Some, Result, Ok, Err}
 use Rattle.c960_board.specs.declared.parts.Parts.{Parts}
 use Rattle.c960_board.specs.Moves.{Triple}
 use Rattle.c960_game.specs.declared.ending.Ending.{Ending}
@@ -10,10 +10,10 @@ use Rattle.relay_core.specs.declared.reply.Reply.{Reply}
 use Rattle.relay_core.specs.declared.reply.Reply.TheVariants.{Opened, Played, Ended, Following, Refused}
 use Rattle.relay_core.specs.declared.step.Step.{Step}
 use Rattle.relay_core.specs.declared.step.Step.TheVariants.{Open, Submit, End, Follow, Take, Leave}
-use Rattle.relay_core.specs.History.{is_accepted}
 use Rattle.live_board.specs.Seats.{FollowerSeat}
 use Rattle.relay_server.specs.Broadcasting.{IsMoveAnswer, IsEndingAnswer, IsJoinAnswer}
-use Rattle.relay_server.specs.Opening.{IsOpening}
+use Rattle.relay_pushing.specs.Connections as asks
+use Rattle.relay_server.specs.Opening.{IsOpening, IsTold, IsToldOwned, IsToldOwner}
 
 -- the reply of an answer, where an accepted one is told so
 abbrev pub reply_of : {A : Type 0} → (A → Reply) → Result A Refusal → Reply
@@ -32,13 +32,10 @@ following joined = Following joined.0.part.joined joined.1
 abbrev pub IsUnfound : Reply → Type 0
 IsUnfound reply = (reply ≡ Refused NoSuchBoard) ⊎ (reply ≡ Refused OutOfMemory)
 
--- a connection follows a board once its step to follow one was accepted
-abbrev pub joins : Bool → Reply → Bool
-joins follows reply = cond (is_accepted reply) true follows
-
-abbrev pub follows_after : Bool → Step → Reply → Bool
-follows_after follows (Follow who board from) reply = joins follows reply
-follows_after follows _ reply = follows
+-- the follower of who joined
+abbrev pub follower_of : Result (FollowerSeat × Parts) Refusal → Option FollowerSeat
+follower_of (Ok joined) = Some joined.0
+follower_of (Err refusal) = None
 
 -- ---- The replies that a connection may get. They come of boards that other connections open and play too, so a reply is said to be what some
 -- boards that were found, or some board with a legal game, answer.
@@ -53,17 +50,37 @@ SubmitReply m reply =
 abbrev pub EndReply : Ending → Reply → Type 0
 EndReply ending reply = ((answer : Result Outcome Refusal) × IsEndingAnswer ending answer × (reply ≡ reply_of Ended answer)) ⊎ IsUnfound reply
 
--- one who follows a board already follows no other
-abbrev pub FollowReply : Bool → Option ℕ → Reply → Type 0
-FollowReply true from reply = (reply ≡ Refused FollowerExists) ⊎ IsUnfound reply
-FollowReply false from reply =
-    ((answer : Result (FollowerSeat × Parts) Refusal) × IsJoinAnswer from answer × (reply ≡ reply_of following answer)) ⊎ IsUnfound reply
+-- One who follows a board already follows no other. Who follows none, and joins one, has the very follower of which the reply tells.
+abbrev pub FollowReply : Option FollowerSeat → Option ℕ → Reply → Option FollowerSeat → Type 0
+FollowReply (Some f) from reply has = ((reply ≡ Refused FollowerExists) ⊎ IsUnfound reply) × (has ≡ Some f)
+FollowReply None from reply has =
+    ((answer : Result (FollowerSeat × Parts) Refusal) × IsJoinAnswer from answer × (reply ≡ reply_of following answer) × (has ≡ follower_of answer))
+    ⊎ (IsUnfound reply × (has ≡ None))
 
--- a connection that follows a board, or none, may get this reply to the step
-abbrev pub MayReply : Bool → Step → Reply → Type 0
-MayReply follows (Open board start) reply = OpenReply board start reply
-MayReply follows (Submit board m) reply = SubmitReply m reply
-MayReply follows (End board ending) reply = EndReply ending reply
-MayReply follows (Follow who board from) reply = FollowReply follows from reply
-MayReply follows (Take who) reply = reply ≡ Refused WrongMode
-MayReply follows (Leave who) reply = reply ≡ Refused WrongMode
+-- a connection that had this follower, or none, may get this reply to the step, and then has that follower, or none
+abbrev pub MayReply : Option FollowerSeat → Step → Reply → Option FollowerSeat → Type 0
+MayReply had (Open board start) reply has = OpenReply board start reply × (has ≡ had)
+MayReply had (Submit board m) reply has = SubmitReply m reply × (has ≡ had)
+MayReply had (End board ending) reply has = EndReply ending reply × (has ≡ had)
+MayReply had (Follow who board from) reply has = FollowReply had from reply has
+MayReply had (Take who) reply has = (reply ≡ Refused WrongMode) × (has ≡ had)
+MayReply had (Leave who) reply has = (reply ≡ Refused WrongMode) × (has ≡ had)
+
+-- ---- A seat.
+
+-- the follower that a seat has, or none; and the key of its connection, or none
+pub record SeatState : Type 0 where
+  pub follower : Option FollowerSeat
+  pub key : Option (List ℕ)
+
+-- Asked by a connection with this key, or with none, the seat may tell so. Other connections open boards too, so this much is known: the boards
+-- that were found at one look tell. Without a key no board belongs to a connection but those that it opened.
+abbrev pub Tells : Option (List ℕ) → asks.Question → Bool → Type 0
+Tells key (asks.Knows name) known = IsTold name known
+Tells key (asks.Owns name) owned = IsToldOwned key name owned
+Tells key asks.OwnsAny owns = IsToldOwner key owns
+
+-- The seat may reply so, and goes on so. It keeps the key.
+pub record Replies (old : SeatState) (step : Step) (reply : Reply) (later : SeatState) : Type 0 where
+  pub may : MayReply old.follower step reply later.follower
+  pub key : later.key ≡ old.key

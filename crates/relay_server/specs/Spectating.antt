@@ -1,10 +1,15 @@
 -- What the connection of a follower is sent: what the follower takes.
-use Rattle.std.specs.Prelude.{◌≡◌, ◌+◌, ◌≤◌, ℕ, List, [], ◌∷◌, ◌++◌, length, Option, Some, None, ⊤}
+use Rattle.std.specs.Prelude.{◌≡◌, ◌+◌, ◌≤◌, ℕ, List, [], ◌∷◌, ◌++◌, length, Option, Some, None, IsSomeAnd, ⊤}
+use Rattle.c960_board.specs.declared.parts.Parts.{Parts}
 use Rattle.c960_board.specs.Moves.{Triple}
+use Rattle.c960_game.specs.Positions.{last_position}
 use Rattle.c960_game.specs.Record.{IsOutcome}
 use Rattle.relay_core.specs.Following.{stretch}
+use Rattle.relay_core.specs.declared.reply.Reply.TheVariants.{Following}
 use Rattle.relay_core.specs.declared.reply.Taken.{Taken}
 use Rattle.relay_core.specs.declared.reply.Taken.TheVariants as takes
+use Rattle.relay_messages.specs.Answers.{answer_text}
+use Rattle.relay_messages.specs.declared.answer.Answer.TheVariants.{Reply}
 use Rattle.relay_pushing.specs.declared.pushing.PushEnd.{PushEnd}
 use Rattle.relay_pushing.specs.declared.pushing.PushEnd.TheVariants.{Over, Cut, Failed}
 use Rattle.relay_pushing.specs.Pushing.{text_of}
@@ -75,3 +80,39 @@ session_end (Failed fault) = ends.Failed
 -- the session ended as its pushing did, and was sent what the follower took: these texts came behind those before
 abbrev pub Pushed : FollowerSeat → FollowerSeat → List (List ℕ) → List (List ℕ) → SessionEnd → Type 0
 Pushed f g old new ended = (end : PushEnd) × Sent f g (Some old) (Some new) end × (ended ≡ session_end end)
+
+-- A session with this follower pushed: it ended so, the texts handed over are those that the follower was sent, and it has the follower
+-- still. One without a follower failed, and nothing was handed over.
+abbrev pub Followed : Option FollowerSeat → Option FollowerSeat → List (List ℕ) → List (List ℕ) → SessionEnd → Type 0
+Followed (Some f) has old new ended = (g : FollowerSeat) × Pushed f g old new ended × (has ≡ Some g)
+Followed None has old new ended = (ended ≡ ends.Failed) × (new ≡ old) × (has ≡ None)
+
+-- ---- From the reply on.
+
+-- The last of the texts tells the connection that it follows: the place from which this follower takes, where it joined and has taken nothing
+-- yet, and the position there, which is the one after the moves before that place.
+pub record IsToldOf (f : FollowerSeat) (texts : List (List ℕ)) : Type 0 where
+  pub earlier : List (List ℕ)
+  pub position : Parts
+  pub told : texts ≡ earlier ++ answer_text (Reply (Following (next_of f.part) position)) ∷ []
+  pub joined : next_of f.part ≡ f.part.joined
+  pub position_is : position ≡ last_position f.part.setup.start f.part.before
+
+-- the connection has a follower, and the last of the texts tells of it
+abbrev pub HasBeenTold : Option FollowerSeat → List (List ℕ) → Type 0
+HasBeenTold has texts = IsSomeAnd has (λ f. IsToldOf f texts)
+
+-- A connection was told of its follower, and the texts behind that one are those that this very follower was sent: they begin at the place
+-- told.
+pub record Spectated (texts : List (List ℕ)) (ended : SessionEnd) : Type 0 where
+  pub f : FollowerSeat
+  pub g : FollowerSeat
+  pub before : List (List ℕ)
+  pub told : IsToldOf f before
+  pub pushed : Pushed f g before texts ended
+
+-- a session ends as over or as cut only behind such pushing
+abbrev pub Conversed : List (List ℕ) → SessionEnd → Type 0
+Conversed texts ends.Over = Spectated texts ends.Over
+Conversed texts ends.Cut = Spectated texts ends.Cut
+Conversed texts _ = ⊤

@@ -1,15 +1,16 @@
 //! Boards under their own names.
 
-ghost use Rattle.std.specs.Prelude.{◌≡◌, ◌<◌, ◌≤◌, ◌+◌, [], true, length, option_copied, IfOk, IfSome, IsOk, OnErr, OnOk};
+ghost use Rattle.std.specs.Prelude.{◌≡◌, ◌<◌, ◌≤◌, ◌+◌, [], true, length, option_copied, IfOk, IfSome, IsOk, OnErr, OnOk, Some};
 ghost use Rattle.std.specs.Arc.{arc_value};
 ghost use Rattle.std.specs.HashMap.{spare};
 ghost use Rattle.std.specs.Map.{keys_of, lookup};
 ghost use Rattle.indexmap.specs.IndexMap.{insert_entry};
 ghost use Rattle.relay_core.specs.Name.{same_name};
-ghost use Rattle.relay_server.specs.Opening.{AreNamed, is_taken};
+ghost use Rattle.relay_server.specs.Opening.{AreNamed, is_taken, owners, owns_any};
 ghost use Rattle.std.proofs.Props.{props};
 
 use crate::broadcast::Broadcast;
+use crate::key::Key;
 use indexmap::IndexMap;
 use relay_core::BoardName;
 use std::alloc::{AllocError, Global};
@@ -24,7 +25,9 @@ pub(crate) struct BoardMap {
 
 impl BoardMap {
     /// No board, and no memory.
-    pub(crate) fn new(alloc: Global) -> BoardMap {
+    pub(crate) fn new(alloc: Global) -> BoardMap
+        ensures { result.map.entries ≡ [] }
+    {
         BoardMap {
             map: IndexMap::new(alloc),
         }
@@ -60,6 +63,27 @@ impl BoardMap {
         ensures named { IfSome result (λ b. same_name name.now (arc_value b.now).name ≡ true) }
     {
         self.map.get(name)
+    }
+
+    /// The board at this place, in the order of opening.
+    pub(crate) fn at(&self, at: usize) -> Option<&Arc<Broadcast, Global>> {
+        match self.map.get_index(at) {
+            Some((_, broadcast)) => Some(broadcast),
+            None => None,
+        }
+    }
+
+    /// Whether any board was opened with this key. All of them are looked at, whichever it is.
+    pub(crate) fn owns_any(&self, key: &Key) -> bool
+        ensures { result ≡ owns_any (Some key.now) (owners self.now.map.entries (λ b. (arc_value b).owner)) }
+    {
+        let mut owns = false;
+        for at in 0..self.map.len() {
+            if let Some((_, broadcast)) = self.map.get_index(at) {
+                owns |= broadcast.is_owned_by(key);
+            }
+        }
+        owns
     }
 
     /// Puts a board under its name. Where there is room it takes no memory.

@@ -1,14 +1,16 @@
 //! The boards of a server, which stand behind the registry's lock.
 
-ghost use Rattle.std.specs.Prelude.{◌≡◌, ◌≤◌, ◌+◌, ◌++◌, ◌∷◌, [], length, true, option_copied, IfOk, IfSome, OnOk, OnErr};
+ghost use Rattle.std.specs.Prelude.{◌≡◌, ◌≤◌, ◌+◌, ◌++◌, ◌∷◌, [], length, true, option_copied, IfOk, IfSome, OnOk, OnErr, Some};
 ghost use Rattle.std.specs.Arc.{arc_value};
 ghost use Rattle.std.specs.HashMap.{spare};
 ghost use Rattle.std.specs.Map.{keys_of, lookup};
 ghost use Rattle.relay_core.specs.Name.{same_name};
-ghost use Rattle.relay_server.specs.Opening.{admission, is_taken};
+ghost use Rattle.relay_server.specs.Keys.{is_owner};
+ghost use Rattle.relay_server.specs.Opening.{admission, is_owned, is_taken, owners, owns_any};
 
 use crate::board_map::BoardMap;
 use crate::broadcast::Broadcast;
+use crate::key::Key;
 use c960_game::{Limits, Refusal};
 use relay_core::BoardName;
 use std::alloc::{AllocError, Global};
@@ -47,6 +49,45 @@ impl Boards {
         ensures named { IfSome result (λ b. same_name name.now (arc_value b.now).name ≡ true) }
     {
         self.shared.get(name)
+    }
+
+    /// How many boards there are.
+    pub(crate) fn len(&self) -> usize
+        ensures { result ≡ length self.now.shared.map.entries }
+    {
+        self.shared.len()
+    }
+
+    /// The board at this place, in the order of opening.
+    pub(crate) fn at(&self, at: usize) -> Option<&Arc<Broadcast, Global>> {
+        self.shared.at(at)
+    }
+
+    /// The board at this place, in the order of opening, where it was opened with this key.
+    pub(crate) fn owned_at(&self, at: usize, key: &Key) -> Option<&Arc<Broadcast, Global>>
+        ensures { IfSome result (λ b. is_owner (Some key.now) (arc_value b.now).owner ≡ true) }
+    {
+        match self.shared.at(at) {
+            Some(broadcast) if broadcast.is_owned_by(key) => Some(broadcast),
+            _ => None,
+        }
+    }
+
+    /// Whether the board of this name was opened with this key.
+    pub(crate) fn owns(&self, key: &Key, name: &BoardName) -> bool
+        ensures { result ≡ is_owned (Some key.now) (lookup (same_name name.now) (owners self.now.shared.map.entries (λ b. (arc_value b).owner))) }
+    {
+        match self.shared.get(name) {
+            Some(broadcast) => broadcast.is_owned_by(key),
+            None => false,
+        }
+    }
+
+    /// Whether any board was opened with this key.
+    pub(crate) fn owns_any(&self, key: &Key) -> bool
+        ensures { result ≡ owns_any (Some key.now) (owners self.now.shared.map.entries (λ b. (arc_value b).owner)) }
+    {
+        self.shared.owns_any(key)
     }
 
     /// Tells in order why no board of this name and start may be opened, memory aside.

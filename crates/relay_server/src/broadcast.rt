@@ -7,9 +7,11 @@ ghost use Rattle.c960_game.specs.Positions.{last_position};
 ghost use Rattle.live_steps.specs.Views.{finished};
 ghost use Rattle.live_board.specs.Board.{IsLegalGame};
 ghost use Rattle.live_board.specs.Desk.{Submitted};
+ghost use Rattle.relay_server.specs.Keys.{is_owner};
 ghost use Rattle.relay_server.specs.Broadcasting.{JoinAnswer, IsEndingAnswer, IsJoinAnswer, IsMoveAnswer, ending_answer, move_answer};
 
 use crate::chime::{BoardBell, Chime};
+use crate::key::Key;
 use c960_board::{Move, Position};
 use c960_game::{Ending, Limits, Outcome, Refusal};
 use live_board::{Board, Follower};
@@ -24,11 +26,13 @@ use std::sync::{Mutex, Wait};
 pub(crate) struct Broadcast {
     pub(crate) name: BoardName,
     pub(crate) chime: Chime,
+    /// The key of the connection that opened it, where that had one. Whoever has it owns the board as well.
+    owner: Option<Key>,
     board: Mutex<Board>,
 }
 
 impl Broadcast {
-    /// A board of this name with the game of a numbered start.
+    /// A board of this name with the game of a numbered start, opened by a connection with this key.
     ///
     /// # Errors
     ///
@@ -37,9 +41,11 @@ impl Broadcast {
         alloc: Global,
         name: BoardName,
         start: u16,
+        owner: Option<Key>,
         limits: Limits,
     ) -> Result<Broadcast, Refusal>
         ensures name { IfOk result (λ broadcast. broadcast.name ≡ name) }
+        ensures owner { IfOk result (λ broadcast. broadcast.owner ≡ owner) }
         ensures bad_start { (result ≡ Err Refusal.BadStart) ↔ (960 ≤ start) }
         ensures refusals { IfErr result (λ r. (r ≡ Refusal.BadStart) ⊎ (r ≡ Refusal.OutOfMemory)) }
     {
@@ -47,8 +53,19 @@ impl Broadcast {
         Ok(Broadcast {
             name,
             chime: Chime::new(),
+            owner,
             board: Mutex::new(board),
         })
+    }
+
+    /// Whether it was opened by a connection with this key.
+    pub(crate) fn is_owned_by(&self, key: &Key) -> bool
+        ensures { result ≡ is_owner (Some key.now) self.now.owner }
+    {
+        match &self.owner {
+            Some(owner) => key.is_same(owner),
+            None => false,
+        }
     }
 
     /// Makes a move, and then rings: who heard the ring finds the move. The sleepers are still to be woken.

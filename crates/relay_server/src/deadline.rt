@@ -1,5 +1,8 @@
 //! Deadlines by the monotonic clock.
 
+ghost use Rattle.std.specs.Prelude.{◌≢◌, IfOk};
+ghost use Rattle.std.specs.Duration.{as_nanos};
+
 use std::io;
 use std::io::ErrorKind;
 use std::time::{Clock, Duration, Instant};
@@ -19,12 +22,14 @@ impl Deadline {
         }
     }
 
-    /// How much time is left.
+    /// How much time is left. It is never zero, which a stream refuses as the bound of its reads.
     ///
     /// # Errors
     ///
     /// None is left (`TimedOut`), or the clock cannot be read.
-    pub(crate) fn left<C: Clock>(&self, clock: &C) -> io::Result<Duration> {
+    pub(crate) fn left<C: Clock>(&self, clock: &C) -> io::Result<Duration>
+        ensures some { IfOk result (λ left. as_nanos left ≢ 0) }
+    {
         let left = self.end.duration_since(Instant::now(clock)?);
         if left.is_zero() {
             return Err(io::Error::from(ErrorKind::TimedOut));

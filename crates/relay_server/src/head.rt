@@ -1,13 +1,16 @@
 //! The head of a request (RFC 9112, section 2), gathered whole before it is read.
 
-ghost use Rattle.std.specs.Prelude.{◌≤◌, length, IfOk, IfSome};
+ghost use Rattle.std.specs.Prelude.{◌≡◌, ◌≤◌, ◌<◌, ◌++◌, [], length, take, vec_capacity, vec_len, IfOk, IfSome};
+ghost use Rattle.relay_server.specs.Heads.{left};
 
 use crate::deadline::Deadline;
-use crate::stream::Stream;
+use crate::key::Key;
+use crate::stream::{Stream, read_some};
+use relay_frames::Refusal;
 use std::alloc::Global;
-use std::io;
 use std::io::ErrorKind;
 use std::time::{Clock, Duration};
+use std::{io, str};
 
 /// What a head ends with.
 const BLANK_LINE: &[u8; 4] = b"\r\n\r\n";
@@ -18,10 +21,26 @@ const MOST_BYTES: usize = 8192;
 /// How many seconds a peer may take to send its head.
 const MOST_HEAD_SECONDS: u64 = 10;
 
+/// Why there is no head.
+#[derive(Drop)]
+pub(crate) enum HeadFault {
+    /// What came is refused.
+    Refused(Refusal),
+    /// The stream failed or ended, the head took too long, or there was no memory.
+    Stream(io::Error),
+}
+
+impl From<io::Error> for HeadFault {
+    fn from(error: io::Error) -> HeadFault {
+        HeadFault::Stream(error)
+    }
+}
+
 /// A request's head, and what came behind it in the same pieces. It gives them in two parts, so that who reads the head reads
 /// nothing else.
 #[derive(Drop)]
 pub(crate) struct Head {
+    alloc: Global,
     bytes: Vec<u8>,
     /// Where the head ends.
     end: usize,
@@ -34,13 +53,14 @@ impl Head {
     ///
     /// # Errors
     ///
-    /// The stream failed or ended, the head begins with an empty line, is too long or took too long, or there was no memory.
+    /// The head begins with an empty line or is too long; or the stream failed or ended, the head took too long, or there was no memory.
     pub(crate) fn read<C: Clock, S: Stream>(
         clock: &C,
         alloc: Global,
         stream: &mut S,
-    ) -> io::Result<Head>
-        ensures { IfOk result (λ head. head.end ≤ 8192) }
+    ) -> Result<Head, HeadFault>
+        ensures bound { IfOk result (λ head. head.end ≤ 8192) }
+        ensures none_given { IfOk result (λ head. head.given ≡ 0) }
     {
         let deadline = Deadline::after(clock, Duration::from_secs(MOST_HEAD_SECONDS))?;
         let mut bytes = Vec::new(alloc);
@@ -48,16 +68,16 @@ impl Head {
             stream.bound_reads(Some(deadline.left(clock)?))?;
             let seen = bytes.len();
             if read_more(stream, &mut bytes)? == 0 {
-                return Err(io::Error::from(ErrorKind::UnexpectedEof));
+                return Err(HeadFault::Stream(io::Error::from(ErrorKind::UnexpectedEof)));
             }
             // RFC 9112 (section 2.2) would have empty lines before a request passed over, and who reads this head does so: he would
             // find none in it, and read on without these bounds.
             if matches!(bytes.first(), Some(b'\r' | b'\n')) {
-                break;
+                return Err(HeadFault::Refused(Refusal::BadRequest));
             }
             if let Some(end) = end_of_head(bytes.as_slice(), seen) {
-                stream.bound_reads(None)?;
                 return Ok(Head {
+                    alloc,
                     bytes,
                     end,
                     given: 0,
@@ -67,12 +87,29 @@ impl Head {
                 break;
             }
         }
-        Err(io::Error::from(ErrorKind::InvalidData))
+        Err(HeadFault::Refused(Refusal::HeadTooLarge))
+    }
+
+    /// The bytes of the head, and none of those that came behind it.
+    pub(crate) fn request(&self) -> &[u8]
+        ensures { result.now ≡ take self.now.end self.now.bytes.items }
+    {
+        let all = self.bytes.as_slice();
+        &all[..self.end.min(all.len())]
+    }
+
+    /// The key in the request's target, if it has one.
+    pub(crate) fn key(&self) -> Option<Key> {
+        key_of(self.request())
     }
 
     /// Gives bytes of the head, or where that was given of what came behind it. It gives none once all were given.
     pub(crate) fn give(&mut self, buf: &mut [u8]) -> usize
-        ensures { result ≤ length buf.new }
+        ensures bound { result ≤ length buf.new }
+        ensures next { left self.old ≡ take result buf.new ++ left self.new }
+        ensures all { result ≡ 0 → 0 < length buf.old → left self.old ≡ [] }
+        ensures apart { self.old.given < self.old.end → self.new.given ≤ self.old.end }
+        ensures same { (self.new.bytes ≡ self.old.bytes) × (self.new.end ≡ self.old.end) }
     {
         let all = self.bytes.as_slice();
         let end = if self.given < self.end {
@@ -89,12 +126,24 @@ impl Head {
         self.given += n;
         n
     }
+
+    /// Lets go of the bytes, and of the memory that they took, once all were given.
+    pub(crate) fn let_go(&mut self)
+        ensures same { left self.new ≡ left self.old }
+        ensures freed { vec_len self.old.bytes ≤ self.old.given → vec_capacity self.new.bytes ≡ 0 }
+    {
+        if self.given >= self.bytes.len() {
+            self.bytes = Vec::new(self.alloc);
+            self.end = 0;
+            self.given = 0;
+        }
+    }
 }
 
 /// Reads once.
 fn read_more<S: Stream>(stream: &mut S, bytes: &mut Vec<u8>) -> io::Result<usize> {
     let mut piece = [0; 512];
-    let n = stream.read(&mut piece)?;
+    let n = read_some(stream, &mut piece)?;
     match bytes.extend_from_slice(&piece[..n]) {
         Ok(()) => Ok(n),
         Err(_) => Err(io::Error::from(ErrorKind::OutOfMemory)),
@@ -112,4 +161,24 @@ fn end_of_head(bytes: &[u8], seen: usize) -> Option<usize>
         }
     }
     None
+}
+
+/// The key in the target of a request with this head (RFC 9112, section 3): of the fields of its query, which stand behind the first `?` and
+/// are separated by `&`, the first that is `key=` and then a key. Nothing else is looked at.
+fn key_of(head: &[u8]) -> Option<Key> {
+    let (_, behind_method) = first_line(head)?.split_once(' ')?;
+    let (target, _) = behind_method.split_once(' ')?;
+    let (_, query) = target.split_once('?')?;
+    query.split('&').find_map(key_in)
+}
+
+/// The first line of a head, where it is text.
+fn first_line(head: &[u8]) -> Option<&str> {
+    let end = head.iter().position(|byte| matches!(*byte, b'\r' | b'\n'))?;
+    str::from_utf8(head.get(..end)?).ok()
+}
+
+/// The key of this field of a query, if it has one.
+fn key_in(field: &str) -> Option<Key> {
+    Key::parse(field.strip_prefix("key=")?.as_bytes())
 }

@@ -1,13 +1,13 @@
 //! A stream that puts off what need not be done before its peer is waited for.
 
-ghost use Rattle.std.specs.Prelude.{◌≡◌, ◌≤◌, true, [], length, take, drop, vec_len, OnOk, OnErr, IsErr};
-ghost use Rattle.std.specs.Io.{WritesAtMost};
-ghost use Rattle.std.specs.Io.KnownBytes.{Appends, Keeps, WriteAppends};
-ghost use Rattle.relay_server.specs.Lines.{written};
+ghost use Rattle.std.specs.Prelude.{◌≡◌, ◌≤◌, true, [], None, length, take, drop, vec_capacity, vec_len, IfOk, OnOk, OnErr, IsErr};
+ghost use Rattle.std.specs.Io.{ReadsAtMost, WritesAtMost};
+ghost use Rattle.std.specs.Io.KnownBytes.{Appends, Keeps, ReadConsumes, WriteAppends};
+ghost use Rattle.relay_server.specs.Lines.{IsSilent, ReadsLast, Sends, written};
 
 use crate::broadcast::Broadcast;
 use crate::head::Head;
-use crate::stream::Stream;
+use crate::stream::{Stream, read_some};
 use crate::wakes::Wakes;
 use std::alloc::Global;
 use std::io;
@@ -18,6 +18,9 @@ use std::time::Duration;
 /// How many bytes of output are kept back at most, beside the last piece written.
 const MOST_OUTPUT: usize = 65536;
 
+/// How many bytes of room stay for output where nothing is kept back.
+const MOST_ROOM: usize = 4096;
+
 /// A stream whose request's head was gathered. What is written is kept back, and so are the wakes of a board's followers,
 /// until the stream itself is read, `send_now` is called, or too much was kept back. So the answers to commands that came in
 /// one piece leave in one piece, and one wake serves several moves.
@@ -25,6 +28,7 @@ const MOST_OUTPUT: usize = 65536;
 /// What it was written is what the stream was written, and then what is kept back: nothing is lost, and nothing comes twice.
 #[derive(Drop)]
 pub(crate) struct Line<S> {
+    alloc: Global,
     stream: S,
     head: Head,
     output: Vec<u8>,
@@ -37,6 +41,7 @@ impl<S: Read + Write> Line<S> {
     /// The stream behind this head.
     pub(crate) fn new(alloc: Global, stream: S, head: Head, most_wakes: u16) -> Line<S> {
         Line {
+            alloc,
             stream,
             head,
             output: Vec::new(alloc),
@@ -59,7 +64,8 @@ impl<S: Read + Write> Line<S> {
         ensures bytes { Keeps (written S.contents self.old) (written S.contents self.new) }
         ensures sent { OnOk result (self.new.output.items ≡ []) }
         ensures failed { OnErr result (self.new.has_failed ≡ true) }
-        ensures silent { self.old.has_failed ≡ true → IsErr result × (self.new.stream ≡ self.old.stream) }
+        ensures silent { self.old.has_failed ≡ true → IsErr result × IsSilent self.old self.new }
+        ensures front { Sends S.contents self.old self.new.stream self.new.output.items }
     {
         self.wakes.wake();
         if self.has_failed {
@@ -74,20 +80,62 @@ impl<S: Read + Write> Line<S> {
     fn send_output(&mut self) -> io::Result<()>
         ensures bytes { Keeps (written S.contents self.old) (written S.contents self.new) }
         ensures sent { OnOk result (self.new.output.items ≡ []) }
+        ensures freed { OnOk result (vec_capacity self.new.output ≤ 4096) }
+        ensures front { Sends S.contents self.old self.new.stream self.new.output.items }
     {
-        if self.output.is_empty() {
-            return Ok(());
+        if !self.output.is_empty() {
+            let (taken, done) = write_out(self.output.as_slice(), &mut self.stream);
+            remove_front(&mut self.output, taken);
+            done?;
+            self.stream.flush()?;
         }
-        let (taken, done) = write_out(self.output.as_slice(), &mut self.stream);
-        remove_front(&mut self.output, taken);
-        done?;
-        self.stream.flush()
+        self.give_back();
+        Ok(())
+    }
+
+    /// Gives back the room for output, where it is much.
+    fn give_back(&mut self)
+        requires { self.old.output.items ≡ [] }
+        ensures empty { self.new.output.items ≡ [] }
+        ensures freed { vec_capacity self.new.output ≤ 4096 }
+        ensures stream { self.new.stream ≡ self.old.stream }
+    {
+        if self.output.capacity() > MOST_ROOM {
+            self.output = Vec::new(self.alloc);
+        }
+    }
+
+    /// Sends what was kept back where that is much. It fails where the stream has failed before.
+    fn make_room(&mut self) -> io::Result<()>
+        ensures bytes { Keeps (written S.contents self.old) (written S.contents self.new) }
+        ensures silent { self.old.has_failed ≡ true → IsErr result × IsSilent self.old self.new }
+        ensures front { Sends S.contents self.old self.new.stream self.new.output.items }
+    {
+        if self.has_failed || self.output.len() > MOST_OUTPUT {
+            self.send_now()
+        } else {
+            Ok(())
+        }
+    }
+
+    /// Writes all of these bytes: they are kept back, behind what was written before.
+    ///
+    /// # Errors
+    ///
+    /// The stream failed, now or before, or there was no memory. Then none of them was written.
+    pub(crate) fn put(&mut self, bytes: &[u8]) -> io::Result<()>
+        ensures ok { OnOk result (Appends (written S.contents self.old) (written S.contents self.new) bytes.now) }
+        ensures err { OnErr result (Keeps (written S.contents self.old) (written S.contents self.new)) }
+    {
+        self.make_room()?;
+        self.keep_back(bytes)
     }
 
     /// Keeps these bytes back, behind what is kept back already.
     fn keep_back(&mut self, bytes: &[u8]) -> io::Result<()>
         ensures ok { OnOk result (Appends (written S.contents self.old) (written S.contents self.new) bytes.now) }
         ensures err { OnErr result (Keeps (written S.contents self.old) (written S.contents self.new)) }
+        ensures kept { OnErr result ((self.new.stream ≡ self.old.stream) × (self.new.output.items ≡ self.old.output.items)) }
     {
         match self.output.extend_from_slice(bytes) {
             Ok(()) => Ok(()),
@@ -97,7 +145,7 @@ impl<S: Read + Write> Line<S> {
 }
 
 /// Writes the bytes until all are written or the stream fails: how many it took, in order, and whether it failed.
-fn write_out<S: Write>(bytes: &[u8], stream: &mut S) -> (usize, io::Result<()>)
+pub(crate) fn write_out<S: Write>(bytes: &[u8], stream: &mut S) -> (usize, io::Result<()>)
     ensures bound { result.0 ≤ length bytes.now }
     ensures all { OnOk result.1 (result.0 ≡ length bytes.now) }
     ensures bytes { Appends (S.contents stream.old) (S.contents stream.new) (take result.0 bytes.now) }
@@ -140,23 +188,32 @@ fn remove_front(bytes: &mut Vec<u8>, n: usize)
 }
 
 impl<S: Read + Write> Read for Line<S> {
-    fn read(&mut self, buf: &mut [u8]) -> io::Result<usize> {
+    fn read(&mut self, buf: &mut [u8]) -> io::Result<usize>
+        ensures bound { ReadsAtMost result buf.new }
+        ensures bytes { ReadConsumes None None result buf.new }
+        ensures kept { ReadsLast S.contents S.remaining self.old self.new result buf.new }
+    {
         let n = self.head.give(buf);
         if n > 0 {
             return Ok(n);
         }
+        self.head.let_go();
         self.send_now()?;
-        self.stream.read(buf)
+        read_some(&mut self.stream, buf)
     }
 }
 
 impl<S: Read + Write> Write for Line<S> {
     ghost contents = { written S.contents };
 
-    fn write(&mut self, buf: &[u8]) -> io::Result<usize> {
-        if self.has_failed || self.output.len() > MOST_OUTPUT {
-            self.send_now()?;
-        }
+    fn write(&mut self, buf: &[u8]) -> io::Result<usize>
+        ensures bound { WritesAtMost result buf.now }
+        ensures bytes { WriteAppends (written S.contents self.old) (written S.contents self.new) result buf.now }
+        ensures whole { IfOk result (λ n. n ≡ length buf.now) }
+        ensures silent { self.old.has_failed ≡ true → IsErr result × IsSilent self.old self.new }
+        ensures front { OnErr result (Sends S.contents self.old self.new.stream self.new.output.items) }
+    {
+        self.make_room()?;
         self.keep_back(buf)?;
         Ok(buf.len())
     }

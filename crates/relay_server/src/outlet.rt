@@ -1,95 +1,175 @@
 //! The outlet over a WebSocket.
 
-ghost use Rattle.std.specs.Prelude.{◌≡◌, [], ◌∷◌, ◌++◌, Some, Err, OnOk, OnErr};
-ghost use Rattle.websocket.specs.Connection.{write_step};
-ghost use Rattle.websocket.specs.Content.{text as text_message};
-ghost use Rattle.tungstenite.specs.Socket.{Writes};
+ghost use Rattle.std.specs.Prelude.{◌≡◌, [], ◌∷◌, ◌++◌, ◌≤◌, None, Some, Err, true, false, is_some, length, IfOk, OnOk, OnErr};
+ghost use Rattle.std.specs.Io.KnownBytes.{Appends};
+ghost use Rattle.relay_frames.specs.Breaches.{code_of};
+ghost use Rattle.relay_frames.specs.Events.{number_of};
+ghost use Rattle.relay_frames.specs.Frames.{close_frame, text_frame};
 ghost use Rattle.relay_pushing.specs.Sending.{Counts};
 ghost use Rattle.relay_pushing.specs.declared.outlet.SendFault.TheVariants.{Device};
+ghost use Rattle.relay_server.specs.Dues.{IsStillDue};
 ghost use Rattle.relay_server.specs.Lines.{written as line_written};
 ghost use Rattle.relay_server.specs.Memory.{IsToldOf};
 
 use crate::broadcast::Broadcast;
 use crate::deadline::Deadline;
+use crate::drain::end_and_drain;
 use crate::line::Line;
 use crate::memory::is_want_of_memory;
 use crate::stream::Stream;
 use crate::texts::Texts;
+use relay_frames::{Breach, Code, Event, Peer, outgoing};
 use relay_pushing::{Outlet, SendFault};
 use std::alloc::Global;
 use std::io;
-use std::io::{Read, Write};
+use std::io::{ErrorKind, Read, Write};
 use std::sync::Arc;
 use std::time::{Clock, Duration};
-use tungstenite::{CloseCode, CloseFrame, Error, Message, NoMask, Utf8Bytes, WebSocket};
+use tungstenite::Error;
 
-/// How many pieces a peer's output is read on in behind a close.
-const MOST_DRAINED: u32 = 4096;
+/// How many pings in a row a peer is sent from which nothing is heard.
+const MOST_PINGS: u32 = 2;
 
-/// How many seconds a peer's output is read on behind a close.
-const MOST_DRAIN_SECONDS: u64 = 10;
+/// How many seconds a read waits for a peer that is silent, until it is sent a ping.
+pub(crate) const MOST_SILENT_SECONDS: u64 = 30;
 
-/// An outlet over a WebSocket. It tells the texts that it handed to the socket.
+/// How many seconds a peer may take over half a message.
+const MOST_HALF_SECONDS: u64 = 10;
+
+/// How many bytes one read of the stream asks for.
+const READ_BYTES: usize = 4096;
+
+/// An outlet over a WebSocket, from the end of its handshake on. It tells the texts whose frames it put into the line.
 #[derive(Drop)]
 pub(crate) struct SocketOutlet<S> {
     alloc: Global,
-    socket: WebSocket<Line<S>, NoMask>,
+    line: Line<S>,
+    peer: Peer,
+    /// By when the message is to be whole of which a part has come, if one has.
+    due: Option<Deadline>,
+    /// Whether that message comes in fragments: what stands between them is none.
+    is_in_fragments: bool,
     failures: u64,
     texts: Texts,
 }
 
 impl<S: Read + Write + Drop> SocketOutlet<S> {
-    /// The outlet over a socket, whose device has not failed yet. No text was handed to it.
-    pub(crate) fn new(alloc: Global, socket: WebSocket<Line<S>, NoMask>) -> SocketOutlet<S>
-        ensures { result.texts.items ≡ [] }
+    /// The outlet over a line whose handshake is done and whose device has not failed yet. No text was put into it.
+    pub(crate) fn new(alloc: Global, line: Line<S>) -> SocketOutlet<S>
+        ensures texts { result.texts.items ≡ [] }
+        ensures failures { result.failures ≡ 0 }
     {
         SocketOutlet {
             alloc,
-            socket,
+            line,
+            peer: Peer::new(alloc),
+            due: None,
+            is_in_fragments: false,
             failures: 0,
             texts: Texts::new(),
         }
     }
 
-    /// Reads the peer's next message.
-    pub(crate) fn read(&mut self) -> Result<Message, Error>
+    /// Reads the stream once. A peer that was silent for as long as a read waits is sent a ping, and then another one. Where it is silent
+    /// behind that too, it is taken to have gone.
+    fn wait_for(&mut self, bytes: &mut [u8]) -> Result<usize, Error>
+        ensures bound { IfOk result (λ n. n ≤ length bytes.new) }
+        ensures texts { self.new.texts ≡ self.old.texts }
+        ensures due { self.new.due ≡ self.old.due }
+    {
+        for _ in 0..MOST_PINGS {
+            let heard = self.line.read(bytes);
+            if !is_silence(&heard) {
+                return Ok(heard?);
+            }
+            self.ping()?;
+        }
+        Ok(self.line.read(bytes)?)
+    }
+
+    /// Writes a ping (RFC 6455, section 5.5.2). It leaves before the next read waits.
+    fn ping(&mut self) -> Result<(), Error>
+        ensures texts { self.new.texts ≡ self.old.texts }
+        ensures due { self.new.due ≡ self.old.due }
+    {
+        let mut frame = Vec::new(self.alloc);
+        outgoing::ping(b"", &mut frame)?;
+        self.line.put(frame.as_slice())?;
+        Ok(())
+    }
+
+    /// Answers a ping by a pong with its bytes (RFC 6455, section 5.5.3). It leaves before the next read waits.
+    ///
+    /// # Errors
+    ///
+    /// The line took no more, or there was no memory.
+    pub(crate) fn pong(&mut self, payload: &[u8]) -> Result<(), Error>
         ensures { self.new.texts ≡ self.old.texts }
     {
-        self.socket.read()
+        let mut frame = Vec::new(self.alloc);
+        outgoing::pong(payload, &mut frame)?;
+        self.line.put(frame.as_slice())?;
+        Ok(())
     }
 
     /// Wakes the followers of a board later.
     pub(crate) fn wake_later(&mut self, rung: Arc<Broadcast, Global>)
         ensures { self.new.texts ≡ self.old.texts }
     {
-        self.socket.get_mut().wake_later(rung);
+        self.line.wake_later(rung);
     }
 
     /// Sends what was accepted as far as the device lets it, and in any case wakes whom it was put off to wake.
     pub(crate) fn give_up(&mut self)
         ensures { self.new.texts ≡ self.old.texts }
     {
-        let _ = self.socket.flush();
-        let _ = self.socket.get_mut().send_now();
+        let _ = self.line.send_now();
     }
 
-    /// Hands a text to the socket, and notes it. The socket's frame of this text stands then behind all that the socket was given
-    /// before, in the line that it writes to or still in the socket: that is what its crate proves of `write`. At an error the text
-    /// is not noted.
+    /// Puts a text's frame into the line, behind all that was put into it before, and notes the text. At an error the text is not noted.
     ///
     /// # Errors
     ///
-    /// The socket took no more, or wrote to the line and that failed, or there was no memory.
+    /// The line took no more, or there was no memory.
     fn hand_over(&mut self, text: &str) -> Result<(), Error>
         ensures noted { OnOk result (self.new.texts.items ≡ self.old.texts.items ++ text.now ∷ []) }
-        ensures given { OnOk result (Writes (line_written S.contents) self.old.socket self.new.socket (write_step self.old.socket.conn (text_message text.now))) }
+        ensures given { OnOk result (Appends (line_written S.contents self.old.line) (line_written S.contents self.new.line) (text_frame text.now)) }
         ensures unnoted { OnErr result (self.new.texts ≡ self.old.texts) }
         ensures failures { self.new.failures ≡ self.old.failures }
     {
-        let message = Message::text(self.alloc, text)?;
-        self.socket.write(message)?;
+        let mut frame = Vec::new(self.alloc);
+        outgoing::text(text, &mut frame)?;
+        self.line.put(frame.as_slice())?;
         self.texts = self.texts.and(text);
         Ok(())
+    }
+
+    /// Puts the frame of a close into the line, behind all that was put into it before.
+    ///
+    /// # Errors
+    ///
+    /// The line took no more, or there was no memory.
+    pub(crate) fn put_close(&mut self, code: Option<Code>) -> Result<(), Error>
+        ensures given { OnOk result (Appends (line_written S.contents self.old.line) (line_written S.contents self.new.line) (close_frame (number_of code))) }
+        ensures texts { self.new.texts ≡ self.old.texts }
+        ensures failures { self.new.failures ≡ self.old.failures }
+    {
+        let mut frame = Vec::new(self.alloc);
+        outgoing::close(code, &mut frame)?;
+        self.line.put(frame.as_slice())?;
+        Ok(())
+    }
+
+    /// Puts the frame of the close into the line that tells a peer of its breach.
+    ///
+    /// # Errors
+    ///
+    /// The line took no more, or there was no memory.
+    pub(crate) fn put_breach(&mut self, breach: Breach) -> Result<(), Error>
+        ensures given { OnOk result (Appends (line_written S.contents self.old.line) (line_written S.contents self.new.line) (close_frame (Some (code_of breach)))) }
+        ensures texts { self.new.texts ≡ self.old.texts }
+    {
+        self.put_close(Some(breach.code()))
     }
 
     /// Counts a failure of the device.
@@ -122,33 +202,93 @@ impl<S: Read + Write + Drop> SocketOutlet<S> {
         ensures counts { Counts self.old.failures self.new.failures result }
         ensures texts { self.new.texts ≡ self.old.texts }
     {
-        let sent = self.socket.get_mut().send_now().map_err(Error::Io);
+        let sent = self.line.send_now().map_err(Error::Io);
         self.counted(sent)
     }
 }
 
 impl<S: Stream + Drop> SocketOutlet<S> {
+    /// What the peer says next, but for fragments: what they say is told with the last one.
+    ///
+    /// # Errors
+    ///
+    /// The stream failed or ended, by the kind `WouldBlock` or `TimedOut` where the peer has gone or takes too long over a message; or there
+    /// was no memory.
+    pub(crate) fn read<C: Clock>(&mut self, clock: &C) -> Result<Event, Error>
+        ensures texts { self.new.texts ≡ self.old.texts }
+        ensures due { self.new.is_in_fragments ≡ true → IsStillDue self.old.due self.new.due }
+    {
+        for _ in 0..u64::MAX {
+            match self.peer.next()? {
+                Some(Event::Fragment) => self.is_in_fragments = true,
+                Some(event) => {
+                    self.heard(&event);
+                    return Ok(event);
+                }
+                None => self.fill(clock)?,
+            }
+        }
+        Err(Error::Io(io::Error::from(ErrorKind::TimedOut)))
+    }
+
+    /// A message is whole, or it was none that stands between the fragments of one: what comes next has its own time.
+    fn heard(&mut self, event: &Event)
+        ensures texts { self.new.texts ≡ self.old.texts }
+        ensures due { self.new.is_in_fragments ≡ true → self.new.due ≡ self.old.due }
+        ensures none_due { self.new.is_in_fragments ≡ false → self.new.due ≡ None }
+    {
+        if matches!(event, Event::Text(_) | Event::Binary(_)) {
+            self.is_in_fragments = false;
+        }
+        if !self.is_in_fragments {
+            self.due = None;
+        }
+    }
+
+    /// Feeds the peer's reader what came.
+    fn fill<C: Clock>(&mut self, clock: &C) -> Result<(), Error>
+        ensures texts { self.new.texts ≡ self.old.texts }
+        ensures due { IsStillDue self.old.due self.new.due }
+    {
+        let mut bytes = [0; READ_BYTES];
+        let n = if self.peer.is_midway() {
+            self.wait_for_rest(clock, &mut bytes)?
+        } else {
+            self.wait_for(&mut bytes)?
+        };
+        if n == 0 {
+            return Err(Error::Io(io::Error::from(ErrorKind::UnexpectedEof)));
+        }
+        self.peer.feed(&bytes[..n])?;
+        Ok(())
+    }
+
+    /// Reads the stream once in the middle of a message, of which the whole has ten seconds, however often some of it comes.
+    fn wait_for_rest<C: Clock>(&mut self, clock: &C, bytes: &mut [u8]) -> Result<usize, Error>
+        ensures bound { IfOk result (λ n. n ≤ length bytes.new) }
+        ensures texts { self.new.texts ≡ self.old.texts }
+        ensures due { IsStillDue self.old.due self.new.due }
+        ensures bounded { OnOk result (is_some self.new.due ≡ true) }
+    {
+        let due = match self.due {
+            Some(due) => due,
+            None => Deadline::after(clock, Duration::from_secs(MOST_HALF_SECONDS))?,
+        };
+        self.due = Some(due);
+        self.line.bound_reads(Some(due.left(clock)?))?;
+        let n = self.line.read(bytes)?;
+        self.line
+            .bound_reads(Some(Duration::from_secs(MOST_SILENT_SECONDS)))?;
+        Ok(n)
+    }
+
     /// Ends the output, and reads on until the peer's end: a peer that still sends would else get a reset in place of the last
     /// texts. What it sends now is dropped.
     pub(crate) fn drain<C: Clock>(&mut self, clock: &C)
         ensures { self.new.texts ≡ self.old.texts }
     {
-        let _ = drained(clock, self.socket.get_mut());
+        let _ = end_and_drain(clock, &mut self.line);
     }
-}
-
-/// Ends the output, and reads until the end, an error or the bound.
-fn drained<C: Clock, S: Stream>(clock: &C, line: &mut Line<S>) -> io::Result<()> {
-    line.end_output()?;
-    let deadline = Deadline::after(clock, Duration::from_secs(MOST_DRAIN_SECONDS))?;
-    let mut bytes = [0; 4096];
-    for _ in 0..MOST_DRAINED {
-        line.bound_reads(Some(deadline.left(clock)?))?;
-        if line.read(&mut bytes)? == 0 {
-            break;
-        }
-    }
-    Ok(())
 }
 
 impl<S: Read + Write + Drop> Outlet for SocketOutlet<S> {
@@ -162,18 +302,20 @@ impl<S: Read + Write + Drop> Outlet for SocketOutlet<S> {
     }
 
     fn flush(&mut self) -> Result<(), SendFault> {
-        let done = self.socket.flush();
-        self.counted(done)?;
         self.send_kept()
     }
 
     fn close(&mut self, code: u16) -> Result<(), SendFault> {
-        let frame = CloseFrame {
-            code: CloseCode::from(code),
-            reason: Utf8Bytes::from_static(""),
-        };
-        let done = self.socket.close(Some(frame));
+        let done = self.put_close(Code::new(code));
         self.counted(done)?;
         self.send_kept()
+    }
+}
+
+/// Whether a read ended because nothing came for as long as it waits.
+pub(crate) fn is_silence(heard: &io::Result<usize>) -> bool {
+    match heard {
+        Err(cause) => matches!(cause.kind(), ErrorKind::WouldBlock | ErrorKind::TimedOut),
+        Ok(_) => false,
     }
 }

@@ -1,29 +1,53 @@
 //! The boards of a server, which all connections share.
 
-ghost use Rattle.std.specs.Prelude.{◌≡◌, ◌≤◌, ◌⊎◌, true, Err, IfErr, IfOk};
+ghost use Rattle.std.specs.Prelude.{◌≡◌, ◌≤◌, ◌⊎◌, ◌/◌, [], max, true, Err, IfErr, IfOk, IfSome, Some};
 ghost use Rattle.std.specs.Arc.{arc_value};
 ghost use Rattle.relay_core.specs.Name.{same_name};
-ghost use Rattle.relay_server.specs.Opening.{done, IsOpening, IsTold};
+ghost use Rattle.relay_server.specs.Opening.{done, IsOpening, IsTold, IsToldOwned, IsToldOwner};
 
 use crate::board_map::BoardMap;
 use crate::boards::Boards;
 use crate::broadcast::Broadcast;
 use crate::chime::Chime;
-use c960_game::{Limits, Refusal};
+use crate::hall::{Forsaken, Hall};
+use crate::holders::Holders;
+use crate::key::Key;
+use c960_game::{Ending, Limits, Refusal};
 use relay_core::BoardName;
 use std::alloc::{AllocError, Global};
+use std::marker::Model;
+use std::sync::atomic::{AtomicBool, AtomicU64, Ordering};
 use std::sync::{Arc, Mutex, Wait};
+use std::time::{Clock, Duration, Instant};
 
-/// The boards of a server. Its lock is taken to look a name up and to enter one. No thread ever holds two locks: this one is given
-/// back before a board's is taken, and neither is held while a socket is waited for.
+/// The boards of a server. Its lock is taken to look a name up and to enter one. It is given back before a board's is taken, but where boards
+/// that have waited are ended; nobody takes the two in the other order. Neither is held while a socket is waited for. Contracts see its limits.
 #[derive(Drop)]
 pub struct Registry {
-    boards: Mutex<Boards>,
+    hall: Mutex<Hall>,
     limits: Limits,
+    /// How long the boards of a key wait for a connection with it.
+    grace: Duration,
     alloc: Global,
     /// Rung as a session's thread ends. It stands here, made before anybody is listened for, so that serving needs no memory before
     /// it accepts.
     pub(crate) ended: Chime,
+    /// Rung where the boards of a key begin to wait, and where serving ends.
+    pub(crate) waiting: Chime,
+    /// Whether no more connections are accepted.
+    is_closed: AtomicBool,
+    /// Whether serving is to end before its time.
+    is_ending: AtomicBool,
+    /// How many connections were accepted and have not shaken hands yet.
+    coming: AtomicU64,
+}
+
+impl Model for Registry {
+    ghost use Rattle.c960_game.specs.Limits.{LimitNumbers};
+
+    ghost Value = { LimitNumbers };
+
+    ghost view = { λ r. r.limits };
 }
 
 impl Registry {
@@ -32,22 +56,193 @@ impl Registry {
     /// # Errors
     ///
     /// There was no memory.
-    pub fn new(alloc: Global, limits: Limits) -> Result<Registry, AllocError> {
+    pub fn new(alloc: Global, limits: Limits) -> Result<Registry, AllocError>
+        ensures limits { IfOk result (λ registry. registry ≡ limits) }
+    {
+        Registry::with_grace(alloc, limits, 0)
+    }
+
+    /// Such a registry where the boards of a connection with a key wait so many seconds for one with the same key, after that has gone. With
+    /// 0 no key is looked at.
+    ///
+    /// # Errors
+    ///
+    /// There was no memory.
+    pub fn with_grace(alloc: Global, limits: Limits, seconds: u32) -> Result<Registry, AllocError>
+        ensures limits { IfOk result (λ registry. registry ≡ limits) }
+    {
+        let hall = Hall {
+            boards: Boards::new(alloc, limits)?,
+            holders: Holders::new(alloc),
+            is_watched: false,
+        };
         Ok(Registry {
-            boards: Mutex::new(Boards::new(alloc, limits)?),
+            hall: Mutex::new(hall),
             limits,
+            grace: Duration::from_secs(u64::from(seconds)),
             alloc,
             ended: Chime::new(),
+            waiting: Chime::new(),
+            is_closed: AtomicBool::new(false),
+            is_ending: AtomicBool::new(false),
+            coming: AtomicU64::new(0),
         })
     }
 
+    /// Whether the keys of connections are looked at.
+    pub(crate) fn takes_keys(&self) -> bool {
+        !self.grace.is_zero()
+    }
+
+    /// Notes whether a thread ends boards that have waited long enough. Where none does, no board waits.
+    pub(crate) fn watch<R: Wait>(&self, rt: &R, is_watched: bool) {
+        self.hall.lock(rt).is_watched = is_watched;
+    }
+
+    /// Notes that a connection was accepted.
+    pub(crate) fn comes(&self) {
+        self.coming.fetch_add(1, Ordering::SeqCst);
+    }
+
+    /// Notes that one has shaken hands, or failed to.
+    pub(crate) fn has_come(&self) {
+        self.coming.fetch_sub(1, Ordering::SeqCst);
+        if self.is_closed.load(Ordering::SeqCst) {
+            self.waiting.ring();
+            self.waiting.wake();
+        }
+    }
+
+    /// Notes whether no more connections are accepted.
+    pub(crate) fn set_closed(&self, is_closed: bool) {
+        self.is_closed.store(is_closed, Ordering::SeqCst);
+        self.waiting.ring();
+        self.waiting.wake();
+    }
+
+    /// Whether no more connections are accepted.
+    pub(crate) fn is_closed(&self) -> bool {
+        self.is_closed.load(Ordering::SeqCst)
+    }
+
+    /// Notes that serving is to end before its time. Whoever sleeps until serving goes on learns of it.
+    pub(crate) fn set_ending(&self) {
+        self.is_ending.store(true, Ordering::SeqCst);
+        for chime in [&self.waiting, &self.ended] {
+            chime.ring();
+            chime.wake();
+        }
+    }
+
+    /// Whether serving is to end before its time.
+    pub(crate) fn is_ending(&self) -> bool {
+        self.is_ending.load(Ordering::SeqCst)
+    }
+
+    /// Whether nobody can come back any more, or whoever does comes too late.
+    pub(crate) fn is_over(&self) -> bool {
+        self.is_closed() && (self.is_ending() || self.coming.load(Ordering::SeqCst) == 0)
+    }
+
+    /// A connection with this key has come.
+    ///
+    /// # Errors
+    ///
+    /// There was no memory.
+    pub(crate) fn arrive<R: Wait>(&self, rt: &R, key: &Key) -> Result<(), AllocError> {
+        self.hall.lock(rt).holders.arrive(key)
+    }
+
+    /// A connection with this key goes. Where it was the last one, the key's boards wait, or are ended as abandoned.
+    pub(crate) fn leave<R: Wait + Clock>(&self, rt: &R, key: &Key) {
+        let until = match Instant::now(rt) {
+            Ok(now) => now.checked_add(self.grace),
+            Err(_) => None,
+        };
+        let (forsaken, waits) = self.hall.lock(rt).leave(key, until);
+        if waits {
+            self.waiting.ring();
+            self.waiting.wake();
+        }
+        if let Some(forsaken) = forsaken {
+            self.end(rt, &forsaken);
+        }
+    }
+
+    /// The time at which the next boards are to be ended.
+    pub(crate) fn next<R: Wait>(&self, rt: &R) -> Option<Instant> {
+        self.hall.lock(rt).holders.next()
+    }
+
+    /// Ends as abandoned all boards that have waited until now; where no time is given, all that wait.
+    pub(crate) fn end_forsaken<R: Wait>(&self, rt: &R, now: Option<Instant>) {
+        for _ in rt.forever() {
+            let Some(forsaken) = self.expire(rt, now) else {
+                return;
+            };
+            self.end(rt, &forsaken);
+        }
+    }
+
+    /// Boards that have waited until now, if there are any.
+    fn expire<R: Wait>(&self, rt: &R, now: Option<Instant>) -> Option<Forsaken> {
+        self.hall.lock(rt).expire(now)
+    }
+
+    /// Ends boards as abandoned, each under the lock that a connection which comes back takes: from then on none of its boards ends. A game
+    /// that has ended stays as it ended.
+    fn end<R: Wait>(&self, rt: &R, forsaken: &Forsaken) {
+        for at in 0..forsaken.count {
+            let hall = self.hall.lock(rt);
+            if let Some(broadcast) = hall.forsaken_at(at, &forsaken.key) {
+                abandon(rt, broadcast);
+            }
+        }
+    }
+
+    /// Ends all boards as abandoned. A game that has ended stays as it ended. A board that is opened meanwhile is ended with its connection.
+    pub(crate) fn end_all<R: Wait>(&self, rt: &R) {
+        let count = self.hall.lock(rt).boards.len();
+        for at in 0..count {
+            if let Some(broadcast) = self.board_at(rt, at) {
+                abandon(rt, &broadcast);
+            }
+        }
+    }
+
+    /// The board at this place, in the order of opening.
+    fn board_at<R: Wait>(&self, rt: &R, at: usize) -> Option<Arc<Broadcast, Global>> {
+        match self.hall.lock(rt).boards.at(at) {
+            Some(broadcast) => share(broadcast).ok(),
+            None => None,
+        }
+    }
+
+    /// Whether the board of this name was opened with this key.
+    pub(crate) fn owns<R: Wait>(&self, rt: &R, key: &Key, name: &BoardName) -> bool
+        ensures { IsToldOwned (Some key.now) name.now result }
+    {
+        self.hall.lock(rt).boards.owns(key, name)
+    }
+
+    /// Whether any board was opened with this key.
+    pub(crate) fn owns_any<R: Wait>(&self, rt: &R, key: &Key) -> bool
+        ensures { IsToldOwner (Some key.now) result }
+    {
+        self.hall.lock(rt).boards.owns_any(key)
+    }
+
     /// How many wakes a connection puts off at most: so many that no queue fills while its follower sleeps.
-    pub(crate) fn most_wakes(&self) -> u16 {
+    pub(crate) fn most_wakes(&self) -> u16
+        ensures { result ≡ max (self.now.capacity / 4) 1 }
+    {
         (self.limits.capacity() / 4).max(1)
     }
 
     /// No board, for a connection that keeps those that it opens.
-    pub(crate) fn no_boards(&self) -> BoardMap {
+    pub(crate) fn no_boards(&self) -> BoardMap
+        ensures { result.map.entries ≡ [] }
+    {
         BoardMap::new(self.alloc)
     }
 
@@ -55,7 +250,7 @@ impl Registry {
     pub(crate) fn knows<R: Wait>(&self, rt: &R, name: &BoardName) -> bool
         ensures { IsTold name.now result }
     {
-        self.boards.lock(rt).contains(name)
+        self.hall.lock(rt).boards.contains(name)
     }
 
     /// The board of this name.
@@ -71,7 +266,7 @@ impl Registry {
         ensures named { IfOk result (λ b. same_name name.now (arc_value b).name ≡ true) }
         ensures refusals { IfErr result (λ r. (r ≡ Refusal.NoSuchBoard) ⊎ (r ≡ Refusal.OutOfMemory)) }
     {
-        match self.boards.lock(rt).get(name) {
+        match self.hall.lock(rt).boards.get(name) {
             Some(broadcast) => share(broadcast),
             None => Err(Refusal::NoSuchBoard),
         }
@@ -88,14 +283,16 @@ impl Registry {
         rt: &R,
         name: BoardName,
         start: u16,
+        owner: Option<Key>,
     ) -> Result<Arc<Broadcast, Global>, Refusal>
         ensures answer { IsOpening name start (done result) }
         ensures named { IfOk result (λ b. (arc_value b).name ≡ name) }
+        ensures owner { IfOk result (λ b. (arc_value b).owner ≡ owner) }
     {
-        self.boards.lock(rt).admit(&name, start)?;
-        let opened = self.make(name, start)?;
+        self.hall.lock(rt).boards.admit(&name, start)?;
+        let opened = self.make(name, start, owner)?;
         let entered = share(&opened)?;
-        self.boards.lock(rt).enter(start, entered)?;
+        self.hall.lock(rt).boards.enter(start, entered)?;
         Ok(opened)
     }
 
@@ -104,17 +301,29 @@ impl Registry {
     /// # Errors
     ///
     /// `BadStart`, `OutOfMemory`.
-    fn make(&self, name: BoardName, start: u16) -> Result<Arc<Broadcast, Global>, Refusal>
+    fn make(
+        &self,
+        name: BoardName,
+        start: u16,
+        owner: Option<Key>,
+    ) -> Result<Arc<Broadcast, Global>, Refusal>
         ensures named { IfOk result (λ b. (arc_value b).name ≡ name) }
+        ensures owner { IfOk result (λ b. (arc_value b).owner ≡ owner) }
         ensures bad_start { (result ≡ Err Refusal.BadStart) → 960 ≤ start }
         ensures refusals { IfErr result (λ r. (r ≡ Refusal.BadStart) ⊎ (r ≡ Refusal.OutOfMemory)) }
     {
-        let broadcast = Broadcast::open(self.alloc, name, start, self.limits)?;
+        let broadcast = Broadcast::open(self.alloc, name, start, owner, self.limits)?;
         match Arc::new(self.alloc, broadcast) {
             Ok(broadcast) => Ok(broadcast),
             Err(_) => Err(Refusal::OutOfMemory),
         }
     }
+}
+
+/// Ends a board as abandoned, unless it has ended, and wakes its followers.
+fn abandon<R: Wait>(rt: &R, broadcast: &Broadcast) {
+    let _ = broadcast.end(rt, Ending::Abandoned);
+    broadcast.chime.wake();
 }
 
 /// One more owner of the board.

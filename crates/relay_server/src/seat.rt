@@ -1,12 +1,13 @@
 //! What a connection asks of the registry: it keeps the boards for the connection's commands.
 
-ghost use Rattle.std.specs.Prelude.{◌≡◌, ◌⊎◌, true, is_some, IfErr, IfOk};
+ghost use Rattle.std.specs.Prelude.{◌≡◌, ◌⊎◌, true, None, is_some, IfErr, IfOk};
 ghost use Rattle.std.specs.Arc.{arc_value};
 ghost use Rattle.relay_core.specs.Name.{same_name};
-ghost use Rattle.relay_server.specs.Seating.{EndReply, FollowReply, follows_after, joins, MayReply, OpenReply, SubmitReply, told};
+ghost use Rattle.relay_server.specs.Seating.{EndReply, FollowReply, OpenReply, Replies, SubmitReply, told};
 
 use crate::board_map::BoardMap;
 use crate::broadcast::Broadcast;
+use crate::key::Key;
 use crate::registry::{Registry, share};
 use crate::spectating::Spectating;
 use c960_board::Move;
@@ -14,47 +15,67 @@ use c960_game::{Ending, Refusal};
 use relay_core::{BoardName, Reply, Step};
 use relay_pushing::Keeper;
 use std::alloc::Global;
+use std::marker::Model;
 use std::sync::{Arc, Wait};
 
-/// A connection's seat at the registry. It follows one board at most, whatever spectator a command names.
+/// A connection's seat at the registry. It follows one board at most, whatever spectator a command names. Contracts see the follower that it
+/// has, or none, and its connection's key, or none.
 #[derive(Drop)]
 pub(crate) struct Seat<'a, R> {
     rt: &'a R,
     registry: &'a Registry,
+    /// The key that the connection has.
+    key: Option<Key>,
     /// The boards that the connection opened, so that a step on one of them need not look it up behind the registry's lock. One that
     /// there was no memory to keep is looked up all the same.
     own: BoardMap,
-    spectating: Option<Spectating>,
+    /// What the connection follows.
+    pub(crate) spectating: Option<Spectating>,
     /// The board that was rung last, whose sleepers are still to be woken.
     rung: Option<Arc<Broadcast, Global>>,
 }
 
+impl<'a, R> Model for Seat<'a, R> {
+    ghost use Rattle.std.specs.Option.{option_map};
+    ghost use Rattle.relay_server.specs.Seating.{SeatState};
+
+    ghost Value = { SeatState };
+
+    ghost view = { λ s. record { follower = option_map (λ f. f.source) s.spectating; key = s.key } };
+}
+
 impl<'a, R: Wait> Seat<'a, R> {
     /// The seat of a connection that follows nothing.
-    pub(crate) fn new(rt: &'a R, registry: &'a Registry) -> Seat<'a, R> {
+    pub(crate) fn new(rt: &'a R, registry: &'a Registry, key: Option<Key>) -> Seat<'a, R>
+        ensures follower { result.follower ≡ None }
+        ensures key { result.key ≡ key }
+    {
         Seat {
             rt,
             registry,
+            key,
             own: registry.no_boards(),
             spectating: None,
             rung: None,
         }
     }
 
+    /// The registry at which it is.
+    pub(crate) fn registry(&self) -> &'a Registry {
+        self.registry
+    }
+
     /// Whether the connection follows a board.
     pub(crate) fn follows(&self) -> bool
-        ensures { result ≡ is_some self.now.spectating }
+        ensures { result ≡ is_some self.now.follower }
     {
         self.spectating.is_some()
     }
 
-    /// What the connection follows.
-    pub(crate) fn spectating(&mut self) -> Option<&mut Spectating> {
-        self.spectating.as_mut()
-    }
-
     /// The board that was rung last, whose sleepers are still to be woken.
-    pub(crate) fn take_rung(&mut self) -> Option<Arc<Broadcast, Global>> {
+    pub(crate) fn take_rung(&mut self) -> Option<Arc<Broadcast, Global>>
+        ensures { self.new ≡ self.old }
+    {
         self.rung.take()
     }
 
@@ -87,9 +108,9 @@ impl<'a, R: Wait> Seat<'a, R> {
     /// Opens a board, and keeps it where there is memory to.
     fn open(&mut self, name: BoardName, start: u16) -> Result<Reply, Refusal>
         ensures reply { OpenReply name start (told result) }
-        ensures follows { self.new.spectating ≡ self.old.spectating }
+        ensures follows { self.new ≡ self.old }
     {
-        let opened = self.registry.open(self.rt, name, start)?;
+        let opened = self.registry.open(self.rt, name, start, self.key)?;
         let _ = self.own.insert(opened);
         Ok(Reply::Opened)
     }
@@ -97,7 +118,7 @@ impl<'a, R: Wait> Seat<'a, R> {
     /// Makes a move on a board.
     fn submit(&mut self, name: BoardName, m: Move) -> Result<Reply, Refusal>
         ensures reply { SubmitReply m (told result) }
-        ensures follows { self.new.spectating ≡ self.old.spectating }
+        ensures follows { self.new ≡ self.old }
     {
         let broadcast = self.find(name)?;
         let (place, outcome) = broadcast.submit(self.rt, m)?;
@@ -108,7 +129,7 @@ impl<'a, R: Wait> Seat<'a, R> {
     /// Ends the game of a board.
     fn end(&mut self, name: BoardName, ending: Ending) -> Result<Reply, Refusal>
         ensures reply { EndReply ending (told result) }
-        ensures follows { self.new.spectating ≡ self.old.spectating }
+        ensures follows { self.new ≡ self.old }
     {
         let broadcast = self.find(name)?;
         let outcome = broadcast.end(self.rt, ending)?;
@@ -118,8 +139,8 @@ impl<'a, R: Wait> Seat<'a, R> {
 
     /// Follows a board. A connection that follows one already does not follow another.
     fn follow(&mut self, name: BoardName, from: Option<u16>) -> Result<Reply, Refusal>
-        ensures reply { FollowReply (is_some self.old.spectating) from (told result) }
-        ensures follows { is_some self.new.spectating ≡ joins (is_some self.old.spectating) (told result) }
+        ensures reply { FollowReply self.old.follower from (told result) self.new.follower }
+        ensures key { self.new.key ≡ self.old.key }
     {
         let broadcast = self.find(name)?;
         if self.follows() {
@@ -133,7 +154,7 @@ impl<'a, R: Wait> Seat<'a, R> {
 
     /// Notes a board that was rung. The sleepers of one noted before are woken.
     fn note(&mut self, rung: Arc<Broadcast, Global>)
-        ensures { self.new.spectating ≡ self.old.spectating }
+        ensures { self.new ≡ self.old }
     {
         if let Some(earlier) = &self.rung {
             if earlier.name != rung.name {
@@ -145,8 +166,7 @@ impl<'a, R: Wait> Seat<'a, R> {
 
     /// Makes a step.
     fn make(&mut self, step: &Step) -> Result<Reply, Refusal>
-        ensures reply { MayReply (is_some self.old.spectating) step.now (told result) }
-        ensures follows { is_some self.new.spectating ≡ follows_after (is_some self.old.spectating) step.now (told result) }
+        ensures { Replies self.old step.now (told result) self.new }
     {
         match *step {
             Step::Open(board, start) => self.open(board, start),
@@ -160,19 +180,32 @@ impl<'a, R: Wait> Seat<'a, R> {
 }
 
 impl<R: Wait> Keeper for Seat<'_, R> {
-    ghost use Rattle.std.specs.Prelude.{◌≡◌, is_some};
-    ghost use Rattle.relay_server.specs.Opening.{IsTold};
-    ghost use Rattle.relay_server.specs.Seating.{follows_after, MayReply};
+    ghost use Rattle.relay_server.specs.Seating.{Replies, Tells};
 
-    // Other connections open boards too, so this much is known of whether there is one: some list of names tells.
-    ghost tells = { λ _ name known. IsTold name known };
+    // Other connections open boards too, so this much is known of whether there is one: some list of names tells. And whether one belongs to the
+    // connection's key is told by some list of names and keys.
+    ghost tells = { λ s question answer. Tells s.key question answer };
 
-    // They play them too, so this much is known of a reply: some board with a legal game gives it.
-    ghost makes = { λ s step reply t. MayReply (is_some s.spectating) step reply
-        × (is_some t.spectating ≡ follows_after (is_some s.spectating) step reply) };
+    // They play them too, so this much is known of a reply: some board with a legal game gives it. The follower that the seat has is its own:
+    // it is the one of which the reply tells.
+    ghost makes = { λ s step reply t. Replies s step reply t };
 
     fn knows(&self, board: &BoardName) -> bool {
         self.registry.knows(self.rt, board)
+    }
+
+    fn owns(&self, board: &BoardName) -> bool {
+        match &self.key {
+            Some(key) => self.registry.owns(self.rt, key, board),
+            None => false,
+        }
+    }
+
+    fn owns_any(&self) -> bool {
+        match &self.key {
+            Some(key) => self.registry.owns_any(self.rt, key),
+            None => false,
+        }
     }
 
     fn step(&mut self, step: Step) -> Reply {

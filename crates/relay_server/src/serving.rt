@@ -1,14 +1,21 @@
 //! Serving: connections are accepted one by one, and each gets a thread.
 
-ghost use Rattle.std.specs.Prelude.{◌≡◌, ◌+◌};
+ghost use Rattle.std.specs.Prelude.{◌≡◌, ◌≤◌, ◌<◌, ◌+◌, IfSome, false, true};
 
+use crate::door::{Door, Newcomer, turn_away};
+use crate::ending::watch_input;
+use crate::grace::Grace;
+use crate::interruptible::Interruptible;
 use crate::registry::Registry;
-use crate::sessions::session;
-use crate::threads::{Running, join_all, join_ended};
+use crate::sessions::{Arrival, SessionEnd, attend, come};
+use crate::socket::Socket;
+use crate::threads::{Running, Shared, join_all, join_ended, join_until_due, join_until_ending};
 use relay_pushing::Gate;
 use std::alloc::Global;
-use std::net::{TcpListener, TcpStream};
-use std::sync::atomic::{AtomicBool, Ordering};
+use std::io;
+use std::io::StdinLock;
+use std::net::{Net, TcpListener, TcpStream};
+use std::sync::atomic::Ordering;
 use std::sync::{Arc, Wait};
 use std::thread::{Builder, Threads};
 use std::time::{Clock, Duration};
@@ -18,103 +25,343 @@ use std::time::{Clock, Duration};
 pub struct ServeEnd {
     /// How many connections were served.
     pub served: u32,
-    /// How many could not be accepted, or got no thread.
+    /// How many could not be accepted, or were turned away for want of a descriptor or a thread.
     pub failed: u32,
 }
 
-/// How many bytes the stack of a session's thread has. A request of 124 header fields takes some 160 KiB of it, and JSON of the greatest
-/// nesting, 127, some 144 KiB: both fit three times. What a session does not touch takes no memory.
+/// How many bytes the stack of a session's thread has. JSON of the greatest nesting, 127, takes some 144 KiB of it, and a request of 64
+/// header fields less: both fit three times. What a session does not touch takes no memory.
 const STACK_BYTES: usize = 512 * 1024;
-
-/// How many seconds a write may make no way before its session ends as failed.
-const MOST_WRITE_SECONDS: u64 = 30;
 
 /// How many connections are accepted from one look for threads that have ended to the next. Joining one whose last act is still
 /// under way would hold up the next connection, and each look goes over all threads.
 const BETWEEN_JOINS: u32 = 64;
 
+/// How many seconds sessions have to end once serving is to end.
+const MOST_LEAVING_SECONDS: u64 = 4;
+
 /// How many milliseconds are waited after a connection could not be accepted or got no thread: the next would likely fail at
 /// once, too.
 const PAUSE_MILLIS: u64 = 20;
 
-/// Accepts this many connections, numbers them from 1 in the order of accepting, gives each a thread, and waits until all
-/// sessions have ended.
+/// Serving, while connections are accepted.
+#[derive(Drop)]
+struct Reception<'a, R, G> {
+    rt: &'a R,
+    alloc: Global,
+    registry: &'a Arc<Registry, Global>,
+    gate: &'a Arc<G, Global>,
+    door: Door,
+    running: Vec<Running>,
+    /// How many connections were met with, or how often that failed.
+    met: u32,
+    /// How many of them failed.
+    failed: u32,
+    /// How many were accepted, by which they are numbered.
+    accepted: u32,
+    /// Whether the last newcomer was turned away.
+    is_short: bool,
+    /// Whether serving ends when standard input does.
+    until_input_ends: bool,
+}
+
+/// Accepts so many connections, or where there is no such number as many as come; numbers them from 1 in the order of accepting, gives
+/// each a thread, and waits until all sessions have ended. The listener is closed behind the last accept, so that the system refuses
+/// whoever comes later. A newcomer for which there is no descriptor or no thread is told so by the status 503; the first of several in a
+/// row is told of on standard error.
+///
+/// Where it is to end when standard input does, it then accepts no more connections, and all boards end as abandoned. Followers get
+/// what they have not had, the other peers are told by the close code 1001, and four seconds later it waits for nobody any more.
 pub fn serve<R, G>(
     rt: &R,
     alloc: Global,
-    listener: &TcpListener,
+    listener: TcpListener,
     registry: &Arc<Registry, Global>,
     gate: &Arc<G, Global>,
-    connections: u32,
+    most: Option<u32>,
+    until_input_ends: bool,
 ) -> ServeEnd
 where
-    R: Threads + Wait + Clock + Clone + Send + Drop + 'static,
+    R: Input<Reader = StdinLock<'static>>
+        + Net<Listener = TcpListener, Stream = TcpStream>
+        + Threads
+        + Wait
+        + Clock
+        + Eprint
+        + Clone
+        + Send
+        + Drop
+        + 'static,
     G: Gate + Send + Sync + Drop + 'static,
-    ensures { result.served + result.failed ≡ connections }
+    ensures most { IfSome most (λ n. result.served + result.failed ≤ n) }
+    ensures all { until_input_ends ≡ false → IfSome most (λ n. result.served + result.failed ≡ n) }
 {
-    let mut running: Vec<Running> = Vec::new(alloc);
-    let mut accepted: u32 = 0;
-    let mut failed: u32 = 0;
-    for done in 0..connections {
-        let heard = registry.ended.count();
-        if done % BETWEEN_JOINS == 0 {
-            join_ended(rt, &mut running);
-        }
-        let started = match listener.accept() {
-            Ok((stream, _)) => {
-                accepted = accepted.saturating_add(1);
-                start(rt, alloc, stream, accepted, registry, gate, &mut running)
+    if until_input_ends {
+        watch_input(rt, registry, &listener);
+    }
+    let grace = Grace::start(rt, registry);
+    let mut reception = Reception {
+        rt,
+        alloc,
+        registry,
+        gate,
+        door: Door::new(listener),
+        running: Vec::new(alloc),
+        met: 0,
+        failed: 0,
+        accepted: 0,
+        is_short: false,
+        until_input_ends,
+    };
+    match most {
+        Some(most) => reception.meet_all(most),
+        None => reception.meet_forever(),
+    }
+    reception.close(grace)
+}
+
+impl<'a, R, G> Reception<'a, R, G>
+where
+    R: Threads + Wait + Clock + Eprint + Clone + Send + Drop + 'static,
+    G: Gate + Send + Sync + Drop + 'static,
+{
+    /// Meets with so many connections, unless serving is to end before.
+    fn meet_all(&mut self, most: u32)
+        requires none_met { self.now.met ≡ 0 }
+        requires none_failed { self.now.failed ≡ 0 }
+        ensures most { self.new.met ≤ most }
+        ensures all { self.old.until_input_ends ≡ false → self.new.met ≡ most }
+        ensures failed { self.new.failed ≤ self.new.met }
+    {
+        for done in 0..most {
+            if self.is_over() {
+                return;
             }
-            Err(_) => None,
-        };
-        if started.is_none() {
-            failed += 1;
-            registry
-                .ended
-                .doze(rt, heard, Duration::from_millis(PAUSE_MILLIS));
-            join_ended(rt, &mut running);
+            self.meet(done);
         }
     }
-    join_all(rt, running);
-    ServeEnd {
-        served: connections - failed,
-        failed,
+
+    /// Meets with connections until serving is to end.
+    fn meet_forever(&mut self)
+        requires none_failed { self.now.failed ≡ 0 }
+        ensures failed { self.new.failed ≤ self.new.met }
+    {
+        let rt = self.rt;
+        for _ in rt.forever() {
+            if self.is_over() {
+                return;
+            }
+            let turn = self.met;
+            self.meet(turn);
+        }
+        unreachable!()
+    }
+
+    /// Whether no more connections are met with, since serving is to end.
+    fn is_over(&self) -> bool
+        ensures { result ≡ true → self.now.until_input_ends ≡ true }
+    {
+        self.until_input_ends && self.registry.is_ending()
+    }
+
+    /// Waits for the next connection and meets with it, in its turn. One that comes when serving is to end is not met with.
+    fn meet(&mut self, turn: u32)
+        requires counted { self.now.failed ≤ self.now.met }
+        ensures most { self.new.met ≤ self.old.met + 1 }
+        ensures one { self.old.until_input_ends ≡ false → self.old.met < 4294967295 → self.new.met ≡ self.old.met + 1 }
+        ensures failed { self.new.failed ≤ self.new.met }
+        ensures until { self.new.until_input_ends ≡ self.old.until_input_ends }
+    {
+        let heard = self.registry.ended.count();
+        if turn % BETWEEN_JOINS == 0 {
+            join_ended(self.rt, &mut self.running);
+        }
+        let newcomer = self.door.await_newcomer();
+        if self.is_over() {
+            return;
+        }
+        if self.met < u32::MAX {
+            self.met += 1;
+        }
+        self.receive(newcomer, heard);
+    }
+
+    /// Starts the session of a newcomer. After a failure a moment is waited: the next would likely fail at once, too.
+    fn receive(&mut self, newcomer: io::Result<Newcomer>, heard: u64)
+        ensures met { self.new.met ≡ self.old.met }
+        ensures failed { self.old.failed ≤ self.old.met → self.new.failed ≤ self.new.met }
+        ensures until { self.new.until_input_ends ≡ self.old.until_input_ends }
+    {
+        if self.welcome(newcomer).is_some() {
+            self.is_short = false;
+            return;
+        }
+        if self.failed < self.met {
+            self.failed += 1;
+        }
+        self.tell_of_failure();
+        self.registry
+            .ended
+            .doze(self.rt, heard, Duration::from_millis(PAUSE_MILLIS));
+        join_ended(self.rt, &mut self.running);
+    }
+
+    /// Starts the session of a newcomer, or turns it away.
+    fn welcome(&mut self, newcomer: io::Result<Newcomer>) -> Option<()>
+        ensures met { self.new.met ≡ self.old.met }
+        ensures failed { self.new.failed ≡ self.old.failed }
+        ensures until { self.new.until_input_ends ≡ self.old.until_input_ends }
+    {
+        match newcomer.ok()? {
+            Newcomer::Welcome(stream) => {
+                self.accepted = self.accepted.saturating_add(1);
+                self.start(stream)
+            }
+            Newcomer::TooMany(stream) => {
+                turn_away(self.rt, stream);
+                self.door.restore();
+                None
+            }
+        }
+    }
+
+    /// Tells on standard error that a newcomer was turned away, unless the one before was, too.
+    fn tell_of_failure(&mut self)
+        ensures met { self.new.met ≡ self.old.met }
+        ensures failed { self.new.failed ≡ self.old.failed }
+        ensures until { self.new.until_input_ends ≡ self.old.until_input_ends }
+    {
+        if !self.is_short {
+            let _ = self
+                .rt
+                .eprintln("no descriptor or thread for a connection: turned away");
+        }
+        self.is_short = true;
+    }
+
+    /// Starts the session of a connection on a thread of its own, which joins those that run. Room for it there is asked for before it is
+    /// started, so that no accept waits for a session.
+    fn start(&mut self, stream: TcpStream) -> Option<()>
+        ensures met { self.new.met ≡ self.old.met }
+        ensures failed { self.new.failed ≡ self.old.failed }
+        ensures until { self.new.until_input_ends ≡ self.old.until_input_ends }
+    {
+        let _ = stream.set_nodelay(true);
+        let shared = Arc::new(self.alloc, Shared::new(stream)).ok()?;
+        let started = spawn(
+            self.rt,
+            self.alloc,
+            self.registry,
+            self.gate,
+            self.accepted,
+            &shared,
+            &mut self.running,
+        );
+        if started.is_none() {
+            if let Some(stream) = shared.take(self.rt) {
+                turn_away(self.rt, stream);
+            }
+        }
+        started
+    }
+
+    /// Closes the listener, and waits until all sessions have ended; where serving is to end before its time, for so long at most. The boards
+    /// that wait are ended first.
+    fn close(self, grace: Grace) -> ServeEnd
+        requires counted { self.failed ≤ self.met }
+        ensures { result.served + result.failed ≡ self.entry.met }
+    {
+        let Reception {
+            rt,
+            registry,
+            door,
+            running,
+            met,
+            failed,
+            until_input_ends,
+            ..
+        } = self;
+        drop(door);
+        grace.end(registry);
+        if until_input_ends {
+            let running = join_until_ending(rt, registry, running);
+            join_until_due(
+                rt,
+                registry,
+                running,
+                Duration::from_secs(MOST_LEAVING_SECONDS),
+            );
+        } else {
+            join_all(rt, running);
+        }
+        grace.join(rt);
+        ServeEnd {
+            served: met.saturating_sub(failed),
+            failed,
+        }
     }
 }
 
-/// Starts the session of a connection on a thread of its own, which joins those that run. Room for it there is asked for before it is
-/// started, so that no accept waits for a session.
-fn start<R, G>(
+/// Takes the connection that a thread was given, reads its request and answers it.
+fn come_in<'a, R: Wait + Clock>(
+    own: &'a R,
+    alloc: Global,
+    registry: &'a Registry,
+    shared: &Shared,
+) -> Result<Arrival<Interruptible<'a, Socket<'a, R>>>, SessionEnd> {
+    let Some(stream) = shared.take(own) else {
+        return Err(SessionEnd::Failed);
+    };
+    let Ok(socket) = Socket::new(own, stream) else {
+        return Err(SessionEnd::Failed);
+    };
+    come(own, alloc, registry, Interruptible::new(socket, registry))
+}
+
+/// Starts a thread for the session of a connection.
+fn spawn<R, G>(
     rt: &R,
     alloc: Global,
-    stream: TcpStream,
-    connection: u32,
     registry: &Arc<Registry, Global>,
     gate: &Arc<G, Global>,
+    connection: u32,
+    shared: &Arc<Shared, Global>,
     running: &mut Vec<Running>,
 ) -> Option<()>
 where
     R: Threads + Wait + Clock + Clone + Send + Drop + 'static,
     G: Gate + Send + Sync + Drop + 'static,
 {
-    let _ = stream.set_nodelay(true);
-    let _ = stream.set_write_timeout(Some(Duration::from_secs(MOST_WRITE_SECONDS)));
     running.reserve(1).ok()?;
     let own = rt.clone().ok()?;
     let registry = Arc::try_clone(registry).ok()?;
     let gate = Arc::try_clone(gate).ok()?;
-    let has_ended = Arc::new(alloc, AtomicBool::new(false)).ok()?;
-    let flag = Arc::try_clone(&has_ended).ok()?;
-    let handle = Builder::new()
+    let of_thread = Arc::try_clone(shared).ok()?;
+    let of_running = Arc::try_clone(shared).ok()?;
+    let coming = Arc::try_clone(&registry).ok()?;
+    coming.comes();
+    let started = Builder::new()
         .stack_size(STACK_BYTES)
         .spawn(rt, move || {
-            let end = session(&own, alloc, &registry, connection, stream, &*gate);
-            flag.store(true, Ordering::SeqCst);
+            let arrival = come_in(&own, alloc, &registry, &*of_thread);
+            registry.has_come();
+            let end = match arrival {
+                Ok(arrival) => attend(&own, alloc, &registry, connection, arrival, &*gate),
+                Err(end) => end,
+            };
+            of_thread.has_ended.store(true, Ordering::SeqCst);
             registry.ended.ring();
             registry.ended.wake();
             end
         })
-        .ok()?;
-    running.push_reserved(Running { handle, has_ended });
+        .ok();
+    let Some(handle) = started else {
+        coming.has_come();
+        return None;
+    };
+    running.push_reserved(Running {
+        handle,
+        shared: of_running,
+    });
     Some(())
 }

@@ -1,29 +1,32 @@
 //! Sessions: one connection from its handshake to its end.
 
-ghost use Rattle.std.specs.Prelude.{◌≡◌, ◌↔◌, Some};
+ghost use Rattle.std.specs.Prelude.{◌≡◌, ◌↔◌, if◌then◌else◌, None, Some};
 ghost use Rattle.relay_server.specs.Memory.{LacksMemory};
-ghost use Rattle.relay_server.specs.Spectating.{Pushed};
+ghost use Rattle.relay_server.specs.Spectating.{Conversed, Followed, Pushed};
 
-use crate::head::Head;
+use crate::key::Key;
 use crate::line::Line;
 use crate::memory::is_want_of_memory;
-use crate::outlet::SocketOutlet;
+use crate::outlet::{MOST_SILENT_SECONDS, SocketOutlet};
 use crate::registry::Registry;
+use crate::request::receive;
 use crate::seat::Seat;
 use crate::spectating::Spectating;
 use crate::stream::Stream;
-use crate::talk::{Talk, TalkEnd};
+use crate::talk::{Stop, Talk, TalkEnd};
 use relay_pushing::{Conn, Gate, Outlet, PushEnd};
 use std::alloc::Global;
 use std::sync::Wait;
-use std::time::Clock;
-use tungstenite::{Error, HandshakeError, WebSocketConfig};
+use std::time::{Clock, Duration};
+use tungstenite::{Error, HandshakeError};
 
 /// How a session ended.
 #[derive(Clone, Copy, PartialEq, Eq, Debug)]
 pub enum SessionEnd {
     /// The peer closed, or as many messages were read as may be.
     Closed,
+    /// The peer broke the protocol, and was told so.
+    Broken,
     /// The device failed, or there was no memory.
     Failed,
     /// The game that it followed has ended.
@@ -32,24 +35,26 @@ pub enum SessionEnd {
     Cut,
     /// There was no handshake.
     NoHandshake,
+    /// Serving was to end, and the peer was told so.
+    Ending,
 }
 
 /// The close code after `Over`, and where as many messages were read as may be: a normal end (RFC 6455, section 7.4.1).
 const NORMAL: u16 = 1000;
 
+/// The close code where serving is to end: the server goes away (RFC 6455, section 7.4.1).
+const GOING_AWAY: u16 = 1001;
+
 /// The close code after `Cut`: this server's own, of those for private use (RFC 6455, section 7.4.2).
 const CUT_OFF: u16 = 4001;
 
-/// How many bytes one read of the stream asks for.
-const READ_BYTES: usize = 4096;
-
-/// The greatest number of bytes of a message. A command has at most 1,024, and one that is longer is answered so; but a message is
-/// taken into memory first.
-const MOST_MESSAGE_BYTES: usize = 65_536;
-
 /// One connection from its handshake to its end: it answers commands, and once it follows a board, pushes that board's moves and is
-/// read no more. The request's head may have 8,192 bytes and take 10 seconds; at most 1,000,000 messages are read. At its end each board
-/// that it opened and that has not ended is ended as abandoned, and its follower leaves.
+/// read no more. The request's head may have 8,192 bytes and take 10 seconds; a request that is refused is answered with its status.
+/// At most 1,000,000 messages are read. A peer that is silent
+/// for 30 seconds is sent a ping, and after 30 more another one; 30 seconds behind that it is taken to have gone. A message of which a
+/// part has come has 10 seconds. At its end each board that it opened and that has not ended is ended as abandoned, and its follower leaves.
+/// Where the connection has a key, its boards are not ended while another one with that key is there, nor while they wait for one. Where
+/// serving is to end before its time, the peer is told so by the close code 1001.
 pub fn session<'a, R: Wait + Clock, S: Stream + Drop, G: Gate>(
     rt: &'a R,
     alloc: Global,
@@ -58,38 +63,73 @@ pub fn session<'a, R: Wait + Clock, S: Stream + Drop, G: Gate>(
     stream: S,
     gate: &G,
 ) -> SessionEnd {
-    let outlet = match shake_hands(rt, alloc, registry, stream) {
-        Ok(outlet) => outlet,
-        Err(end) => return end,
-    };
+    match come(rt, alloc, registry, stream) {
+        Ok(arrival) => attend(rt, alloc, registry, connection, arrival, gate),
+        Err(end) => end,
+    }
+}
+
+/// A connection that has shaken hands. Where it has a key, it counts among those that hold it.
+#[derive(Drop)]
+pub(crate) struct Arrival<S> {
+    outlet: SocketOutlet<S>,
+    key: Option<Key>,
+}
+
+/// Reads the request and answers it; and notes that a connection with its key is there, if it has one.
+pub(crate) fn come<R: Wait + Clock, S: Stream + Drop>(
+    rt: &R,
+    alloc: Global,
+    registry: &Registry,
+    stream: S,
+) -> Result<Arrival<S>, SessionEnd> {
+    let arrival = shake_hands(rt, alloc, registry, stream)?;
+    if let Some(key) = &arrival.key {
+        if registry.arrive(rt, key).is_err() {
+            return Err(SessionEnd::Failed);
+        }
+    }
+    Ok(arrival)
+}
+
+/// Answers a connection that has come, to its end.
+pub(crate) fn attend<'a, R: Wait + Clock, S: Stream + Drop, G: Gate>(
+    rt: &'a R,
+    alloc: Global,
+    registry: &'a Registry,
+    connection: u32,
+    arrival: Arrival<S>,
+    gate: &G,
+) -> SessionEnd {
+    let Arrival { outlet, key } = arrival;
     let mut talk = Talk {
         alloc,
         connection,
         outlet,
         conn: Conn::new(alloc),
-        seat: Seat::new(rt, registry),
+        seat: Seat::new(rt, registry, key),
         gate,
         is_open: false,
     };
-    let told = talk.run();
+    let end = converse(rt, &mut talk);
     let Talk {
         mut outlet,
         conn,
         mut seat,
         ..
     } = talk;
-    let end = match told {
-        TalkEnd::Closed => SessionEnd::Closed,
-        TalkEnd::Full => {
-            let _ = outlet.close(NORMAL);
-            SessionEnd::Closed
-        }
-        TalkEnd::Follows => follow(rt, alloc, &mut outlet, &mut seat),
-        TalkEnd::Failed => SessionEnd::Failed,
-    };
     outlet.give_up();
-    conn.finish(&mut seat);
-    seat.leave();
+    match &key {
+        None => {
+            conn.finish(&mut seat);
+            seat.leave();
+        }
+        Some(key) => {
+            let _ = conn.part();
+            seat.leave();
+            registry.leave(rt, key);
+        }
+    }
     if end != SessionEnd::Failed {
         outlet.drain(rt);
     }
@@ -102,28 +142,29 @@ fn shake_hands<C: Clock, S: Stream + Drop>(
     alloc: Global,
     registry: &Registry,
     mut stream: S,
-) -> Result<SocketOutlet<S>, SessionEnd> {
-    let head = match Head::read(clock, alloc, &mut stream) {
-        Ok(head) => head,
-        Err(error) => return Err(end_unshaken(&Error::Io(error))),
+) -> Result<Arrival<S>, SessionEnd> {
+    let head = receive(clock, alloc, &mut stream)?;
+    if let Err(error) = stream.bound_reads(Some(Duration::from_secs(MOST_SILENT_SECONDS))) {
+        return Err(end_unshaken(&Error::Io(error)));
+    }
+    let key = if registry.takes_keys() {
+        head.key()
+    } else {
+        None
     };
     let line = Line::new(alloc, stream, head, registry.most_wakes());
     match tungstenite::accept(alloc, line) {
-        Ok(mut socket) => {
-            let config = WebSocketConfig::default()
-                .read_buffer_size(READ_BYTES)
-                .max_frame_size(Some(MOST_MESSAGE_BYTES))
-                .max_message_size(Some(MOST_MESSAGE_BYTES));
-            socket.set_config(config);
-            Ok(SocketOutlet::new(alloc, socket))
-        }
+        Ok(socket) => Ok(Arrival {
+            outlet: SocketOutlet::new(alloc, socket.into_inner()),
+            key,
+        }),
         Err(HandshakeError::Failure(error)) => Err(end_unshaken(&error)),
         Err(HandshakeError::Interrupted(_)) => Err(SessionEnd::NoHandshake),
     }
 }
 
 /// How a session ends whose handshake failed: for want of memory, or because there was no handshake.
-fn end_unshaken(error: &Error) -> SessionEnd
+pub(crate) fn end_unshaken(error: &Error) -> SessionEnd
     ensures failed { (result ≡ SessionEnd.Failed) ↔ LacksMemory error.now }
     ensures none { (result ≡ SessionEnd.NoHandshake) ↔ (LacksMemory error.now → ⊥) }
 {
@@ -134,15 +175,47 @@ fn end_unshaken(error: &Error) -> SessionEnd
     }
 }
 
+/// Answers commands, and once the connection follows a board, pushes that board's moves to it.
+fn converse<'a, R: Wait + Clock, S: Stream + Drop, G: Gate>(
+    rt: &'a R,
+    talk: &mut Talk<'a, '_, R, S, G>,
+) -> SessionEnd
+    ensures { talk.old.seat.follower ≡ None → Conversed talk.new.outlet.texts.items result }
+{
+    match talk.run(rt) {
+        TalkEnd::Closed(code) => match talk.outlet.put_close(code) {
+            Ok(()) => SessionEnd::Closed,
+            Err(_) => SessionEnd::Failed,
+        },
+        TalkEnd::Full => {
+            let _ = talk.outlet.close(NORMAL);
+            SessionEnd::Closed
+        }
+        TalkEnd::Broken(breach) => match talk.break_off(breach) {
+            Ok(()) => SessionEnd::Broken,
+            Err(Stop) => SessionEnd::Failed,
+        },
+        TalkEnd::Follows => follow(rt, talk.alloc, &mut talk.outlet, &mut talk.seat),
+        TalkEnd::Failed if talk.seat.registry().is_ending() => {
+            let _ = talk.outlet.close(GOING_AWAY);
+            SessionEnd::Ending
+        }
+        TalkEnd::Failed => SessionEnd::Failed,
+    }
+}
+
 /// Pushes the moves of the board that it follows to the connection, which is no longer read.
 fn follow<R: Wait, S: Stream + Drop>(
     rt: &R,
     alloc: Global,
     outlet: &mut SocketOutlet<S>,
     seat: &mut Seat<'_, R>,
-) -> SessionEnd {
-    match seat.spectating() {
-        Some(spectating) => push(rt, alloc, outlet, spectating),
+) -> SessionEnd
+    ensures { Followed seat.old.follower seat.new.follower outlet.old.texts.items outlet.new.texts.items result }
+{
+    let registry = seat.registry();
+    match &mut seat.spectating {
+        Some(spectating) => push(rt, alloc, registry, outlet, spectating),
         None => SessionEnd::Failed,
     }
 }
@@ -151,6 +224,7 @@ fn follow<R: Wait, S: Stream + Drop>(
 fn push<R: Wait, S: Stream + Drop>(
     rt: &R,
     alloc: Global,
+    registry: &Registry,
     outlet: &mut SocketOutlet<S>,
     spectating: &mut Spectating,
 ) -> SessionEnd
@@ -158,7 +232,7 @@ fn push<R: Wait, S: Stream + Drop>(
 {
     match spectating.push(rt, alloc, outlet) {
         PushEnd::Over(_) => {
-            let _ = outlet.close(NORMAL);
+            let _ = outlet.close(code_of_over(registry.is_ending()));
             SessionEnd::Over
         }
         PushEnd::Cut => {
@@ -167,4 +241,11 @@ fn push<R: Wait, S: Stream + Drop>(
         }
         PushEnd::Failed(_) => SessionEnd::Failed,
     }
+}
+
+/// The close code after `Over`.
+fn code_of_over(is_ending: bool) -> u16
+    ensures { result ≡ if is_ending then 1001 else 1000 }
+{
+    if is_ending { GOING_AWAY } else { NORMAL }
 }

@@ -1,5 +1,6 @@
 //! What a connection follows, and what it is sent of it.
 
+ghost use Rattle.std.specs.Prelude.{◌≡◌};
 ghost use Rattle.relay_server.specs.Spectating.{Sent};
 
 use crate::broadcast::Broadcast;
@@ -44,7 +45,10 @@ pub(crate) struct Spectating {
 
 impl Spectating {
     /// A follower of this board.
-    pub(crate) fn new(broadcast: Arc<Broadcast, Global>, follower: Follower) -> Spectating {
+    pub(crate) fn new(broadcast: Arc<Broadcast, Global>, follower: Follower) -> Spectating
+        ensures source { result.source ≡ follower }
+        ensures board { result.broadcast ≡ broadcast }
+    {
         Spectating {
             broadcast,
             source: FollowerSource { follower },

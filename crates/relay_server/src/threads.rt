@@ -1,16 +1,42 @@
 //! The threads of sessions, joined as they end.
 
+use crate::deadline::Deadline;
+use crate::registry::Registry;
 use crate::sessions::SessionEnd;
 use std::alloc::Global;
-use std::sync::Arc;
+use std::net::TcpStream;
 use std::sync::atomic::{AtomicBool, Ordering};
+use std::sync::{Arc, Mutex, Wait};
 use std::thread::{JoinHandle, Threads};
+use std::time::{Clock, Duration};
+
+/// What a session's thread shares with who started it: the connection, until one of them takes it, and whether the session has ended.
+#[derive(Drop)]
+pub(crate) struct Shared {
+    stream: Mutex<Option<TcpStream>>,
+    pub(crate) has_ended: AtomicBool,
+}
+
+impl Shared {
+    /// A connection that nobody has taken yet.
+    pub(crate) fn new(stream: TcpStream) -> Shared {
+        Shared {
+            stream: Mutex::new(Some(stream)),
+            has_ended: AtomicBool::new(false),
+        }
+    }
+
+    /// Takes the connection, if nobody has.
+    pub(crate) fn take<R: Wait>(&self, rt: &R) -> Option<TcpStream> {
+        self.stream.lock(rt).take()
+    }
+}
 
 /// A session's thread. Its last act is to note that the session has ended, so that it can be joined without waiting.
 #[derive(Drop)]
 pub(crate) struct Running {
     pub(crate) handle: JoinHandle<SessionEnd>,
-    pub(crate) has_ended: Arc<AtomicBool, Global>,
+    pub(crate) shared: Arc<Shared, Global>,
 }
 
 /// Joins the threads whose sessions have ended. A thread that has ended and is not joined keeps its stack.
@@ -20,7 +46,7 @@ pub(crate) fn join_ended<R: Threads>(rt: &R, running: &mut Vec<Running>) {
         if at >= running.len() {
             return;
         }
-        if running[at].has_ended.load(Ordering::SeqCst) {
+        if running[at].shared.has_ended.load(Ordering::SeqCst) {
             let ended = running.swap_remove(at);
             let _ = ended.handle.join(rt);
         } else {
@@ -33,5 +59,45 @@ pub(crate) fn join_ended<R: Threads>(rt: &R, running: &mut Vec<Running>) {
 pub(crate) fn join_all<R: Threads>(rt: &R, running: Vec<Running>) {
     for one in running {
         let _ = one.handle.join(rt);
+    }
+}
+
+/// Joins threads as their sessions end, until none is left or serving is to end. Those that are left are given back.
+pub(crate) fn join_until_ending<R: Threads + Wait>(
+    rt: &R,
+    registry: &Registry,
+    mut running: Vec<Running>,
+) -> Vec<Running> {
+    for _ in rt.forever() {
+        let heard = registry.ended.count();
+        join_ended(rt, &mut running);
+        if running.is_empty() || registry.is_ending() {
+            return running;
+        }
+        let _ = registry.ended.wait(rt, heard);
+    }
+    unreachable!()
+}
+
+/// Joins threads as their sessions end, for so long at most. Those that are left then run on.
+pub(crate) fn join_until_due<R: Threads + Wait + Clock>(
+    rt: &R,
+    registry: &Registry,
+    mut running: Vec<Running>,
+    most: Duration,
+) {
+    let Ok(deadline) = Deadline::after(rt, most) else {
+        return;
+    };
+    for _ in rt.forever() {
+        let heard = registry.ended.count();
+        join_ended(rt, &mut running);
+        if running.is_empty() {
+            return;
+        }
+        let Ok(left) = deadline.left(rt) else {
+            return;
+        };
+        registry.ended.doze(rt, heard, left);
     }
 }

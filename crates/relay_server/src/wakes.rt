@@ -1,5 +1,7 @@
 //! Wakes that are put off.
 
+ghost use Rattle.std.specs.Prelude.{◌≡◌, ◌+◌, ◌<◌, ◌≤◌, ◌⊎◌, Some, true, false, is_some};
+
 use crate::broadcast::Broadcast;
 use std::alloc::Global;
 use std::sync::Arc;
@@ -15,7 +17,11 @@ pub(crate) struct Wakes {
 
 impl Wakes {
     /// None were put off yet.
-    pub(crate) fn new(most: u16) -> Wakes {
+    pub(crate) fn new(most: u16) -> Wakes
+        ensures none { is_some result.rung ≡ false }
+        ensures count { result.put_off ≡ 0 }
+        ensures most { result.most ≡ most }
+    {
         Wakes {
             rung: None,
             put_off: 0,
@@ -24,7 +30,11 @@ impl Wakes {
     }
 
     /// Puts a wake off, or wakes at once where as many were put off as may be. Another board's sleepers are woken first.
-    pub(crate) fn put_off(&mut self, rung: Arc<Broadcast, Global>) {
+    pub(crate) fn put_off(&mut self, rung: Arc<Broadcast, Global>)
+        ensures kept { is_some self.new.rung ≡ true → (self.new.rung ≡ Some rung) × (self.new.put_off < self.old.most) }
+        ensures woken { is_some self.new.rung ≡ false → (self.old.most ≤ self.old.put_off + 1) ⊎ (self.old.most ≤ 1) }
+        ensures most { self.new.most ≡ self.old.most }
+    {
         if let Some(earlier) = &self.rung {
             if earlier.name != rung.name {
                 self.wake();
@@ -39,7 +49,11 @@ impl Wakes {
     }
 
     /// Wakes whom it was put off to wake.
-    pub(crate) fn wake(&mut self) {
+    pub(crate) fn wake(&mut self)
+        ensures none { is_some self.new.rung ≡ false }
+        ensures count { self.new.put_off ≡ 0 }
+        ensures most { self.new.most ≡ self.old.most }
+    {
         if let Some(rung) = &self.rung {
             rung.chime.wake();
         }

@@ -1,12 +1,3 @@
-//! Worked cases of sessions and of serving.
+//! The tests.
 
-mod abrupt;
-mod client;
-mod frames;
-mod gates;
-mod held;
-mod loopback;
-mod memory;
-mod refusals;
-mod server;
-mod texts;
+mod sessions;

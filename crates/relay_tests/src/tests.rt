@@ -1,15 +1,5 @@
-//! Worked cases of both kinds of relay, and comparisons with a plain one.
+//! The tests, a module for each layer that is tested.
 
-mod boards;
-mod callers;
-mod closing;
-mod endings;
-mod kinds;
-mod live;
-mod memory;
-mod names;
-mod places;
-mod plain;
-mod plies;
-mod random;
-mod table;
+mod engines;
+mod live_boards;
+mod relays;

@@ -1,8 +1,6 @@
-use Rattle.std.proofs.Common.{◌≡◌, ◌<◌, inl, inr, ℕ, Bool, true, false, cond, List, length, take, None, Some, Ok, Err, OnOk, sym, subst, ap, ◌∙◌, arith}
-use Rattle.std.specs.Prelude.{nat_le}
+use Rattle.std.proofs.Common.{◌≡◌, ◌<◌, inl, inr, ℕ, List, length, take, None, Ok, Err, OnOk, sym, subst, ap, ◌∙◌, arith}
 use Rattle.std.proofs.Math.Nat.{lt_of_not-le}
-use Rattle.std.proofs.lemmas.Option.{none-some, same_Some}
-use Rattle.c960_board.specs.declared.parts.Parts.{Parts}
+use Rattle.std.proofs.lemmas.Option.{none-some}
 use Rattle.c960_board.specs.Moves.{Triple}
 use Rattle.c960_game.specs.Positions.{last_position, position_at}
 use Rattle.c960_game.specs.declared.refusal.Refusal.TheVariants.{NotYet, TooFarBack}
@@ -12,6 +10,7 @@ use Rattle.live_steps.specs.declared.view.View.{View}
 use Rattle.live_board.specs.Board.{from_place}
 use Rattle.live_board.specs.Desk.{Joined, Searched}
 use Rattle.live_board.proofs.Tries.{unmoved_below}
+use Rattle.relay_server.proofs.Told.{made_here}
 use Rattle.relay_server.proofs.broadcast.join.Goals as goal
 
 -- where there is no position, the place lies past the moves
@@ -30,15 +29,6 @@ unreachable-requires c =
     let early = past board.setup.start board.log c.joined.result (sym c.position_at.ensures.value ∙ c.in_default.is) in
     let from : f.part.joined ≡ from_place c.args.board.now.knows c.args.from = ap (λ (p : Part). p.joined) told.follower.1 in
     not_refused f NotYet (sym c.in_ok-follower.was ∙ c.follow.ensures.not_yet.1 (omega (arith, early, c.joined.ensures, from, ap length c.follow.ensures.log)))
-
--- where there is a position, it is the one after that many of the moves
-made_here : (n : ℕ) (l : List Triple) (place : ℕ) (p : Parts) → position_at n l place ≡ Some p → p ≡ last_position n (take place l)
-unfolding position_at
-made_here n l place p e = by (nat_le place (length l)) e
-  where
-    by : (b : Bool) → cond b (Some (last_position n (take place l))) None ≡ Some p → p ≡ last_position n (take place l)
-    by true e = sym (same_Some _ _ e)
-    by false e = absurd (none-some p e)
 
 -- nobody who joins changes the setup
 searched_setup : (v w : View) → Searched v w → w.setup ≡ v.setup

@@ -38,7 +38,7 @@ loop-place-preserved c =
       e.sound,
       omega (arith, a.3, c.min-least.ensures),
       λ k j b less d. dite (ℕ_discrete k c.loop-place.place)
-          (λ (here : k ≡ c.loop-place.place). omega (arith, c.noted_at.ensures j b (ap (get_elem? c.close_at.new.self.knows.notes) (sym here) ∙ d), c.min-least.ensures))
+          (λ (here : k ≡ c.loop-place.place). omega (arith, c.noted_at.ensures.open j b (ap (get_elem? c.close_at.new.self.knows.notes) (sym here) ∙ d), c.min-least.ensures))
           (λ ne. omega (arith, a.4 k j b (omega arith) (sym (u.elsewhere k ne) ∙ d), c.min-least.ensures)),
     )
 

@@ -16,6 +16,9 @@ returns-in-Vacant-clause-place c =
     let there = noted_there i c.loop-place.place c.index.result.now c.args.self.now.knows (ap (λ (h : BoardSeat). h.knows) is) inside c.index.ensures in
     (inside, there ∙ ap some c.in-Vacant.is)
 
+pub returns-in-Vacant-clause-first : goal.returns-in-Vacant-clause-first
+returns-in-Vacant-clause-first c = c.loop-place.invariant
+
 pub loop-place-preserved : goal.loop-place-preserved
 loop-place-preserved c = λ j less e.
     let i = c.self.invariant in

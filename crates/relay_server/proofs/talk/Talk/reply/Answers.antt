@@ -8,11 +8,11 @@ on_ok (Err e) p = tt
 
 pub returns : goal.returns
 returns g c =
-    let answered = c.answer.new.self in
     let old = c.args.self.now.outlet.texts.items in
     let conn = c.answered.ensures.conn ∙ c.in_ok-hand_over.ensures.conn in
+    let seat = c.answered.ensures.seat ∙ c.in_ok-hand_over.ensures.seat in
     let texts =
     ap Some c.answered.ensures.texts ∙ c.in_ok-hand_over.ensures.texts
     ∙ ap (λ (l : List (List ℕ)). Some (l ++ c.as_str.result.now ∷ [])) c.in-Ok.ensures.texts
     ∙ ap (λ (b : List ℕ). Some (old ++ b ∷ [])) c.as_str.ensures.value in
-    on_ok c.answered.result (string_bytes c.in-Ok.text, answered.seat, rw conn c.in-Ok.ensures.ok, texts)
+    on_ok c.answered.result (string_bytes c.in-Ok.text, rw (conn, seat) c.in-Ok.ensures.ok, texts)

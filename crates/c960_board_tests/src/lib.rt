@@ -1,6 +1,0 @@
-//! The tests of squares, moves, start numbers and FEN. They stand in a crate of their own, since a crate with tests is proved
-//! twice.
-#![tactic(auto)]
-
-#[cfg(test)]
-mod tests;

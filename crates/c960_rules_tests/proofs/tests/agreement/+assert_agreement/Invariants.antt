@@ -1,5 +1,0 @@
--- The plies fall with each call.
-use Rattle.c960_rules_tests.proofs.tests.agreement.+assert_agreement.Given as goal
-
-abbrev pub decreases-assert_agreement : goal.decreases-assert_agreement
-decreases-assert_agreement g l = l.plies

@@ -1,0 +1,5 @@
+//! The tests, a module for each crate that is tested.
+
+mod board;
+mod game;
+mod rules;

@@ -1,0 +1,59 @@
+//! The list of legal moves and the calls that need no list agree with their plain references.
+
+use crate::tests::rules::reading::{played, position_of};
+use crate::tests::rules::reference::{ep_of_list, legal_by_trial, state_of_list};
+use c960_rules::{Lawful, any_legal, ep_legal, legal_moves, state};
+use std::alloc::Global;
+use std::process::Abort;
+use std::test::Fail;
+
+/// Asserts that all agree at a position, and at all positions within so many plies of it.
+fn assert_agreement(
+    rt: &impl Abort,
+    alloc: Global,
+    lawful: &Lawful,
+    plies: u8,
+) -> Result<(), Fail> {
+    let moves = legal_moves(alloc, lawful)?;
+    let tried = legal_by_trial(alloc, lawful)?;
+    assert!(rt; moves.as_slice() == tried.as_slice());
+    assert!(rt; any_legal(lawful) == !tried.is_empty());
+    assert!(rt; state(lawful) == state_of_list(lawful, tried.as_slice()));
+    assert!(rt; ep_legal(lawful) == ep_of_list(lawful, tried.as_slice()));
+    if plies > 0 {
+        for m in moves.iter() {
+            let Some(next) = played(rt, lawful, *m) else {
+                panic!(rt; "a listed move is not legal");
+            };
+            assert_agreement(rt, alloc, &next, plies - 1)?;
+        }
+    }
+    Ok(())
+}
+
+/// Positions with castling, targets, promotions, pins, checks and ends.
+const POSITIONS: [&str; 15] = [
+    "rnbqkbnr/pppppppp/8/8/8/8/PPPPPPPP/RNBQKBNR w HAha - 0 1",
+    "r3k2r/p1ppqpb1/bn2pnp1/3PN3/1p2P3/2N2Q1p/PPPBBPPP/R3K2R w HAha - 0 1",
+    "4k3/8/8/8/8/8/8/5KR1 w G - 0 1",
+    "4k3/8/8/8/8/8/8/RN4K1 w A - 0 1",
+    "1r2k3/8/8/8/8/8/8/R3K3 w A - 0 1",
+    "4r1k1/8/8/8/8/6p1/6P1/5KRB w G - 0 1",
+    "r3k2r/8/8/8/8/8/8/R3K2R w HAha - 0 1",
+    "4k3/8/4p3/3pP3/8/1q6/8/K7 w - d6 0 1",
+    "4k3/8/8/3pP3/2b5/8/8/5K2 w - d6 0 1",
+    "r3k2r/1P4P1/8/8/8/8/8/4K3 w ha - 0 1",
+    "1rqbkrbn/1ppppp1p/1n6/p1N3p1/8/2P4P/PP1PPPP1/1RQBKRBN w FBfb - 0 9",
+    "7k/5Q2/6K1/8/8/8/8/8 w - - 0 1",
+    "rnbqkbnr/pppp1ppp/8/4p3/6P1/5P2/PPPPP2P/RNBQKBNR b HAha g3 0 2",
+    "8/8/8/K2pP2r/8/8/8/4k3 w - d6 0 1",
+    "rnbqkbnr/ppp1pppp/8/8/3pP3/8/PPPP1PPP/RNBQKBNR b HAha e3 0 3",
+];
+
+#[test]
+fn all_agree_within_two_plies(rt: HostRuntime) -> Result<(), Fail> {
+    for text in POSITIONS {
+        assert_agreement(&rt, rt.alloc(), &position_of(&rt, text), 2)?;
+    }
+    Ok(())
+}

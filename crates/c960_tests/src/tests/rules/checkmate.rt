@@ -1,0 +1,43 @@
+//! Check and checkmate (FIDE Laws, Articles 3.9 and 5.1.1).
+
+use crate::tests::rules::reading::{after, assert_text, start};
+use c960_board::Colour;
+use c960_rules::{State, any_legal, in_check, legal_moves, state};
+use std::test::Fail;
+
+/// The shortest game that ends in checkmate from the standard array: each move with the position after it.
+const FOOLS_MATE: [(&str, &str); 4] = [
+    (
+        "f2f3",
+        "rnbqkbnr/pppppppp/8/8/8/5P2/PPPPP1PP/RNBQKBNR b HAha - 0 1",
+    ),
+    (
+        "e7e5",
+        "rnbqkbnr/pppp1ppp/8/4p3/8/5P2/PPPPP1PP/RNBQKBNR w HAha e6 0 2",
+    ),
+    (
+        "g2g4",
+        "rnbqkbnr/pppp1ppp/8/4p3/6P1/5P2/PPPPP2P/RNBQKBNR b HAha g3 0 2",
+    ),
+    (
+        "d8h4",
+        "rnb1kbnr/pppp1ppp/8/4p3/6Pq/5P2/PPPPP2P/RNBQKBNR w HAha - 1 3",
+    ),
+];
+
+#[test]
+fn fools_mate_ends_in_checkmate(rt: HostRuntime) -> Result<(), Fail> {
+    let mut reached = start(&rt, 518);
+    for (text, position) in FOOLS_MATE {
+        assert!(rt; state(&reached) == State::Going, "before {text}");
+        assert!(rt; any_legal(&reached));
+        reached = after(&rt, &reached, text);
+        assert_text(&rt, &reached, position);
+    }
+    assert!(rt; state(&reached) == State::Checkmate);
+    assert!(rt; in_check(&reached.position(), Colour::White));
+    assert!(rt; !in_check(&reached.position(), Colour::Black));
+    assert!(rt; !any_legal(&reached));
+    assert!(rt; legal_moves(rt.alloc(), &reached)?.len() == 0);
+    Ok(())
+}

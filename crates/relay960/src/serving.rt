@@ -1,0 +1,9 @@
+//! Serving on a port of the own machine, over the program's runtime.
+
+mod fault;
+mod service;
+mod status;
+
+pub use fault::ServeFault;
+pub use service::serve_run;
+pub use status::status_of_end;

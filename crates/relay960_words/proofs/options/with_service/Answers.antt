@@ -1,0 +1,18 @@
+use Rattle.std.proofs.Common.{rules, ap, ap₂, codes, ◌≡◌, ◌∙◌}
+use Rattle.std.proofs.lemmas.Result.{IfOk-weaker}
+use Rattle.clap.specs.Words.{rule_of, with_rule}
+use Rattle.relay960_words.specs.CommandLine.{flag_rule, option_rule}
+use Rattle.relay960_words.proofs.options.with_service.Goals as goal
+
+pub returns : goal.returns
+returns c =
+    let port : rule_of c.number_option.result ≡ option_rule (codes "port") 1 65535 (codes "9600") = search rules in
+    let connections : rule_of c.number_option-2.result ≡ option_rule (codes "connections") 1 1000000 (codes "1000000") = search rules in
+    let forever : rule_of c.flag_option.result ≡ flag_rule (codes "forever") = search rules in
+    let until_input_ends : rule_of c.flag_option-2.result ≡ flag_rule (codes "until-input-ends") = search rules in
+    let grace : rule_of c.number_option-3.result ≡ option_rule (codes "grace") 0 3600 (codes "0") = search rules in
+    let one = c.in_ok-arg.ensures.shape c.number_option.ensures.local ∙ ap (with_rule _) port in
+    let two = c.in_ok-arg-2.ensures.shape c.number_option-2.ensures.local ∙ ap₂ with_rule one connections in
+    let three = c.in_ok-arg-3.ensures.shape c.flag_option.ensures.local ∙ ap₂ with_rule two forever in
+    let four = c.in_ok-arg-4.ensures.shape c.flag_option-2.ensures.local ∙ ap₂ with_rule three until_input_ends in
+    IfOk-weaker c.arg-5.result _ _ (λ r added. added.shape c.number_option-3.ensures.local ∙ ap₂ with_rule four grace) c.arg-5.ensures

@@ -1,0 +1,137 @@
+-- The words of the command line: which commands and options the program has, and what each list of words asks for. A command's
+-- reading of words is `clap`'s (`App`, `matches_of`, `subcommand_of`).
+use Rattle.std.specs.Prelude.{ℕ, Bool, ◌≡◌, ◌≢◌, ◌⊎◌, if◌then◌else◌, List, [], ◌∷◌, find, Option, Some, None, option_and_then, pos, true, false, codes}
+use Rattle.std.specs.Str.{bytes_eq}
+use Rattle.std.specs.Str.Parse.{IsNumeral, digits_value, without_leading_plus}
+use Rattle.c960_game.specs.Limits.{LimitNumbers}
+use Rattle.clap.specs.Words.{App, IsAmong, Row, Rule, Text, fault_of, first_of, matches_of, new_app, new_rule, one_of, subcommand_of, with_rule, with_subcommand}
+use Rattle.clap.specs.declared.builder.action.ArgAction.TheVariants.{Set, SetTrue}
+use Rattle.clap.specs.declared.error.kind.ErrorKind.TheVariants.{DisplayVersion}
+use Rattle.clap.specs.declared.builder.value_parser.ValueParser.TheVariants.{Signed}
+use Rattle.clap.specs.declared.parser.matches.ValueSource.{ValueSource}
+use Rattle.clap.specs.declared.parser.matches.ValueSource.TheVariants.{CommandLine}
+use Rattle.relay960_words.specs.declared.order.Connections.{Connections}
+use Rattle.relay960_words.specs.declared.order.Connections.TheVariants.{Count, Forever}
+use Rattle.relay960_words.specs.declared.order.Order.{Order}
+use Rattle.relay960_words.specs.declared.order.Order.TheVariants.{Run, Serve}
+use Rattle.relay960_words.specs.declared.order.Job.TheVariants.{Start, Moves, Play, Script, Version}
+use Rattle.relay960_words.specs.declared.order.Service.{Service}
+
+-- ---- the commands
+
+-- a start's number, which has to be given
+abbrev pub number_rule : Rule
+number_rule = record (new_rule (codes "N")) { action = Some Set; parser = Some (Signed (pos 0) (pos 65535)); required = true }
+
+-- the text of a position, which has to be given
+abbrev pub fen_rule : Rule
+fen_rule = record (new_rule (codes "FEN")) { action = Some Set; required = true }
+
+-- `--name NUMBER`, from least to most, with the number that it has where it is not given
+abbrev pub option_rule : Text → ℕ → ℕ → Text → Rule
+option_rule name least most default = record (new_rule name) {
+  long = Some name;
+  action = Some Set;
+  parser = Some (Signed (pos least) (pos most));
+  defaults = default ∷ [];
+}
+
+-- `--name`, which is given or is not
+abbrev pub flag_rule : Text → Rule
+flag_rule name = record (new_rule name) { long = Some name; action = Some SetTrue }
+
+-- a command with the options of a relay's limits
+abbrev pub with_limits : App → App
+with_limits a = with_rule (with_rule (with_rule (with_rule a
+    (option_rule (codes "boards") 1 256 (codes "16")))
+    (option_rule (codes "followers") 1 1024 (codes "64")))
+    (option_rule (codes "capacity") 1 1024 (codes "64")))
+    (option_rule (codes "plies") 1 16384 (codes "1024"))
+
+-- a command with the options of a service, but for those of its limits
+abbrev pub with_service : App → App
+with_service a = with_rule (with_rule (with_rule (with_rule (with_rule a
+    (option_rule (codes "port") 1 65535 (codes "9600")))
+    (option_rule (codes "connections") 1 1000000 (codes "1000000")))
+    (flag_rule (codes "forever")))
+    (flag_rule (codes "until-input-ends")))
+    (option_rule (codes "grace") 0 3600 (codes "0"))
+
+abbrev pub start_command : App
+start_command = with_rule (new_app (codes "start")) number_rule
+
+abbrev pub moves_command : App
+moves_command = with_rule (new_app (codes "moves")) fen_rule
+
+abbrev pub play_command : App
+play_command = with_rule (new_app (codes "play")) number_rule
+
+abbrev pub script_command : App
+script_command = with_limits (new_app (codes "script"))
+
+abbrev pub serve_command : App
+serve_command = with_limits (with_service (new_app (codes "serve")))
+
+-- the program's own name, with a version
+abbrev pub versioned : App
+versioned = record (new_app (codes "relay960")) { top = record (new_app (codes "relay960")).top { has_version = true } }
+
+abbrev pub program : App
+program = with_subcommand (with_subcommand (with_subcommand (with_subcommand (with_subcommand versioned
+    start_command.top) moves_command.top) play_command.top) script_command.top) serve_command.top
+
+-- ---- what they ask for
+
+-- the number whose numeral the entry of that name has
+abbrev pub HasNumber : List Row → Text → ℕ → Type 0
+HasNumber rows name n = (t : Text) × (one_of name rows ≡ Some t) × IsNumeral 10 (without_leading_plus t)
+    × (n ≡ digits_value 10 (without_leading_plus t))
+
+-- whether the flag of that name is given
+abbrev pub HasFlag : List Row → Text → Bool → Type 0
+HasFlag rows name b = one_of name rows ≡ Some (if b then codes "true" else codes "false")
+
+-- where the entry of that name comes from: the words, or its default
+abbrev pub source_of : List Row → Text → Option ValueSource
+source_of rows name = option_and_then (λ r. r.source) (find (λ r. bytes_eq r.id name) rows)
+
+-- the count of connections is that of `--connections`, or there is none: by `--forever`, with no `--connections` beside it
+abbrev pub HasConnections : List Row → Connections → Type 0
+HasConnections rows (Count n) = HasFlag rows (codes "forever") false × HasNumber rows (codes "connections") n
+HasConnections rows Forever = HasFlag rows (codes "forever") true × (source_of rows (codes "connections") ≢ Some CommandLine)
+
+pub record HasLimits (rows : List Row) (l : LimitNumbers) : Type 0 where
+  pub boards : HasNumber rows (codes "boards") l.boards
+  pub followers : HasNumber rows (codes "followers") l.followers
+  pub capacity : HasNumber rows (codes "capacity") l.capacity
+  pub plies : HasNumber rows (codes "plies") l.plies
+
+pub record HasService (rows : List Row) (s : Service) : Type 0 where
+  pub port : HasNumber rows (codes "port") s.port
+  pub connections : HasConnections rows s.connections
+  pub until_input_ends : HasFlag rows (codes "until-input-ends") s.until_input_ends
+  pub grace : HasNumber rows (codes "grace") s.grace
+  pub limits : HasLimits rows s.limits
+
+-- a command of that name, with these entries, asks for the order
+abbrev pub AsksFor : Text → List Row → Order → Type 0
+AsksFor name rows (Run (Start n)) = (name ≡ codes "start") × HasNumber rows (codes "N") n
+AsksFor name rows (Run (Moves text)) = (name ≡ codes "moves") × (first_of (codes "FEN") rows ≡ Some text.now)
+AsksFor name rows (Run (Play n)) = (name ≡ codes "play") × HasNumber rows (codes "N") n
+AsksFor name rows (Run (Script limits)) = (name ≡ codes "script") × HasLimits rows limits
+AsksFor name rows (Run Version) = ⊥
+AsksFor name rows (Serve s) = (name ≡ codes "serve") × HasService rows s
+
+-- the order is what is asked for: by a command with its entries, or by words that name none
+abbrev pub CommandAsksFor : Option (Text × List Row) → List Text → Order → Type 0
+CommandAsksFor (Some command) words order = AsksFor command.0 command.1 order
+CommandAsksFor None words order = AsksFor (codes "script") (matches_of script_command words) order
+
+-- the words ask for the version, and have no other fault
+abbrev pub AskForVersion : List Text → Type 0
+AskForVersion words = fault_of program words ≡ DisplayVersion ∷ []
+
+-- the words ask for the order: for the version, or by the command that they name, and where they name none, as those of a script
+abbrev pub WordsAskFor : List Text → Order → Type 0
+WordsAskFor words order = ((order ≡ Run Version) × IsAmong DisplayVersion (fault_of program words))
+    ⊎ CommandAsksFor (subcommand_of program words) words order

@@ -1,0 +1,92 @@
+//! The options of `script` and `serve`.
+
+ghost use Rattle.std.specs.Prelude.{◌≡◌, false, IfOk};
+ghost use Rattle.clap.specs.Words.{app_of, rule_of};
+ghost use Rattle.relay960_words.specs.CommandLine as line;
+
+use c960_game::{MOST_BOARDS, MOST_CAPACITY, MOST_FOLLOWERS, MOST_PLIES};
+use clap::{Arg, ArgAction, Command, value_parser};
+use std::alloc::{AllocError, Global};
+
+/// The option `--name NUMBER`, from `least` to `most`.
+fn number_option<'a>(
+    alloc: Global,
+    name: &'static str,
+    help: &'static str,
+    least: u32,
+    most: u32,
+    default: &'static str,
+) -> Arg<'a>
+    ensures rule { rule_of result ≡ line.option_rule name.now least most default.now }
+    ensures local { result.global ≡ false }
+{
+    Arg::new(alloc, name)
+        .long(name)
+        .help(help)
+        .action(ArgAction::Set)
+        .value_parser(value_parser!(u32).range(i64::from(least)..=i64::from(most)))
+        .default_value(default)
+}
+
+/// The option `--name`, which is given or is not.
+fn flag_option<'a>(alloc: Global, name: &'static str, help: &'static str) -> Arg<'a>
+    ensures rule { rule_of result ≡ line.flag_rule name.now }
+    ensures local { result.global ≡ false }
+{
+    Arg::new(alloc, name)
+        .long(name)
+        .help(help)
+        .action(ArgAction::SetTrue)
+}
+
+/// The command with the options of a relay's limits.
+pub(crate) fn with_limits<'a>(
+    alloc: Global,
+    command: Command<'a>,
+) -> Result<Command<'a>, AllocError>
+    ensures { IfOk result (λ c. app_of c ≡ line.with_limits (app_of command.entry)) }
+{
+    let boards = "How many boards there may be";
+    let followers = "How many followers a board may have";
+    let capacity = "How many moves a follower's queue holds";
+    let plies = "How many plies a game may have";
+    command
+        .arg(number_option(alloc, "boards", boards, 1, u32::from(MOST_BOARDS), "16"))?
+        .arg(number_option(
+            alloc,
+            "followers",
+            followers,
+            1,
+            u32::from(MOST_FOLLOWERS),
+            "64",
+        ))?
+        .arg(number_option(
+            alloc,
+            "capacity",
+            capacity,
+            1,
+            u32::from(MOST_CAPACITY),
+            "64",
+        ))?
+        .arg(number_option(alloc, "plies", plies, 1, u32::from(MOST_PLIES), "1024"))
+}
+
+/// The command with the options of a service, but for those of its limits.
+pub(crate) fn with_service<'a>(
+    alloc: Global,
+    command: Command<'a>,
+) -> Result<Command<'a>, AllocError>
+    ensures { IfOk result (λ c. app_of c ≡ line.with_service (app_of command.entry)) }
+{
+    let port = "The port of 127.0.0.1 on which it listens";
+    let connections = "How many connections it accepts before it ends";
+    let forever = "Accept connections without an end, in place of --connections";
+    let until_input_ends = "End in order when standard input ends";
+    let grace = "How many seconds a board waits for an operator with a key to come back";
+    command
+        .arg(number_option(alloc, "port", port, 1, 65535, "9600"))?
+        .arg(number_option(alloc, "connections", connections, 1, 1_000_000, "1000000"))?
+        .arg(flag_option(alloc, "forever", forever))?
+        .arg(flag_option(alloc, "until-input-ends", until_input_ends))?
+        .arg(number_option(alloc, "grace", grace, 0, 3600, "0"))
+}

@@ -1,0 +1,6 @@
+pub mod Heads
+pub mod Hearings
+pub mod Rules
+pub mod Steps
+pub mod Texts
+pub mod Written

@@ -1,0 +1,22 @@
+//! The server's side of WebSocket (RFC 6455) with no reading and no writing: bytes come in, events and bytes go out. Nothing here
+//! waits, looks at a clock or knows of a socket, so a thread for each peer and a loop for all of them read peers alike.
+#![tactic(auto)]
+
+mod begun;
+mod breach;
+mod code;
+mod event;
+pub mod laws;
+pub mod outgoing;
+mod payload;
+mod peer;
+mod refusal;
+mod request;
+mod unread;
+
+pub use breach::Breach;
+pub use code::Code;
+pub use event::Event;
+pub use peer::{MOST_BYTES, MOST_FRAGMENTS, Peer};
+pub use refusal::Refusal;
+pub use request::{MOST_FIELDS, refusal_of};

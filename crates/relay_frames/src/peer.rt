@@ -1,0 +1,265 @@
+//! A peer, from the end of its request on.
+
+ghost use Rattle.std.specs.Prelude.{◌≡◌, ◌+◌, ◌≤◌, false, length, drop, option_map, IfOk, OnOk, OnErr};
+ghost use Rattle.websocket.specs.FrameHeader.{header_len};
+ghost use Rattle.websocket.specs.declared.protocol.frame.coding.OpCode.TheVariants as OpCode;
+ghost use Rattle.relay_frames.specs.Events.{broken, told};
+ghost use Rattle.relay_frames.specs.Reading.{HasRoom, IsEffect, IsStep, control_breach, data_breach, fed, frame_effect, goes_on, head_breach, is_midway, kind_of, message_effect, most_bytes, next_step, opened, over, payload_at, read_checked, read_frame, with_payload};
+
+use crate::begun::{Begun, size_breach};
+use crate::breach::Breach;
+use crate::event::Event;
+use crate::payload::{control_event, unmasked};
+use crate::unread::Unread;
+use std::alloc::{AllocError, Global};
+use std::marker::Model;
+use websocket::protocol::MessageType;
+use websocket::protocol::frame::FrameHeader;
+use websocket::protocol::frame::coding::{Data, OpCode};
+
+/// How many bytes a message may have.
+pub const MOST_BYTES: usize = 65536;
+
+/// How many fragments a message may have.
+pub const MOST_FRAGMENTS: u32 = 1024;
+
+/// How many bytes a control frame may have (RFC 6455, section 5.5).
+const MOST_CONTROL_BYTES: u64 = 125;
+
+/// A peer that shook hands. It is fed the bytes that came from it, in pieces however small, and tells what they say.
+///
+/// Feed it, and then ask `next` until that tells nothing: then less than one frame is kept, and of a message in fragments what came
+/// so far. What is told depends on the bytes alone, and not on how they were cut into pieces.
+#[derive(Drop)]
+pub struct Peer {
+    alloc: Global,
+    unread: Unread,
+    begun: Option<Begun>,
+    is_over: bool,
+}
+
+impl Model for Peer {
+    ghost use Rattle.relay_frames.specs.Reading.{Reading};
+
+    ghost Value = { Reading };
+
+    ghost view = { λ p. record { unread = p.unread; begun = p.begun; is_over = p.is_over } };
+}
+
+impl Peer {
+    /// A peer that has sent nothing behind its request.
+    pub fn new(alloc: Global) -> Peer
+        ensures { result ≡ opened }
+    {
+        Peer {
+            alloc,
+            unread: Unread::new(alloc),
+            begun: None,
+            is_over: false,
+        }
+    }
+
+    /// Whether a close or a breach was told. Nothing more is told then.
+    pub fn is_over(&self) -> bool
+        ensures { result ≡ self.now.is_over }
+    {
+        self.is_over
+    }
+
+    /// Whether the peer is in the middle of a frame or of a message, so that more has to come soon.
+    pub fn is_midway(&self) -> bool
+        ensures { result ≡ is_midway self.now }
+    {
+        !self.unread.as_slice().is_empty() || self.begun.is_some()
+    }
+
+    /// These bytes came. Once a close or a breach was told they are let go.
+    ///
+    /// # Errors
+    ///
+    /// There was no memory. Then nothing has changed.
+    pub fn feed(&mut self, bytes: &[u8]) -> Result<(), AllocError>
+        ensures fed { OnOk result (self.new ≡ fed self.old bytes.now) }
+        ensures unchanged { OnErr result (self.new ≡ self.old) }
+    {
+        if self.is_over {
+            return Ok(());
+        }
+        self.unread.push(bytes)
+    }
+
+    /// What the bytes say next: `None` where more have to come, and always once a close or a breach was told. A breach is told as
+    /// soon as the head of its frame is there.
+    ///
+    /// # Errors
+    ///
+    /// There was no memory. Then nothing has changed.
+    #[tactic(auto, unfolding(crate::specs::Reading::next_step))]
+    pub fn next(&mut self) -> Result<Option<Event>, AllocError>
+        ensures told { IfOk result (λ event. option_map told event ≡ (next_step self.old).told) }
+        ensures then { OnOk result (self.new ≡ (next_step self.old).then) }
+        ensures unchanged { OnErr result (self.new ≡ self.old) }
+    {
+        if self.is_over {
+            return Ok(None);
+        }
+        match FrameHeader::parse(self.unread.as_slice()) {
+            Ok(None) => Ok(None),
+            Ok(Some((header, length))) => self.next_checked(&header, length),
+            Err(_) => Ok(Some(self.break_off(Breach::NoHead))),
+        }
+    }
+
+    /// What the frame with this head says.
+    #[tactic(auto, using(crate::proofs::Rules::head_kept))]
+    fn next_checked(
+        &mut self,
+        header: &FrameHeader,
+        length: u64,
+    ) -> Result<Option<Event>, AllocError>
+        requires { self.old.is_over ≡ false }
+        ensures told { IfOk result (λ event. option_map told event ≡ (read_checked self.old header.now length (head_breach self.old.begun header.now length)).told) }
+        ensures then { OnOk result (self.new ≡ (read_checked self.old header.now length (head_breach self.old.begun header.now length)).then) }
+        ensures unchanged { OnErr result (self.new ≡ self.old) }
+    {
+        match self.head_breach(header, length) {
+            Some(breach) => Ok(Some(self.break_off(breach))),
+            None => self.next_whole(header, length as usize),
+        }
+    }
+
+    /// What the frame with this head says, which keeps the rules.
+    fn next_whole(&mut self, header: &FrameHeader, size: usize) -> Result<Option<Event>, AllocError>
+        requires open { self.old.is_over ≡ false }
+        requires small { size ≤ most_bytes }
+        requires room { HasRoom self.old.begun header.now.opcode }
+        ensures told { IfOk result (λ event. option_map told event ≡ (read_frame self.old header.now size).told) }
+        ensures then { OnOk result (self.new ≡ (read_frame self.old header.now size).then) }
+        ensures unchanged { OnErr result (self.new ≡ self.old) }
+    {
+        if self.unread.as_slice().len() < header.len(size as u64) + size {
+            return Ok(None);
+        }
+        Ok(Some(self.next_frame(header, size)?))
+    }
+
+    /// The rule that a frame's head breaks, where the payload has so many bytes.
+    fn head_breach(&self, header: &FrameHeader, length: u64) -> Option<Breach>
+        ensures { result ≡ head_breach self.now.begun header.now length }
+    {
+        if header.rsv1 || header.rsv2 || header.rsv3 {
+            return Some(Breach::ReservedBit);
+        }
+        if header.mask.is_none() {
+            return Some(Breach::Unmasked);
+        }
+        match header.opcode {
+            OpCode::Control(_) => control_breach(header.is_final, length),
+            OpCode::Data(kind) => self.data_breach(kind, length),
+        }
+    }
+
+    /// The rule that a data frame breaks by its place.
+    fn data_breach(&self, kind: Data, length: u64) -> Option<Breach>
+        ensures { result ≡ data_breach self.now.begun kind length }
+    {
+        match (&self.begun, kind) {
+            (None, Data::Continue) => Some(Breach::NothingToContinue),
+            (None, _) => size_breach(0, length),
+            (Some(begun), Data::Continue) => begun.breach(length),
+            (Some(_), _) => Some(Breach::MessageWithinMessage),
+        }
+    }
+
+    /// What a whole frame says, whose head keeps the rules and whose payload has so many bytes.
+    fn next_frame(&mut self, header: &FrameHeader, size: usize) -> Result<Event, AllocError>
+        requires open { self.old.is_over ≡ false }
+        requires whole { header_len header.now size + size ≤ length self.old.unread }
+        requires small { size ≤ most_bytes }
+        requires room { HasRoom self.old.begun header.now.opcode }
+        ensures frame { IfOk result (λ event. IsStep (told event) self.new (goes_on (drop (header_len header.now size + size) self.old.unread) (frame_effect self.old.begun header.now.opcode header.now.is_final (payload_at self.old.unread header.now size)))) }
+        ensures unchanged { OnErr result (self.new ≡ self.old) }
+    {
+        let start = header.len(size as u64);
+        let payload = unmasked(
+            self.alloc,
+            &self.unread.as_slice()[start..][..size],
+            header.mask,
+        )?;
+        let event = match header.opcode {
+            OpCode::Control(control) => control_event(control, payload),
+            OpCode::Data(kind) => data_event(&mut self.begun, kind, header.is_final, payload)?,
+        };
+        if event.is_last() {
+            self.end();
+        } else {
+            self.unread.skip(start + size);
+        }
+        Ok(event)
+    }
+
+    /// The peer broke the protocol.
+    fn break_off(&mut self, breach: Breach) -> Event
+        ensures told { told result ≡ broken breach }
+        ensures over { self.new ≡ over }
+    {
+        self.end();
+        Event::Broken(breach)
+    }
+
+    /// Nothing is told any more.
+    fn end(&mut self)
+        ensures { self.new ≡ over }
+    {
+        self.unread.clear();
+        self.begun = None;
+        self.is_over = true;
+    }
+}
+
+/// The rule that a control frame breaks.
+fn control_breach(is_final: bool, length: u64) -> Option<Breach>
+    ensures { result ≡ control_breach is_final length }
+{
+    if !is_final {
+        return Some(Breach::ControlInFragments);
+    }
+    if length > MOST_CONTROL_BYTES {
+        return Some(Breach::LongControl);
+    }
+    None
+}
+
+/// What a data frame says, with the message that it begins or goes on with.
+fn data_event(
+    begun: &mut Option<Begun>,
+    kind: Data,
+    is_final: bool,
+    payload: Vec<u8>,
+) -> Result<Event, AllocError>
+    requires { HasRoom begun.old (OpCode.Data kind) }
+    ensures effect { IfOk result (λ event. IsEffect (told event) begun.new (message_effect (with_payload begun.old kind payload.items) is_final)) }
+    ensures unchanged { OnErr result (begun.new ≡ begun.old) }
+{
+    match begun {
+        Some(message) => message.extend(payload.as_slice())?,
+        None => *begun = Some(Begun::new(kind_of(kind), payload)),
+    }
+    if !is_final {
+        return Ok(Event::Fragment);
+    }
+    match begun.take() {
+        Some(message) => Ok(message.into_event()),
+        None => Ok(Event::Fragment),
+    }
+}
+
+/// The kind of a message that begins so.
+fn kind_of(kind: Data) -> MessageType
+    ensures { result ≡ kind_of kind }
+{
+    match kind {
+        Data::Binary => MessageType::Binary,
+        _ => MessageType::Text,
+    }
+}

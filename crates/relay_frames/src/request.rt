@@ -1,0 +1,67 @@
+//! Whether a request is answered by a WebSocket (RFC 9112, sections 2 to 5; RFC 6455, section 4.2.1).
+
+ghost use Rattle.std.specs.Prelude.{◌≡◌, ◌==◌, length, codes, take, All};
+ghost use Rattle.httparse.specs.Spans.{IsHeaderWithin, IsRequestWithin, span_bytes};
+ghost use Rattle.websocket.specs.Headers.{eq_ignore_case, fields_of};
+ghost use Rattle.relay_frames.specs.Requests.{IsAnswered, IsJudged, count_of_hosts};
+
+use crate::refusal::Refusal;
+use httparse::spans::{EMPTY_HEADER_SPAN, HeaderSpan, RequestSpans, parse_request};
+use httparse::{Error, Status};
+use websocket::handshake::HandshakeError;
+use websocket::handshake::server::check_request;
+
+/// How many fields a head may have: a browser behind two proxies sends some 25.
+pub const MOST_FIELDS: usize = 64;
+
+/// How the request with this head is refused, if it is. The bytes end where the head does.
+pub fn refusal_of(head: &[u8]) -> Option<Refusal>
+    ensures { IsAnswered head.now result }
+{
+    let mut spans = [EMPTY_HEADER_SPAN; MOST_FIELDS];
+    match parse_request(head, &mut spans) {
+        Ok(Status::Complete(found)) => judged(head, &found, &spans),
+        Ok(Status::Partial) => Some(Refusal::BadRequest),
+        Err(Error::TooManyHeaders) => Some(Refusal::HeadTooLarge),
+        Err(_) => Some(Refusal::BadRequest),
+    }
+}
+
+/// How a request of these parts is refused, if it is.
+fn judged(head: &[u8], found: &RequestSpans, spans: &[HeaderSpan]) -> Option<Refusal>
+    requires { IsRequestWithin head.now spans.now found.now }
+    ensures { IsJudged (span_bytes head.now found.now.method) found.now.version (fields_of head.now (take found.now.headers spans.now)) result }
+{
+    if !has_one_host(head, &spans[..found.headers]) {
+        return Some(Refusal::BadRequest);
+    }
+    match check_request(head, found, spans) {
+        Ok(_) => None,
+        Err(HandshakeError::WrongHttpMethod) => Some(Refusal::MethodNotAllowed),
+        Err(HandshakeError::MissingSecWebSocketVersionHeader) => Some(Refusal::UpgradeRequired),
+        Err(_) => Some(Refusal::BadRequest),
+    }
+}
+
+/// Whether there is a `Host`, and one alone (RFC 9112, section 3.2).
+fn has_one_host(head: &[u8], spans: &[HeaderSpan]) -> bool
+    requires { All (IsHeaderWithin (length head.now)) spans.now }
+    ensures { result ≡ (count_of_hosts (fields_of head.now spans.now) == 1) }
+{
+    spans.iter().filter(|span| is_host(head, span)).count() == 1
+}
+
+/// Whether this field is a `Host`.
+fn is_host(head: &[u8], span: &HeaderSpan) -> bool
+    requires { IsHeaderWithin (length head.now) span.now }
+    ensures { result ≡ eq_ignore_case (span_bytes head.now span.now.name) (codes "Host") }
+{
+    is_name_of_host(span.name.of(head))
+}
+
+/// Whether a field of this name is a `Host`: case does not matter (RFC 9110, section 5.1).
+fn is_name_of_host(name: &[u8]) -> bool
+    ensures { result ≡ eq_ignore_case name.now (codes "Host") }
+{
+    name.eq_ignore_ascii_case(b"Host")
+}

@@ -1,6 +1,0 @@
-//! Worked cases of pushing and of connections.
-
-mod connections;
-mod fakes;
-mod live;
-mod pushing;

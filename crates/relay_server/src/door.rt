@@ -1,0 +1,90 @@
+//! Where connections come in, and how one is turned away for which there is no room.
+
+use crate::deadline::Deadline;
+use std::io;
+use std::io::{Read, Write};
+use std::net::{Shutdown, TcpListener, TcpStream};
+use std::time::{Clock, Duration};
+
+/// What a newcomer is told for whom there is no descriptor or no thread (RFC 9110, section 15.6.4).
+const NO_ROOM: &[u8] =
+    b"HTTP/1.1 503 Service Unavailable\r\nConnection: close\r\nContent-Length: 0\r\n\r\n";
+
+/// How many milliseconds a newcomer that is turned away holds up the next one at most.
+const MOST_FAREWELL_MILLIS: u64 = 100;
+
+/// In how many pieces the request of a newcomer that is turned away is read.
+const MOST_PIECES: u32 = 16;
+
+/// A listener, with a descriptor in reserve: another one for the same socket. Where the system has none for a newcomer, this one is
+/// given back for as long as it takes to tell that.
+#[derive(Drop)]
+pub(crate) struct Door {
+    listener: TcpListener,
+    reserve: Option<TcpListener>,
+}
+
+/// A newcomer.
+#[derive(Drop)]
+pub(crate) enum Newcomer {
+    /// There is room for it.
+    Welcome(TcpStream),
+    /// It has the descriptor that was in reserve.
+    TooMany(TcpStream),
+}
+
+impl Door {
+    /// The door of a listener.
+    pub(crate) fn new(listener: TcpListener) -> Door {
+        let reserve = listener.try_clone().ok();
+        Door { listener, reserve }
+    }
+
+    /// Waits for a newcomer. Where there is no descriptor for one, the one in reserve is; once the newcomer has come, there may be one
+    /// again, and then there is room for it.
+    ///
+    /// # Errors
+    ///
+    /// There is no descriptor but for the listener, or as the system's own call.
+    pub(crate) fn await_newcomer(&mut self) -> io::Result<Newcomer> {
+        if let Ok((stream, _)) = self.listener.accept() {
+            return Ok(Newcomer::Welcome(stream));
+        }
+        self.reserve = None;
+        let (stream, _) = self.listener.accept()?;
+        self.restore();
+        if self.reserve.is_some() {
+            Ok(Newcomer::Welcome(stream))
+        } else {
+            Ok(Newcomer::TooMany(stream))
+        }
+    }
+
+    /// Takes a descriptor in reserve again, if there is one.
+    pub(crate) fn restore(&mut self) {
+        if self.reserve.is_none() {
+            self.reserve = self.listener.try_clone().ok();
+        }
+    }
+}
+
+/// Tells a newcomer that there is no room for it, and ends its connection.
+pub(crate) fn turn_away<C: Clock>(clock: &C, mut stream: TcpStream) {
+    let _ = told_no_room(clock, &mut stream);
+}
+
+/// What still comes is read for a moment: a reset would else take away what the newcomer is told.
+fn told_no_room<C: Clock>(clock: &C, stream: &mut TcpStream) -> io::Result<()> {
+    let deadline = Deadline::after(clock, Duration::from_millis(MOST_FAREWELL_MILLIS))?;
+    stream.set_write_timeout(Some(deadline.left(clock)?))?;
+    stream.write_all(NO_ROOM)?;
+    stream.shutdown(Shutdown::Write)?;
+    let mut bytes = [0; 1024];
+    for _ in 0..MOST_PIECES {
+        stream.set_read_timeout(Some(deadline.left(clock)?))?;
+        if stream.read(&mut bytes)? == 0 {
+            break;
+        }
+    }
+    Ok(())
+}

@@ -1,0 +1,61 @@
+//! Whether connections with a key are there, and how that changes as one comes or goes.
+
+ghost use Rattle.std.specs.Prelude.{◌≡◌, ◌↔◌, true};
+ghost use Rattle.relay_server.specs.Holding.{IsDue, with_one_less, with_one_more};
+
+use std::time::Instant;
+
+/// Whether connections with a key are there.
+#[derive(Clone, Copy)]
+pub(crate) enum Presence {
+    /// So many are.
+    Here(u32),
+    /// None is. The boards of the key are ended at this time, unless one comes back before.
+    Waits(Instant),
+}
+
+impl Presence {
+    /// One more comes. There is no such presence where as many are there as can be counted.
+    pub(crate) fn with_one_more(self) -> Option<Presence>
+        ensures { result ≡ with_one_more self }
+    {
+        match self {
+            Presence::Here(present) => {
+                if present < u32::MAX {
+                    Some(Presence::Here(present + 1))
+                } else {
+                    None
+                }
+            }
+            Presence::Waits(_) => Some(Presence::Here(1)),
+        }
+    }
+
+    /// One goes. Where it was the last, the boards wait until then; where they do not wait, nothing is left of the presence.
+    pub(crate) fn with_one_less(self, until: Option<Instant>) -> Option<Presence>
+        ensures { result ≡ with_one_less self until }
+    {
+        if let Presence::Here(present) = self {
+            if present > 1 {
+                return Some(Presence::Here(present - 1));
+            }
+        }
+        match until {
+            Some(until) => Some(Presence::Waits(until)),
+            None => None,
+        }
+    }
+
+    /// Whether the boards have waited until now; where no time is given, whether they wait.
+    pub(crate) fn is_due(&self, now: Option<Instant>) -> bool
+        ensures { (result ≡ true) ↔ IsDue now self.now }
+    {
+        match self {
+            Presence::Here(_) => false,
+            Presence::Waits(until) => match now {
+                Some(now) => until.duration_since(now).is_zero(),
+                None => true,
+            },
+        }
+    }
+}

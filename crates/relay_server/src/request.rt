@@ -1,0 +1,65 @@
+//! The request that begins a connection, and the answer to one that is refused.
+
+ghost use Rattle.std.specs.Prelude.{◌≤◌, None, length, take, IfOk, OnOk};
+ghost use Rattle.std.specs.Io.KnownBytes.{Appends};
+ghost use Rattle.relay_frames.specs.Requests.{IsAnswered, answer_text};
+
+use crate::drain::end_and_drain;
+use crate::head::{Head, HeadFault};
+use crate::line::write_out;
+use crate::sessions::{SessionEnd, end_unshaken};
+use crate::stream::Stream;
+use relay_frames::{Refusal, refusal_of};
+use std::alloc::Global;
+use std::io;
+use std::io::Write;
+use std::time::Clock;
+use tungstenite::Error;
+
+/// Reads a request's head, of a request that is not refused. One that is refused is answered, and the connection ends behind that.
+pub(crate) fn receive<C: Clock, S: Stream>(
+    clock: &C,
+    alloc: Global,
+    stream: &mut S,
+) -> Result<Head, SessionEnd>
+    ensures { IfOk result (λ head. IsAnswered (take head.end head.bytes.items) None) }
+{
+    match read_request(clock, alloc, stream) {
+        Ok(head) => Ok(head),
+        Err(HeadFault::Stream(error)) => Err(end_unshaken(&Error::Io(error))),
+        Err(HeadFault::Refused(refusal)) => {
+            let _ = refuse(clock, stream, refusal);
+            Err(SessionEnd::NoHandshake)
+        }
+    }
+}
+
+/// Reads a request's head, and looks whether the request is refused.
+fn read_request<C: Clock, S: Stream>(
+    clock: &C,
+    alloc: Global,
+    stream: &mut S,
+) -> Result<Head, HeadFault>
+    ensures { IfOk result (λ head. IsAnswered (take head.end head.bytes.items) None) }
+{
+    let head = Head::read(clock, alloc, stream)?;
+    match refusal_of(head.request()) {
+        None => Ok(head),
+        Some(refusal) => Err(HeadFault::Refused(refusal)),
+    }
+}
+
+/// Answers a request that is refused, and ends the connection. What still comes is read for a while, as a reset would take the answer away.
+fn refuse<C: Clock, S: Stream>(clock: &C, stream: &mut S, refusal: Refusal) -> io::Result<()> {
+    tell(stream, refusal)?;
+    end_and_drain(clock, stream)
+}
+
+/// Writes the answer to a request that is refused.
+fn tell<S: Write>(stream: &mut S, refusal: Refusal) -> io::Result<()>
+    ensures whole { OnOk result (Appends (S.contents stream.old) (S.contents stream.new) (answer_text refusal)) }
+{
+    let (_, done) = write_out(refusal.answer(), stream);
+    done?;
+    stream.flush()
+}

@@ -1,0 +1,124 @@
+//! The stream of a connection over TCP.
+
+ghost use Rattle.std.specs.Prelude.{◌≡◌, None, Some, is_some, true, IfOk, OnOk};
+ghost use Rattle.std.specs.Io.{ReadsAtMost, WritesAtMost};
+ghost use Rattle.std.specs.Io.KnownBytes.{ReadConsumes, WriteAppends};
+ghost use Rattle.relay_server.specs.Dues.{IsStillDue};
+
+use crate::deadline::Deadline;
+use crate::stream::Stream;
+use std::io;
+use std::io::{Read, Write};
+use std::net::{Shutdown, TcpStream};
+use std::time::{Clock, Duration};
+
+/// How many seconds a peer may take over what it is sent.
+const MOST_SECONDS: u64 = 30;
+
+/// A socket whose peer has one deadline for what it is sent, from the first write to the flush behind the last one, however often it takes
+/// some of it.
+#[derive(Drop)]
+pub(crate) struct Socket<'a, C> {
+    clock: &'a C,
+    stream: TcpStream,
+    /// By when what was begun to be sent is to be taken.
+    due: Option<Deadline>,
+    /// Whether the next write waits no longer than until then.
+    is_bounded: bool,
+}
+
+impl<'a, C: Clock> Socket<'a, C> {
+    /// The socket of a connection, to whose peer nothing was sent.
+    ///
+    /// # Errors
+    ///
+    /// As the system's own call.
+    pub(crate) fn new(clock: &'a C, stream: TcpStream) -> io::Result<Socket<'a, C>>
+        ensures { IfOk result (λ socket. socket.due ≡ None) }
+    {
+        let socket = Socket {
+            clock,
+            stream,
+            due: None,
+            is_bounded: false,
+        };
+        socket.bound_write(Duration::from_secs(MOST_SECONDS))?;
+        Ok(socket)
+    }
+
+    /// Lets the next write wait for so long at most.
+    fn bound_write(&self, most: Duration) -> io::Result<()> {
+        self.stream.set_write_timeout(Some(most))
+    }
+
+    /// Sees to it that the next write waits no longer than the peer may take over what it is sent. What was begun to be sent keeps its time.
+    ///
+    /// # Errors
+    ///
+    /// No time is left (`TimedOut`), or as the system's own calls.
+    fn begin_write(&mut self) -> io::Result<()>
+        ensures still { IsStillDue self.old.due self.new.due }
+        ensures due { OnOk result (is_some self.new.due ≡ true) }
+    {
+        match self.due {
+            Some(due) => {
+                self.is_bounded = true;
+                self.bound_write(due.left(self.clock)?)
+            }
+            None => {
+                let most = Duration::from_secs(MOST_SECONDS);
+                self.due = Some(Deadline::after(self.clock, most)?);
+                Ok(())
+            }
+        }
+    }
+
+    /// What was sent was taken. What is sent next has its own time.
+    fn end_write(&mut self) -> io::Result<()>
+        ensures { self.new.due ≡ None }
+    {
+        self.due = None;
+        if self.is_bounded {
+            self.bound_write(Duration::from_secs(MOST_SECONDS))?;
+        }
+        self.is_bounded = false;
+        Ok(())
+    }
+}
+
+impl<C: Clock> Read for Socket<'_, C> {
+    fn read(&mut self, buf: &mut [u8]) -> io::Result<usize>
+        ensures bound { ReadsAtMost result buf.new }
+        ensures bytes { ReadConsumes None None result buf.new }
+    {
+        self.stream.read(buf)
+    }
+}
+
+impl<C: Clock> Write for Socket<'_, C> {
+    fn write(&mut self, buf: &[u8]) -> io::Result<usize>
+        ensures bound { WritesAtMost result buf.now }
+        ensures bytes { WriteAppends None None result buf.now }
+        ensures due { IsStillDue self.old.due self.new.due }
+    {
+        self.begin_write()?;
+        self.stream.write(buf)
+    }
+
+    fn flush(&mut self) -> io::Result<()>
+        ensures { OnOk result (self.new.due ≡ None) }
+    {
+        self.stream.flush()?;
+        self.end_write()
+    }
+}
+
+impl<C: Clock> Stream for Socket<'_, C> {
+    fn bound_reads(&mut self, most: Option<Duration>) -> io::Result<()> {
+        self.stream.set_read_timeout(most)
+    }
+
+    fn end_output(&mut self) -> io::Result<()> {
+        self.stream.shutdown(Shutdown::Write)
+    }
+}

@@ -1,0 +1,19 @@
+//! Worked cases of sessions and of serving.
+
+mod abrupt;
+mod between;
+mod client;
+mod drips;
+mod failing;
+mod frames;
+mod gates;
+mod held;
+mod journal;
+mod loopback;
+mod memory;
+mod nested;
+mod order;
+mod refusals;
+mod server;
+mod silent;
+mod texts;

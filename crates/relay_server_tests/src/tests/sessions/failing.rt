@@ -1,0 +1,185 @@
+//! Sessions over a device that fails: how they end, that nothing more is written, and that their boards are over.
+
+use crate::tests::sessions::frames::{CLOSE, REQUEST, RESPONSE_BYTES, TEXT, frame, lines};
+use crate::tests::sessions::memory::registry;
+use crate::tests::sessions::texts::{FOLLOW_B1, OPEN_B1, SUBMIT_E2E4};
+use relay_server::{OpenGate, Registry, SessionEnd, session};
+use std::alloc::{AllocError, Global};
+use std::io;
+use std::io::{ErrorKind, Read, Write};
+use std::process::Abort;
+use std::sync::Wait;
+use std::test::Fail;
+use std::time::Clock;
+use tungstenite::Duplex;
+
+/// A reader that gives these bytes, one a read, and then fails.
+#[derive(Drop)]
+struct FailingReader<'a> {
+    left: &'a [u8],
+    kind: ErrorKind,
+}
+
+impl Read for FailingReader<'_> {
+    fn read(&mut self, buf: &mut [u8]) -> io::Result<usize> {
+        match (self.left.split_first(), buf.first_mut()) {
+            (Some((byte, rest)), Some(place)) => {
+                *place = *byte;
+                self.left = rest;
+                Ok(1)
+            }
+            _ => Err(io::Error::from(self.kind)),
+        }
+    }
+}
+
+/// A writer that takes so many bytes, then fails once, and would take all others.
+#[derive(Drop)]
+struct FailingWriter<'a> {
+    taken: &'a mut Vec<u8>,
+    room: usize,
+    kind: ErrorKind,
+    has_failed: bool,
+}
+
+impl Write for FailingWriter<'_> {
+    fn write(&mut self, buf: &[u8]) -> io::Result<usize> {
+        let room = self.room.saturating_sub(self.taken.len());
+        let n = if self.has_failed {
+            buf.len()
+        } else {
+            buf.len().min(room)
+        };
+        if n == 0 {
+            self.has_failed = true;
+            return Err(io::Error::from(self.kind));
+        }
+        match self.taken.extend_from_slice(&buf[..n]) {
+            Ok(()) => Ok(n),
+            Err(_) => Err(io::Error::from(ErrorKind::OutOfMemory)),
+        }
+    }
+
+    fn flush(&mut self) -> io::Result<()> {
+        Ok(())
+    }
+}
+
+/// Failures of a device.
+const DEVICE: [ErrorKind; 4] = [
+    ErrorKind::TimedOut,
+    ErrorKind::WouldBlock,
+    ErrorKind::ConnectionReset,
+    ErrorKind::BrokenPipe,
+];
+
+/// The request, and an owner's two commands and its close.
+fn owner(alloc: Global) -> Result<Vec<u8>, AllocError> {
+    let mut bytes = Vec::new(alloc);
+    bytes.extend_from_slice(REQUEST)?;
+    bytes.extend_from_slice(frame(alloc, TEXT, OPEN_B1.as_bytes())?.as_slice())?;
+    bytes.extend_from_slice(frame(alloc, TEXT, SUBMIT_E2E4.as_bytes())?.as_slice())?;
+    bytes.extend_from_slice(frame(alloc, CLOSE, &[0x03, 0xe8])?.as_slice())?;
+    Ok(bytes)
+}
+
+/// How a session ends whose reads give so many bytes of an owner and then fail so.
+fn end_of_reading<R: Wait + Clock + Abort>(
+    rt: &R,
+    alloc: Global,
+    until: usize,
+    kind: ErrorKind,
+) -> Result<SessionEnd, AllocError> {
+    let shared = registry(alloc)?;
+    let bytes = owner(alloc)?;
+    let mut sent = Vec::new(alloc);
+    let stream = Duplex {
+        reader: FailingReader {
+            left: &bytes.as_slice()[..until.min(bytes.len())],
+            kind,
+        },
+        writer: &mut sent,
+    };
+    Ok(session(rt, alloc, &shared, 1, stream, &OpenGate))
+}
+
+#[test]
+fn a_read_that_fails_ends_the_handshake_or_the_session(rt: HostRuntime) -> Result<(), Fail> {
+    let alloc = rt.alloc();
+    let behind = REQUEST.len().saturating_add(9);
+    for kind in DEVICE {
+        let within = end_of_reading(&rt, alloc, 20, kind)?;
+        assert_eq!(rt; within, SessionEnd::NoHandshake);
+        assert_eq!(rt;
+            end_of_reading(&rt, alloc, behind, kind)?,
+            SessionEnd::Failed
+        );
+    }
+    // Want of memory alone is no fault of the peer's.
+    let wanting = end_of_reading(&rt, alloc, 20, ErrorKind::OutOfMemory)?;
+    assert_eq!(rt; wanting, SessionEnd::Failed);
+    Ok(())
+}
+
+/// What a guest is told of board b1 whose owner's session is over.
+fn told_of_b1<R: Wait + Clock>(
+    rt: &R,
+    alloc: Global,
+    registry: &Registry,
+) -> Result<Vec<u8>, AllocError> {
+    let mut bytes = Vec::new(alloc);
+    bytes.extend_from_slice(REQUEST)?;
+    bytes.extend_from_slice(frame(alloc, TEXT, FOLLOW_B1.as_bytes())?.as_slice())?;
+    let mut sent = Vec::new(alloc);
+    let stream = Duplex {
+        reader: bytes.as_slice(),
+        writer: &mut sent,
+    };
+    let _ = session(rt, alloc, registry, 2, stream, &OpenGate);
+    lines(alloc, sent.as_slice().get(RESPONSE_BYTES..).unwrap_or(&[]))
+}
+
+const NO_BOARD: &[u8] = b"{\"code\":1,\"name\":\"NoSuchBoard\",\"reply\":\"refused\"}\n";
+
+const ABANDONED: &[u8] = b"{\"outcome\":\"abandoned\",\"reply\":\"over\"}\nclose 1000\n";
+
+#[test]
+fn a_write_that_fails_is_the_last_and_the_boards_are_over(rt: HostRuntime) -> Result<(), Fail> {
+    let alloc = rt.alloc();
+    let bytes = owner(alloc)?;
+    // A part of the response; all of it; a part of the first answer, all of it, and a part of the second.
+    for (room, is_opened) in [
+        (100, false),
+        (129, true),
+        (140, true),
+        (149, true),
+        (160, true),
+    ] {
+        for kind in DEVICE {
+            let shared = registry(alloc)?;
+            let mut sent = Vec::new(alloc);
+            let stream = Duplex {
+                reader: FailingReader {
+                    left: bytes.as_slice(),
+                    kind,
+                },
+                writer: FailingWriter {
+                    taken: &mut sent,
+                    room,
+                    kind,
+                    has_failed: false,
+                },
+            };
+            let end = session(&rt, alloc, &shared, 1, stream, &OpenGate);
+            assert_eq!(rt; end, SessionEnd::Failed);
+            assert_eq!(rt; sent.len(), room);
+            let told = told_of_b1(&rt, alloc, &shared)?;
+            if is_opened {
+                assert!(rt; told.as_slice().ends_with(ABANDONED));
+            } else {
+                assert_eq!(rt; told.as_slice(), NO_BOARD);
+            }
+        }
+    }
+    Ok(())
+}

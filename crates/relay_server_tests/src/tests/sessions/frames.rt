@@ -1,0 +1,75 @@
+//! WebSocket frames (RFC 6455, section 5), as a client writes and reads them, byte by byte and without the server's own code.
+
+use std::alloc::{AllocError, Global};
+
+/// A request that asks for a WebSocket.
+pub const REQUEST: &[u8] =
+    b"GET / HTTP/1.1\r\nHost: a\r\nConnection: upgrade\r\nUpgrade: websocket\r\nSec-WebSocket-Version: 13\r\nSec-WebSocket-Key: dGhlIHNhbXBsZSBub25jZQ==\r\n\r\n";
+
+/// How many bytes the head of the response has.
+pub const RESPONSE_BYTES: usize = 129;
+
+/// The first byte of a whole text, a whole binary message, a close, a ping, a pong; of a text's first part, and of its last.
+pub const TEXT: u8 = 0x81;
+
+pub const BINARY: u8 = 0x82;
+
+pub const CLOSE: u8 = 0x88;
+
+pub const PING: u8 = 0x89;
+
+pub const PONG: u8 = 0x8a;
+
+pub const FIRST_PART: u8 = 0x01;
+
+pub const LAST_PART: u8 = 0x80;
+
+/// A frame with a mask of zeros.
+pub fn frame(alloc: Global, first: u8, payload: &[u8]) -> Result<Vec<u8>, AllocError> {
+    let mut bytes = Vec::new(alloc);
+    bytes.extend_from_slice(&[first])?;
+    let len = payload.len();
+    if len < 126 {
+        bytes.extend_from_slice(&[0x80 | len as u8])?;
+    } else {
+        let long = [0xfe, (len / 256 % 256) as u8, (len % 256) as u8];
+        bytes.extend_from_slice(&long)?;
+    }
+    bytes.extend_from_slice(&[0; 4])?;
+    bytes.extend_from_slice(payload)?;
+    Ok(bytes)
+}
+
+/// What a server sent, frame by frame, as lines: a text as it is, a close as `close` and its code, anything else by its opcode.
+pub fn lines(alloc: Global, sent: &[u8]) -> Result<Vec<u8>, AllocError> {
+    let mut lines = Vec::new(alloc);
+    let mut at = 0;
+    for _ in 0..sent.len() {
+        if at >= sent.len() || sent.len() - at < 2 {
+            break;
+        }
+        let first = sent[at];
+        let len = usize::from(sent[at + 1]);
+        let start = at + 2;
+        if len > 125 || sent.len() - start < len {
+            lines.extend_from_slice(b"long\n")?;
+            break;
+        }
+        let payload = &sent[start..start + len];
+        match first {
+            TEXT => lines.extend_from_slice(payload)?,
+            CLOSE if len >= 2 => {
+                let code = u16::from(payload[0]) * 256 + u16::from(payload[1]);
+                let text = format!(in alloc; "close {code}")?;
+                lines.extend_from_slice(text.as_bytes())?;
+            }
+            other => {
+                let text = format!(in alloc; "opcode {other}")?;
+                lines.extend_from_slice(text.as_bytes())?;
+            }
+        }
+        lines.extend_from_slice(b"\n")?;
+        at = start + len;
+    }
+    Ok(lines)
+}

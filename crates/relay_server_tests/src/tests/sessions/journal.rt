@@ -1,0 +1,114 @@
+//! A stream and a gate in memory that note what they are asked in one journal.
+
+use relay_server::{Gate, Stream};
+use std::alloc::{AllocError, Global};
+use std::cell::RefCell;
+use std::io;
+use std::io::{Read, Write};
+use std::time::Duration;
+
+/// What was asked, a line each.
+#[derive(Drop)]
+pub struct Journal {
+    alloc: Global,
+    lines: RefCell<Vec<u8>>,
+}
+
+impl Journal {
+    pub fn new(alloc: Global) -> Journal {
+        Journal {
+            alloc,
+            lines: RefCell::new(Vec::new(alloc)),
+        }
+    }
+
+    /// Notes a line.
+    fn note(&self, line: &str) {
+        if let Ok(mut lines) = self.lines.try_borrow_mut() {
+            let _ = lines.extend_from_slice(line.as_bytes());
+            let _ = lines.extend_from_slice(b"\n");
+        }
+    }
+
+    /// Notes a line that ends with a number.
+    fn note_number(&self, word: &str, number: usize) {
+        match format!(in self.alloc; "{word} {number}") {
+            Ok(line) => self.note(line.as_str()),
+            Err(AllocError) => self.note(word),
+        }
+    }
+
+    /// Whether these lines were noted, and no others.
+    pub fn has(&self, lines: &str) -> bool {
+        match self.lines.try_borrow() {
+            Ok(noted) => noted.as_slice() == lines.as_bytes(),
+            Err(_) => false,
+        }
+    }
+}
+
+/// A stream whose peer sends these pieces, none longer than a read asks for. Each read gives one, and behind the last the peer has gone.
+#[derive(Drop)]
+pub struct NotedStream<'a> {
+    pub pieces: &'a [Vec<u8>],
+    pub journal: &'a Journal,
+}
+
+impl Read for NotedStream<'_> {
+    fn read(&mut self, buf: &mut [u8]) -> io::Result<usize> {
+        self.journal.note("read");
+        let Some((piece, rest)) = self.pieces.split_first() else {
+            return Ok(0);
+        };
+        let n = piece.len().min(buf.len());
+        buf[..n].copy_from_slice(&piece.as_slice()[..n]);
+        self.pieces = rest;
+        Ok(n)
+    }
+}
+
+impl Write for NotedStream<'_> {
+    fn write(&mut self, buf: &[u8]) -> io::Result<usize> {
+        self.journal.note_number("written", buf.len());
+        Ok(buf.len())
+    }
+
+    fn flush(&mut self) -> io::Result<()> {
+        Ok(())
+    }
+}
+
+impl Stream for NotedStream<'_> {
+    fn bound_reads(&mut self, most: Option<Duration>) -> io::Result<()> {
+        match most {
+            Some(most) if most <= Duration::from_secs(10) => self.journal.note("bounded"),
+            Some(most) if most == Duration::from_secs(30) => {
+                self.journal.note("bounded by half a minute");
+            }
+            Some(_) => self.journal.note("bounded otherwise"),
+            None => self.journal.note("unbounded"),
+        }
+        Ok(())
+    }
+
+    fn end_output(&mut self) -> io::Result<()> {
+        self.journal.note("ended");
+        Ok(())
+    }
+}
+
+/// A gate that holds nobody back.
+#[derive(Drop)]
+pub struct NotedGate<'a> {
+    pub journal: &'a Journal,
+}
+
+impl Gate for NotedGate<'_> {
+    fn before(&self, connection: u32) {
+        self.journal.note_number("before", connection as usize);
+    }
+
+    fn after(&self, connection: u32) {
+        self.journal.note_number("after", connection as usize);
+    }
+}

@@ -1,0 +1,79 @@
+//! The gate of a first command, told before the command is carried out.
+
+use crate::tests::sessions::frames::{CLOSE, RESPONSE_BYTES, TEXT, lines};
+use crate::tests::sessions::memory::{Frame, input, registry};
+use relay_server::{Gate, OpenGate, Registry, SessionEnd, session};
+use std::alloc::{AllocError, Global};
+use std::cell::Cell;
+use std::sync::Wait;
+use std::test::Fail;
+use std::time::Clock;
+use tungstenite::Duplex;
+
+const FRAMES: &[Frame] = &[
+    (TEXT, b"{\"cmd\":\"open\",\"board\":\"b1\",\"start\":518}"),
+    (CLOSE, &[0x03, 0xe8]),
+];
+
+const OPENED: &[u8] = b"{\"reply\":\"opened\"}\nclose 1000\n";
+
+const EXISTS: &[u8] = b"{\"code\":2,\"name\":\"BoardExists\",\"reply\":\"refused\"}\nclose 1000\n";
+
+/// Whether a session that opens b1, and then closes, is told so.
+fn opens_b1<R: Wait + Clock>(
+    rt: &R,
+    alloc: Global,
+    registry: &Registry,
+) -> Result<bool, AllocError> {
+    let bytes = input(alloc, FRAMES)?;
+    let mut sent = Vec::new(alloc);
+    let stream = Duplex {
+        reader: bytes.as_slice(),
+        writer: &mut sent,
+    };
+    let end = session(rt, alloc, registry, 2, stream, &OpenGate);
+    let answers = sent.as_slice().get(RESPONSE_BYTES..).unwrap_or(&[]);
+    Ok(end == SessionEnd::Closed && lines(alloc, answers)?.as_slice() == OPENED)
+}
+
+/// A gate at which another connection opens b1 meanwhile. It notes whether that one was told so.
+#[derive(Drop)]
+struct Overtaken<'a, R> {
+    rt: &'a R,
+    alloc: Global,
+    registry: &'a Registry,
+    was_opened: Cell<bool>,
+}
+
+impl<R: Wait + Clock> Gate for Overtaken<'_, R> {
+    fn before(&self, _connection: u32) {
+        let opened = opens_b1(self.rt, self.alloc, self.registry);
+        self.was_opened.set(matches!(opened, Ok(true)));
+    }
+
+    fn after(&self, _connection: u32) {}
+}
+
+#[test]
+fn a_gate_is_told_before_the_first_command_is_carried_out(rt: HostRuntime) -> Result<(), Fail> {
+    let alloc = rt.alloc();
+    let shared = registry(alloc)?;
+    let gate = Overtaken {
+        rt: &rt,
+        alloc,
+        registry: &shared,
+        was_opened: Cell::new(false),
+    };
+    let bytes = input(alloc, FRAMES)?;
+    let mut sent = Vec::new(alloc);
+    let stream = Duplex {
+        reader: bytes.as_slice(),
+        writer: &mut sent,
+    };
+    let end = session(&rt, alloc, &shared, 1, stream, &gate);
+    assert_eq!(rt; end, SessionEnd::Closed);
+    assert!(rt; gate.was_opened.get());
+    let answers = sent.as_slice().get(RESPONSE_BYTES..).unwrap_or(&[]);
+    assert_eq!(rt; lines(alloc, answers)?.as_slice(), EXISTS);
+    Ok(())
+}

@@ -1,0 +1,153 @@
+//! Want of memory. Where one allocation is refused, each in turn, a session says so or ends, its boards are ended, and sessions after
+//! it find the registry as ever.
+
+use crate::tests::sessions::frames::{CLOSE, REQUEST, RESPONSE_BYTES, TEXT, frame, lines};
+use c960_game::Limits;
+use relay_server::{OpenGate, Registry, SessionEnd, session};
+use std::alloc::{AllocError, Global};
+use std::process::Abort;
+use std::sync::Wait;
+use std::time::Clock;
+use tungstenite::Duplex;
+
+/// The registry of one board and one follower at a time, so that what is not given back is missed.
+fn new_registry(rt: &impl Abort, alloc: Global) -> Registry {
+    let Some(limits) = Limits::new(1, 1, 2, 1024) else {
+        panic!(rt; "limits in range");
+    };
+    match Registry::new(alloc, limits) {
+        Ok(registry) => registry,
+        Err(AllocError) => Registry::new(alloc, limits).expect(rt, "one refusal at the most"),
+    }
+}
+
+/// The request, and then these frames.
+fn frames_of(alloc: Global, frames: &[(u8, &[u8])]) -> Result<Vec<u8>, AllocError> {
+    let mut bytes = Vec::new(alloc);
+    bytes.extend_from_slice(REQUEST)?;
+    for (first, payload) in frames {
+        bytes.extend_from_slice(frame(alloc, *first, payload)?.as_slice())?;
+    }
+    Ok(bytes)
+}
+
+/// How many bytes a peer takes: more than any session here sends.
+const ROOM: usize = 1024;
+
+/// What a peer was sent, which is nothing yet. Its room is there from the start: a peer that finds none while it is sent something is a
+/// device that fails, and no want of memory of the session's.
+fn peer(rt: &impl Abort, alloc: Global) -> Vec<u8> {
+    match Vec::with_capacity(alloc, ROOM) {
+        Ok(sent) => sent,
+        Err(AllocError) => Vec::with_capacity(alloc, ROOM).expect(rt, "one refusal at the most"),
+    }
+}
+
+/// How a session over these frames ends, and the lines of what it sends behind the response.
+fn talk<R: Wait + Clock + Abort>(
+    rt: &R,
+    alloc: Global,
+    registry: &Registry,
+    connection: u32,
+    frames: &[(u8, &[u8])],
+) -> (SessionEnd, Vec<u8>) {
+    let input = match frames_of(alloc, frames) {
+        Ok(input) => input,
+        Err(AllocError) => frames_of(alloc, frames).expect(rt, "one refusal at the most"),
+    };
+    let mut sent = peer(rt, alloc);
+    let stream = Duplex {
+        reader: input.as_slice(),
+        writer: &mut sent,
+    };
+    let end = session(rt, alloc, registry, connection, stream, &OpenGate);
+    let texts = sent.as_slice().get(RESPONSE_BYTES..).unwrap_or(&[]);
+    let told = match lines(alloc, texts) {
+        Ok(told) => told,
+        Err(AllocError) => lines(alloc, texts).expect(rt, "one refusal at the most"),
+    };
+    (end, told)
+}
+
+const OWNER: [(u8, &[u8]); 3] = [
+    (TEXT, b"{\"cmd\":\"open\",\"board\":\"b1\",\"start\":518}"),
+    (
+        TEXT,
+        b"{\"cmd\":\"submit\",\"board\":\"b1\",\"move\":\"e2e4\"}",
+    ),
+    (CLOSE, &[0x03, 0xe8]),
+];
+
+const OWNED: &[u8] =
+    b"{\"reply\":\"opened\"}\n{\"outcome\":null,\"place\":0,\"reply\":\"played\"}\nclose 1000\n";
+
+const GUEST: [(u8, &[u8]); 1] = [(
+    TEXT,
+    b"{\"cmd\":\"follow\",\"board\":\"b1\",\"spectator\":9,\"from\":0}",
+)];
+
+const FOLLOWED: &[u8] =
+    b"{\"fen\":\"rnbqkbnr/pppppppp/8/8/8/8/PPPPPPPP/RNBQKBNR w HAha - 0 1\",\"joined\":0,\"reply\":\"following\"}\n{\"move\":\"e2e4\",\"place\":0,\"reply\":\"move\"}\n{\"outcome\":\"abandoned\",\"reply\":\"over\"}\nclose 1000\n";
+
+const NO_MOVE: &[u8] =
+    b"{\"fen\":\"rnbqkbnr/pppppppp/8/8/8/8/PPPPPPPP/RNBQKBNR w HAha - 0 1\",\"joined\":0,\"reply\":\"following\"}\n{\"outcome\":\"abandoned\",\"reply\":\"over\"}\nclose 1000\n";
+
+const NO_SUCH_BOARD: &[u8] = b"{\"code\":1,\"name\":\"NoSuchBoard\",\"reply\":\"refused\"}\n";
+
+/// How many guests, one after another, are told this.
+fn guests_told<R: Wait + Clock + Abort>(
+    rt: &R,
+    alloc: Global,
+    registry: &Registry,
+    wanted: &[u8],
+) -> u32 {
+    let mut count: u32 = 0;
+    for connection in 2..5 {
+        let (_, told) = talk(rt, alloc, registry, connection, &GUEST);
+        if told.as_slice() == wanted {
+            count = count.saturating_add(1);
+        }
+    }
+    count
+}
+
+#[test]
+fn a_refusal_ends_the_boards_and_leaves_no_seat_taken(rt: HostRuntime) {
+    let registry = new_registry(&rt, rt.alloc());
+    let (end, told) = talk(&rt, rt.alloc(), &registry, 1, &OWNER);
+    if end == SessionEnd::Closed && told.as_slice() == OWNED {
+        // The one refusal may meet a guest, and the next one finds the place free.
+        assert!(rt; guests_told(&rt, rt.alloc(), &registry, FOLLOWED) >= 2);
+        return;
+    }
+    // What the guests find is what the owner left: the board with its move, the board alone, or none.
+    let (_, left) = talk(&rt, rt.alloc(), &registry, 9, &GUEST);
+    assert!(rt; [FOLLOWED, NO_MOVE, NO_SUCH_BOARD].contains(&left.as_slice()));
+    assert_eq!(rt; guests_told(&rt, rt.alloc(), &registry, left.as_slice()), 3);
+}
+
+const OPENER: [(u8, &[u8]); 4] = [
+    (TEXT, b"{\"cmd\":\"open\",\"board\":\"b1\",\"start\":518}"),
+    (TEXT, b"{\"cmd\":\"open\",\"board\":\"b1\",\"start\":518}"),
+    (TEXT, b"{\"cmd\":\"open\",\"board\":\"b1\",\"start\":960}"),
+    (CLOSE, &[0x03, 0xe8]),
+];
+
+/// What is told of these, and where the first found no memory. Of a name that stands no 12 is told, whatever is refused: the registry asks
+/// for no memory before it knows that. A connection that finds no room to note one more board ends its session instead.
+const TOLD: [&[u8]; 2] = [
+    b"{\"reply\":\"opened\"}\n{\"code\":2,\"name\":\"BoardExists\",\"reply\":\"refused\"}\n{\"code\":2,\"name\":\"BoardExists\",\"reply\":\"refused\"}\nclose 1000\n",
+    b"{\"code\":12,\"name\":\"OutOfMemory\",\"reply\":\"refused\"}\n{\"reply\":\"opened\"}\n{\"code\":2,\"name\":\"BoardExists\",\"reply\":\"refused\"}\nclose 1000\n",
+];
+
+#[test]
+fn a_name_that_stands_takes_no_memory(rt: HostRuntime) {
+    let registry = new_registry(&rt, rt.alloc());
+    let (end, told) = talk(&rt, rt.alloc(), &registry, 1, &OPENER);
+    if end == SessionEnd::Closed {
+        assert!(rt; TOLD.contains(&told.as_slice()));
+    } else {
+        // A session for which there was no memory ends behind some of these.
+        assert!(rt; TOLD.iter().any(|whole| whole.starts_with(told.as_slice())));
+    }
+}

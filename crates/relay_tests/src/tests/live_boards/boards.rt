@@ -1,0 +1,97 @@
+//! What a board is opened with, its moves and its positions.
+
+use crate::tests::live_boards::games::{limits_of, move_of};
+use c960_board::{Position, read_fen};
+use c960_game::Refusal;
+use live_board::Board;
+use std::process::Abort;
+use std::test::Fail;
+
+/// Moves from start 518, each with the position after it.
+const GAME: [(&str, &str); 4] = [
+    (
+        "e2e4",
+        "rnbqkbnr/pppppppp/8/8/4P3/8/PPPP1PPP/RNBQKBNR b HAha e3 0 1",
+    ),
+    (
+        "e7e5",
+        "rnbqkbnr/pppp1ppp/8/4p3/4P3/8/PPPP1PPP/RNBQKBNR w HAha e6 0 2",
+    ),
+    (
+        "g1f3",
+        "rnbqkbnr/pppp1ppp/8/4p3/4P3/5N2/PPPP1PPP/RNBQKB1R b HAha - 1 2",
+    ),
+    (
+        "b8c6",
+        "r1bqkbnr/pppp1ppp/2n5/4p3/4P3/5N2/PPPP1PPP/RNBQKB1R w HAha - 2 3",
+    ),
+];
+
+/// The position of a text.
+fn position_of(rt: &impl Abort, text: &str) -> Position {
+    let Ok(position) = read_fen(text.as_bytes()) else {
+        panic!(rt; "no position: {text}");
+    };
+    position
+}
+
+#[test]
+fn its_positions_are_those_of_the_game(rt: HostRuntime) -> Result<(), Fail> {
+    let Ok(mut board) = Board::open(rt.alloc(), 518, limits_of(&rt, 1, 2, 1024)) else {
+        panic!(rt; "no board");
+    };
+    for (text, fen) in GAME {
+        assert!(rt; board.submit(move_of(&rt, text)).is_ok());
+        assert!(rt; board.position() == position_of(&rt, fen));
+    }
+    assert!(rt; board.len() == 4);
+    let mut places = 1u16;
+    for (_, fen) in GAME {
+        assert!(rt; board.position_at(places) == Some(position_of(&rt, fen)));
+        places = places.saturating_add(1);
+    }
+    let start = "rnbqkbnr/pppppppp/8/8/8/8/PPPPPPPP/RNBQKBNR w HAha - 0 1";
+    assert!(rt; board.position_at(0) == Some(position_of(&rt, start)));
+    assert!(rt; board.position_at(5) == None);
+    let limits = limits_of(&rt, 1, 1, 1);
+    for start in [960, 961, 65535] {
+        let refused = Board::open(rt.alloc(), start, limits);
+        assert!(rt; matches!(refused, Err(Refusal::BadStart)), "{start}");
+    }
+    for start in [0, 518, 959] {
+        let Ok(board) = Board::open(rt.alloc(), start, limits) else {
+            panic!(rt; "no board {start}");
+        };
+        assert!(rt; board.len() == 0);
+        assert!(rt; board.outcome() == None);
+    }
+    Ok(())
+}
+
+#[test]
+fn its_start_and_its_moves_can_be_read(rt: HostRuntime) -> Result<(), Fail> {
+    let limits = limits_of(&rt, 1, 2, 1024);
+    for start in [0, 518, 959] {
+        let Ok(board) = Board::open(rt.alloc(), start, limits) else {
+            panic!(rt; "no board {start}");
+        };
+        assert!(rt; board.start() == start);
+        assert!(rt; board.move_at(0) == None);
+    }
+    let Ok(mut board) = Board::open(rt.alloc(), 518, limits) else {
+        panic!(rt; "no board");
+    };
+    for (text, _) in GAME {
+        assert!(rt; board.submit(move_of(&rt, text)).is_ok());
+    }
+    assert!(rt; board.start() == 518);
+    let mut place = 0u16;
+    for (text, _) in GAME {
+        assert!(rt; board.move_at(place) == Some(move_of(&rt, text)));
+        place = place.saturating_add(1);
+    }
+    for past in [4, 5, 65535] {
+        assert!(rt; board.move_at(past) == None);
+    }
+    Ok(())
+}

@@ -1,0 +1,188 @@
+//! A plain board: its game, and of each follower the list of the moves that wait, each with its place.
+
+use crate::tests::live_boards::stage::{Answer, Ask};
+use c960_board::Move;
+use c960_game::{Ending, Game, Limits, Outcome, Refusal};
+use relay_core::{Account, Taken};
+use std::alloc::{AllocError, Global};
+
+/// A follower: what it had, its closing, and the moves that wait for it.
+#[derive(Drop)]
+struct Seat {
+    joined: u16,
+    taken: u16,
+    closed_at: Option<u16>,
+    queue: Vec<(u16, Move)>,
+}
+
+impl Seat {
+    /// What its follower had and knows, where the log has this length.
+    fn account(&self, len: u16) -> Account {
+        Account {
+            joined: self.joined,
+            taken: self.taken,
+            limit: self.closed_at.unwrap_or(len),
+            cut: self.closed_at.is_some(),
+        }
+    }
+
+    /// Takes the next move that waits, or tells why none does.
+    fn take(&mut self, outcome: Option<Outcome>) -> Taken {
+        if !self.queue.is_empty() {
+            let (place, m) = self.queue.remove(0);
+            self.taken = self.taken.saturating_add(1);
+            return Taken::Move(place, m);
+        }
+        match (self.closed_at, outcome) {
+            (Some(_), _) => Taken::Cut,
+            (None, Some(outcome)) => Taken::Over(outcome),
+            (None, None) => Taken::Nothing,
+        }
+    }
+}
+
+/// A plain board with its followers.
+#[derive(Drop)]
+pub struct Plain {
+    game: Game,
+    limits: Limits,
+    seats: Vec<Option<Seat>>,
+    /// How many places are given out: that of a follower that goes without leaving stays so.
+    given_out: u16,
+    alloc: Global,
+}
+
+impl Plain {
+    /// One that nobody follows, with room for so many followers.
+    pub fn new(
+        alloc: Global,
+        game: Game,
+        limits: Limits,
+        room: usize,
+    ) -> Result<Plain, AllocError> {
+        let mut seats = Vec::new(alloc);
+        for _ in 0..room {
+            seats.push(None)?;
+        }
+        Ok(Plain {
+            game,
+            limits,
+            seats,
+            given_out: 0,
+            alloc,
+        })
+    }
+
+    /// The answer. Want of memory is an error here, so that no answer tells of it.
+    pub fn ask(&mut self, asked: Ask) -> Result<Answer, AllocError> {
+        match asked {
+            Ask::Submit(m) => self.submit(m),
+            Ask::End(ending) => Ok(self.end(ending)),
+            Ask::Follow(who, from) => self.follow(who, from),
+            Ask::Take(who) => Ok(self.take(who)),
+            Ask::Leave(who) => Ok(self.leave(who)),
+            Ask::Drop(who) => Ok(self.drop_follower(who)),
+            // It has no table.
+            Ask::Word(_) => Ok(Answer::Word(None)),
+        }
+    }
+
+    fn submit(&mut self, m: Move) -> Result<Answer, AllocError> {
+        let place = self.game.len();
+        let outcome = match self.game.play(m) {
+            Ok(outcome) => outcome,
+            Err(refusal) => return Ok(Answer::Refused(refusal)),
+        };
+        let capacity = usize::from(self.limits.capacity());
+        for seat in &mut self.seats {
+            if let Some(seat) = seat {
+                if seat.closed_at.is_none() {
+                    if seat.queue.len() >= capacity {
+                        seat.closed_at = Some(place);
+                    } else {
+                        seat.queue.push((place, m))?;
+                    }
+                }
+            }
+        }
+        Ok(Answer::Played(place, outcome))
+    }
+
+    fn end(&mut self, ending: Ending) -> Answer {
+        match self.game.end(ending) {
+            Ok(outcome) => Answer::Ended(outcome),
+            Err(refusal) => Answer::Refused(refusal),
+        }
+    }
+
+    /// The moves of the game from a place on, each with its place.
+    fn moves_from(&self, place: u16) -> Result<Vec<(u16, Move)>, AllocError> {
+        let mut moves = Vec::new(self.alloc);
+        for at in place..self.game.len() {
+            if let Some(m) = self.game.move_at(at) {
+                moves.push((at, m))?;
+            }
+        }
+        Ok(moves)
+    }
+
+    fn follow(&mut self, who: usize, from: Option<u16>) -> Result<Answer, AllocError> {
+        if !matches!(self.seats.get(who), Some(None)) {
+            return Ok(Answer::Amiss);
+        }
+        let joined = from.unwrap_or(self.game.len());
+        if joined > self.game.len() {
+            return Ok(Answer::Refused(Refusal::NotYet));
+        }
+        let queue = self.moves_from(joined)?;
+        if queue.len() > usize::from(self.limits.capacity()) {
+            return Ok(Answer::Refused(Refusal::TooFarBack));
+        }
+        if self.given_out >= self.limits.followers() {
+            return Ok(Answer::Refused(Refusal::TooManyFollowers));
+        }
+        if let Some(seat) = self.seats.get_mut(who) {
+            *seat = Some(Seat {
+                joined,
+                taken: 0,
+                closed_at: None,
+                queue,
+            });
+            self.given_out = self.given_out.saturating_add(1);
+        }
+        Ok(Answer::Following(joined, 0))
+    }
+
+    fn take(&mut self, who: usize) -> Answer {
+        let outcome = self.game.outcome();
+        if who >= self.seats.len() {
+            return Answer::Amiss;
+        }
+        match &mut self.seats[who] {
+            Some(seat) => Answer::Took(seat.take(outcome)),
+            None => Answer::Amiss,
+        }
+    }
+
+    fn leave(&mut self, who: usize) -> Answer {
+        let Some(place) = self.seats.get_mut(who) else {
+            return Answer::Amiss;
+        };
+        let Some(seat) = place.take() else {
+            return Answer::Amiss;
+        };
+        self.given_out = self.given_out.saturating_sub(1);
+        Answer::Left(seat.account(self.game.len()))
+    }
+
+    fn drop_follower(&mut self, who: usize) -> Answer {
+        let Some(place) = self.seats.get_mut(who) else {
+            return Answer::Amiss;
+        };
+        if place.is_none() {
+            return Answer::Amiss;
+        }
+        *place = None;
+        Answer::Dropped
+    }
+}

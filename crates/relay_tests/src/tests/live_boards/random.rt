@@ -1,0 +1,162 @@
+//! Questions drawn by chance, whose answers are those of the plain board.
+
+use crate::tests::live_boards::games::{limits_of, move_of};
+use crate::tests::live_boards::plain::Plain;
+use crate::tests::live_boards::stage::{Answer, Ask, Stage};
+use c960_board::Colour;
+use c960_game::{Ending, Game};
+use relay_core::Taken;
+use std::alloc::{AllocError, Global};
+use std::process::Abort;
+use std::test::Fail;
+
+/// Numbers by chance, the same at each run.
+#[derive(Drop)]
+pub struct Dice {
+    pub seed: u32,
+}
+
+impl Dice {
+    pub fn roll(&mut self) -> u32 {
+        self.seed = self.seed.wrapping_mul(1664525).wrapping_add(1013904223);
+        self.seed >> 16
+    }
+}
+
+/// Moves, of which few are legal at a time; the first four mate.
+const MOVES: [&str; 8] = [
+    "f2f3", "e7e5", "g2g4", "d8h4", "g1f3", "g8f6", "f3g1", "f6g8",
+];
+
+const ENDINGS: [Ending; 8] = [
+    Ending::Resigns(Colour::White),
+    Ending::Resigns(Colour::Black),
+    Ending::Agreed,
+    Ending::Abandoned,
+    Ending::ClaimThreefold(Colour::White),
+    Ending::ClaimThreefold(Colour::Black),
+    Ending::ClaimFifty(Colour::White),
+    Ending::ClaimFifty(Colour::Black),
+];
+
+/// A question: of 128, 56 submit, 1 ends, 8 follow from the present and 8 from an early place, 44 take, 10 leave, 1 goes.
+fn any_ask(rt: &impl Abort, dice: &mut Dice) -> Ask {
+    let who = (dice.roll() % 4) as usize;
+    let which = dice.roll();
+    match dice.roll() % 128 {
+        0..=55 => Ask::Submit(move_of(rt, MOVES[(which % 8) as usize])),
+        56 => Ask::End(ENDINGS[(which % 8) as usize]),
+        57..=64 => Ask::Follow(who, None),
+        65..=72 => Ask::Follow(who, Some((which % 12) as u16)),
+        73..=116 => Ask::Take(who),
+        117..=126 => Ask::Leave(who),
+        _ => Ask::Drop(who),
+    }
+}
+
+/// A word for the kind of an answer; a refusal's is its name.
+fn kind_of(answer: &Answer) -> &'static str {
+    match answer {
+        Answer::Played(_, None) => "played",
+        Answer::Played(..) => "played last",
+        Answer::Ended(_) => "ended",
+        Answer::Following(..) => "following",
+        Answer::Took(Taken::Move(..)) => "move",
+        Answer::Took(Taken::Nothing) => "nothing",
+        Answer::Took(Taken::Over(_)) => "over",
+        Answer::Took(Taken::Cut) => "cut",
+        Answer::Left(account) if account.cut => "left cut",
+        Answer::Left(_) => "left",
+        Answer::Dropped => "dropped",
+        Answer::Word(_) => "word",
+        Answer::Amiss => "amiss",
+        Answer::Refused(refusal) => refusal.name(),
+    }
+}
+
+fn has_kind(answers: &[Answer], kind: &str) -> bool {
+    for answer in answers {
+        if kind_of(answer) == kind {
+            return true;
+        }
+    }
+    false
+}
+
+/// Each answer that there is but for want of memory and a bad start.
+const KINDS: [&str; 19] = [
+    "played",
+    "played last",
+    "ended",
+    "following",
+    "move",
+    "nothing",
+    "over",
+    "cut",
+    "left cut",
+    "left",
+    "dropped",
+    "amiss",
+    "GameOver",
+    "Illegal",
+    "LogFull",
+    "ClaimRefused",
+    "TooManyFollowers",
+    "TooFarBack",
+    "NotYet",
+];
+
+/// Followers, capacity, plies.
+const LIMITS: [(u16, u16, u16); 8] = [
+    (3, 1, 64),
+    (3, 2, 64),
+    (4, 3, 64),
+    (2, 1, 2),
+    (2, 3, 4),
+    (1, 2, 64),
+    (4, 1, 16),
+    (4, 8, 32),
+];
+
+/// Asks a new board and the plain one the same questions, and notes the answers.
+fn assert_same(
+    rt: &impl Abort,
+    alloc: Global,
+    dice: &mut Dice,
+    limits: (u16, u16, u16),
+    seen: &mut Vec<Answer>,
+) -> Result<(), AllocError> {
+    let (followers, capacity, plies) = limits;
+    let limits = limits_of(rt, followers, capacity, plies);
+    let (Ok(mut stage), Ok(game)) = (
+        Stage::open(alloc, 518, limits, 4)?,
+        Game::open(alloc, 518, limits.plies()),
+    ) else {
+        panic!(rt; "no board");
+    };
+    let mut plain = Plain::new(alloc, game, limits, 4)?;
+    for turn in 0..160 {
+        let asked = any_ask(rt, dice);
+        let answer = stage.ask(asked);
+        let told = plain.ask(asked)?;
+        assert!(rt; answer == told, "turn {turn}");
+        seen.push(answer)?;
+    }
+    Ok(())
+}
+
+#[test]
+fn questions_by_chance_are_answered_as_by_the_plain_board(rt: HostRuntime) -> Result<(), Fail> {
+    let alloc = rt.alloc();
+    let mut dice = Dice { seed: 960 };
+    let mut seen = Vec::new(alloc);
+    for limits in LIMITS {
+        for _ in 0..100 {
+            assert_same(&rt, alloc, &mut dice, limits, &mut seen)?;
+        }
+    }
+    for kind in KINDS {
+        assert!(rt; has_kind(seen.as_slice(), kind), "no {kind}");
+    }
+    Ok(())
+}

@@ -1,0 +1,152 @@
+//! A game that one thread plays while two others take it in.
+
+use crate::tests::live_boards::games::{hundred_plies, limits_of};
+use c960_board::Move;
+use c960_game::{Ending, Outcome, Refusal};
+use live_board::{Board, Follower};
+use relay_core::{Account, Taken};
+use std::alloc::{AllocError, Global};
+use std::process::Abort;
+use std::test::Fail;
+use std::thread::{self, Threads};
+
+/// How often a thread takes before it gives up.
+const MOST_TAKES: u32 = 1_000_000;
+
+/// What a follower took: the moves, whether each place was the one after the one before, and what came when there was none.
+#[derive(Drop)]
+pub struct Took {
+    pub moves: Vec<Move>,
+    pub in_order: bool,
+    pub last: Taken,
+}
+
+/// Takes until the game is over or the follower is closed, or so often.
+pub fn take_all(alloc: Global, follower: &mut Follower, most: u32) -> Result<Took, AllocError> {
+    let mut took = Took {
+        moves: Vec::new(alloc),
+        in_order: true,
+        last: Taken::Nothing,
+    };
+    let mut next = follower.joined().saturating_add(follower.taken());
+    for _ in 0..most {
+        match follower.take() {
+            Taken::Move(place, m) => {
+                took.in_order = took.in_order && place == next;
+                took.moves.push(m)?;
+                next = next.saturating_add(1);
+            }
+            Taken::Nothing => {}
+            last => {
+                took.last = last;
+                return Ok(took);
+            }
+        }
+    }
+    Ok(took)
+}
+
+/// Makes the moves, and then ends the game. Whether each was made at its place.
+pub fn play_all(board: &mut Board, moves: &[Move]) -> bool {
+    let mut place = 0u16;
+    let mut fine = true;
+    for m in moves {
+        fine = fine && board.submit(*m) == Ok((place, None));
+        place = place.saturating_add(1);
+    }
+    fine && board.end(Ending::Agreed) == Ok(Outcome::Agreed)
+}
+
+/// What a follower had in all, once it has taken what was left.
+fn with_the_rest(alloc: Global, follower: &mut Follower, early: Took) -> Result<Took, AllocError> {
+    let late = take_all(alloc, follower, 200)?;
+    let mut moves = early.moves;
+    moves.extend_from_slice(late.moves.as_slice())?;
+    Ok(Took {
+        moves,
+        in_order: early.in_order && late.in_order,
+        last: late.last,
+    })
+}
+
+/// Asserts that the follower had the game up to its closing if it was closed, and else all of it and then its end; and that its
+/// account says so. Whether it was closed.
+fn assert_had(rt: &impl Abort, moves: &[Move], had: &Took, account: Account) -> bool {
+    let count = had.moves.len();
+    assert!(rt; had.in_order && count <= moves.len());
+    assert!(rt; had.moves.as_slice() == &moves[..count]);
+    assert!(rt; account.joined == 0);
+    assert!(rt; usize::from(account.taken) == count);
+    assert!(rt; usize::from(account.limit) == count);
+    let is_whole = count == moves.len() && had.last == Taken::Over(Outcome::Agreed);
+    assert!(rt;
+        if account.cut {
+            had.last == Taken::Cut
+        } else {
+            is_whole
+        }
+    );
+    account.cut
+}
+
+/// Plays the board while two others take the moves in, in threads of their own; gives them with what each had.
+fn play_with_two<R: Threads + Abort>(
+    rt: &R,
+    alloc: Global,
+    board: &mut Board,
+    moves: &[Move],
+) -> Result<Vec<(Follower, Took)>, Fail> {
+    let mut running = Vec::new(alloc);
+    for _ in 0..2 {
+        let Ok(mut follower) = board.follow(None) else {
+            panic!(rt; "nobody follows");
+        };
+        running.push(thread::spawn(rt, move || {
+            let took = take_all(alloc, &mut follower, MOST_TAKES);
+            (follower, took)
+        })?)?;
+    }
+    assert!(rt; play_all(board, moves));
+    let mut ended = Vec::new(alloc);
+    for handle in running {
+        let (mut follower, early) = handle.join(rt);
+        let had = with_the_rest(alloc, &mut follower, early?)?;
+        ended.push((follower, had))?;
+    }
+    Ok(ended)
+}
+
+/// Plays a game while two others take it in, whose queues hold so many moves. Whether one of them was closed.
+fn play_before_two<R: Threads + Abort>(
+    rt: &R,
+    alloc: Global,
+    moves: &[Move],
+    capacity: u16,
+) -> Result<bool, Fail> {
+    let Ok(mut board) = Board::open(alloc, 518, limits_of(rt, 2, capacity, 1024)) else {
+        panic!(rt; "no board");
+    };
+    let ended = play_with_two(rt, alloc, &mut board, moves)?;
+    assert!(rt; matches!(board.follow(None), Err(Refusal::TooManyFollowers)));
+    let mut is_closed = false;
+    for (follower, had) in ended {
+        let (account, _) = follower.leave();
+        is_closed = assert_had(rt, moves, &had, account) || is_closed;
+    }
+    assert!(rt; board.follow(None).is_ok() && board.follow(None).is_ok());
+    Ok(is_closed)
+}
+
+#[test]
+fn two_threads_take_in_a_game(rt: HostRuntime) -> Result<(), Fail> {
+    let alloc = rt.alloc();
+    let moves = hundred_plies(&rt, alloc)?;
+    // Nobody is closed whose queue holds the whole game.
+    for capacity in [128, 1024] {
+        assert!(rt; !play_before_two(&rt, alloc, moves.as_slice(), capacity)?);
+    }
+    for _ in 0..50 {
+        play_before_two(&rt, alloc, moves.as_slice(), 4)?;
+    }
+    Ok(())
+}

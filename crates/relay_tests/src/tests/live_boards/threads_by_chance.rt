@@ -1,0 +1,126 @@
+//! A game that one thread plays while followers come, take in threads of their own, and leave again, many times over.
+
+use crate::tests::live_boards::games::{hundred_plies, limits_of};
+use crate::tests::live_boards::random::Dice;
+use crate::tests::live_boards::threads::{Took, take_all};
+use c960_board::Move;
+use c960_game::{Ending, Outcome, Refusal};
+use live_board::{Board, Follower};
+use relay_core::{Account, Taken};
+use std::alloc::{AllocError, Global};
+use std::process::Abort;
+use std::test::Fail;
+use std::thread;
+use std::thread::{JoinHandle, Threads};
+
+/// What a follower had, and its account.
+type Visit = (u16, Result<Took, AllocError>, Account);
+
+/// Takes for so many turns, or until it is closed or the game is over, and leaves.
+fn visit(alloc: Global, mut follower: Follower, most: u32) -> Visit {
+    let joined = follower.joined();
+    let took = take_all(alloc, &mut follower, most);
+    let (account, _) = follower.leave();
+    (joined, took, account)
+}
+
+/// Asserts that the follower's moves are the stretch of the game from its joining place, and that its account says so.
+fn assert_stretch(rt: &impl Abort, moves: &[Move], visit: Visit) -> Result<(), AllocError> {
+    let (joined, took, account) = visit;
+    let took = took?;
+    assert!(rt; took.in_order);
+    let from = usize::from(joined);
+    let to = from.saturating_add(took.moves.len());
+    assert!(rt; from <= to && to <= moves.len());
+    assert!(rt; took.moves.as_slice() == &moves[from..to]);
+    assert!(rt; account.joined == joined);
+    assert!(rt; usize::from(account.taken) == took.moves.len());
+    assert!(rt; usize::from(account.limit) >= to && usize::from(account.limit) <= moves.len());
+    match took.last {
+        Taken::Cut => assert!(rt; account.cut && usize::from(account.limit) == to),
+        Taken::Over(outcome) => {
+            assert!(rt; (outcome, to, account.cut) == (Outcome::Agreed, moves.len(), false));
+        }
+        _ => {}
+    }
+    Ok(())
+}
+
+/// One comes, from the present or a place back, and takes in a thread of its own; none where the board is full.
+fn come<R: Threads + Abort>(
+    rt: &R,
+    alloc: Global,
+    board: &mut Board,
+    dice: &mut Dice,
+) -> Result<Option<JoinHandle<Visit>>, Fail> {
+    let from = match dice.roll() % 3 {
+        0 => Some(board.len()),
+        1 => Some(board.len().saturating_sub(1)),
+        _ => None,
+    };
+    match board.follow(from) {
+        Ok(follower) => {
+            let most = dice.roll() % 2000;
+            let handle = thread::spawn(rt, move || visit(alloc, follower, most))?;
+            Ok(Some(handle))
+        }
+        Err(refusal) => {
+            assert!(rt; refusal == Refusal::TooManyFollowers);
+            Ok(None)
+        }
+    }
+}
+
+/// One game, with the visits that it had.
+fn play<R: Threads + Abort>(
+    rt: &R,
+    alloc: Global,
+    moves: &[Move],
+    capacity: u16,
+    dice: &mut Dice,
+) -> Result<u32, Fail> {
+    let Ok(mut board) = Board::open(alloc, 518, limits_of(rt, 3, capacity, 1024)) else {
+        panic!(rt; "no board");
+    };
+    let mut visits: Vec<JoinHandle<Visit>> = Vec::new(alloc);
+    let mut place = 0u16;
+    for m in moves {
+        if dice.roll() % 4 == 0 {
+            if let Some(handle) = come(rt, alloc, &mut board, dice)? {
+                visits.push(handle)?;
+            }
+        }
+        assert!(rt; board.submit(*m) == Ok((place, None)));
+        place = place.saturating_add(1);
+    }
+    assert!(rt; board.end(Ending::Agreed) == Ok(Outcome::Agreed));
+    let mut count = 0u32;
+    for handle in visits {
+        assert_stretch(rt, moves, handle.join(rt))?;
+        count = count.wrapping_add(1);
+    }
+    // All have left, so that there is room for as many as ever.
+    for _ in 0..3 {
+        let Ok(follower) = board.follow(None) else {
+            panic!(rt; "a place was not found again");
+        };
+        assert!(rt; follower.joined() == 100);
+        let _ = visit(alloc, follower, 1);
+    }
+    Ok(count)
+}
+
+#[test]
+fn what_each_follower_had_is_a_stretch_of_the_game(rt: HostRuntime) -> Result<(), Fail> {
+    let alloc = rt.alloc();
+    let moves = hundred_plies(&rt, alloc)?;
+    let mut dice = Dice { seed: 518 };
+    let mut count = 0u32;
+    for capacity in [1, 1, 2, 3, 5, 8, 64, 128] {
+        for _ in 0..10 {
+            count = count.wrapping_add(play(&rt, alloc, moves.as_slice(), capacity, &mut dice)?);
+        }
+    }
+    assert!(rt; count > 100, "{count}");
+    Ok(())
+}

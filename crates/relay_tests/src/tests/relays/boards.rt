@@ -1,0 +1,70 @@
+//! Several boards, and the order of refusals.
+
+use crate::tests::relays::table::Asked::{End, Follow, Leave, Open, Submit, Take};
+use crate::tests::relays::table::Told::{
+    Ended, Following, Left, Nothing, Opened, Over, Played, Refused, Took,
+};
+use crate::tests::relays::table::{START_0, START_518, assert_case, with_capacity};
+use c960_board::Colour;
+use c960_game::{Ending, Outcome, Refusal};
+use std::test::Fail;
+
+#[test]
+fn two_boards(rt: HostRuntime) -> Result<(), Fail> {
+    let rows = [
+        (Open("A", 518), Opened),
+        (Open("B", 0), Opened),
+        (Follow(1, "A"), Following(0, START_518)),
+        (Follow(2, "B"), Following(0, START_0)),
+        (Submit("A", "e2e4"), Played(0)),
+        (Submit("B", "d2d4"), Played(0)),
+        (Submit("A", "e7e5"), Played(1)),
+        (Take(1), Took(0, "e2e4")),
+        (Take(2), Took(0, "d2d4")),
+        (Submit("A", "g1f3"), Played(2)),
+        (Leave(1), Left(0, 1, 3, false)),
+        (
+            Follow(1, "A"),
+            Following(
+                3,
+                "rnbqkbnr/pppp1ppp/8/4p3/4P3/5N2/PPPP1PPP/RNBQKB1R b HAha - 1 2",
+            ),
+        ),
+        (Submit("A", "b8c6"), Played(3)),
+        (Take(1), Took(3, "b8c6")),
+        (Take(1), Nothing),
+        (Take(2), Nothing),
+    ];
+    assert_case(&rt, rt.alloc(), with_capacity(64), &rows)
+}
+
+#[test]
+fn refusal_order_after_an_end(rt: HostRuntime) -> Result<(), Fail> {
+    let resigned = Outcome::Resigned(Colour::White);
+    let rows = [
+        (Open("b1", 518), Opened),
+        (End("b1", Ending::Resigns(Colour::White)), Ended(resigned)),
+        (Follow(1, "b1"), Following(0, START_518)),
+        (Take(1), Over(resigned)),
+        (Take(2), Refused(Refusal::NoSuchFollower)),
+        (Follow(1, "b1"), Refused(Refusal::FollowerExists)),
+        (Follow(1, "b9"), Refused(Refusal::NoSuchBoard)),
+        (End("b1", Ending::Agreed), Refused(Refusal::GameOver)),
+        (Leave(1), Left(0, 0, 0, false)),
+        (Leave(1), Refused(Refusal::NoSuchFollower)),
+    ];
+    assert_case(&rt, rt.alloc(), with_capacity(64), &rows)
+}
+
+#[test]
+fn refusal_order_at_the_limits(rt: HostRuntime) -> Result<(), Fail> {
+    let rows = [
+        (Open("a", 518), Opened),
+        (Open("a", 960), Refused(Refusal::BoardExists)),
+        (Open("b", 960), Refused(Refusal::BadStart)),
+        (Open("b", 0), Refused(Refusal::TooManyBoards)),
+        (Follow(1, "a"), Following(0, START_518)),
+        (Follow(2, "a"), Refused(Refusal::TooManyFollowers)),
+    ];
+    assert_case(&rt, rt.alloc(), (1, 1, 64, 1024), &rows)
+}

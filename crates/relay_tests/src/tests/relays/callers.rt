@@ -1,0 +1,33 @@
+//! The example of a caller that is written for both kinds of relay, tried over each.
+
+use crate::tests::relays::kinds::Kind;
+use crate::tests::relays::table::{START_518, board_of, following, limits_of, with_capacity};
+use crate::visits::visit;
+use relay_core::{Account, Relay, Reply, Step};
+use relay_live::LiveRelay;
+use std::alloc::{AllocError, Global};
+use std::process::Abort;
+
+/// Asserts that a visit to a new board is a follow and a leave.
+fn assert_visit<K: Kind>(rt: &impl Abort, alloc: Global) -> Result<(), AllocError> {
+    let mut relay = K::made(alloc, limits_of(rt, with_capacity(64)))?;
+    let board = board_of(rt, "b1");
+    assert!(rt; relay.step(Step::Open(board, 518)) == Reply::Opened);
+    let (joined, left) = visit(&mut relay, 1, board);
+    assert!(rt; joined == following(rt, 0, START_518));
+    assert!(rt;
+        left == Reply::Left(Account {
+            joined: 0,
+            taken: 0,
+            limit: 0,
+            cut: false
+        })
+    );
+    Ok(())
+}
+
+#[test]
+fn a_visit_is_a_follow_and_a_leave(rt: HostRuntime) -> Result<(), AllocError> {
+    assert_visit::<Relay>(&rt, rt.alloc())?;
+    assert_visit::<LiveRelay>(&rt, rt.alloc())
+}

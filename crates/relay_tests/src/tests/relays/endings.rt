@@ -1,0 +1,106 @@
+//! Ends of games, and what is told of them.
+
+use crate::tests::relays::table::Asked::{End, Follow, Leave, Open, Submit, SubmitLine, Take};
+use crate::tests::relays::table::Told::{
+    Cut, Ended, Following, Left, Nothing, Opened, Over, Played, PlayedLast, Refused, Took,
+};
+use crate::tests::relays::table::{START_518, assert_case, with_capacity};
+use c960_board::Colour;
+use c960_game::{Ending, Outcome, Refusal};
+use std::test::Fail;
+
+#[test]
+fn mate_and_over(rt: HostRuntime) -> Result<(), Fail> {
+    let mated = Outcome::Checkmate(Colour::Black);
+    let rows = [
+        (Open("b1", 518), Opened),
+        (Follow(1, "b1"), Following(0, START_518)),
+        (Submit("b1", "f2f3"), Played(0)),
+        (Submit("b1", "e7e5"), Played(1)),
+        (Submit("b1", "g2g4"), Played(2)),
+        (Submit("b1", "d8h4"), PlayedLast(3, mated)),
+        (
+            Follow(2, "b1"),
+            Following(
+                4,
+                "rnb1kbnr/pppp1ppp/8/4p3/6Pq/5P2/PPPPP2P/RNBQKBNR w HAha - 1 3",
+            ),
+        ),
+        (Take(1), Took(0, "f2f3")),
+        (Take(1), Took(1, "e7e5")),
+        (Take(1), Took(2, "g2g4")),
+        (Take(1), Took(3, "d8h4")),
+        (Take(1), Over(mated)),
+        (Take(1), Over(mated)),
+        (Submit("b1", "a2a3"), Refused(Refusal::GameOver)),
+        (End("b1", Ending::Agreed), Refused(Refusal::GameOver)),
+    ];
+    assert_case(&rt, rt.alloc(), with_capacity(64), &rows)
+}
+
+#[test]
+fn mate_and_over_with_a_queue_of_four(rt: HostRuntime) -> Result<(), Fail> {
+    let mated = Outcome::Checkmate(Colour::Black);
+    let rows = [
+        (Open("b1", 518), Opened),
+        (Follow(1, "b1"), Following(0, START_518)),
+        (SubmitLine("b1", "f2f3 e7e5 g2g4"), Played(0)),
+        (Submit("b1", "d8h4"), PlayedLast(3, mated)),
+        (Take(1), Took(0, "f2f3")),
+        (Take(1), Took(1, "e7e5")),
+        (Take(1), Took(2, "g2g4")),
+        (Take(1), Took(3, "d8h4")),
+        (Take(1), Over(mated)),
+        (Leave(1), Left(0, 4, 4, false)),
+    ];
+    assert_case(&rt, rt.alloc(), with_capacity(4), &rows)
+}
+
+#[test]
+fn mate_and_over_with_a_queue_of_three(rt: HostRuntime) -> Result<(), Fail> {
+    let mated = Outcome::Checkmate(Colour::Black);
+    let rows = [
+        (Open("b1", 518), Opened),
+        (Follow(1, "b1"), Following(0, START_518)),
+        (SubmitLine("b1", "f2f3 e7e5 g2g4"), Played(0)),
+        (Submit("b1", "d8h4"), PlayedLast(3, mated)),
+        (Take(1), Took(0, "f2f3")),
+        (Take(1), Took(1, "e7e5")),
+        (Take(1), Took(2, "g2g4")),
+        (Take(1), Cut),
+        (Leave(1), Left(0, 3, 3, true)),
+    ];
+    assert_case(&rt, rt.alloc(), with_capacity(3), &rows)
+}
+
+/// Four moves after which the position is as before.
+const KNIGHTS_OUT_AND_HOME: &str = "g8f6 g1f3 f6g8 f3g1";
+
+#[test]
+fn a_third_appearance_is_granted_to_the_side_on_move(rt: HostRuntime) -> Result<(), Fail> {
+    let refused = Refused(Refusal::ClaimRefused);
+    let rows = [
+        (Open("b1", 518), Opened),
+        (Submit("b1", "e2e4"), Played(0)),
+        (End("b1", Ending::ClaimThreefold(Colour::Black)), refused),
+        (SubmitLine("b1", KNIGHTS_OUT_AND_HOME), Played(1)),
+        (End("b1", Ending::ClaimThreefold(Colour::Black)), refused),
+        (SubmitLine("b1", KNIGHTS_OUT_AND_HOME), Played(5)),
+        (
+            Follow(1, "b1"),
+            Following(
+                9,
+                "rnbqkbnr/pppppppp/8/8/4P3/8/PPPP1PPP/RNBQKBNR b HAha - 8 5",
+            ),
+        ),
+        (End("b1", Ending::ClaimThreefold(Colour::White)), refused),
+        (Take(1), Nothing),
+        (
+            End("b1", Ending::ClaimThreefold(Colour::Black)),
+            Ended(Outcome::Threefold),
+        ),
+        (Take(1), Over(Outcome::Threefold)),
+        (Submit("b1", "e7e5"), Refused(Refusal::GameOver)),
+    ];
+    assert_case(&rt, rt.alloc(), with_capacity(64), &rows)
+}

@@ -1,0 +1,267 @@
+//! Want of memory. Where one allocation is refused (`rt try --test --fail-alloc N`, for each N in turn), the call that wanted
+//! it says so and changes nothing, and is accepted when made again; all else is answered as ever.
+
+use crate::tests::relays::kinds::Kind;
+use crate::tests::relays::table::Asked::{End, Follow, FollowFrom, Leave, Open, Submit, Take};
+use crate::tests::relays::table::Told::{
+    Cut, Ended, Following, Left, Nothing, Opened, Over, Played, PlayedLast, Took,
+};
+use crate::tests::relays::table::{
+    Asked, START_0, START_518, Told, board_of, following, limits_of, line_of, move_of, reply_of,
+    step_of,
+};
+use c960_board::Colour;
+use c960_game::{Ending, Limits, Outcome, Refusal};
+use relay_core::{Account, Relay, Reply, Step, Stepper, Taken};
+use relay_live::LiveRelay;
+use std::alloc::{AllocError, Global};
+use std::process::Abort;
+
+/// How many calls were refused for want of memory.
+#[derive(Drop)]
+struct Refused {
+    count: u32,
+}
+
+impl Refused {
+    fn note(&mut self) {
+        self.count = self.count.saturating_add(1);
+    }
+}
+
+const WANT: Reply = Reply::Refused(Refusal::OutOfMemory);
+
+/// A new relay, made again where it was refused.
+fn new_relay<K: Kind>(rt: &impl Abort, alloc: Global, limits: Limits, refused: &mut Refused) -> K {
+    match K::made(alloc, limits) {
+        Ok(relay) => relay,
+        Err(AllocError) => {
+            refused.note();
+            K::made(alloc, limits).expect(rt, "one refusal at the most")
+        }
+    }
+}
+
+/// What shows that a step that takes memory was made in vain: its board or its follower is not there.
+fn in_vain(step: &Step) -> Option<(Step, Reply)> {
+    match step {
+        Step::Open(board, _) => Some((
+            Step::End(*board, Ending::Abandoned),
+            Reply::Refused(Refusal::NoSuchBoard),
+        )),
+        Step::Follow(who, _, _) => Some((
+            Step::Take(*who),
+            Reply::Refused(Refusal::NoSuchFollower),
+        )),
+        _ => None,
+    }
+}
+
+/// Asserts that a step is answered so; one that takes memory is made again where it was refused for want of it.
+fn assert_answer(
+    rt: &impl Abort,
+    relay: &mut impl Stepper,
+    step: &Step,
+    reply: &Reply,
+    refused: &mut Refused,
+) {
+    let first = relay.step(*step);
+    let vain = in_vain(step);
+    if first != WANT || vain.is_none() {
+        assert!(rt; first == *reply);
+        return;
+    }
+    refused.note();
+    if let Some((asked, told)) = vain {
+        let after = relay.step(asked);
+        assert!(rt; after == told, "after a refusal");
+    }
+    let again = relay.step(*step);
+    assert!(rt; again == *reply, "made again");
+}
+
+/// The replies of a run, made again where it was refused: then no step was made, as the replies show.
+fn run(
+    rt: &impl Abort,
+    relay: &mut impl Kind,
+    steps: &[Step],
+    refused: &mut Refused,
+) -> Vec<Reply> {
+    match relay.ran(steps) {
+        Ok(replies) => replies,
+        Err(AllocError) => {
+            refused.note();
+            relay.ran(steps).expect(rt, "one refusal at the most")
+        }
+    }
+}
+
+fn played(place: u16) -> Reply {
+    Reply::Played {
+        place,
+        outcome: None,
+    }
+}
+
+fn left(joined: u16, taken: u16, limit: u16, cut: bool) -> Reply {
+    Reply::Left(Account {
+        joined,
+        taken,
+        limit,
+        cut,
+    })
+}
+
+/// The position of start 518 after e2e4.
+const ONE_PLY: &str = "rnbqkbnr/pppppppp/8/8/4P3/8/PPPP1PPP/RNBQKBNR b HAha e3 0 1";
+
+/// The position of start 518 after e2e4 e7e5.
+const TWO_PLIES: &str = "rnbqkbnr/pppp1ppp/8/4p3/4P3/8/PPPP1PPP/RNBQKBNR w HAha e6 0 2";
+
+/// Two boards, one follower each, one move a queue. A step refused for want of memory takes no board and no seat, and leaves
+/// the other board, its follower and the queue as they were.
+const ROWS: [(Asked, Told); 25] = [
+    (Open("a", 518), Opened),
+    (Open("b", 960), Told::Refused(Refusal::BadStart)),
+    (Follow(1, "a"), Following(0, START_518)),
+    (Submit("a", "e2e4"), Played(0)),
+    (Follow(2, "a"), Told::Refused(Refusal::TooManyFollowers)),
+    (Open("b", 0), Opened),
+    (Open("c", 0), Told::Refused(Refusal::TooManyBoards)),
+    (Follow(1, "b"), Told::Refused(Refusal::FollowerExists)),
+    (Follow(2, "b"), Following(0, START_0)),
+    (Follow(3, "b"), Told::Refused(Refusal::TooManyFollowers)),
+    (Submit("a", "e7e5"), Played(1)),
+    (Take(1), Took(0, "e2e4")),
+    (Take(1), Cut),
+    (Leave(1), Left(0, 1, 1, true)),
+    (Take(2), Nothing),
+    (End("b", Ending::Agreed), Ended(Outcome::Agreed)),
+    (Take(2), Over(Outcome::Agreed)),
+    (Follow(1, "a"), Following(2, TWO_PLIES)),
+    (Leave(1), Left(2, 0, 2, false)),
+    (Follow(3, "a"), Following(2, TWO_PLIES)),
+    (Leave(3), Left(2, 0, 2, false)),
+    (FollowFrom(4, "a", 0), Told::Refused(Refusal::TooFarBack)),
+    (FollowFrom(4, "a", 1), Following(1, ONE_PLY)),
+    (Take(4), Took(1, "e7e5")),
+    (Take(4), Nothing),
+];
+
+/// Asserts that a new relay of the kind answers these rows, and how many of their calls were refused for want of memory.
+fn refusals_in<K: Kind>(
+    rt: &impl Abort,
+    alloc: Global,
+    limits: (u16, u16, u16, u16),
+    rows: &[(Asked, Told)],
+) -> u32 {
+    let mut refused = Refused { count: 0 };
+    let limits = limits_of(rt, limits);
+    let mut relay: K = new_relay(rt, alloc, limits, &mut refused);
+    for (asked, told) in rows {
+        let step = step_of(rt, *asked, line_of(*asked));
+        let reply = reply_of(rt, *told, 0);
+        assert_answer(rt, &mut relay, &step, &reply, &mut refused);
+    }
+    refused.count
+}
+
+#[test]
+fn a_refused_step_is_accepted_when_made_again(rt: HostRuntime) {
+    let limits = (2, 1, 1, 1024);
+    let plain = refusals_in::<Relay>(&rt, rt.alloc(), limits, &ROWS);
+    let live = refusals_in::<LiveRelay>(&rt, rt.alloc(), limits, &ROWS);
+    assert!(rt; plain.saturating_add(live) <= 1);
+}
+
+/// A mate that one follower takes move by move. Only the first two steps take memory.
+const MATE: [(Asked, Told); 14] = [
+    (Open("b1", 518), Opened),
+    (Follow(1, "b1"), Following(0, START_518)),
+    (Submit("b1", "f2f3"), Played(0)),
+    (Submit("b1", "e7e5"), Played(1)),
+    (Submit("b1", "g2g4"), Played(2)),
+    (Submit("b1", "d8h4"), PlayedLast(3, MATED)),
+    (Take(1), Took(0, "f2f3")),
+    (Take(1), Took(1, "e7e5")),
+    (Take(1), Took(2, "g2g4")),
+    (Take(1), Took(3, "d8h4")),
+    (Take(1), Over(MATED)),
+    (Submit("b1", "a2a3"), Told::Refused(Refusal::GameOver)),
+    (End("b1", Ending::Agreed), Told::Refused(Refusal::GameOver)),
+    (Leave(1), Left(0, 4, 4, false)),
+];
+
+const MATED: Outcome = Outcome::Checkmate(Colour::Black);
+
+#[test]
+fn the_steps_after_an_opening_and_a_follow_are_answered_whatever_is_refused(rt: HostRuntime) {
+    let limits = (16, 64, 64, 1024);
+    let plain = refusals_in::<Relay>(&rt, rt.alloc(), limits, &MATE);
+    let live = refusals_in::<LiveRelay>(&rt, rt.alloc(), limits, &MATE);
+    assert!(rt; plain.saturating_add(live) <= 1);
+}
+
+/// Asserts that a new relay of the kind answers a run, and how many calls were refused for want of memory.
+fn refusals_of_a_run<K: Kind>(rt: &impl Abort, alloc: Global) -> u32 {
+    let mut refused = Refused { count: 0 };
+    let limits = limits_of(rt, (1, 1, 1, 1024));
+    let mut relay: K = new_relay(rt, alloc, limits, &mut refused);
+    let board = board_of(rt, "a");
+    let (e2e4, e7e5) = (move_of(rt, "e2e4"), move_of(rt, "e7e5"));
+    // Each step that takes memory stands twice: where the first is refused for want of it, the second is accepted.
+    let steps = [
+        Step::Open(board, 518),
+        Step::Open(board, 518),
+        Step::Follow(1, board, None),
+        Step::Follow(1, board, None),
+        Step::Submit(board, e2e4),
+        Step::Submit(board, e7e5),
+        Step::Take(1),
+        Step::Take(1),
+        Step::Leave(1),
+        Step::Submit(board, e2e4),
+    ];
+    let opened = (Reply::Opened, Reply::Refused(Refusal::BoardExists));
+    let followed = (
+        following(rt, 0, START_518),
+        Reply::Refused(Refusal::FollowerExists),
+    );
+    let rest = [
+        played(0),
+        played(1),
+        Reply::Took(Taken::Move(0, e2e4)),
+        Reply::Took(Taken::Cut),
+        left(0, 1, 1, true),
+        Reply::Refused(Refusal::Illegal),
+    ];
+    let replies = run(rt, &mut relay, &steps, &mut refused);
+    assert!(rt; replies.len() == 10);
+    assert_pair(rt, (replies[0], replies[1]), opened, &mut refused);
+    assert_pair(rt, (replies[2], replies[3]), followed, &mut refused);
+    assert!(rt; &replies[4..] == rest.as_slice());
+    refused.count
+}
+
+#[test]
+fn a_refused_run_makes_no_step(rt: HostRuntime) {
+    let plain = refusals_of_a_run::<Relay>(&rt, rt.alloc());
+    let live = refusals_of_a_run::<LiveRelay>(&rt, rt.alloc());
+    assert!(rt; plain.saturating_add(live) <= 1);
+}
+
+/// Asserts that a step made twice is answered so, or that the first was refused for want of memory and the second accepted.
+fn assert_pair(
+    rt: &impl Abort,
+    given: (Reply, Reply),
+    expected: (Reply, Reply),
+    refused: &mut Refused,
+) {
+    if given.0 == WANT {
+        refused.note();
+        assert!(rt; given.1 == expected.0, "made again");
+    } else {
+        assert!(rt; given.0 == expected.0);
+        assert!(rt; given.1 == expected.1);
+    }
+}

@@ -1,0 +1,56 @@
+//! Followers who join at an earlier place of the log.
+
+use crate::tests::relays::table::Asked::{End, FollowFrom, Leave, Open, Submit, SubmitLine, Take};
+use crate::tests::relays::table::Told::{
+    Cut, Ended, Following, Left, Nothing, Opened, Over, Played, Refused, Took,
+};
+use crate::tests::relays::table::{assert_case, with_capacity};
+use c960_game::{Ending, Outcome, Refusal};
+use std::test::Fail;
+
+/// The position of start 518 after e2e4.
+const ONE_PLY: &str = "rnbqkbnr/pppppppp/8/8/4P3/8/PPPP1PPP/RNBQKBNR b HAha e3 0 1";
+
+/// After e2e4 e7e5.
+const TWO_PLIES: &str = "rnbqkbnr/pppp1ppp/8/4p3/4P3/8/PPPP1PPP/RNBQKBNR w HAha e6 0 2";
+
+/// After e2e4 e7e5 g1f3 b8c6.
+const FOUR_PLIES: &str = "r1bqkbnr/pppp1ppp/2n5/4p3/4P3/5N2/PPPP1PPP/RNBQKB1R w HAha - 2 3";
+
+#[test]
+fn follow_from(rt: HostRuntime) -> Result<(), Fail> {
+    let rows = [
+        (Open("b1", 518), Opened),
+        (SubmitLine("b1", "e2e4 e7e5 g1f3"), Played(0)),
+        (FollowFrom(1, "b1", 0), Refused(Refusal::TooFarBack)),
+        (FollowFrom(1, "b1", 4), Refused(Refusal::NotYet)),
+        (FollowFrom(1, "b1", 1), Following(1, ONE_PLY)),
+        (Submit("b1", "b8c6"), Played(3)),
+        (Take(1), Took(1, "e7e5")),
+        (Take(1), Took(2, "g1f3")),
+        (Take(1), Cut),
+        (Leave(1), Left(1, 2, 3, true)),
+        (FollowFrom(1, "b1", 4), Following(4, FOUR_PLIES)),
+        (Take(1), Nothing),
+        (End("b1", Ending::Agreed), Ended(Outcome::Agreed)),
+        (FollowFrom(2, "b1", 2), Following(2, TWO_PLIES)),
+        (Take(2), Took(2, "g1f3")),
+        (Take(2), Took(3, "b8c6")),
+        (Take(2), Over(Outcome::Agreed)),
+    ];
+    assert_case(&rt, rt.alloc(), with_capacity(2), &rows)
+}
+
+#[test]
+fn a_place_too_far_back_is_told_before_that_every_place_is_taken(
+    rt: HostRuntime,
+) -> Result<(), Fail> {
+    let rows = [
+        (Open("b1", 518), Opened),
+        (SubmitLine("b1", "e2e4 e7e5 g1f3"), Played(0)),
+        (FollowFrom(1, "b1", 1), Following(1, ONE_PLY)),
+        (FollowFrom(2, "b1", 0), Refused(Refusal::TooFarBack)),
+        (FollowFrom(2, "b1", 2), Refused(Refusal::TooManyFollowers)),
+    ];
+    assert_case(&rt, rt.alloc(), (16, 1, 2, 1024), &rows)
+}

@@ -1,0 +1,137 @@
+//! Full logs, the fifty moves, and the draws without a claim.
+
+use crate::tests::relays::table::Asked::{End, Follow, FollowFrom, Open, Submit, SubmitLine, Take};
+use crate::tests::relays::table::Told::{
+    Ended, Following, Nothing, Opened, Over, Played, PlayedLast, Refused, Took,
+};
+use crate::tests::relays::table::{START_518, assert_case, with_capacity};
+use c960_board::Colour;
+use c960_game::{Ending, Outcome, Refusal};
+use std::test::Fail;
+
+#[test]
+fn ply_limit(rt: HostRuntime) -> Result<(), Fail> {
+    let rows = [
+        (Open("b1", 518), Opened),
+        (Submit("b1", "e2e4"), Played(0)),
+        (Submit("b1", "e7e5"), Refused(Refusal::LogFull)),
+        (Submit("b1", "e2e5"), Refused(Refusal::LogFull)),
+        // A full log is no end.
+        (
+            Follow(1, "b1"),
+            Following(
+                1,
+                "rnbqkbnr/pppppppp/8/8/4P3/8/PPPP1PPP/RNBQKBNR b HAha e3 0 1",
+            ),
+        ),
+        (Take(1), Nothing),
+        (End("b1", Ending::Agreed), Ended(Outcome::Agreed)),
+        (Submit("b1", "e7e5"), Refused(Refusal::GameOver)),
+    ];
+    assert_case(&rt, rt.alloc(), (16, 64, 64, 1), &rows)
+}
+
+/// Twelve moves of knights.
+const SHUFFLE: &str = "g1f3 g8f6 f3g1 f6g8 g1f3 g8f6 f3g1 f6g8 g1f3 g8f6 f3g1 f6g8";
+
+#[test]
+fn fifty_moves(rt: HostRuntime) -> Result<(), Fail> {
+    let black = Ending::ClaimFifty(Colour::Black);
+    let white = Ending::ClaimFifty(Colour::White);
+    let rows = [
+        (Open("b1", 518), Opened),
+        (SubmitLine("b1", SHUFFLE), Played(0)),
+        (SubmitLine("b1", "b1c3 b8c6"), Played(12)),
+        (SubmitLine("b1", SHUFFLE), Played(14)),
+        (SubmitLine("b1", "a1b1 a8b8"), Played(26)),
+        (SubmitLine("b1", SHUFFLE), Played(28)),
+        (SubmitLine("b1", "b1a1 b8a8"), Played(40)),
+        (SubmitLine("b1", SHUFFLE), Played(42)),
+        (SubmitLine("b1", "c3b1 c6b8"), Played(54)),
+        (SubmitLine("b1", SHUFFLE), Played(56)),
+        (SubmitLine("b1", "b1a3 b8a6"), Played(68)),
+        (SubmitLine("b1", SHUFFLE), Played(70)),
+        (SubmitLine("b1", "a1b1 a8b8"), Played(82)),
+        (SubmitLine("b1", SHUFFLE), Played(84)),
+        (SubmitLine("b1", "a3c4 a6c5"), Played(96)),
+        (Submit("b1", "g1f3"), Played(98)),
+        (End("b1", black), Refused(Refusal::ClaimRefused)),
+        (Submit("b1", "g8f6"), Played(99)),
+        (
+            Follow(1, "b1"),
+            Following(
+                100,
+                "1rbqkb1r/pppppppp/5n2/2n5/2N5/5N2/PPPPPPPP/1RBQKB1R w Hh - 100 51",
+            ),
+        ),
+        (End("b1", black), Refused(Refusal::ClaimRefused)),
+        (End("b1", white), Ended(Outcome::Fifty)),
+        (Take(1), Over(Outcome::Fifty)),
+    ];
+    assert_case(&rt, rt.alloc(), with_capacity(64), &rows)
+}
+
+#[test]
+fn fivefold(rt: HostRuntime) -> Result<(), Fail> {
+    let rows = [
+        (Open("b1", 518), Opened),
+        (Follow(1, "b1"), Following(0, START_518)),
+        (SubmitLine("b1", SHUFFLE), Played(0)),
+        (SubmitLine("b1", "g1f3 g8f6 f3g1"), Played(12)),
+        (Submit("b1", "f6g8"), PlayedLast(15, Outcome::Fivefold)),
+        (
+            Follow(2, "b1"),
+            Following(
+                16,
+                "rnbqkbnr/pppppppp/8/8/8/8/PPPPPPPP/RNBQKBNR w HAha - 16 9",
+            ),
+        ),
+        (Submit("b1", "e2e4"), Refused(Refusal::GameOver)),
+        (Take(2), Over(Outcome::Fivefold)),
+        (FollowFrom(3, "b1", 0), Following(0, START_518)),
+        (Take(3), Took(0, "g1f3")),
+    ];
+    assert_case(&rt, rt.alloc(), with_capacity(64), &rows)
+}
+
+#[test]
+fn seventy_five(rt: HostRuntime) -> Result<(), Fail> {
+    let rows = [
+        (Open("b1", 518), Opened),
+        (SubmitLine("b1", SHUFFLE), Played(0)),
+        (SubmitLine("b1", "b1c3 b8c6"), Played(12)),
+        (SubmitLine("b1", SHUFFLE), Played(14)),
+        (SubmitLine("b1", "a1b1 a8b8"), Played(26)),
+        (SubmitLine("b1", SHUFFLE), Played(28)),
+        (SubmitLine("b1", "b1a1 b8a8"), Played(40)),
+        (SubmitLine("b1", SHUFFLE), Played(42)),
+        (SubmitLine("b1", "c3b1 c6b8"), Played(54)),
+        (SubmitLine("b1", SHUFFLE), Played(56)),
+        (SubmitLine("b1", "b1a3 b8a6"), Played(68)),
+        (SubmitLine("b1", SHUFFLE), Played(70)),
+        (SubmitLine("b1", "a1b1 a8b8"), Played(82)),
+        (SubmitLine("b1", SHUFFLE), Played(84)),
+        (SubmitLine("b1", "a3c4 a6c5"), Played(96)),
+        (SubmitLine("b1", SHUFFLE), Played(98)),
+        (SubmitLine("b1", "c4e3 c5e6"), Played(110)),
+        (SubmitLine("b1", SHUFFLE), Played(112)),
+        (SubmitLine("b1", "b1a1 b8a8"), Played(124)),
+        (SubmitLine("b1", SHUFFLE), Played(126)),
+        (SubmitLine("b1", "e3c4 e6c5"), Played(138)),
+        (
+            SubmitLine("b1", "g1f3 g8f6 f3g1 f6g8 g1f3 g8f6 f3g1 f6g8 g1f3"),
+            Played(140),
+        ),
+        (Submit("b1", "g8f6"), PlayedLast(149, Outcome::SeventyFive)),
+        (
+            Follow(1, "b1"),
+            Following(
+                150,
+                "r1bqkb1r/pppppppp/5n2/2n5/2N5/5N2/PPPPPPPP/R1BQKB1R w Hh - 150 76",
+            ),
+        ),
+        (Take(1), Over(Outcome::SeventyFive)),
+        (Submit("b1", "f3g1"), Refused(Refusal::GameOver)),
+    ];
+    assert_case(&rt, rt.alloc(), with_capacity(64), &rows)
+}

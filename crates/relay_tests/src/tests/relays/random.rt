@@ -1,0 +1,163 @@
+//! Lists of steps drawn by chance, whose replies are those of the plain relay.
+
+use crate::tests::relays::plain::Plain;
+use crate::tests::relays::table::{assert_replies, board_of, limits_of, move_of};
+use c960_board::Colour;
+use c960_game::Ending;
+use relay_core::{Reply, Step, Taken};
+use std::alloc::AllocError;
+use std::process::Abort;
+use std::test::Fail;
+
+/// Numbers by chance, the same at each run.
+#[derive(Drop)]
+struct Dice {
+    seed: u32,
+}
+
+impl Dice {
+    fn roll(&mut self) -> u32 {
+        self.seed = self.seed.wrapping_mul(1664525).wrapping_add(1013904223);
+        self.seed >> 16
+    }
+}
+
+/// Moves, of which few are legal at a time; the first four mate.
+const MOVES: [&str; 8] = [
+    "f2f3", "e7e5", "g2g4", "d8h4", "g1f3", "g8f6", "f3g1", "f6g8",
+];
+
+const STARTS: [u16; 4] = [518, 518, 0, 960];
+
+const BOARDS: [&str; 2] = ["a", "b"];
+
+const ENDINGS: [Ending; 8] = [
+    Ending::Resigns(Colour::White),
+    Ending::Resigns(Colour::Black),
+    Ending::Agreed,
+    Ending::Abandoned,
+    Ending::ClaimThreefold(Colour::White),
+    Ending::ClaimThreefold(Colour::Black),
+    Ending::ClaimFifty(Colour::White),
+    Ending::ClaimFifty(Colour::Black),
+];
+
+/// A step: of 64, 4 open, 24 submit, 2 end, 4 follow from the present and 4 from an early place, 20 take and 6 leave.
+fn any_step(rt: &impl Abort, dice: &mut Dice) -> Step {
+    let board = board_of(rt, BOARDS[(dice.roll() % 2) as usize]);
+    let who = dice.roll() % 3;
+    let which = dice.roll();
+    match dice.roll() % 64 {
+        0..=3 => Step::Open(board, STARTS[(which % 4) as usize]),
+        4..=27 => Step::Submit(board, move_of(rt, MOVES[(which % 8) as usize])),
+        28..=29 => Step::End(board, ENDINGS[(which % 8) as usize]),
+        30..=33 => Step::Follow(who, board, None),
+        34..=37 => Step::Follow(who, board, Some((which % 6) as u16)),
+        38..=57 => Step::Take(who),
+        _ => Step::Leave(who),
+    }
+}
+
+/// Adds that many steps, and the plain relay's replies to them.
+fn draw(
+    rt: &impl Abort,
+    dice: &mut Dice,
+    plain: &mut Plain,
+    steps: &mut Vec<Step>,
+    replies: &mut Vec<Reply>,
+) -> Result<(), AllocError> {
+    for _ in 0..300 {
+        let step = any_step(rt, dice);
+        steps.push(step)?;
+        replies.push(plain.step(step)?)?;
+    }
+    Ok(())
+}
+
+/// A word for the kind of a reply; a refusal's is its name.
+fn kind_of(reply: &Reply) -> &'static str {
+    match reply {
+        Reply::Opened => "opened",
+        Reply::Played { outcome: None, .. } => "played",
+        Reply::Played { .. } => "played last",
+        Reply::Ended(_) => "ended",
+        Reply::Following { .. } => "following",
+        Reply::Took(Taken::Move(..)) => "move",
+        Reply::Took(Taken::Nothing) => "nothing",
+        Reply::Took(Taken::Over(_)) => "over",
+        Reply::Took(Taken::Cut) => "cut",
+        Reply::Left(account) if account.cut => "left cut",
+        Reply::Left(_) => "left",
+        Reply::Refused(refusal) => refusal.name(),
+    }
+}
+
+/// Whether one of the replies is of the kind.
+fn has_kind(replies: &[Reply], kind: &str) -> bool {
+    for reply in replies {
+        if kind_of(reply) == kind {
+            return true;
+        }
+    }
+    false
+}
+
+/// Each reply that there is but for want of memory.
+const KINDS: [&str; 24] = [
+    "opened",
+    "played",
+    "played last",
+    "ended",
+    "following",
+    "move",
+    "nothing",
+    "over",
+    "cut",
+    "left cut",
+    "left",
+    "NoSuchBoard",
+    "BoardExists",
+    "BadStart",
+    "TooManyBoards",
+    "GameOver",
+    "Illegal",
+    "LogFull",
+    "ClaimRefused",
+    "NoSuchFollower",
+    "FollowerExists",
+    "TooManyFollowers",
+    "TooFarBack",
+    "NotYet",
+];
+
+/// Boards, followers a board, capacity, plies.
+const LIMITS: [(u16, u16, u16, u16); 8] = [
+    (2, 3, 1, 64),
+    (2, 3, 2, 64),
+    (2, 3, 3, 64),
+    (2, 2, 1, 2),
+    (2, 2, 3, 4),
+    (2, 1, 2, 64),
+    (1, 2, 1, 64),
+    (1, 3, 3, 3),
+];
+
+#[test]
+fn steps_by_chance_are_answered_as_by_the_plain_relay(rt: HostRuntime) -> Result<(), Fail> {
+    let alloc = rt.alloc();
+    let mut dice = Dice { seed: 960 };
+    let mut seen = Vec::new(alloc);
+    for numbers in LIMITS {
+        let limits = limits_of(&rt, numbers);
+        let mut plain = Plain::new(alloc, limits);
+        let mut steps = Vec::new(alloc);
+        let mut replies = Vec::new(alloc);
+        draw(&rt, &mut dice, &mut plain, &mut steps, &mut replies)?;
+        assert_replies(&rt, alloc, limits, steps.as_slice(), replies.as_slice())?;
+        seen.extend_from_slice(replies.as_slice())?;
+    }
+    for kind in KINDS {
+        assert!(rt; has_kind(seen.as_slice(), kind), "no {kind}");
+    }
+    Ok(())
+}

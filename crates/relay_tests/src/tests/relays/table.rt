@@ -1,0 +1,241 @@
+//! Cases as tables: what is asked of a relay, and what it has to tell, a row each.
+
+use crate::tests::relays::kinds::Kind;
+use c960_board::{Move, read_fen, read_move};
+use c960_game::{Ending, Limits, Outcome, Refusal};
+use relay_core::{Account, BoardName, Relay, Reply, Spectator, Step, Taken};
+use relay_live::LiveRelay;
+use std::alloc::{AllocError, Global};
+use std::process::Abort;
+use std::test::Fail;
+
+/// The position of start 518.
+pub const START_518: &str = "rnbqkbnr/pppppppp/8/8/8/8/PPPPPPPP/RNBQKBNR w HAha - 0 1";
+
+/// The position of start 0.
+pub const START_0: &str = "bbqnnrkr/pppppppp/8/8/8/8/PPPPPPPP/BBQNNRKR w HFhf - 0 1";
+
+/// A step, or a line of submits of moves with a space between each two.
+#[derive(Clone, Copy)]
+pub enum Asked {
+    Open(&'static str, u16),
+    Submit(&'static str, &'static str),
+    SubmitLine(&'static str, &'static str),
+    End(&'static str, Ending),
+    /// Follows from the log's present length on.
+    Follow(Spectator, &'static str),
+    /// Follows from this place on.
+    FollowFrom(Spectator, &'static str, u16),
+    Take(Spectator),
+    Leave(Spectator),
+}
+
+/// The reply to a step. Positions and moves stand as their texts.
+#[derive(Clone, Copy)]
+pub enum Told {
+    Opened,
+    /// Played at this place, the game goes on; of a line of submits the place of the first.
+    Played(u16),
+    /// Played at this place, which ended the game.
+    PlayedLast(u16, Outcome),
+    Ended(Outcome),
+    /// Follows from this place of the log and this position on.
+    Following(u16, &'static str),
+    /// Took the move at this place.
+    Took(u16, &'static str),
+    Nothing,
+    Over(Outcome),
+    Cut,
+    /// What it joined at and took, its limit, and whether it was closed.
+    Left(u16, u16, u16, bool),
+    Refused(Refusal),
+}
+
+/// Steps, and the replies to be given.
+#[derive(Drop)]
+pub struct Case {
+    pub steps: Vec<Step>,
+    pub replies: Vec<Reply>,
+}
+
+/// The limits of these numbers: boards, followers a board, capacity, plies.
+pub fn limits_of(rt: &impl Abort, numbers: (u16, u16, u16, u16)) -> Limits {
+    let (boards, followers, capacity, plies) = numbers;
+    let Some(limits) = Limits::new(boards, followers, capacity, plies) else {
+        panic!(rt; "no limits");
+    };
+    limits
+}
+
+/// 16 boards, 64 followers a board, 1,024 plies, and queues of this capacity.
+pub const fn with_capacity(capacity: u16) -> (u16, u16, u16, u16) {
+    (16, 64, capacity, 1024)
+}
+
+/// The board of a name.
+pub fn board_of(rt: &impl Abort, text: &str) -> BoardName {
+    let Some(board) = BoardName::new(text.as_bytes()) else {
+        panic!(rt; "no name: {text}");
+    };
+    board
+}
+
+/// The move of a text.
+pub fn move_of(rt: &impl Abort, text: &str) -> Move {
+    let Ok(m) = read_move(text.as_bytes()) else {
+        panic!(rt; "no move: {text}");
+    };
+    m
+}
+
+/// The reply to a follow.
+pub fn following(rt: &impl Abort, joined: u16, text: &str) -> Reply {
+    let Ok(position) = read_fen(text.as_bytes()) else {
+        panic!(rt; "no position: {text}");
+    };
+    Reply::Following { joined, position }
+}
+
+/// The step of a row; of a line of submits the one with this move.
+pub fn step_of(rt: &impl Abort, asked: Asked, m: &str) -> Step {
+    match asked {
+        Asked::Open(board, start) => Step::Open(board_of(rt, board), start),
+        Asked::Submit(board, _) | Asked::SubmitLine(board, _) => {
+            Step::Submit(board_of(rt, board), move_of(rt, m))
+        }
+        Asked::End(board, ending) => Step::End(board_of(rt, board), ending),
+        Asked::Follow(who, board) => Step::Follow(who, board_of(rt, board), None),
+        Asked::FollowFrom(who, board, place) => {
+            Step::Follow(who, board_of(rt, board), Some(place))
+        }
+        Asked::Take(who) => Step::Take(who),
+        Asked::Leave(who) => Step::Leave(who),
+    }
+}
+
+/// The reply of a row; of a line of submits the one to the submit that many after the first.
+pub fn reply_of(rt: &impl Abort, told: Told, after: u16) -> Reply {
+    match told {
+        Told::Opened => Reply::Opened,
+        Told::Played(place) => Reply::Played {
+            place: place.saturating_add(after),
+            outcome: None,
+        },
+        Told::PlayedLast(place, outcome) => Reply::Played {
+            place,
+            outcome: Some(outcome),
+        },
+        Told::Ended(outcome) => Reply::Ended(outcome),
+        Told::Following(joined, position) => following(rt, joined, position),
+        Told::Took(place, m) => Reply::Took(Taken::Move(place, move_of(rt, m))),
+        Told::Nothing => Reply::Took(Taken::Nothing),
+        Told::Over(outcome) => Reply::Took(Taken::Over(outcome)),
+        Told::Cut => Reply::Took(Taken::Cut),
+        Told::Left(joined, taken, limit, cut) => Reply::Left(Account {
+            joined,
+            taken,
+            limit,
+            cut,
+        }),
+        Told::Refused(refusal) => Reply::Refused(refusal),
+    }
+}
+
+/// The moves of a row, one for a step that has none.
+pub fn line_of(asked: Asked) -> &'static str {
+    match asked {
+        Asked::Submit(_, m) => m,
+        Asked::SubmitLine(_, moves) => moves,
+        _ => "-",
+    }
+}
+
+/// The case of a table.
+pub fn case_of(rt: &impl Abort, alloc: Global, rows: &[(Asked, Told)]) -> Result<Case, AllocError> {
+    let mut case = Case {
+        steps: Vec::new(alloc),
+        replies: Vec::new(alloc),
+    };
+    for (asked, told) in rows {
+        let mut after = 0u16;
+        for m in line_of(*asked).split(' ') {
+            case.steps.push(step_of(rt, *asked, m))?;
+            case.replies.push(reply_of(rt, *told, after))?;
+            after = after.saturating_add(1);
+        }
+    }
+    Ok(case)
+}
+
+/// Whether a new relay of the kind gives these replies step by step.
+fn answers_by_step<K: Kind>(
+    alloc: Global,
+    limits: Limits,
+    steps: &[Step],
+    replies: &[Reply],
+) -> Result<bool, AllocError> {
+    let mut relay = K::made(alloc, limits)?;
+    for i in 0..steps.len().min(replies.len()) {
+        if relay.step(steps[i]) != replies[i] {
+            return Ok(false);
+        }
+    }
+    Ok(true)
+}
+
+/// Whether a new relay of the kind gives these replies in one run.
+fn answers_by_run<K: Kind>(
+    alloc: Global,
+    limits: Limits,
+    steps: &[Step],
+    replies: &[Reply],
+) -> Result<bool, AllocError> {
+    let mut relay = K::made(alloc, limits)?;
+    let given = relay.ran(steps)?;
+    Ok(given.as_slice() == replies)
+}
+
+/// Asserts that a new relay of either kind with these limits gives these replies to these steps, step by step and in one run.
+pub fn assert_replies(
+    rt: &impl Abort,
+    alloc: Global,
+    limits: Limits,
+    steps: &[Step],
+    replies: &[Reply],
+) -> Result<(), Fail> {
+    assert!(rt;
+        answers_by_step::<Relay>(alloc, limits, steps, replies)?,
+        "by step"
+    );
+    assert!(rt;
+        answers_by_run::<Relay>(alloc, limits, steps, replies)?,
+        "by run"
+    );
+    assert!(rt;
+        answers_by_step::<LiveRelay>(alloc, limits, steps, replies)?,
+        "live, by step"
+    );
+    assert!(rt;
+        answers_by_run::<LiveRelay>(alloc, limits, steps, replies)?,
+        "live, by run"
+    );
+    Ok(())
+}
+
+/// Asserts that a relay of either kind with these limits answers each row so, step by step and in runs.
+pub fn assert_case(
+    rt: &impl Abort,
+    alloc: Global,
+    numbers: (u16, u16, u16, u16),
+    rows: &[(Asked, Told)],
+) -> Result<(), Fail> {
+    let case = case_of(rt, alloc, rows)?;
+    let limits = limits_of(rt, numbers);
+    assert_replies(
+        rt,
+        alloc,
+        limits,
+        case.steps.as_slice(),
+        case.replies.as_slice(),
+    )
+}

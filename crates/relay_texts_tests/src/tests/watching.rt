@@ -1,0 +1,146 @@
+//! What spectators of a tape are sent, byte for byte. The frames are written out by RFC 6455, section 5.2: a whole text is `\x81`, a close
+//! `\x88`, and behind that stands the payload's length, from 126 on as `\x7e` and two bytes.
+
+ghost use Rattle.std.specs.Prelude.{◌≡◌, ◌+◌, ◌<◌, length, None, OnOk};
+
+use c960_board::{Colour, Move, Position, read_fen, read_move};
+use c960_game::{Game, Outcome};
+use relay_watching::{Tape, Watcher};
+use std::alloc::Global;
+use std::process::Abort;
+use std::test::Fail;
+
+const AT_THE_START: &[u8] =
+    b"\x81\x61{\"fen\":\"rnbqkbnr/pppppppp/8/8/8/8/PPPPPPPP/RNBQKBNR w HAha - 0 1\",\"joined\":0,\"reply\":\"following\"}";
+
+const AT_PLACE_1: &[u8] =
+    b"\x81\x63{\"fen\":\"rnbqkbnr/pppppppp/8/8/8/5P2/PPPPP1PP/RNBQKBNR b HAha - 0 1\",\"joined\":1,\"reply\":\"following\"}";
+
+/// The first move's frame has 42 bytes, as each of the others.
+const FROM_PLACE_0: &[u8] = b"\x81\x28{\"move\":\"f2f3\",\"place\":0,\"reply\":\"move\"}";
+
+const FROM_PLACE_1: &[u8] =
+    b"\x81\x28{\"move\":\"e7e5\",\"place\":1,\"reply\":\"move\"}\x81\x28{\"move\":\"g2g4\",\"place\":2,\"reply\":\"move\"}\x81\x28{\"move\":\"d8h4\",\"place\":3,\"reply\":\"move\"}";
+
+const THE_END: &[u8] = b"\x81\x28{\"outcome\":\"black mates\",\"reply\":\"over\"}\x88\x02\x03\xe8";
+
+/// A position whose text is long.
+const CROWDED: &[u8] =
+    b"r1b1k1r1/p1p1p1p1/1p1p1p1p/n1b1q1n1/N1B1Q1N1/1P1P1P1P/P1P1P1P1/R1B1K1R1 w GAga - 99 999";
+
+const AT_CROWDED: &[u8] =
+    b"\x81\x7e\0\x80{\"fen\":\"r1b1k1r1/p1p1p1p1/1p1p1p1p/n1b1q1n1/N1B1Q1N1/1P1P1P1P/P1P1P1P1/R1B1K1R1 w GAga - 99 999\",\"joined\":0,\"reply\":\"following\"}";
+
+fn move_of(rt: &impl Abort, text: &str) -> Move {
+    read_move(text.as_bytes()).expect(rt, "a move")
+}
+
+/// All that is due is written, at most so many bytes at a time.
+fn write_all(
+    got: &mut Vec<u8>,
+    watcher: &mut Watcher,
+    tape: &Tape,
+    most: usize,
+) -> Result<(), Fail> {
+    for _ in 0..1000 {
+        let due = watcher.due(tape);
+        if due.is_empty() {
+            break;
+        }
+        let n = due.len().min(most);
+        got.extend_from_slice(&due[..n])?;
+        watcher.wrote(tape, n);
+    }
+    Ok(())
+}
+
+/// A move is made on the board and told to its tape.
+fn make(rt: &impl Abort, game: &mut Game, tape: &mut Tape, text: &str) -> Result<(), Fail>
+    requires going { tape.old.outcome ≡ None }
+    requires numbered { length tape.old.moves < 65535 }
+    ensures going { OnOk result (tape.new.outcome ≡ None) }
+    ensures numbered { OnOk result (length tape.new.moves ≡ length tape.old.moves + 1) }
+{
+    let m = move_of(rt, text);
+    game.play(m).expect(rt, "legal");
+    tape.push(m)?;
+    Ok(())
+}
+
+/// What one was sent who joined at the start before the first move, and one who joined at place 1 behind the second, through four moves
+/// to a mate, in pieces of at most so many bytes.
+fn sent_in_pieces(rt: &impl Abort, alloc: Global, most: usize) -> Result<(Vec<u8>, Vec<u8>), Fail> {
+    let mut tape = Tape::new(alloc);
+    let mut game = Game::open(alloc, 518, 100).expect(rt, "a game");
+    let mut first_got = Vec::new(alloc);
+    let mut second_got = Vec::new(alloc);
+    let start = game.position_at(0).expect(rt, "the start");
+    let mut first = tape.join(0, &start)?;
+    write_all(&mut first_got, &mut first, &tape, most)?;
+    make(rt, &mut game, &mut tape, "f2f3")?;
+    make(rt, &mut game, &mut tape, "e7e5")?;
+    let later = game.position_at(1).expect(rt, "one move was made");
+    let mut second = tape.join(1, &later)?;
+    write_all(&mut first_got, &mut first, &tape, most)?;
+    make(rt, &mut game, &mut tape, "g2g4")?;
+    write_all(&mut second_got, &mut second, &tape, most)?;
+    make(rt, &mut game, &mut tape, "d8h4")?;
+    write_all(&mut second_got, &mut second, &tape, most)?;
+    assert!(rt; !second.is_done(&tape));
+    tape.finish(Outcome::Checkmate(Colour::Black))?;
+    write_all(&mut first_got, &mut first, &tape, most)?;
+    write_all(&mut second_got, &mut second, &tape, most)?;
+    assert!(rt; first.is_done(&tape) && second.is_done(&tape));
+    Ok((first_got, second_got))
+}
+
+/// These pieces one behind another.
+fn joined(alloc: Global, pieces: &[&[u8]]) -> Result<Vec<u8>, Fail> {
+    let mut all = Vec::new(alloc);
+    for piece in pieces {
+        all.extend_from_slice(piece)?;
+    }
+    Ok(all)
+}
+
+#[test]
+fn each_is_sent_the_frames_from_its_place_on(rt: HostRuntime) -> Result<(), Fail> {
+    let alloc = rt.alloc();
+    let from_the_start = joined(alloc, &[AT_THE_START, FROM_PLACE_0, FROM_PLACE_1, THE_END])?;
+    let from_place_1 = joined(alloc, &[AT_PLACE_1, FROM_PLACE_1, THE_END])?;
+    for most in [1, 2, 41, 42, 43, 1000] {
+        let (first, second) = sent_in_pieces(&rt, alloc, most)?;
+        assert!(rt; first == from_the_start);
+        assert!(rt; second == from_place_1);
+    }
+    Ok(())
+}
+
+/// Another frame may be written behind the greeting and behind each move, and nowhere else.
+#[test]
+fn other_frames_go_between_frames(rt: HostRuntime) -> Result<(), Fail> {
+    let alloc = rt.alloc();
+    let mut tape = Tape::new(alloc);
+    let start = Position::start(518).expect(&rt, "a start");
+    let mut watcher = tape.join(0, &start)?;
+    tape.push_all(&[move_of(&rt, "f2f3"), move_of(&rt, "e7e5")])?;
+    for k in 0..183 {
+        assert!(rt; watcher.is_between_frames(&tape) == (k == 99 || k == 141));
+        assert!(rt; !watcher.due(&tape).is_empty());
+        watcher.wrote(&tape, 1);
+    }
+    assert!(rt; watcher.is_between_frames(&tape));
+    assert!(rt; watcher.due(&tape).is_empty());
+    Ok(())
+}
+
+#[test]
+fn a_long_greeting_has_its_length_in_two_bytes(rt: HostRuntime) -> Result<(), Fail> {
+    let tape = Tape::new(rt.alloc());
+    let Ok(position) = read_fen(CROWDED) else {
+        panic!(rt; "a position");
+    };
+    let watcher = tape.join(0, &position)?;
+    assert!(rt; watcher.due(&tape) == AT_CROWDED);
+    Ok(())
+}

@@ -1,0 +1,10 @@
+pub mod Course
+pub mod Texts
+pub mod Promised
+pub mod Taped
+pub mod Progress
+pub mod Between
+pub mod Wire
+pub mod Audience
+pub mod Read
+pub mod Inner

@@ -1,0 +1,251 @@
+"""What a channel tells where its board is gone, goes on under another name, or has another game, and what it tells in silence. Each test
+is an async function whose name begins with try_; test_channels.py runs them, beside the nginx and the Redis that it has started."""
+import asyncio
+import contextlib
+import json
+import os
+import pathlib
+import signal
+import subprocess
+import tempfile
+import time
+
+import websockets
+
+from feeds import feed, until
+from relay_client.client import Client
+from relay_client.keys import new_key
+from relay_client.program import fens, start_fen
+from relay_client.relay import Relay
+
+CHANNELS = "ws://127.0.0.1:9100/sub"
+FIRST = ["d2d4", "d7d5"]
+OTHER = ["e2e4", "e7e5"]
+QUICK = ("--wait", "0.05")
+QUIET = {"stdout": subprocess.DEVNULL, "stderr": subprocess.DEVNULL}
+
+
+class Reader:
+    """Reads a channel from its oldest text on, and keeps its texts, the beats apart."""
+
+    def __init__(self, board):
+        self.board, self.texts, self.beats = board, [], []
+
+    async def __aenter__(self):
+        self.socket = await websockets.connect(f"{CHANNELS}/{self.board}", ping_interval=None, compression=None)
+        self.task = asyncio.create_task(self.run())
+        return self
+
+    async def run(self):
+        with contextlib.suppress(websockets.ConnectionClosed):
+            async for message in self.socket:
+                text = json.loads(message)
+                (self.beats if text["reply"] == "beat" else self.texts).append(text)
+
+    async def has(self, *texts):
+        """Waits until the channel has told this, beats apart, and nothing else."""
+        with contextlib.suppress(AssertionError):
+            await until(lambda: self.texts == list(texts), 20)
+        assert self.texts == list(texts), (self.board, self.texts)
+
+    async def __aexit__(self, *_):
+        await self.socket.close()
+        await self.task
+
+
+def following(moves=()):
+    return {"fen": fens(518, moves)[-1] if moves else start_fen(518), "joined": len(moves), "reply": "following"}
+
+
+def moved(moves):
+    return [{"move": move, "place": place, "reply": "move"} for place, move in enumerate(moves)]
+
+
+def over(outcome="abandoned"):
+    return {"outcome": outcome, "reply": "over"}
+
+
+def follow_on(board):
+    return {"board": board, "reply": "next"}
+
+
+async def game(relay, board, moves=()):
+    client = await Client.to(relay.address)
+    await client.open(board)
+    await client.submit(board, *moves)
+    return client
+
+
+async def again(relay):
+    await relay.kill()
+    await relay.start()
+
+
+async def try_vanished(relay):
+    """A relay that was started anew: the channel tells the end of the game, then the name under which it goes on, which is fed too."""
+    await game(relay, "v1", FIRST)
+    async with feed("v1", *QUICK, relay=relay.address, **QUIET), Reader("v1") as first, Reader("v1_2") as second:
+        await first.has(following(), *moved(FIRST))
+        await again(relay)
+        await first.has(following(), *moved(FIRST), over())
+        client = await game(relay, "v1_2", FIRST)
+        await first.has(following(), *moved(FIRST), over(), follow_on("v1_2"))
+        await client.submit("v1_2", "c2c4")
+        await second.has(following(), *moved([*FIRST, "c2c4"]))
+
+
+async def try_abandoned(relay):
+    """A lost connection of the operator: the next names are fed in turn, also by a feed that was started anew in between."""
+    client = await game(relay, "a1", FIRST)
+    async with Reader("a1") as first, Reader("a1_2") as second, Reader("a1_3") as third:
+        async with feed("a1", *QUICK, relay=relay.address, **QUIET):
+            await first.has(following(), *moved(FIRST))
+            await client.close()
+            client = await game(relay, "a1_2", OTHER)
+            await second.has(following(), *moved(OTHER))
+        await client.close()
+        async with feed("a1", *QUICK, relay=relay.address, stdout=subprocess.PIPE, stderr=subprocess.DEVNULL) as process:
+            await second.has(following(), *moved(OTHER), over())
+            client = await game(relay, "a1_3", FIRST)
+            await client.end("a1_3")
+            printed, _ = await asyncio.wait_for(process.communicate(), 20)
+            assert process.returncode == 0 and printed.endswith(b"a1_3: over, 2 moves\n"), (process.returncode, printed)
+        await first.has(following(), *moved(FIRST), over(), follow_on("a1_2"))
+        await second.has(following(), *moved(OTHER), over(), follow_on("a1_3"))
+        await third.has(following(), *moved(FIRST), over("agreed"))
+
+
+async def try_late(relay):
+    """A name that the relay never had in this run, since its game went on under another: the channel tells that one."""
+    await game(relay, "l1_2", OTHER)
+    async with feed("l1", *QUICK, relay=relay.address, **QUIET), Reader("l1") as first, Reader("l1_2") as second:
+        await first.has(follow_on("l1_2"))
+        await second.has(following(), *moved(OTHER))
+
+
+async def try_another(relay):
+    """Another game of the name, opened before the feed is back: a shorter one of the same moves, and one of other moves. The channel tells
+    the end of the first, and the other from its start."""
+    for board, other in (("o1", FIRST[:1]), ("o2", OTHER), ("o3", [])):
+        await game(relay, board, FIRST)
+        async with Reader(board) as reader:
+            async with feed(board, *QUICK, relay=relay.address, **QUIET):
+                await reader.has(following(), *moved(FIRST))
+            await again(relay)
+            client = await game(relay, board, other)
+            async with feed(board, *QUICK, relay=relay.address, **QUIET):
+                await reader.has(following(), *moved(FIRST), over(), following(), *moved(other))
+                await client.end(board)
+                await reader.has(following(), *moved(FIRST), over(), following(), *moved(other), over("agreed"))
+
+
+async def try_middle(relay):
+    """Another game of which the relay no longer gives the first moves: its position is compared, and it begins where it is given."""
+    small = await Relay(capacity=2).start()
+    moves = [*OTHER, "g1f3"]
+    await game(small, "m1", FIRST)
+    async with Reader("m1") as reader:
+        async with feed("m1", *QUICK, relay=small.address, **QUIET):
+            await reader.has(following(), *moved(FIRST))
+        await again(small)
+        await game(small, "m1", moves)
+        async with feed("m1", *QUICK, relay=small.address, **QUIET):
+            await reader.has(following(), *moved(FIRST), over(), following(moves[:1]), *moved(moves)[1:])
+
+
+async def try_beats(relay):
+    """While a board is followed, its channel has a beat as often as is said, with the time; it has none once the relay or the game is gone."""
+    client = await game(relay, "p1", FIRST)
+    async with feed("p1", *QUICK, "--beat", "0.3", relay=relay.address, **QUIET), Reader("p1") as reader:
+        await until(lambda: len(reader.beats) >= 4)
+        began = time.monotonic()
+        await until(lambda: len(reader.beats) >= 8)
+        assert 0.7 < time.monotonic() - began < 10, time.monotonic() - began
+        assert all(abs(it["time"] - time.time()) < 60 for it in reader.beats), reader.beats
+        await client.end("p1", "abandoned")
+        await until(lambda: over() in reader.texts)
+        await asyncio.sleep(0.5)
+        count = len(reader.beats)
+        await asyncio.sleep(1)
+        assert len(reader.beats) == count
+    await game(relay, "p2", FIRST)
+    async with feed("p2", *QUICK, "--beat", "0.3", relay=relay.address, **QUIET), Reader("p2") as reader:
+        await until(lambda: len(reader.beats) >= 3)
+        await relay.kill()
+        await asyncio.sleep(0.5)
+        count = len(reader.beats)
+        await asyncio.sleep(1)
+        assert len(reader.beats) == count
+        await relay.start()
+
+
+async def try_names(relay):
+    """At SIGHUP the names are read again: a new one is fed, one that is gone is left, and another is not disturbed."""
+    stays, goes = await game(relay, "n1", FIRST), await game(relay, "n2", FIRST)
+    with tempfile.TemporaryDirectory() as folder:
+        file = pathlib.Path(folder, "names")
+        file.write_text("n1 n2\n")
+        async with feed("--names", str(file), *QUICK, "--beat", "60", relay=relay.address, stdout=subprocess.PIPE, stderr=subprocess.PIPE) as process:
+            async with Reader("n1") as first, Reader("n2") as second, Reader("n3") as third:
+                await first.has(following(), *moved(FIRST))
+                await second.has(following(), *moved(FIRST))
+                file.write_text("n1\nn3\n")
+                os.kill(process.pid, signal.SIGHUP)
+                await game(relay, "n3", OTHER)
+                await third.has(following(), *moved(OTHER))
+                file.unlink()
+                os.kill(process.pid, signal.SIGHUP)
+                await asyncio.wait_for(process.stderr.readuntil(b"so the names stay as they are"), 20)
+                await stays.submit("n1", "c2c4")
+                await goes.submit("n2", "c2c4")
+                await first.has(following(), *moved([*FIRST, "c2c4"]))
+                await asyncio.sleep(0.5)
+                await second.has(following(), *moved(FIRST))
+                assert len(first.beats) == 1 and process.returncode is None, first.beats
+
+
+async def try_listed(relay):
+    """A next name that is given to the feed beside the first: its channel has each text once all the same."""
+    client = await game(relay, "d1", FIRST)
+    async with feed("d1", "d1_2", *QUICK, relay=relay.address, **QUIET), Reader("d1") as first, Reader("d1_2") as second:
+        await first.has(following(), *moved(FIRST))
+        await client.close()
+        client = await game(relay, "d1_2", OTHER)
+        await first.has(following(), *moved(FIRST), over(), follow_on("d1_2"))
+        await client.submit("d1_2", "g1f3")
+        await client.end("d1_2")
+        await second.has(following(), *moved([*OTHER, "g1f3"]), over("agreed"))
+        await asyncio.sleep(0.5)
+        await second.has(following(), *moved([*OTHER, "g1f3"]), over("agreed"))
+
+
+async def try_key(_):
+    """An operator that loses its connection and comes back with its key: the channel tells nothing of it."""
+    relay = await Relay(grace=60).start()
+    client = await Client.to(relay.address, key=new_key())
+    await client.open("k1")
+    await client.submit("k1", *FIRST)
+    async with feed("k1", *QUICK, relay=relay.address, **QUIET), Reader("k1") as reader:
+        await reader.has(following(), *moved(FIRST))
+        client.socket.transport.abort()
+        await asyncio.sleep(1)
+        await client.come_back()
+        await client.submit("k1", "c2c4")
+        await client.end("k1")
+        await reader.has(following(), *moved([*FIRST, "c2c4"]), over("agreed"))
+
+
+async def tried():
+    """Whether all tests passed, each beside a relay of its own."""
+    failed = []
+    for name, it in [(name[4:], it) for name, it in globals().items() if name.startswith("try_")]:
+        relay = await Relay(capacity=1024).start()
+        try:
+            await asyncio.wait_for(it(relay), 120)
+            print(f"ok      {name}: {it.__doc__}", flush=True)
+        except Exception as fault:
+            failed.append(name)
+            print(f"failed  {name}: {type(fault).__name__} {fault}", flush=True)
+        finally:
+            await Relay.stop_all()
+    return not failed

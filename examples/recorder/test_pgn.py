@@ -1,0 +1,156 @@
+"""The PGN of the recorder, read by programs that are not ours: test_pgn.py [GAMES], 200 by default. test.sh starts it.
+
+Games by chance over all kinds of ends are played through the built relay, and recorded as rounds of several boards. Debian's pgn-extract
+reads each file without complaint, and finds the moves that were played. Debian's Stockfish plays them through and ends in the position
+that the relay tells.
+"""
+import asyncio
+import collections
+import json
+import pathlib
+import random
+import re
+import subprocess
+import sys
+import tempfile
+
+import plays
+from position import Position
+from relay_client.client import Client
+from relay_client.program import start_fen
+from relay_client.relay import Relay
+
+HERE = pathlib.Path(__file__).resolve().parent
+PATIENCE = 600  # Seconds that a round may take on a busy machine.
+BOARDS = 10  # Of a round.
+SCORES = {"white mates": "1-0", "black mates": "0-1", "white resigns": "0-1", "black resigns": "1-0", "abandoned": "*"}
+DRAW = "1/2-1/2"
+ENDS = {*SCORES, "stalemate", "agreed", "threefold", "fifty moves", "fivefold", "seventy-five moves"}
+
+
+def extract(file, *words):
+    """What pgn-extract makes of a file, of which it may not complain."""
+    ran = subprocess.run(["/usr/games/pgn-extract", "-s", "-w100000", *words, str(file)], capture_output=True, text=True, check=True)
+    assert ran.stderr == "", ran.stderr
+    return ran.stdout
+
+
+def games_of(text):
+    """The tags and the words of each game of a text of pgn-extract."""
+    parts = [it for it in text.split("\n\n") if it.strip()]
+    for tags, words in zip(parts[::2], parts[1::2]):
+        yield dict(re.findall(r'^\[(\w+) "(.*)"\]$', tags, re.M)), re.sub(r"\{[^}]*\}", "", words).split()
+
+
+class Stockfish:
+    def __init__(self):
+        self.process = subprocess.Popen(["/usr/games/stockfish"], stdin=subprocess.PIPE, stdout=subprocess.PIPE, text=True)
+        self.say("setoption name UCI_Chess960 value true")
+
+    def say(self, line):
+        self.process.stdin.write(line + "\n")
+        self.process.stdin.flush()
+
+    def final(self, fen, moves):
+        """The FEN in which these moves end. Stockfish stops at the first that is not legal."""
+        self.say(f"position fen {fen} moves {' '.join(moves)}\nd")
+        found = next(line for line in self.process.stdout if line.startswith("Fen: "))
+        next(line for line in self.process.stdout if line.startswith("Checkers:"))
+        return found[5:].strip()
+
+    def close(self):
+        self.process.communicate("quit\n")
+
+
+def assert_same(fen, other):
+    """Compares two FENs. Stockfish writes the square of a capture in passing only where a pawn stands ready for it."""
+    one, two = fen.split(" "), other.split(" ")
+    assert one[3] in ("-", two[3]) and one[:3] + one[4:] == two[:3] + two[4:], (fen, other)
+
+
+async def position_told(address, board, plies):
+    """The position that the relay tells for a place."""
+    client = await Client.to(address)
+    text = await client.ask(cmd="follow", board=board, spectator=0, **{"from": plies})
+    await client.close()
+    return text["fen"]
+
+
+async def recorded(folder, address, names):
+    words = [word for it in names for word in (it, str(folder / f"{it}.record"))]
+    return await asyncio.create_subprocess_exec(
+        "/usr/bin/python3", str(HERE / "record.py"), address, *words, "--wait", "0.1", "--pgn", str(folder / "round.pgn"),
+        "--event", 'The "Open"', "--round", "3", "--players", names[0], "Müller, A", "O'Neil", stderr=asyncio.subprocess.PIPE)
+
+
+async def play_round(folder, chance, kinds):
+    """Plays a round of a game of each of these kinds. Answers them with the relay's last position of each."""
+    relay = await Relay(capacity=1024, plies=1024).start()
+    names = [f"b{index}" for index in range(len(kinds))]
+    recorder = await recorded(folder, relay.address, names)
+    starts = [chance.randrange(960) for _ in names]
+    games = [await plays.Play.on(relay.address, name, start, Position.read(start_fen(start)), chance) for name, start in zip(names, starts)]
+    await asyncio.gather(*(plays.play_out(game, kind) for game, kind in zip(games, kinds)))
+    _, said = await asyncio.wait_for(recorder.communicate(), PATIENCE)
+    assert recorder.returncode == 0, said
+    finals = [await position_told(relay.address, game.board, len(game.moves)) for game in games]
+    await Relay.stop_all()
+    return list(zip(games, finals))
+
+
+def seen_in(game, words):
+    """What of the rarer things of a game it has."""
+    yield game.outcome
+    for index, (deed, word) in enumerate(zip(game.deeds, words)):
+        side = "black" if index % 2 else "white"
+        if deed.castles:
+            yield f"{side} {word.rstrip('+#')}"
+        elif deed.promotion:
+            yield f"={deed.promotion.upper()}"
+        elif deed.passing:
+            yield "passing"
+        elif re.match("[NR][a-h]x?[a-h]", word):
+            yield f"{word[0]} by file"
+        elif re.match("[NR][1-8]", word):
+            yield f"{word[0]} by rank"
+
+
+WANTED = ENDS | {f"{side} {wing}" for side in ("white", "black") for wing in ("O-O", "O-O-O")} | {f"={it}" for it in "QRBN"}
+WANTED |= {"passing", "N by file", "N by rank", "R by file", "R by rank"}
+
+
+def compare(file, round_played, stockfish, seen):
+    """Compares what others read in a round's file with what was played."""
+    moved = list(games_of(extract(file, "-Wuci")))
+    written = list(games_of(extract(file)))
+    assert len(moved) == len(written) == len(round_played), (len(moved), len(round_played))
+    for (game, final), (tags, moves), (_, words) in zip(round_played, moved, written):
+        score = SCORES.get(game.outcome, DRAW)
+        assert (tags["BoardName"], tags["Variant"], tags["SetUp"], tags["Round"]) == (game.board, "Chess960", "1", "3"), tags
+        assert tags["Event"] == 'The \\"Open\\"' and tags["Result"] == moves[-1] == score, (tags, game.outcome)
+        assert (tags["White"], tags["Black"]) == (("Müller, A", "O'Neil") if game.board == "b0" else ("?", "?")), tags
+        assert [it.lower() for it in moves[:-1]] == game.moves, (game.start, game.moves, moves)
+        head = json.loads((file.parent / f"{game.board}.record").read_text().splitlines()[0])
+        assert (head.get("white"), head.get("black")) == (("Müller, A", "O'Neil") if game.board == "b0" else (None, None)), head
+        assert_same(stockfish.final(tags["FEN"], [it.lower() for it in moves[:-1]]), final)
+        seen.update(seen_in(game, [it for it in words if not it.endswith(".")]))
+
+
+async def main(count):
+    chance = random.Random(960)
+    kinds = (plays.KINDS * count)[:count]
+    stockfish, seen, compared = Stockfish(), collections.Counter(), 0
+    for first in range(0, count, BOARDS):
+        with tempfile.TemporaryDirectory() as name:
+            folder = pathlib.Path(name)
+            played = await play_round(folder, chance, kinds[first:first + BOARDS])
+            compare(folder / "round.pgn", played, stockfish, seen)
+            compared += len(played)
+    stockfish.close()
+    print(", ".join(f"{name}: {times}" for name, times in sorted(seen.items())))
+    missed = WANTED - set(seen) if count >= 200 else set()
+    print(f"{compared} of {count} games are read by others as they were played" + (f"; never came: {sorted(missed)}" if missed else ""))
+    return 1 if missed else 0
+
+
+sys.exit(asyncio.run(main(int(sys.argv[1]) if len(sys.argv) > 1 else 200)))

@@ -1,0 +1,67 @@
+#!/bin/sh
+# Makes a Debian package: ./package.sh, or ./package.sh FOLDER for another folder than this one. It has the program that was built (or the
+# one that RELAY960 names), its manual page and units, the pages, the feed, the recorder, and the includes for nginx. The package has the
+# version that the program tells. The last line is the package's name. It runs no script when it is installed: docs/DEPLOYMENT.md has the
+# commands that begin the services.
+set -eu
+umask 022
+folder=$(cd "${1:-.}" && pwd)
+cd "$(dirname "$0")"
+program="${RELAY960:-crates/relay960/out/relay960}"
+command -v dpkg-deb > /dev/null || { echo "missing of Debian: apt-get install dpkg" >&2; exit 1; }
+[ -x "$program" ] || { echo "there is no $program: build it with ./run.sh < crates/relay960/stdin" >&2; exit 1; }
+program=$(realpath "$program")
+version=$("$program" --version) || { echo "$program does not tell its version" >&2; exit 1; }
+version=${version#relay960 }
+root=$(mktemp -d)
+trap 'rm -rf "$root"' EXIT
+chmod 755 "$root"
+
+# put MODE FOLDER FILE..: into that folder of the package.
+put() {
+    mode=$1 goal=$root$2
+    shift 2
+    mkdir -p "$goal"
+    install -m "$mode" "$@" "$goal"
+}
+
+put 755 /usr/bin "$program"
+[ "$(basename "$program")" = relay960 ] || mv "$root/usr/bin/$(basename "$program")" "$root/usr/bin/relay960"
+put 644 /usr/share/man/man1 docs/relay960.1
+gzip -9n "$root/usr/share/man/man1/relay960.1"
+put 644 /usr/share/doc/relay960 docs/ARBITERS.md docs/DEPLOYMENT.md docs/PAGES.md docs/PROTOCOL.md
+put 644 /usr/share/relay960/pages web/*.html web/*.js web/*.css
+put 755 /usr/lib/relay960 examples/many_spectators/feed.py examples/recorder/record.py examples/hall/hall.py \
+    examples/deployment/certificate-renewed examples/deployment/until-term
+put 644 /usr/lib/relay960 examples/hall/hall.conf
+put 644 /usr/lib/relay960/relay_client tools/relay_client/__init__.py tools/relay_client/line.py \
+    tools/relay_client/men.py tools/relay_client/names.py tools/relay_client/ports.py
+put 644 /usr/lib/relay960 examples/recorder/pgn.py examples/recorder/san.py examples/recorder/rules.py examples/recorder/position.py
+put 644 /usr/lib/systemd/system examples/deployment/*.service
+put 644 /etc/relay960 examples/deployment/feed examples/many_spectators/redis.conf
+put 644 /etc/relay960/nginx examples/deployment/relay960-*.conf
+put 644 /etc/relay960/nginx examples/many_spectators/channels.conf examples/many_spectators/publish.conf examples/many_spectators/subscribe.conf
+
+mkdir "$root/DEBIAN"
+(cd "$root" && find etc -type f | sort | sed 's|^|/|') > "$root/DEBIAN/conffiles"
+cat > "$root/DEBIAN/control" <<END
+Package: relay960
+Version: $version
+Architecture: $(dpkg --print-architecture)
+Maintainer: ${DEBFULLNAME:-Sirvandu} <${DEBEMAIL:-root@localhost}>
+Section: games
+Priority: optional
+Installed-Size: $(du -sk --exclude=DEBIAN "$root" | cut -f1)
+Recommends: python3, python3-websockets, nginx-light | nginx, libnginx-mod-nchan, redis-server, apache2-utils, qrencode
+Description: relay for live Chess960 games
+ Serves boards of Chess960 over WebSocket: operators submit moves, which are
+ checked by the rules, and spectators get them in order. With it come pages
+ for browsers, a feed for channels of nginx and nchan, a recorder, and units of
+ systemd.
+END
+package=$folder/relay960_${version}_$(dpkg --print-architecture).deb
+# The same files give the same package.
+SOURCE_DATE_EPOCH=${SOURCE_DATE_EPOCH:-$(git log -1 --format=%ct 2> /dev/null || date +%s)}
+export SOURCE_DATE_EPOCH
+dpkg-deb --root-owner-group -Zxz --build "$root" "$package" > /dev/null
+echo "$package"

@@ -1,0 +1,215 @@
+#!/usr/bin/env -S python3 -B
+"""Proves and builds the program and each crate below it, those that do not stand on one another side by side.
+
+Each crate is proved in a workplace of its own, and its new `out/` is put in the old one's place.
+
+All that is printed goes to standard error, and the status is 0 where all is proved. Of a crate that is proved, `out/proved` keeps a sum
+of all that it was made from and one of what was made. Where both still hold, `rt` is not called for it.
+"""
+import functools
+import hashlib
+import os
+import shutil
+import signal
+import subprocess
+import sys
+import time
+
+from crates import SECONDS_UNKNOWN, SOURCES, Crates, measured, minutes
+from workplace import Workplace, lock, scratch_folder, width_of_machine
+
+NAME = "relay960"
+SECONDS_BETWEEN_REPORTS = 30
+
+
+def say(text):
+    print(text, file=sys.stderr, flush=True)
+
+
+class Records:
+    """Of which crates it is known that they are proved as they stand."""
+
+    def __init__(self, crates):
+        self.crates = crates
+        kit = subprocess.run(["rt", "version"], stdout=subprocess.PIPE, check=True).stdout
+        variables = sorted(it for it in os.environ.items() if it[0].startswith("RT_"))
+        lines = (crates.root / "crates.txt").read_bytes()
+        self.common = repr((kit, os.path.realpath(shutil.which("rt")), variables, lines)).encode()
+
+    def sum_of_sources(self, name, sum_of=None):
+        """A sum of all that a crate is made from: its sources and those below it, crates.txt, the kit, and the variables that rt reads."""
+        said = hashlib.sha256(self.common)
+        for it in [*self.crates.below(name), name]:
+            said.update((sum_of or self.sum_of_crate)(it))
+        return said.hexdigest()
+
+    def sum_of_crate(self, name):
+        said = hashlib.sha256()
+        for part in SOURCES:
+            for path in sorted((self.crates.folder(name) / part).rglob("*")):
+                if path.is_file():
+                    said.update(repr((str(path.relative_to(self.crates.root)), path.read_bytes())).encode())
+        return said.digest()
+
+    def record(self, name, sources):
+        """What `out/proved` has to say: of a library rt's own stamp stands for what was made."""
+        made = self.crates.folder(name) / "out" / (name if self.crates.is_program(name) else "rlib/stamp")
+        return f"{sources}\n{sum_of_file(made)}\n" if made.is_file() else None
+
+    def proved(self, names):
+        """Those of the crates whose record holds."""
+        sum_of = functools.cache(self.sum_of_crate)
+        return [it for it in names if self.kept(it) == self.record(it, self.sum_of_sources(it, sum_of))]
+
+    def kept(self, name):
+        file = self.crates.folder(name) / "out/proved"
+        return file.read_text() if file.is_file() else "no record"
+
+    def note(self, name, sources):
+        """Keeps that the crate is proved, unless a source has changed meanwhile."""
+        record = self.record(name, sources)
+        if record and sources == self.sum_of_sources(name):
+            (self.crates.folder(name) / "out/proved").write_text(record)
+
+
+def sum_of_file(path):
+    return hashlib.sha256(path.read_bytes()).hexdigest()
+
+
+class Plan:
+    """In which order the crates are proved, and how long that takes."""
+
+    def __init__(self, crates, names, seconds, width):
+        self.below = {name: [it for it in crates.below(name) if it in names] for name in names}
+        self.seconds, self.width, self.weights = seconds, width, {}
+        for name in reversed(names):
+            above = [self.weights[it] for it in names if name in self.below[it]]
+            self.weights[name] = seconds[name] + max(above, default=0)
+
+    def ready(self, done, running):
+        """The crates that can begin, the one with the longest way behind it first."""
+        found = [it for it in self.below if it not in done and it not in running and all(b in done for b in self.below[it])]
+        return sorted(found, key=lambda it: -self.weights[it])
+
+    def seconds_left(self, done, running):
+        """About how long the rest takes; `running` has the seconds for which each crate has run."""
+        done, now = set(done), 0.0
+        ends = {it: max(self.seconds[it] - ran, 1) for it, ran in running.items()}
+        while len(done) < len(self.below):
+            for it in self.ready(done, ends)[: max(self.width - len(ends), 0)]:
+                ends[it] = now + self.seconds[it]
+            first = min(ends, key=ends.get)
+            now = ends.pop(first)
+            done.add(first)
+        return now
+
+    def share(self, done):
+        """Which part of the whole work is done, in per cent."""
+        return round(100 * sum(self.seconds[it] for it in done) / sum(self.seconds.values()))
+
+
+class Failed(Exception):
+    """A crate is not proved; its output has been printed."""
+
+
+class Build:
+    """The proofs of some crates, side by side."""
+
+    def __init__(self, crates, names, records, scratch):
+        self.crates, self.records, self.scratch = crates, records, scratch
+        table = measured()
+        seconds = {it: table.get(it, SECONDS_UNKNOWN) for it in names}
+        self.plan = Plan(crates, names, seconds, width_of_machine())
+        self.done = dict.fromkeys(records.proved(names), 0)
+        self.running, self.places, self.sources = {}, {}, {}
+        self.began = self.reported = time.monotonic()
+        self.expected = self.plan.seconds_left(self.done, {})
+
+    def clock(self):
+        ran = int(time.monotonic() - self.began)
+        return f"{ran // 60:3}:{ran % 60:02}"
+
+    def report(self, what):
+        self.reported = time.monotonic()
+        ran = {it: time.monotonic() - begun for it, (_, _, begun) in self.running.items()}
+        left = self.plan.seconds_left(self.done, ran) * self.slowness()
+        place = f"{len(self.done)} of {len(self.plan.below)} crates, {self.plan.share(self.done)} % of the work"
+        say(f"{self.clock()}  {what}: {place}; now {', '.join(self.running) or 'none'}; about {minutes(left)} left")
+
+    def slowness(self):
+        """How many times the measured time the finished crates took, without those that were proved before."""
+        new = [it for it, took in self.done.items() if took > 10]
+        return sum(self.done[it] for it in new) / sum(self.plan.seconds[it] for it in new) if new else 1
+
+    def start(self, name):
+        self.sources[name] = self.records.sum_of_sources(name)
+        place = self.places[name] = Workplace(self.crates, self.scratch, name, keeps=True)
+        log = self.scratch / f"{name}.log"
+        words = ["rt", "run", "--", "start", "0"] if self.crates.is_program(name) else ["rt", "lib"]
+        with log.open("w") as out:
+            run = subprocess.Popen(words, cwd=place.own, stdin=subprocess.DEVNULL, stdout=out, stderr=out)
+        self.running[name] = run, log, time.monotonic()
+
+    def finish(self, name):
+        run, log, begun = self.running.pop(name)
+        took = time.monotonic() - begun
+        self.places[name].put_back()
+        del self.places[name]
+        if run.returncode:
+            say(f"{self.clock()}  {name} is not proved after {took:.0f} s (status {run.returncode}):")
+            say(log.read_text(errors="replace").rstrip())
+            raise Failed(name)
+        self.records.note(name, self.sources[name])
+        self.done[name] = took
+        self.report(f"{name} is proved, in {took:.0f} s")
+
+    def stop(self):
+        """Ends what still runs, and puts back what is still in a workplace."""
+        for run, _, _ in self.running.values():
+            run.terminate()
+        for run, _, _ in self.running.values():
+            run.wait()
+        for place in self.places.values():
+            place.put_back()
+
+    def go(self):
+        known = f", {len(self.done)} of them proved before" if self.done else ""
+        say(f"{self.clock()}  {len(self.plan.below)} crates{known}; about {minutes(self.expected)} on four idle processors, less where little has changed")
+        try:
+            while len(self.done) < len(self.plan.below):
+                for name in self.plan.ready(self.done, self.running)[: self.plan.width - len(self.running)]:
+                    self.start(name)
+                    say(f"{self.clock()}  {name} begins, {minutes(self.plan.seconds[name])} from nothing")
+                time.sleep(0.2)
+                for name in [it for it, (run, _, _) in self.running.items() if run.poll() is not None]:
+                    self.finish(name)
+                if time.monotonic() - self.reported > SECONDS_BETWEEN_REPORTS:
+                    self.report("at work")
+        finally:
+            self.stop()
+
+
+def main(words):
+    """Proves the program and all below it, or all below the crates that are named."""
+    crates = Crates()
+    below = [it for name in words for it in crates.below(name)] if words else [*crates.below(NAME), NAME]
+    names = list(dict.fromkeys(below))
+    if shutil.which("rt") is None:
+        sys.exit("rt is not on the PATH: it is the command of the kit that proves the program (README.md)")
+    records = Records(crates)
+    if records.proved(names) == names:
+        return 0
+    for it in (signal.SIGTERM, signal.SIGHUP):
+        signal.signal(it, lambda number, _: sys.exit(128 + number))
+    try:
+        with lock(crates, names), scratch_folder() as scratch:
+            Build(crates, names, records, scratch).go()
+    except Failed:
+        return 1
+    except KeyboardInterrupt:
+        return 130
+    return 0
+
+
+if __name__ == "__main__":
+    sys.exit(main(sys.argv[1:]))

@@ -1,0 +1,60 @@
+#!/usr/bin/env -S python3 -B
+"""Runs the linters over the repository: lint.py. They are those of Python, shell and JavaScript, and the layout of Rattle, which the gate
+refuses a crate for. What is missing is named with its Debian package."""
+import shutil
+import subprocess
+import sys
+
+from crates import ROOT
+
+# By language: the command, the Debian package that has it or else where it comes from, and whether it takes one file at a time.
+LINTERS = {
+    "Rattle": (["rattle", "fmt", "--check"], None, False),
+    "Python": (["pyflakes3"], "pyflakes3", False),
+    # Some scripts hand a text in single quotes to another shell. dash knows `ulimit -n`.
+    "shell": (["shellcheck", "--exclude=SC2016,SC3045"], "shellcheck", False),
+    "JavaScript": (["node", "--check"], "nodejs", True),
+}
+ENDINGS = {".rt": "Rattle", ".antt": "Rattle", ".py": "Python", ".sh": "shell", ".js": "JavaScript", ".mjs": "JavaScript"}
+
+
+def language_of(path):
+    """The language of a file, by its ending or else by its first line."""
+    if path.suffix:
+        return ENDINGS.get(path.suffix)
+    with path.open("rb") as file:
+        first = file.readline(100)
+    if not first.startswith(b"#!"):
+        return None
+    return "Python" if b"python" in first else "shell" if first.rstrip().endswith(b"sh") else None
+
+
+def files():
+    """The files of each language that git tracks or would track."""
+    words = ["git", "ls-files", "-co", "--exclude-standard", "-z"]
+    listed = subprocess.run(words, cwd=ROOT, stdout=subprocess.PIPE, check=True).stdout.decode().split("\0")
+    found = {language: [] for language in LINTERS}
+    for path in sorted({ROOT / it for it in listed if it}):
+        language = language_of(path) if path.is_file() else None
+        if language:
+            found[language].append(str(path.relative_to(ROOT)))
+    return found
+
+
+def main():
+    missing = [(words[0], package) for words, package, _ in LINTERS.values() if shutil.which(words[0]) is None]
+    for command, package in missing:
+        print(f"there is no {command}: " + (f"apt-get install {package}" if package else "it comes with the kit"))
+    if missing:
+        return 1
+    well = True
+    for language, paths in files().items():
+        words, _, is_single = LINTERS[language]
+        for given in ([it] for it in paths) if is_single else [paths]:
+            well = subprocess.run([*words, *given], cwd=ROOT, check=False).returncode == 0 and well
+        print(f"{language}: {len(paths)} files looked through", flush=True)
+    return 0 if well else 1
+
+
+if __name__ == "__main__":
+    sys.exit(main())

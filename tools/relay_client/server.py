@@ -1,0 +1,74 @@
+"""The built program as a server on a free port of loopback."""
+
+import pathlib
+import re
+import select
+import subprocess
+
+from relay_client.ports import free_port
+from relay_client.program import PATIENCE, PROGRAM
+
+
+def first_line(process):
+    """The first line that it prints; an empty one where none comes."""
+    return process.stdout.readline() if select.select([process.stdout], [], [], PATIENCE)[0] else b""
+
+
+class NotListening(Exception):
+    """A server that ended before it listened: what it printed, what it complained of, and its status."""
+
+
+class Server:
+    """A server that listens on a free port, or on the port that is said, until the block that it is made for ends. Words before the
+    program's name run it by another program."""
+
+    def __init__(self, *words, port=None, before=(), **options):
+        for _ in range(5):
+            self.port = port or free_port()
+            given = [*before, PROGRAM, "serve", "--port", str(self.port), *words]
+            self.process = subprocess.Popen(given, bufsize=0, stdout=subprocess.PIPE, stderr=subprocess.PIPE, **options)
+            if first_line(self.process) == f"listening {self.port}\n".encode():
+                return
+            ended = self.ended()
+            # Another program of the machine may take a port that was free.
+            if ended != (b"", b"fault 41 Device\n", 3):
+                break
+        raise NotListening(*ended)
+
+    def __enter__(self):
+        return self
+
+    def __exit__(self, *_):
+        self.kill()
+
+    @property
+    def address(self):
+        return f"ws://127.0.0.1:{self.port}"
+
+    def kill(self):
+        self.process.kill()
+        self.process.wait()
+        self.process.stdout.close()
+        self.process.stderr.close()
+
+    def ended(self):
+        """Waits for its end: what it printed beyond its first line, what it complained of, and its status."""
+        try:
+            printed, complained = self.process.communicate(timeout=PATIENCE)
+        finally:
+            self.process.kill()
+        return printed, complained, self.process.returncode
+
+    def has_served(self, count, failed=0):
+        """Waits for its end: so many connections were served, and so many could not be accepted."""
+        ended = self.ended()
+        assert ended == (b"", f"served {count}, failed {failed}\n".encode(), 0), ended
+
+    def data_kibibytes(self):
+        """How much memory it has to itself, its stacks among it."""
+        status = pathlib.Path(f"/proc/{self.process.pid}/status").read_text()
+        return int(re.search(r"^VmData:\s+(\d+) kB$", status, re.M)[1])
+
+    def maps(self):
+        """How many pieces of memory it has mapped."""
+        return len(pathlib.Path(f"/proc/{self.process.pid}/maps").read_text().splitlines())

@@ -1,0 +1,123 @@
+"""Peers that break the protocol: each gets the close code that RFC 6455 names for what it did, and no reset in its place."""
+
+import struct
+import unittest
+
+from relay_client.connection import Connection
+from relay_client.frames import CLOSE, MASK, PING, PONG, TEXT, head
+from relay_client.server import Server
+from relay_client.texts import BAD_FIELD, NOT_JSON
+
+BINARY = 0x82
+FIRST_OF_TEXT, FIRST_OF_BINARY, MIDDLE, LAST = 0x01, 0x02, 0x00, 0x80
+FINAL = 0x80
+
+# Section 7.4.1.
+PROTOCOL, NOT_UTF8, TOO_BIG = "close 1002", "close 1007", "close 1009"
+
+# Section 8.1 and RFC 3629: a byte that no character has, an overlong form, a surrogate, beyond the last character, cut short.
+NO_TEXTS = b"a\xff", b"\xc0\xaf", b"\xed\xa0\x80", b"\xf4\x90\x80\x80", b"a\xe2\x82"
+
+
+def masked(first, payload):
+    """A client's frame of this first byte."""
+    return head(first, len(payload)) + bytes(byte ^ MASK[at % 4] for at, byte in enumerate(payload))
+
+
+def code(number, reason=b""):
+    """A close with this code."""
+    return masked(CLOSE, struct.pack(">H", number) + reason)
+
+
+UNMASKED = {
+    "an unmasked text (5.1)": b"\x81\x02[]",
+    "an unmasked ping (5.1)": b"\x89\x00",
+    "an unmasked close (5.1)": b"\x88\x02\x03\xe8",
+}
+
+HEADS = {
+    **{f"reserved bit {bit:#x} (5.2)": masked(TEXT | bit, b"[]") for bit in (0x40, 0x20, 0x10)},
+    **{f"opcode {opcode} (5.2)": masked(FINAL | opcode, b"[]") for opcode in (3, 4, 5, 6, 7, 11, 12, 13, 14, 15)},
+    "a length with its top bit set (5.2)": b"\x82\xff" + struct.pack(">Q", 1 << 63) + MASK,
+    "a length in two bytes that fits one (5.2)": b"\x82\xfe\x00\x7d" + MASK,
+    "a length in eight bytes that fits two (5.2)": b"\x82\xff" + struct.pack(">Q", 65535) + MASK,
+}
+
+CONTROLS = {
+    **{f"control frame {first:#x} in fragments (5.5)": masked(first ^ FINAL, b"") for first in (PING, PONG, CLOSE)},
+    **{f"control frame {first:#x} of 126 bytes (5.5)": masked(first, bytes(126)) for first in (PING, PONG, CLOSE)},
+    "a close of one byte (5.5.1)": masked(CLOSE, b"\x03"),
+    **{f"a close with code {number} (7.4)": code(number) for number in (0, 999, 1004, 1005, 1006, 1015, 1016, 2999, 5000, 65535)},
+}
+
+PLACES = {
+    "the last fragment of nothing (5.4)": masked(LAST, b"[]"),
+    "a fragment of nothing (5.4)": masked(MIDDLE, b"[]"),
+    "a text within a text (5.4)": masked(FIRST_OF_TEXT, b"[") + masked(TEXT, b"]"),
+    "a binary message within a text (5.4)": masked(FIRST_OF_TEXT, b"[") + masked(BINARY, b"]"),
+    "a first fragment within a binary message (5.4)": masked(FIRST_OF_BINARY, b"[") + masked(FIRST_OF_TEXT, b"]"),
+}
+
+TEXTS = {
+    **{f"a text of {text} (8.1)": masked(TEXT, text) for text in NO_TEXTS},
+    **{f"a text of {text} in fragments (8.1)": masked(FIRST_OF_TEXT, text[:1]) + masked(LAST, text[1:]) for text in NO_TEXTS},
+    **{f"a close with the reason {text} (8.1)": code(1000, text) for text in NO_TEXTS},
+}
+
+LONG = {
+    **{f"a text of {size} bytes": masked(TEXT, bytes(size)) for size in (65_537, 100_000, 1_000_000)},
+    "a text of 100,000 bytes in two fragments": masked(FIRST_OF_TEXT, bytes(50_000)) + masked(LAST, bytes(50_000)),
+    "the head of a text of 2^40 bytes": b"\x81\xff" + struct.pack(">Q", 1 << 40) + MASK,
+}
+
+FRAGMENTS = {
+    "1,025 empty fragments": masked(FIRST_OF_TEXT, b"") + masked(MIDDLE, b"") * 1023 + masked(LAST, b""),
+    "1,025 fragments of a byte": masked(FIRST_OF_TEXT, b"[") + masked(MIDDLE, b"]") * 1024,
+}
+
+
+class Breaches(unittest.TestCase):
+    def get(self, breaches, *told):
+        """Each of these breaches is told these lines and then the end, behind an answer to what was sent before it."""
+        with Server("--connections", str(len(breaches))) as server:
+            for name, sent in breaches.items():
+                with self.subTest(name):
+                    peer = Connection(server.port)
+                    peer.send("[")
+                    peer.stream.sendall(sent)
+                    self.assertEqual([peer.receive_any() for _ in range(1 + len(told))], [NOT_JSON, *told])
+                    peer.has_ended()
+                    peer.close()
+            server.has_served(len(breaches))
+
+    def test_frames_that_break_the_protocol_are_told_1002(self):
+        self.get({**UNMASKED, **HEADS, **CONTROLS, **PLACES}, PROTOCOL)
+
+    def test_texts_and_reasons_that_are_no_utf8_are_told_1007(self):
+        self.get(TEXTS, NOT_UTF8)
+
+    def test_a_text_of_more_than_65536_bytes_is_answered_24_and_told_1009(self):
+        self.get(LONG, BAD_FIELD, TOO_BIG)
+
+    def test_a_message_of_more_than_1024_fragments_is_told_1009(self):
+        self.get(FRAGMENTS, TOO_BIG)
+
+    def test_a_message_of_1024_fragments_is_answered(self):
+        with Server("--connections", "1") as server:
+            peer = Connection(server.port)
+            peer.stream.sendall(masked(FIRST_OF_TEXT, b"") + masked(MIDDLE, b"") * 1022 + masked(LAST, b"["))
+            peer.hears(NOT_JSON)
+            peer.close()
+            server.has_served(1)
+
+    def test_a_peer_that_sends_on_behind_its_breach_still_reads_why(self):
+        """What still comes is read and dropped: a reset would take the close away."""
+        with Server("--connections", "1") as server:
+            peer = Connection(server.port)
+            peer.stream.sendall(b"\x83\x80" + MASK)
+            for _ in range(100):
+                peer.stream.sendall(masked(TEXT, b"[" * 10_000))
+            peer.hears(PROTOCOL)
+            peer.has_ended()
+            peer.close()
+            server.has_served(1)

@@ -1,0 +1,91 @@
+"""Where the server listens, and what many connections leave behind."""
+
+import pathlib
+import re
+import resource
+import select
+import socket
+import subprocess
+import time
+import unittest
+
+from relay_client.connection import Connection
+from relay_client.program import PATIENCE, PROGRAM
+from relay_client.server import Server
+from relay_client.texts import NOT_OBJECT
+
+UNBOUNDED = (resource.RLIM_INFINITY, resource.RLIM_INFINITY)
+
+
+def mapped_bytes(server):
+    """How much memory it has mapped."""
+    status = pathlib.Path(f"/proc/{server.process.pid}/status").read_text()
+    return 1024 * int(re.search(r"^VmSize:\s+(\d+) kB$", status, re.M)[1])
+
+
+class Connections(unittest.TestCase):
+    def test_the_server_listens_on_127_0_0_1_alone_and_a_taken_port_is_a_fault_of_the_device(self):
+        with Server("--connections", "1") as server:
+            with socket.socket() as other:
+                self.assertNotEqual(other.connect_ex(("127.0.0.2", server.port)), 0)
+            words = [PROGRAM, "serve", "--port", str(server.port)]
+            second = subprocess.run(words, capture_output=True, timeout=PATIENCE)
+            self.assertEqual((second.returncode, second.stdout, second.stderr), (3, b"", b"fault 41 Device\n"))
+            Connection(server.port).close()
+            server.has_served(1)
+
+    def test_130_connections_at_once_are_all_served_and_take_less_than_800_kib_each(self):
+        """None has ended. What they map counts, stacks of 512 KiB among it."""
+        with Server("--connections", "131") as server:
+            connections = [Connection(server.port)]
+            first = server.data_kibibytes()
+            connections += [Connection(server.port) for _ in range(130)]
+            for connection in connections:
+                connection.asks("[]", NOT_OBJECT)
+            self.assertLess(server.data_kibibytes() - first, 130 * 800)
+            for connection in connections:
+                connection.close()
+            server.has_served(131)
+
+    def test_threads_that_have_ended_are_joined(self):
+        """Behind 500 short connections the process maps little more memory than behind none: a thread that is not joined keeps two maps."""
+        with Server("--connections", "501") as server:
+            first = server.maps()
+            for _ in range(500):
+                Connection(server.port).close()
+            self.assertLess(server.maps() - first, 500)
+            Connection(server.port).close()
+            server.has_served(501)
+
+    def test_newcomers_without_a_descriptor_are_told_so_and_later_ones_are_served(self):
+        """The server has no descriptor left for some of its peers. Each of them counts as failed, so 60 would be spent in no time if the server
+        tried again at once. Once its peers are gone, it still accepts."""
+        with Server("--connections", "60") as server:
+            resource.prlimit(server.process.pid, resource.RLIMIT_NOFILE, (16, 16))
+            peers = [socket.create_connection(("127.0.0.1", server.port), timeout=PATIENCE) for _ in range(16)]
+            time.sleep(0.5)
+            told = [peer.recv(4096) for peer in select.select(peers, [], [], 0)[0]]
+            self.assertEqual({answer.partition(b"\r\n")[0] for answer in told}, {b"HTTP/1.1 503 Service Unavailable"})
+            self.assertGreaterEqual(len(told), 4)
+            for peer in peers:
+                peer.close()
+            time.sleep(0.5)
+            Connection(server.port).asks("[]", NOT_OBJECT)
+
+    def test_a_newcomer_without_a_thread_is_told_so_and_later_ones_are_served(self):
+        """There is memory for all but the thread's stack. Who is connected stays, and standard error has one line."""
+        with Server("--connections", "4") as server:
+            peer = Connection(server.port)
+            peer.asks("[]", NOT_OBJECT)
+            resource.prlimit(server.process.pid, resource.RLIMIT_AS, (mapped_bytes(server) + 256 * 1024, resource.RLIM_INFINITY))
+            for _ in range(2):
+                with socket.create_connection(("127.0.0.1", server.port), timeout=PATIENCE) as newcomer:
+                    self.assertEqual(newcomer.recv(13), b"HTTP/1.1 503 ")
+            peer.asks("[]", NOT_OBJECT)
+            resource.prlimit(server.process.pid, resource.RLIMIT_AS, UNBOUNDED)
+            later = Connection(server.port)
+            later.asks("[]", NOT_OBJECT)
+            for connection in peer, later:
+                connection.close()
+            complaint = b"no descriptor or thread for a connection: turned away\n"
+            self.assertEqual(server.ended(), (b"", complaint + b"served 2, failed 2\n", 0))

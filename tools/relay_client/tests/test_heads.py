@@ -1,0 +1,59 @@
+"""Heads of requests: their size, their header fields, and lines before them."""
+
+import signal
+import socket
+import time
+import unittest
+
+from relay_client.frames import REQUEST
+from relay_client.program import PATIENCE
+from relay_client.server import Server
+
+
+class Heads(unittest.TestCase):
+    def is_answered(self, peer, status):
+        """The peer gets the beginning of an answer with this status."""
+        self.assertEqual(peer.recv(13), f"HTTP/1.1 {status} ".encode())
+
+    def test_a_head_in_pieces_may_have_8192_bytes_and_not_8250(self):
+        """Its first piece has 100 bytes, and not those that are read at a time."""
+        with Server("--connections", "2") as server:
+            for size, status in (8192, 101), (8250, 431):
+                with socket.create_connection(("127.0.0.1", server.port), timeout=9) as peer:
+                    request = REQUEST[:-2] + b"A: " + b"x" * (size - len(REQUEST) - 5) + b"\r\n\r\n"
+                    self.assertEqual(len(request), size)
+                    peer.sendall(request[:100])
+                    time.sleep(0.2)
+                    peer.sendall(request[100:])
+                    self.is_answered(peer, status)
+            server.has_served(2)
+
+    def test_a_request_may_have_64_header_fields_and_not_65(self):
+        """Each takes room on its session's stack."""
+        with Server("--connections", "2") as server:
+            for extra, status in (59, 101), (60, 431):
+                with socket.create_connection(("127.0.0.1", server.port), timeout=PATIENCE) as peer:
+                    peer.sendall(REQUEST[:-2] + b"A: b\r\n" * extra + b"\r\n")
+                    self.is_answered(peer, status)
+            server.has_served(2)
+
+    def test_a_head_that_begins_with_an_empty_line_is_none(self):
+        """It is answered at once, and nothing is waited for behind it."""
+        with Server("--connections", "2") as server:
+            for before in (b"\r\n\r\n", b"\n"):
+                with socket.create_connection(("127.0.0.1", server.port), timeout=9) as peer:
+                    peer.sendall(before + REQUEST)
+                    self.is_answered(peer, 400)
+            server.has_served(2)
+
+    def test_a_server_that_is_stopped_and_goes_on_still_answers_who_had_not_sent_its_head(self):
+        """Its read is interrupted, and made again."""
+        with Server("--connections", "1") as server:
+            with socket.create_connection(("127.0.0.1", server.port), timeout=PATIENCE) as peer:
+                time.sleep(0.2)
+                for number in signal.SIGSTOP, signal.SIGCONT:
+                    server.process.send_signal(number)
+                    time.sleep(0.2)
+                peer.sendall(REQUEST)
+                self.is_answered(peer, 101)
+            server.has_served(1)

@@ -1,0 +1,85 @@
+"""Requests that are no handshake: each gets the status that RFC 9110, 9112 and 6455 name, and no reset in its place."""
+
+import socket
+import unittest
+
+from relay_client.frames import REQUEST
+from relay_client.program import PATIENCE
+from relay_client.server import Server
+
+LINE, *FIELDS = REQUEST.removesuffix(b"\r\n\r\n").split(b"\r\n")
+HOST, CONNECTION, UPGRADE, VERSION, KEY = FIELDS
+
+
+def request(*fields, line=LINE):
+    return b"\r\n".join([line, *fields, b"", b""])
+
+
+def without(field, *instead):
+    """The good request without this field, and with these in its place."""
+    return request(*(it for it in FIELDS if it != field), *instead)
+
+
+# RFC 9112, sections 2.2, 3, 3.2, 5.1; RFC 6455, section 4.2.1.
+BAD = {
+    "no HTTP": b"hello\r\n\r\n",
+    "a plain GET": request(HOST),
+    "no Host": without(HOST),
+    "two Hosts": without(HOST, HOST, HOST),
+    "no key": without(KEY),
+    "a key of 4 bytes": without(KEY, b"Sec-WebSocket-Key: AQIDBA=="),
+    "no Upgrade": without(UPGRADE),
+    "another Upgrade": without(UPGRADE, b"Upgrade: h2c"),
+    "no Connection": without(CONNECTION),
+    "HTTP/1.0": request(*FIELDS, line=b"GET / HTTP/1.0"),
+    "HTTP/2.0": request(*FIELDS, line=b"GET / HTTP/2.0"),
+    "two spaces before the target": request(*FIELDS, line=b"GET  / HTTP/1.1"),
+    "a space before a colon": without(HOST, b"Host : a"),
+    "a field without a colon": request(*FIELDS, b"no colon"),
+    "an empty line before it": b"\r\n" + REQUEST,
+}
+# RFC 6455, section 4.4.
+VERSIONS = {
+    "no version": without(VERSION),
+    "version 12": without(VERSION, b"Sec-WebSocket-Version: 12"),
+}
+# RFC 9110, section 15.5.6.
+METHODS = {method: request(*FIELDS, line=f"{method} / HTTP/1.1".encode()) for method in ("POST", "HEAD", "PUT")}
+# RFC 6585, section 5.
+LARGE = {
+    "a head of 8,193 bytes": without(HOST, HOST, b"A: " + b"x" * (8193 - len(REQUEST) - 5)),
+    "a head of 20,000 bytes": request(*FIELDS, b"A: " + b"x" * 20_000),
+    "65 fields": request(*FIELDS, *[b"A: b"] * 60),
+    "300 fields": request(*FIELDS, *[b"A: b"] * 295),
+}
+
+
+class Requests(unittest.TestCase):
+    def get(self, requests, status, *fields):
+        """Each of these requests, with more behind it, is answered with this status and these fields, and then comes the end."""
+        with Server("--connections", str(len(requests))) as server:
+            for name, sent in requests.items():
+                with self.subTest(name), socket.create_connection(("127.0.0.1", server.port), timeout=PATIENCE) as peer:
+                    peer.sendall(sent)
+                    peer.sendall(b"more" * 1000)
+                    answer = b""
+                    while piece := peer.recv(4096):
+                        answer += piece
+                    lines = answer.decode().split("\r\n")
+                    self.assertRegex(lines[0], rf"^HTTP/1\.1 {status} ")
+                    self.assertEqual(lines[-2:], ["", ""])
+                    for field in ("Content-Length: 0", *(fields or ("Connection: close",))):
+                        self.assertIn(field, lines)
+            server.has_served(len(requests))
+
+    def test_a_broken_request_and_one_for_no_websocket_are_answered_400(self):
+        self.get(BAD, 400)
+
+    def test_another_version_is_answered_426_and_told_which_is_spoken(self):
+        self.get(VERSIONS, 426, "Sec-WebSocket-Version: 13", "Upgrade: websocket", "Connection: Upgrade, close")
+
+    def test_another_method_is_answered_405(self):
+        self.get(METHODS, 405, "Allow: GET", "Connection: close")
+
+    def test_a_head_of_more_than_8192_bytes_or_64_fields_is_answered_431(self):
+        self.get(LARGE, 431)

@@ -1,0 +1,76 @@
+"""A wire of TCP between a client and a relay that can be cut and mended, or lose what it carries, while the relay goes on."""
+
+import asyncio
+import time
+
+from relay_client.ports import free_port
+from relay_client.program import PATIENCE
+
+UP, DOWN = "up", "down"
+
+
+class Wire:
+    def __init__(self, port):
+        self.goal = port
+        self.port = free_port()
+        self.server = None
+        self.writers = set()
+        self.losses = {}  # By the way, UP to the relay or DOWN to the client: from which word on it loses what it carries.
+        self.has_lost = asyncio.Event()
+
+    @property
+    def address(self):
+        return f"ws://127.0.0.1:{self.port}"
+
+    async def mend(self):
+        """A process that another test starts holds the port for a moment longer, until it runs its own program."""
+        end = time.monotonic() + PATIENCE
+        while True:
+            try:
+                self.server = await asyncio.start_server(self.carry, "127.0.0.1", self.port)
+                return self
+            except OSError:
+                if time.monotonic() > end:
+                    raise
+                await asyncio.sleep(0.05)
+
+    async def carry(self, reader, writer):
+        try:
+            far_reader, far_writer = await asyncio.open_connection("127.0.0.1", self.goal)
+        except OSError:
+            writer.close()
+            return
+        self.writers |= {writer, far_writer}
+        await asyncio.gather(self.copy(UP, reader, far_writer), self.copy(DOWN, far_reader, writer))
+
+    async def copy(self, way, reader, writer):
+        try:
+            while data := await reader.read(65536):
+                if way in self.losses and self.losses[way] in data:
+                    self.losses[way] = b""
+                    self.has_lost.set()
+                else:
+                    writer.write(data)
+                    await writer.drain()
+        except OSError:
+            pass
+        finally:
+            writer.close()
+            self.writers.discard(writer)
+
+    def lose(self, *ways, word=b""):
+        """Loses without a word what comes on these ways, from the piece on that has the word, as a cable that was pulled does."""
+        self.has_lost.clear()
+        self.losses = dict.fromkeys(ways, word)
+
+    def drop(self):
+        """Loses the connections that there are; new ones are carried."""
+        self.losses = {}
+        for writer in list(self.writers):
+            writer.transport.abort()
+
+    async def cut(self):
+        """Loses the connections, and carries no new one until it is mended."""
+        self.server.close()
+        await self.server.wait_closed()
+        self.drop()
