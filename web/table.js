@@ -18,6 +18,8 @@
     open: (board, { start: from, players, moves }, count) => operator.open({ board, start: from, players, anew: true }, moves.slice(0, count)),
   });
 
+  let proposed = null; // The name that stands in the field behind an end.
+
   page.usableWhen(operator.isReady);
 
   /* What the operator shows. */
@@ -44,7 +46,8 @@
 
   function over() {
     const { board, outcome } = operator.game();
-    ["name", "white", "black"].forEach((it) => { at(it).value = ""; }); // A name is given once, and its players have played.
+    ["white", "black"].forEach((it) => { at(it).value = ""; });
+    at("name").value = proposed = Words.nextName(board); // A name is given once.
     entitle(`${Words.score(outcome) || "No result"}, ${board}`);
   }
 
@@ -139,7 +142,8 @@
   at("opening").addEventListener("submit", (event) => {
     event.preventDefault();
     const players = { white: at("white").value.trim(), black: at("black").value.trim() };
-    operator.open({ board: at("name").value.trim(), start: Number(at("start").value), players, anew: false }, []);
+    const board = at("name").value.trim();
+    operator.open({ board, start: Number(at("start").value), players, anew: board === proposed }, []);
   });
   at("ending").addEventListener("click", (event) => {
     const button = event.target.closest("button");
