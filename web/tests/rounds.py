@@ -311,8 +311,9 @@ async def try_turns(browser):
         await page.close()
 
 
-SECONDS = 12
-QUIET = [move for file in "abcdeh" for move in ["g1f3", "g8f6", "f3g1", "f6g8", f"{file}2{file}3", f"{file}7{file}6"]]
+SECONDS = 60
+QUIET = [move for step in (("2", "3", "7", "6"), ("3", "4", "6", "5")) for file in "abcdeh"
+         for move in ["g1f3", "g8f6", "f3g1", "f6g8", f"{file}{step[0]}{file}{step[1]}", f"{file}{step[2]}{file}{step[3]}"]]
 
 
 async def traced(page, act):
@@ -328,8 +329,21 @@ async def traced(page, act):
     return [(it["ts"] // 1000000, it["dur"] / 1000, it["tdur"] / 1000) for it in events if it["name"] == "RunTask" and (it["pid"], it["tid"]) in mains and "tdur" in it]
 
 
+def longest_of(tasks):
+    """The longest task of each second, by the processor's time."""
+    longest = {}
+    for second, _, own in tasks:
+        longest[second] = max(own, longest.get(second, 0))
+    return list(longest.values())
+
+
+LONG = 50  # Milliseconds: a task that takes longer is felt.
+SPARE = 1  # So many of a minute's tasks may: a processor is now and then charged with what others do there.
+HARDLY = 0.02  # The part of the time that tasks worked for which they wait where nothing else runs.
+
+
 async def try_smooth(browser):
-    """64 boards on one screen, each with a move a second: no task takes 50 ms. On a busy machine that is said of most of the seconds."""
+    """64 boards on one screen, each with a move a second for a minute: no task of the page takes 50 ms, but for one that the machine may have disturbed."""
     relay = await Relay(boards=64, connections=100).start()
     names = [f"m{number}" for number in range(64)]
     client = await boards_of(relay, *((name, 518, []) for name in names))
@@ -357,17 +371,19 @@ async def try_smooth(browser):
     expected = men(fens(518, QUIET[:SECONDS])[-1])
     tiles = await until_tiles(page, lambda them: all(it["men"] == expected for it in them))
     assert len(tiles) == 64 and len(tasks) > 64 * SECONDS, len(tasks)
-    # On a busy machine tasks wait for the processor, and are now and then charged with what others do there. That differs from second to
-    # second; what the page does is the same in each.
+    # By the clock a task takes longer where it waits for the processor, which others have. What counts on any machine is its time of the
+    # processor; where tasks hardly wait, the clock counts too.
     waited, worked = sum(taken - own for _, taken, own in tasks), sum(own for _, _, own in tasks)
-    longest = [max(own for second, _, own in tasks if second == each) for each in sorted({it[0] for it in tasks})]
-    print(f"    {len(tasks)} tasks, which waited {waited / worked:.0%} of the time that they worked; the longest of each second, in ms of the processor: "
-          f"{', '.join(f'{it:.0f}' for it in longest)}; {len(seen)} long ones by the clock")
-    if waited < 0.02 * worked:
-        assert max(longest) < 50 and not seen, (longest, seen)
-    assert statistics.median(longest) < 50, longest
+    longest = longest_of(tasks)
+    print(f"    {len(tasks)} tasks in {len(longest)} s, which waited {waited / worked:.0%} of the time that they worked; the longest of each second, in ms of the "
+          f"processor: {statistics.median(longest):.0f} in the median, {', '.join(f'{it:.0f}' for it in sorted(longest)[-3:])} at most; "
+          f"{len(seen)} over {LONG} ms by the clock")
+    assert len(longest) >= SECONDS, len(longest)
+    assert sum(own > LONG for _, _, own in tasks) <= SPARE, sorted(longest)
+    if waited < HARDLY * worked:
+        assert len(seen) <= SPARE, seen
     blocked = await traced(page, block)
-    assert max(own for _, _, own in blocked) > 50 and len(await page.run("long")) > len(seen), "a long task is noticed"
+    assert max(own for _, _, own in blocked) > LONG and len(await page.run("long")) > len(seen), "a long task is noticed"
     assert not page.faults, page.faults
     await page.close()
     await client.close()
