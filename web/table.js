@@ -101,13 +101,22 @@
 
   /* Controls. */
 
+  /** The game for a page that saves a whole round, or null where there is none: its board is not open, and nothing was played. */
+  function saved() {
+    const { outcome } = page.record();
+    const moves = operator.allMoves();
+    const isOne = operator.isOpen() || moves.length > 0 || outcome !== null;
+    return isOne ? { ...operator.game(), moves, outcome } : null;
+  }
+
   /** How the board stands, for a page that has this one in a tab. */
   function stand() {
     const { origin, outcome } = page.record();
     const holder = at("state");
     const turn = origin !== null && outcome === null ? page.record().present().turn : null;
     const game = operator.game();
-    return { name: game ? game.board : at("name").value, state: holder.dataset.state, text: holder.textContent, near: at("near").textContent, outcome, turn };
+    const name = game ? game.board : at("name").value;
+    return { name, state: holder.dataset.state, text: holder.textContent, near: at("near").textContent, outcome, turn, game: saved() };
   }
 
   /** A game is corrected from an earlier position, to which the operator has gone back. */

@@ -207,9 +207,8 @@ async def try_access(browser):
             over = await page.run('document.documentElement.scrollWidth - innerWidth')
             assert over <= 0, (await text(page, "h1"), width, over)
         await page.run('document.querySelector("details").open = true')
-        named = [it for it in (await page.call("Accessibility.getFullAXTree"))["nodes"] if it.get("role", {}).get("value") in NAMED]
-        nameless = [it["role"]["value"] for it in named if not it["ignored"] and not it["name"]["value"]]
-        assert len(named) > 70 and not nameless, (len(named), nameless)
+        named = await contrast.names(page)
+        assert len(named) > 70 and all(name for _, name in named), named
         assert not page.faults, page.faults
         await page.close()
 
@@ -241,9 +240,6 @@ async def try_seen_whole(browser):
         assert not page.faults, page.faults
     await table.close()
     await seer.close()
-
-
-NAMED = ["button", "textbox", "spinbutton", "combobox", "checkbox", "grid", "table", "gridcell", "cell", "region"]
 
 
 async def try_refusals(browser):
@@ -955,8 +951,8 @@ async def try_next(browser):
 
 OTHERS = {"firefox": Firefox, "webkit": WebKit}
 # What is tried in these too: what a person does most. Without a device for sound it makes none, so sounds are not among it.
-OFTEN = ["games", "castling", "mate", "typed", "goals", "next", "wire", "cut", "on_its_way", "ending_lost", "correct", "crash", "kept_pgn", "records", "list",
-         "newer", "round", "tabs", "tabs_attention", "tabs_from_disk"]
+OFTEN = ["games", "castling", "mate", "typed", "goals", "refused_claim", "next_name", "next", "wire", "cut", "on_its_way", "ending_lost", "correct", "crash",
+         "kept_pgn", "records", "list", "newer", "round", "round_pgn", "tabs", "tabs_pgn", "tabs_attention", "tabs_from_disk"]
 
 
 async def main():

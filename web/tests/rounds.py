@@ -16,7 +16,7 @@ from gone import beat, following, moved, over
 from relay_client.client import Client
 from relay_client.program import fens, start_fen
 from relay_client.relay import Relay
-from steps import WEB, text, tightened, unfold, until_moves, until_state, url
+from steps import WEB, catch_files, pgn, text, tightened, today, unfold, until_moves, until_state, url
 from told import Channels
 
 START = 387
@@ -113,6 +113,36 @@ async def try_round(browser):
     assert await text(page, "#watched") == "r1-4" and await page.run("document.title") == "r1-4 – Watch a board"
     assert await text(page, "#lower .side") == "Ding" and await text(page, "#upper .side") == "Black"
     assert not await page.run('document.querySelector("#settings").open')
+    assert not page.faults, page.faults
+    await page.close()
+    await client.close()
+
+
+async def try_round_pgn(browser):
+    """The games of a round are saved as one file, one of each board that is or was open, in their order; a board that goes on has its next name."""
+    relay = await Relay().start()
+    page = await browser.open(url("round.html", server=relay.address, boards="r1-1,r1-2,r1-3,r1-4,r1-5", players="Carlsen, Magnus–Caruana;Ding"))
+    await until_tiles(page, lambda them: [it["state"] for it in them] == ["refused"] * 5)
+    await catch_files(page)
+    assert await page.run('document.querySelector("#save-round").hidden'), "there is nothing to be saved yet"
+    client = await boards_of(relay, ("r1-1", START, MOVES), ("r1-2", 518, MATE), ("r1-4", 0, []), ("r1-5", 518, MATE[:2]))
+    await client.end("r1-5", "abandoned")
+    await client.open("r1-5_2", 518)
+    await client.submit("r1-5_2", MATE[0])
+    await until_tiles(page, lambda them: [it["move"] for it in them] == ["3… c5", "2… Qh4#", "", "", "1. f3"] and them[3]["state"] == "live")
+    day = await today(page)
+    others = [pgn("r1-2", 518, "1. f3 e5 2. g4 Qh4# {Black mates.} 0-1", day, ("Ding", "?"), "normal"), pgn("r1-4", 0, "*", day)]
+    await page.click("#save-round")
+    first = pgn("r1-1", START, "1. Ne3 Nd6 2. O-O O-O 3. f4 c5 *", day, ("Carlsen, Magnus", "Caruana"))
+    file = "\n".join([first, *others, pgn("r1-5_2", 518, "1. f3 *", day)])
+    assert await page.run("saved") == ["round.pgn", file, "application/vnd.chess-pgn"], await page.run("saved")
+    await client.end("r1-1")
+    await client.submit("r1-5_2", "d7d5")
+    await until_tiles(page, lambda them: them[0]["state"] == "over" and them[4]["move"] == "1… d5")
+    await page.click("#save-round")
+    first = pgn("r1-1", START, "1. Ne3 Nd6 2. O-O O-O 3. f4 c5 {Draw agreed.} 1/2-1/2", day, ("Carlsen, Magnus", "Caruana"), "normal")
+    file = "\n".join([first, *others, pgn("r1-5_2", 518, "1. f3 d5 *", day)])
+    assert (await page.run("saved"))[1] == file, await page.run("saved")
     assert not page.faults, page.faults
     await page.close()
     await client.close()
@@ -231,10 +261,10 @@ async def try_room(browser):
         address = url("round.html", server=relay.address, boards=",".join(names[:count]), players=";".join(["Vachier-Lagrave, Maxime–So"] * count))
         page = await browser.open(address)
         await until_settled(page, count)
-        for size in ((390, 800), (844, 390), (768, 1024), (1280, 900), (1920, 1080)):
+        for size in ((390, 800), (844, 390), (768, 1024), (1280, 900), (1366, 768), (1920, 1080)):
             had = await sizes(page, size)
             assert had["over"] <= 0 and not had["meeting"] and had["square"] and not had["cut"] and had["width"] >= 136, (count, size, had)
-            assert had["controls"] == count + 1, had
+            assert had["controls"] == count + 2, had
         if count == 64:
             assert had["inside"], "64 boards are on one screen of 1920 by 1080"
         tree = (await page.call("Accessibility.getFullAXTree"))["nodes"]
