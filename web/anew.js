@@ -83,7 +83,7 @@ const createAnew = ({ at, back, open }) => {
   /** Saves the game that is offered as PGN, with the day on which it was kept. */
   function savePgn() {
     const { board, players, saved } = chosen;
-    Saved.file(`${board}.pgn`, Pgn.write(board, recordOf(chosen), Players.tags(players), new Date(saved)), "application/vnd.chess-pgn");
+    Saved.pgn(board, Pgn.write(board, recordOf(chosen), Players.tags(players), new Date(saved)));
   }
 
   at("kept").addEventListener("change", choose);

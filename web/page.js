@@ -186,7 +186,7 @@ const createPage = ({ browsed = () => {}, ...hand } = {}) => {
 
   /** Saves the game that is shown, under the name of its board. */
   function savePgn(name) {
-    Saved.file(`${name}.pgn`, Pgn.write(name, page.record, Players.tags(page.players)), "application/vnd.chess-pgn");
+    Saved.pgn(name, Pgn.write(name, page.record, Players.tags(page.players)));
   }
 
   /** Adds a line to what happened. */

@@ -107,5 +107,8 @@ const Pgn = (() => {
     return `${head}\n${filled(words)}\n`;
   }
 
-  return { write };
+  /** The PGN of several games, one behind another: of each its board, its record, which has a position, and its labels. */
+  const round = (games) => games.map(({ board, record, labels }) => write(board, record, labels)).join("\n");
+
+  return { write, round };
 })();

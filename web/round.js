@@ -105,7 +105,10 @@
   const watches = new Map();
   const sight = new IntersectionObserver((entries) => entries.forEach((it) => watches.get(it.target).sighted(it.isIntersecting)), { threshold: 0.6 });
 
-  /* The whole round in words. */
+  /* The whole round: in words, and as a file. */
+
+  /** The games of the boards that are open or were, in their order. */
+  const games = () => tiles.map((it) => it.game()).filter(({ record }) => record.origin !== null);
 
   function sum() {
     const count = (test) => tiles.filter(test).length;
@@ -118,6 +121,7 @@
     if (at("state").textContent !== text) {
       at("state").textContent = text;
     }
+    at("save-round").hidden = games().length === 0;
   }
 
   /* The boards. */
@@ -182,6 +186,7 @@
   fill();
   at("lines").addEventListener("input", check);
   at("source").addEventListener("submit", submit);
+  at("save-round").addEventListener("click", () => Saved.pgn("round", Pgn.round(games())));
   addEventListener("resize", layOut);
   layOut();
   Pieces.giveImages();

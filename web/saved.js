@@ -9,5 +9,10 @@ const Saved = (() => {
     setTimeout(() => URL.revokeObjectURL(link.href), 1000);
   }
 
-  return { file };
+  /** Gives games as a file in PGN; its name is given without an ending. */
+  function pgn(name, content) {
+    Saved.file(`${name}.pgn`, content, "application/vnd.chess-pgn");
+  }
+
+  return { file, pgn };
 })();

@@ -18,6 +18,8 @@
     open: (board, { start: from, players, moves }, count) => operator.open({ board, start: from, players, anew: true }, moves.slice(0, count)),
   });
 
+  let proposed = null; // The name that stands in the field behind an end.
+
   page.usableWhen(operator.isReady);
 
   /* What the operator shows. */
@@ -44,7 +46,8 @@
 
   function over() {
     const { board, outcome } = operator.game();
-    ["name", "white", "black"].forEach((it) => { at(it).value = ""; }); // A name is given once, and its players have played.
+    ["white", "black"].forEach((it) => { at(it).value = ""; });
+    at("name").value = proposed = Words.nextName(board); // A name is given once.
     entitle(`${Words.score(outcome) || "No result"}, ${board}`);
   }
 
@@ -98,13 +101,22 @@
 
   /* Controls. */
 
+  /** The game for a page that saves a whole round, or null where there is none: its board is not open, and nothing was played. */
+  function saved() {
+    const { outcome } = page.record();
+    const moves = operator.allMoves();
+    const isOne = operator.isOpen() || moves.length > 0 || outcome !== null;
+    return isOne ? { ...operator.game(), moves, outcome } : null;
+  }
+
   /** How the board stands, for a page that has this one in a tab. */
   function stand() {
     const { origin, outcome } = page.record();
     const holder = at("state");
     const turn = origin !== null && outcome === null ? page.record().present().turn : null;
     const game = operator.game();
-    return { name: game ? game.board : at("name").value, state: holder.dataset.state, text: holder.textContent, near: at("near").textContent, outcome, turn };
+    const name = game ? game.board : at("name").value;
+    return { name, state: holder.dataset.state, text: holder.textContent, near: at("near").textContent, outcome, turn, game: saved() };
   }
 
   /** A game is corrected from an earlier position, to which the operator has gone back. */
@@ -139,7 +151,8 @@
   at("opening").addEventListener("submit", (event) => {
     event.preventDefault();
     const players = { white: at("white").value.trim(), black: at("black").value.trim() };
-    operator.open({ board: at("name").value.trim(), start: Number(at("start").value), players, anew: false }, []);
+    const board = at("name").value.trim();
+    operator.open({ board, start: Number(at("start").value), players, anew: board === proposed }, []);
   });
   at("ending").addEventListener("click", (event) => {
     const button = event.target.closest("button");

@@ -34,6 +34,29 @@
   /** The first sentence or two of that: a tab has little room. */
   const inShort = (text) => text.split(". ").slice(0, 2).join(". ");
 
+  /* The games, as a file. */
+
+  /** Whether a game takes the place of the one before it in its tab: it is the same, or goes on with one that had no result. */
+  function goesOn(game, before) {
+    const hasNone = before.outcome === null || before.outcome === "abandoned";
+    return game.id === before.id || (hasNone && Words.isHeir(game.board, before.board));
+  }
+
+  function keep(tab, game) {
+    const before = tab.games.slice(-1).filter((it) => !goesOn(game, it));
+    tab.games = [...tab.games.slice(0, -1), ...before, game];
+  }
+
+  /** The games that were open since the page was loaded, in the order of their tabs. */
+  const games = () => tabs.flatMap((it) => it.games);
+
+  function save() {
+    const whole = games().map((it) => ({ board: it.board, record: recordOf(it), labels: Players.tags(it.players) }));
+    Saved.pgn("round", Pgn.round(whole));
+  }
+
+  /* The whole round in words. */
+
   function sum() {
     const count = (name) => tabs.filter((it) => it.told && wants(it.told) === name).length;
     const alarms = count("alarm");
@@ -41,6 +64,7 @@
     const text = words.filter(([number]) => number > 0).map(([number, word]) => `${number} ${word}`).join(", ");
     at("state").dataset.state = alarms > 0 ? "lost" : count("live") + count("near") > 0 ? "live" : "idle";
     at("state").textContent = text || (tabs.length > 0 ? "No board open" : "No boards");
+    at("save-round").hidden = games().length === 0;
   }
 
   function hear({ source, data }) {
@@ -48,9 +72,14 @@
     if (tab && data && data.board) {
       tab.told = data.board;
       tab.name.textContent = tab.told.name;
+      tab.frame.title = tab.told.name;
       tab.button.title = stand(tab.told);
       tab.stand.textContent = inShort(tab.button.title);
       tab.button.dataset.wants = wants(tab.told);
+      if (tab.told.game !== null) {
+        tab.players.textContent = Players.written(tab.told.game.players);
+        keep(tab, tab.told.game);
+      }
       sum();
     }
   }
@@ -60,7 +89,7 @@
   function show(tab) {
     tabs.forEach((it) => {
       const isShown = it === tab;
-      it.frame.classList.toggle("shown", isShown);
+      it.panel.classList.toggle("shown", isShown);
       it.button.setAttribute("aria-selected", String(isShown));
       it.button.tabIndex = isShown ? 0 : -1;
     });
@@ -88,11 +117,18 @@
 
   function add({ name, players }, start, opens) {
     const button = make("button", "tab", "");
-    const tab = { button, frame: document.createElement("iframe"), name: make("b", "", name), stand: make("span", "stand", ""), told: null };
+    const panel = make("div", "", "");
+    const frame = document.createElement("iframe");
+    const words = { name: make("b", "", name), players: make("span", "players", Players.written(players)), stand: make("span", "stand", "") };
+    const tab = { button, panel, frame, ...words, told: null, games: [] };
     button.type = "button";
-    button.setAttribute("role", "tab");
     button.id = `tab-${tabs.length}`;
-    button.append(tab.name, make("span", "players", Players.written(players)), tab.stand);
+    panel.id = `board-${tabs.length}`;
+    button.setAttribute("role", "tab");
+    button.setAttribute("aria-controls", panel.id);
+    panel.setAttribute("role", "tabpanel");
+    panel.setAttribute("aria-labelledby", button.id);
+    button.append(tab.name, tab.players, tab.stand);
     button.addEventListener("click", () => show(tab));
     button.addEventListener("keydown", key);
     tab.frame.title = name;
@@ -101,7 +137,8 @@
     });
     tabs.push(tab);
     at("tabs").append(button);
-    at("frames").append(tab.frame);
+    panel.append(tab.frame);
+    at("frames").append(panel);
   }
 
   /* The form. It makes the address that shows the boards; when it is shown first they are opened. */
@@ -152,5 +189,6 @@
   addEventListener("message", hear);
   at("lines").addEventListener("input", () => at("lines").setCustomValidity(Lines.fault(lines())));
   at("source").addEventListener("submit", submit);
+  at("save-round").addEventListener("click", save);
   fill();
 })();

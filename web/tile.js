@@ -162,5 +162,6 @@ const createTile = ({ name, players, href, shown }) => {
   return {
     element, refresh, start, goOn: start, state, renamed, mark, notice: () => {}, entered: () => {},
     record: () => tile.record, name: () => tile.name, stateName: () => tile.state,
+    game: () => ({ board: tile.name, record: tile.record, labels: Players.tags(players) }),
   };
 };

@@ -33,7 +33,7 @@ def status(path, headers=None, method="GET"):
 def try_paths():
     """What each path answers, without and with the password."""
     expected = {
-        ("/pages/watch.html", "GET", False): 200, ("/pages/round.html", "GET", False): 200, ("/round", "GET", False): 200, ("/pages/style.css", "GET", False): 200, ("/pages/table.html", "GET", False): 404,
+        ("/pages/watch.html", "GET", False): 200, ("/pages/round.html", "GET", False): 200, ("/own", "GET", False): 200, ("/pages/style.css", "GET", False): 200, ("/pages/table.html", "GET", False): 404,
         ("/pages/tables.html", "GET", False): 404, ("/operators/tables.html", "GET", False): 401, ("/operators/tables.html", "GET", True): 200,
         ("/pages/../operators", "GET", False): 404, ("/operators/table.html", "GET", False): 401,
         ("/operators/table.html", "GET", True): 200, ("/operators/relay", "GET", False): 401, ("/relay", "GET", False): 404,
@@ -43,6 +43,15 @@ def try_paths():
     for (path, method, login), wanted in expected.items():
         had = status(path, LOGIN if login else None, method)
         assert had == wanted, (path, method, login, had)
+
+
+def try_front():
+    """Who asks for the site itself is led to the page of the round, under the site's own name and port; a page of the site's own stays what it was."""
+    for path, wanted in (("/", f"{SITE}/pages/round.html?boards=hall&players=Carlsen%20-%20Caruana"), ("/own", f"{SITE}/own")):
+        with urllib.request.urlopen(SITE + path, timeout=10, context=TLS) as answer:
+            assert answer.url == wanted, answer.url
+            page = answer.read().decode()
+            assert ("<title>Watch a round</title>" in page) == (path == "/"), page
 
 
 async def try_strangers():
@@ -97,10 +106,10 @@ async def try_game():
 
 async def try_browser():
     """The pages in a browser, under the site's content policy: the table's with the password, a round's and the spectator's from the channel,
-    where the site's own address says no more than the boards and their players."""
+    to which the site's own address leads."""
     browser = await Browser().start("--ignore-certificate-errors")
     try:
-        seer = await browser.open(f"{SITE}/round")
+        seer = await browser.open(f"{SITE}/")
         await seer.until('document.querySelector(".tile .stand") && document.querySelector(".tile .stand").textContent === "0–1"')
         assert await seer.run('[...document.querySelectorAll(".side")].map((it) => it.textContent)') == ["Caruana", "Carlsen"]
         assert await seer.run('document.querySelector("[data-man=K]").dataset.square') == "e1"
@@ -227,8 +236,9 @@ async def try_key():
 
 
 async def main():
-    try_paths()
-    print("ok      paths", flush=True)
+    for each in (try_paths, try_front):
+        each()
+        print(f"ok      {each.__name__[4:]}", flush=True)
     for each in (try_strangers, try_origins, try_game, try_browser, try_renewal, try_restart, try_key):
         await each()
         print(f"ok      {each.__name__[4:]}", flush=True)

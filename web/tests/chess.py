@@ -6,7 +6,9 @@ import shutil
 import subprocess
 import sys
 import time
+from io import StringIO
 
+from pychess.Savers import pgn
 from pychess.Utils.const import CASTLE_KR, FISCHERRANDOMCHESS
 from pychess.Utils.lutils import lmove
 from pychess.Utils.lutils.LBoard import LBoard
@@ -44,7 +46,7 @@ const next = (fen, move) => Position.write(Position.after(Position.read(fen), mo
 
 def chess():
     """The pages' scripts of chess, in node."""
-    scripts = Scripts("position", "rules", "san", "texts", "record", "draws", "pgn")
+    scripts = Scripts("position", "rules", "san", "texts", "record", "draws", "players", "pgn")
     scripts.run(HELPERS)
     return scripts
 
@@ -74,6 +76,13 @@ class Stockfish:
             if count.isdigit():
                 found[move] = int(count)
         raise RuntimeError("Stockfish ended")
+
+    def final(self, fen, moves):
+        """The FEN in which these moves end. Stockfish stops at the first that is not legal."""
+        self.say(f"position fen {fen} moves {' '.join(moves)}\nd")
+        found = next(line for line in self.process.stdout if line.startswith("Fen: "))
+        next(line for line in self.process.stdout if line.startswith("Checkers:"))
+        return found[5:].strip()
 
     def __enter__(self):
         return self
@@ -266,55 +275,124 @@ def try_claims():
 
 # pgn-extract.
 
-PGN = "(texts) => { const it = createRecord(); texts.forEach((text) => it.take(text)); return Pgn.write(\"b1\", it, { White: 'A \"B\"' }); }"
+# A round's games as a file, of each its board, its players and the texts of a follower.
+ROUND = """(games) => Pgn.round(games.map(([board, players, texts]) => {
+  const record = createRecord();
+  texts.forEach(record.take);
+  return { board, record, labels: Players.tags(players) };
+}))"""
 SCORES = {"white mates": "1-0", "black mates": "0-1", "white resigns": "0-1", "black resigns": "1-0", "abandoned": "*", None: "*"}
 
 
-def extracted(texts):
-    """The tags and the moves that pgn-extract reads in PGN, of which it may not complain; the moves in the relay's words."""
+def extracted(file):
+    """The tags and the moves of each game that pgn-extract reads in a file, of which it may not complain; the moves in the relay's words."""
     path = shutil.which("pgn-extract") or "/usr/games/pgn-extract"
-    ran = subprocess.run([path, "-s", "-w100000", "-Wuci"], input="\n".join(texts), capture_output=True, text=True, check=True)
+    ran = subprocess.run([path, "-s", "-w100000", "-Wuci"], input=file, capture_output=True, text=True, check=True)
     assert ran.stderr == "", ran.stderr
     parts = [it for it in ran.stdout.split("\n\n") if it.strip()]
     for tags, words in zip(parts[::2], parts[1::2], strict=True):
         yield dict(re.findall(r'^\[(\w+) "(.*)"\]$', tags, re.M)), re.sub(r"\{[^}]*\}", "", words).lower().split()
 
 
+def same(fen, other):
+    """Compares two FENs. Stockfish writes the square of a capture in passing only where a pawn stands ready for it."""
+    one, two = fen.split(" "), other.split(" ")
+    return one[3] in ("-", two[3]) and one[:3] + one[4:] == two[:3] + two[4:]
+
+
 def game_told(pages, chance, outcome):
-    """The texts of a game by chance, whole or from a later place on, and its moves."""
-    fen = start_fen(chance.randrange(960))
-    begin, told, moves = chance.choice((0, 0, 5, 20)), fen, []
-    for ply in range(chance.randrange(begin, 120)):
-        legal = list(pages.call("counts", fen, 1))
-        castlings = [it for it in legal if pages.call("castles", fen, it)]
+    """The texts of a game by chance, whole or from a later place on, its moves, its end and its last position."""
+    positions, moves = [start_fen(chance.randrange(960))], []
+    begin = chance.choice((0, 0, 5, 20))
+    for _ in range(chance.randrange(begin, 120)):
+        legal = list(pages.call("counts", positions[-1], 1))
+        castlings = [it for it in legal if pages.call("castles", positions[-1], it)]
         if not legal:
             break
-        move = chance.choice(castlings or legal)
-        moves += [move] if ply >= begin else []
-        fen = pages.call("next", fen, move)
-        told = fen if ply + 1 == begin else told
+        moves.append(chance.choice(castlings or legal))
+        positions.append(pages.call("next", positions[-1], moves[-1]))
+    begin, fen = min(begin, len(moves)), positions[-1]
     by_itself = "stalemate" if not pages.call("counts", fen, 1) else None
     if by_itself and pages.call("checked", fen):
         by_itself = "black mates" if " w " in fen else "white mates"
     end = by_itself or outcome
-    return following(told, moves, begin) + ([{"reply": "over", "outcome": end}] if end else []), moves, end
+    return following(positions[begin], moves[begin:], begin) + ([{"reply": "over", "outcome": end}] if end else []), moves[begin:], end, fen
+
+
+def read_by_pychess(text):
+    """How many moves PyChess reads in a game's PGN, and the men and the side to move behind them. It raises an error at one that it cannot play."""
+    model = pgn.load(StringIO(text)).loadToModel(None)
+    return len(model.moves), model.boards[-1].asFen().split(" ")[:2]
 
 
 def try_pgn():
-    """pgn-extract reads the PGN of 70 games by chance, whole or from a later place on, and finds their moves and results."""
+    """Others read a round of 200 games by chance: pgn-extract finds their moves and results, Stockfish their last positions, PyChess those of whole games."""
     chance = random.Random(SEED + 3)
     ends = [None, *SCORES, "agreed", "threefold", "fifty moves", "fivefold", "seventy-five moves"]
     ends = [it for it in ends if it not in ("white mates", "black mates")]
     with chess() as pages:
-        games = [game_told(pages, chance, ends[number % len(ends)]) for number in range(70)]
-        castled = sum(pages.call(PGN, texts).count(" O-O") for texts, _, _ in games)
-        read = list(extracted([pages.call(PGN, texts) for texts, _, _ in games]))
-    for (texts, moves, end), (tags, words) in zip(games, read, strict=True):
-        score = SCORES.get(end, "1/2-1/2")
-        assert words == [*moves, score] and tags["Result"] == score, (texts, words)
-        assert (tags["White"], tags["Black"], tags["Variant"], tags["SetUp"]) == ('A \\"B\\"', "?", "Chess960", "1"), tags
-        assert tags["FEN"].split(" ")[0] == texts[0]["fen"].split(" ")[0], tags
-    assert castled > 20 and sum(" b " in texts[0]["fen"] for texts, _, _ in games) > 10
+        games = [game_told(pages, chance, ends[number % len(ends)]) for number in range(200)]
+        file = pages.call(ROUND, [(f"b{number}", {"white": 'A "B"', "black": ""}, texts) for number, (texts, *_) in enumerate(games)])
+    alone = [f"[Event {it}" for it in f"\n{file}".split("\n[Event ")[1:]]
+    with Stockfish() as stockfish:
+        for number, ((texts, moves, end, final), text, (tags, words)) in enumerate(zip(games, alone, extracted(file), strict=True)):
+            score = SCORES.get(end, "1/2-1/2")
+            assert words == [*moves, score] and tags["Result"] == score, (texts, words)
+            assert (tags["White"], tags["Black"], tags["Variant"], tags["SetUp"]) == ('A \\"B\\"', "?", "Chess960", "1"), tags
+            assert tags["BoardName"] == f"b{number}" and tags["FEN"].split(" ")[0] == texts[0]["fen"].split(" ")[0], tags
+            assert same(stockfish.final(tags["FEN"], words[:-1]), final), (tags, words, final)
+            # PyChess mistakes the rook of a right to castle where its rank has vacant squares in the FEN: docs/PAGES.md has an example.
+            assert texts[0]["joined"] > 0 or read_by_pychess(text) == (len(moves), final.split(" ")[:2]), text
+    castled, late, whole = file.count(" O-O"), sum(" b " in texts[0]["fen"] for texts, *_ in games), sum(not texts[0]["joined"] for texts, *_ in games)
+    print(f"    {len(games)} games of {sum(len(moves) for _, moves, *_ in games)} moves, {castled} castlings, {whole} games whole, {late} from a move of Black on")
+    assert castled > 50 and late > 25 and whole > 50
+
+
+# A file with two games, as the PGN standard and pgn-extract's own export want it.
+TWO_GAMES = """[Event "?"]
+[Site "?"]
+[Date "%(day)s"]
+[Round "?"]
+[White "Carlsen, Magnus"]
+[Black "Caruana"]
+[Result "0-1"]
+[BoardName "r1-1"]
+[FEN "rnbqkbnr/pppppppp/8/8/8/8/PPPPPPPP/RNBQKBNR w KQkq - 0 1"]
+[SetUp "1"]
+[Termination "normal"]
+[Variant "Chess960"]
+
+1. f3 e5 2. g4 Qh4# {Black mates.} 0-1
+
+[Event "?"]
+[Site "?"]
+[Date "%(day)s"]
+[Round "?"]
+[White "?"]
+[Black "?"]
+[Result "*"]
+[BoardName "r1-2_2"]
+[FEN "bbqnnrkr/pppppppp/8/8/8/8/PPPPPPPP/BBQNNRKR w KQkq - 0 1"]
+[SetUp "1"]
+[Termination "unterminated"]
+[Variant "Chess960"]
+
+1. g3 *
+"""
+
+
+def try_round_pgn():
+    """A round's file has a game of each board, in their order, with an empty line between two; one without a game is an empty file."""
+    nobody = {"white": "", "black": ""}
+    games = [("r1-1", {"white": "Carlsen, Magnus", "black": "Caruana"},
+              [*following(START, ["f2f3", "e7e5", "g2g4", "d8h4"]), {"reply": "over", "outcome": "black mates"}]),
+             ("r1-2_2", nobody, following("bbqnnrkr/pppppppp/8/8/8/8/PPPPPPPP/BBQNNRKR w HFhf - 0 1", ["g2g3"]))]
+    with chess() as pages:
+        expected = TWO_GAMES % {"day": time.strftime("%Y.%m.%d")}
+        assert pages.call(ROUND, games) == expected, pages.call(ROUND, games)
+        assert pages.call(ROUND, []) == ""
+    assert [(tags["BoardName"], words) for tags, words in extracted(expected)] == [
+        ("r1-1", ["f2f3", "e7e5", "g2g4", "d8h4", "0-1"]), ("r1-2_2", ["g2g3", "*"])]
 
 
 # Tables.

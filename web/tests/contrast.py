@@ -3,7 +3,9 @@ import json
 
 from relay_client.client import Client
 from relay_client.relay import Relay
+from relay_client.wire import Wire
 from steps import enter, open_table, text, until_moves, until_state, url, watch
+from tabs import frame, play, site, until_stand
 
 # WCAG 2.1: text 4.5:1 (1.4.3), large text 3:1, edges of controls 3:1 (1.4.11). What is disabled does not count.
 SCRIPT = """(() => {
@@ -73,10 +75,14 @@ SCRIPT = """(() => {
 })()"""
 
 
-async def looked_at(page, what):
+# The same in the frame that is shown.
+IN_FRAME = f'document.querySelector(".shown iframe").contentWindow.eval({json.dumps(SCRIPT)})'
+
+
+async def looked_at(page, what, script=SCRIPT):
     for scheme in ("light", "dark"):
         await page.scheme(scheme)
-        had = await page.run(SCRIPT)
+        had = await page.run(script)
         assert had["texts"] > 10 and had["edges"] > 0, (what, had)
         assert not had["faults"], f"{what}, {scheme}: {json.dumps(had['faults'], ensure_ascii=False, indent=1)}"
 
@@ -110,27 +116,97 @@ async def try_contrast(browser):
     await round_page.until('document.querySelectorAll(".tile[data-state=live], .tile[data-state=over]").length === 2')
     await round_page.run('document.querySelector("#settings").open = true')
     await looked_at(round_page, "round")
-    tabs = await browser.open(url("tables.html", server=relay.address, boards="b4,b5", players="So–Ding"))
-    await tabs.run('document.querySelector("#settings").open = true')
-    await looked_at(tabs, "tables")
+    await look_at_tabs(browser, relay)
     for style, fault in (("--soft: #999", "text "), ("--field: #ccc", "edge "), ("--last-edge: #8a8", "last move "), ("--dark: #445", "man ")):
         await seer.scheme("light")
         await seer.run(f'document.documentElement.style = "{style}"')
         assert any(it.startswith(fault) for it in (await seer.run(SCRIPT))["faults"]), f"{style} was not noticed"
-    for page in (idle, table, seer, round_page, tabs):
+    for page in (idle, table, seer, round_page):
         assert not page.faults, page.faults
         await page.close()
     await client.close()
 
 
-FOCUSED = """(() => {
-  const it = document.activeElement;
+async def open_tabs(browser, address, relay):
+    """The page of tabs over HTTP, with a board that comes near a draw, one that is over, and one that has its start."""
+    page = await browser.open(f"{address}/tables.html?server={relay.address}")
+    await page.fill("#lines", "t1 518 Carlsen, Magnus – Caruana\nt2 518 So – Ding\nt3")
+    await page.click("#source .main")
+    await until_stand(page, *3 * ["White to move"])
+    for index, moves in enumerate((["Nf3", "Nf6", "Ng1", "Ng8"], ["f3", "e5", "g4", "Qh4#"])):
+        for count, move in enumerate(moves, 1):
+            await play(page, index, move)
+            await page.until(frame(index, f'return document_.querySelectorAll(".move[data-place]").length === {count}'))
+    await page.until('[...document.querySelectorAll(".tab")].map((it) => it.dataset.wants).join() === "near,over,live"')
+    return page
+
+
+async def look_at_tabs(browser, relay):
+    """The page of tabs and each of its frames: near a draw, over, at the start, and without a connection."""
+    wire = await Wire(relay.port).mend()
+    with site() as address:
+        page = await open_tabs(browser, address, wire)
+        await page.run('document.querySelector("#settings").open = true')
+        for index in range(3):
+            await page.run(f'document.querySelectorAll(".tab")[{index}].click()')
+            await looked_at(page, f"tables, tab {index}")
+            await looked_at(page, f"tables, frame {index}", IN_FRAME)
+        await wire.cut()
+        await page.until('document.querySelectorAll(".tab[data-wants=alarm]").length === 2')
+        await looked_at(page, "tables, no connection")
+        await looked_at(page, "tables, frame without a connection", IN_FRAME)
+        assert not page.faults, page.faults
+        await page.close()
+
+
+NAMED = ["button", "textbox", "spinbutton", "combobox", "checkbox", "grid", "table", "gridcell", "cell", "region", "tab", "tablist", "tabpanel", "Iframe"]
+
+
+async def names(page, **which):
+    """The roles and names of the controls that a screen reader is told of, and of what holds them; of a frame, where its number is given."""
+    nodes = (await page.call("Accessibility.getFullAXTree", **which))["nodes"]
+    return [(it["role"]["value"], it["name"]["value"]) for it in nodes if it.get("role", {}).get("value") in NAMED and not it["ignored"]]
+
+
+async def try_tabs_names(browser):
+    """On the page of tabs each control has a name for a screen reader, in the frame that is shown too, and a tab names its frame."""
+    relay = await Relay().start()
+    with site() as address:
+        page = await open_tabs(browser, address, relay)
+        await page.run('document.querySelector("#settings").open = true')
+        await page.run('document.querySelectorAll(".tab")[1].click()')
+        had = await names(page)
+        assert all(name for _, name in had), had
+        assert [name for role, name in had if role == "tab"] == [
+            "t1 Carlsen, Magnus–Caruana White to move. This position has occurred twice", "t2 So–Ding 0–1: Black wins by checkmate.", "t3 White to move"], had
+        assert [it for it in had if it[0] in ("tablist", "tabpanel", "Iframe")] == [
+            ("tablist", "Boards of the round"), ("tabpanel", "t2 So–Ding 0–1: Black wins by checkmate."), ("Iframe", "t2")], had
+        assert [name for role, name in had if role == "button"] == ["Save PGN", "Open the boards"], had
+        frames = (await page.call("Page.getFrameTree"))["frameTree"]["childFrames"]
+        for index in (1, 2):
+            await page.run(f'document.querySelectorAll(".tab")[{index}].click()')
+            had = await names(page, frameId=frames[index]["frame"]["id"])
+            assert len(had) > 70 and all(name for _, name in had), had
+        assert not page.faults, page.faults
+        await page.close()
+
+
+# All elements of a page in their order, with those of the frames that are shown.
+ELEMENTS = """const elements = (root) => [...root.querySelectorAll("*")].flatMap((it) => (
+  it.tagName === "IFRAME" && it.checkVisibility({checkVisibilityCSS: true}) ? [it, ...elements(it.contentDocument)] : [it]));"""
+FOCUSED = f"""(() => {{
+  {ELEMENTS}
+  const within = (it) => (it.tagName === "IFRAME" ? within(it.contentDocument.activeElement) : it);
+  const it = within(document.activeElement);
   const style = getComputedStyle(it);
-  return {name: `${it.tagName} ${it.id || it.className}`, isPage: it === document.body, place: [...document.querySelectorAll("*")].indexOf(it),
-          isRinged: it.matches(":focus-visible") && (style.outlineStyle !== "none" || style.boxShadow !== "none")};
-})()"""
-CONTROLS = """[...document.querySelectorAll("*")].map((it, place) => [it, place]).filter(([it]) => it.tabIndex >= 0 && !it.disabled
-  && it.matches("button, input, select, textarea, summary, a[href], [tabindex]") && it.checkVisibility({checkVisibilityCSS: true})).map(([, place]) => place)"""
+  return {{name: `${{it.tagName}} ${{it.id || it.className}}`, isPage: it === document.body, place: elements(document).indexOf(it),
+          isRinged: it.matches(":focus-visible") && (style.outlineStyle !== "none" || style.boxShadow !== "none")}};
+}})()"""
+CONTROLS = f"""(() => {{
+  {ELEMENTS}
+  return elements(document).map((it, place) => [it, place]).filter(([it]) => it.tabIndex >= 0 && !it.disabled
+    && it.matches("button, input, select, textarea, summary, a[href], [tabindex]") && it.checkVisibility({{checkVisibilityCSS: true}})).map(([, place]) => place);
+}})()"""
 
 
 async def tabbed(page):
@@ -157,10 +233,12 @@ async def try_focus(browser):
     idle = await browser.open(url("table.html", server=relay.address))
     round_page = await browser.open(url("round.html", server=relay.address, boards="b1,b2"))
     await round_page.until('document.querySelectorAll(".tile[data-state=live]").length === 1')
-    tabs = await browser.open(url("tables.html", server=relay.address))
-    for page, least in ((table, 15), (seer, 9), (idle, 15), (round_page, 3), (tabs, 4)):
-        stops = await tabbed(page)
-        assert [it["place"] for it in stops] == await page.run(CONTROLS), (await text(page, "h1"), stops)
-        assert len(stops) >= least and all(it["isRinged"] for it in stops), (await text(page, "h1"), len(stops), [it for it in stops if not it["isRinged"]])
-        assert not page.faults, page.faults
-        await page.close()
+    tables = await browser.open(url("tables.html", server=relay.address))
+    with site() as address:
+        tabs = await open_tabs(browser, address, relay)
+        for page, least in ((table, 15), (seer, 9), (idle, 15), (round_page, 4), (tables, 4), (tabs, 18)):
+            stops = await tabbed(page)
+            assert [it["place"] for it in stops] == await page.run(CONTROLS), (await text(page, "h1"), stops)
+            assert len(stops) >= least and all(it["isRinged"] for it in stops), (await text(page, "h1"), len(stops), [it for it in stops if not it["isRinged"]])
+            assert not page.faults, page.faults
+            await page.close()

@@ -7,7 +7,7 @@ import tempfile
 from relay_client.client import Client
 from relay_client.program import fens, start_fen
 from relay_client.relay import Relay
-from steps import enter, listed, open_table, said, say_end, shows, state, text, until_moves, until_state, url, watch
+from steps import catch_files, enter, listed, open_table, pgn, said, say_end, shows, state, text, today, until_moves, until_state, url, watch
 from told import Told
 
 # What is typed, move by move, and the relay's text that it is; where it is ambiguous, the candidates as they are offered.
@@ -42,25 +42,6 @@ async def try_typed(browser):
     await table.close()
 
 
-PGN = """[Event "?"]
-[Site "?"]
-[Date "%s"]
-[Round "?"]
-[White "%s"]
-[Black "%s"]
-[Result "%s"]
-[BoardName "pgn"]
-[FEN "bbqnnrkr/pppppppp/8/8/8/8/PPPPPPPP/BBQNNRKR w KQkq - 0 1"]
-[SetUp "1"]
-[Termination "%s"]
-[Variant "Chess960"]
-
-%s
-"""
-
-
-CATCH = "Saved.file = (...given) => { window.saved = given; }; 0"
-TODAY = 'new Date().toLocaleDateString("sv").replaceAll("-", ".")'
 SIDES = '["lower", "upper"].map((it) => document.querySelector(`#${it} .side`).textContent)'
 
 
@@ -75,20 +56,20 @@ async def try_pgn(browser):
     await until_state(table, "live")
     seer = await watch(browser, relay, "pgn", players="–".join(players))
     for page in (table, seer):
-        await page.run(CATCH)
+        await catch_files(page)
         assert await page.run(SIDES) == list(players)
     for count, move in enumerate(("g2g3", "g7g6", "e1f3"), 1):
         await enter(table, move, "type")
         await until_moves(table, count)
     moves = "1. g3 g6 2. Nf3"
-    for score, termination, words in (("*", "unterminated", f"{moves} *"), ("0-1", "normal", f"{moves} {{White resigns.}} 0-1")):
+    for termination, words in (("unterminated", f"{moves} *"), ("normal", f"{moves} {{White resigns.}} 0-1")):
         for page in (table, seer):
             await until_moves(page, 3)
-            await page.until(f'document.querySelector("#outcome").hidden === {json.dumps(score == "*")}')
+            await page.until(f'document.querySelector("#outcome").hidden === {json.dumps(termination == "unterminated")}')
             await page.click("#save-pgn")
-            today = await page.run(TODAY)
-            assert await page.run("saved") == ["pgn.pgn", PGN % (today, *players, score, termination, words), "application/vnd.chess-pgn"], await page.run("saved")
-        if score == "*":
+            file = pgn("pgn", 0, words, await today(page), players, termination)
+            assert await page.run("saved") == ["pgn.pgn", file, "application/vnd.chess-pgn"], await page.run("saved")
+        if termination == "unterminated":
             await table.click("#ending [data-how=resign][data-side=white]")
             await table.until('document.querySelector("#sure").open')
             await table.click("#sure .main")
@@ -114,7 +95,7 @@ async def try_kept_pgn(browser):
     await say_end(table, "#ending [data-how=agreed]")
     await until_state(table, "over")
     assert await table.run('["white", "black"].map((it) => document.querySelector("#" + it).value)') == ["", ""]
-    await table.run(CATCH)
+    await catch_files(table)
     await table.click("#save")
     with tempfile.TemporaryDirectory() as folder:
         file = pathlib.Path(folder, "pgn.record")
@@ -122,15 +103,15 @@ async def try_kept_pgn(browser):
         head = json.loads(file.read_text().splitlines()[0])
         assert head == {"board": "pgn", "record": 1, "start": 0, "white": "Adams", "black": "O'Neil"}, head
         again = await browser.open(url("table.html", server=relay.address))
-        await again.run(CATCH)
+        await catch_files(again)
         assert await again.run('document.querySelector("#kept-pgn").hidden')
         kept = await again.run('[...document.querySelector("#kept").options].find((it) => it.textContent.startsWith("pgn, Adams–O\'Neil, start 0, 1 moves")).value')
-        for day, act in ((await again.run(TODAY), lambda: again.choose("#kept", kept)), ("????.??.??", lambda: again.give_file("#file", file))):
+        for day, act in ((await today(again), lambda: again.choose("#kept", kept)), ("????.??.??", lambda: again.give_file("#file", file))):
             await act()
             await again.until('!document.querySelector("#kept-pgn").hidden')
             await again.until(f'document.querySelector("#kept").value === {json.dumps(kept if day[0] != "?" else "")}')
             await again.click("#kept-pgn")
-            words = PGN % (day, "Adams", "O'Neil", "1/2-1/2", "normal", "1. g3 {Draw agreed.} 1/2-1/2")
+            words = pgn("pgn", 0, "1. g3 {Draw agreed.} 1/2-1/2", day, ("Adams", "O'Neil"), "normal")
             await again.until(f"window.saved && saved[1] === {json.dumps(words)}")
     await again.click("#anew button[type=submit]")
     await again.until('document.querySelector("#state").textContent === "Board pgn_2 is open"')

@@ -207,9 +207,8 @@ async def try_access(browser):
             over = await page.run('document.documentElement.scrollWidth - innerWidth')
             assert over <= 0, (await text(page, "h1"), width, over)
         await page.run('document.querySelector("details").open = true')
-        named = [it for it in (await page.call("Accessibility.getFullAXTree"))["nodes"] if it.get("role", {}).get("value") in NAMED]
-        nameless = [it["role"]["value"] for it in named if not it["ignored"] and not it["name"]["value"]]
-        assert len(named) > 70 and not nameless, (len(named), nameless)
+        named = await contrast.names(page)
+        assert len(named) > 70 and all(name for _, name in named), named
         assert not page.faults, page.faults
         await page.close()
 
@@ -239,12 +238,8 @@ async def try_seen_whole(browser):
         await until_state(page, "over")
         await page.until(f"document.title === {json.dumps(words)}")
         assert not page.faults, page.faults
-    assert await table.run('document.querySelector("#name").value') == ""
     await table.close()
     await seer.close()
-
-
-NAMED = ["button", "textbox", "spinbutton", "combobox", "checkbox", "grid", "table", "gridcell", "cell", "region"]
 
 
 async def try_refusals(browser):
@@ -277,6 +272,63 @@ async def try_refusals(browser):
     assert not table.faults, table.faults
     await other.close()
     await table.close()
+
+
+ENABLED = '[...document.querySelectorAll("#ending button")].map((it) => it.getAttribute("aria-disabled"))'
+
+
+async def try_refused_claim(browser):
+    """Behind a refused claim the game goes on as before it: a move is played, and a resignation ends the game."""
+    relay = await Relay().start()
+    table = await open_table(browser, relay, "b1", 518)
+    seer = await watch(browser, relay, "b1")
+    await until_state(seer, "live")
+    for count, (how, move) in enumerate((("threefold", "e2e4"), ("fifty", "e7e5")), 1):
+        await say_end(table, f"#ending [data-how={how}]")
+        await table.until('document.querySelector("#said").textContent.startsWith("Claim refused")')
+        assert await state(table) == "live" and await text(table, "#state") == "Board b1 is open"
+        assert await table.run(ENABLED) == ["false"] * 6 and not await table.run('document.querySelector("#typed").hidden')
+        await enter(table, move, "type")
+        for page in (table, seer):
+            await until_moves(page, count)
+        assert await said(table) == ""
+    await say_end(table, "#ending [data-how=threefold]")
+    await table.until('document.querySelector("#said").textContent.startsWith("Claim refused")')
+    assert await state(seer) == "live" and await seer.run('document.querySelector("#outcome").hidden')
+    await say_end(table, "#ending [data-how=resign][data-side=black]")
+    for page in (table, seer):
+        await until_state(page, "over")
+        await page.until('!document.querySelector("#outcome").hidden')
+        assert "1–0 Black resigned. White wins." in await text(page, "#outcome"), await text(page, "#outcome")
+    assert await said(table) == "" and await table.run('document.querySelector("#ending").hidden')
+    for page in (table, seer):
+        assert not page.faults, page.faults
+        await page.close()
+
+
+async def try_next_name(browser):
+    """Behind an end the page proposes the board's next name, and one press opens it; where it is taken, the one behind it. A name that was typed is opened or refused."""
+    relay = await Relay().start()
+    other = await Client.to(relay.address)
+    await other.open("b1_3")
+    table = await browser.open(url("table.html", server=relay.address, board="b1", start=518, players="Adams–Baker"))
+    fields = '["name", "white", "black"].map((it) => document.querySelector(`#${it}`).value)'
+    for name, following in (("b1", "b1_2"), ("b1_2", "b1_3"), ("b1_4", "b1_5")):
+        await table.click("#opening .main")
+        await table.until(f'document.querySelector("#state").textContent === "Board {name} is open"')
+        await say_end(table, "#ending [data-how=agreed]")
+        await until_state(table, "over")
+        assert await table.run(fields) == [following, "", ""], await table.run(fields)
+    await table.fill("#name", "b1_3")
+    await table.click("#opening .main")
+    await until_state(table, "refused")
+    assert await said(table) == "That name is taken. Choose another."
+    await table.fill("#name", "b2")
+    await table.click("#opening .main")
+    await table.until('document.querySelector("#state").textContent === "Board b2 is open"')
+    assert not table.faults, table.faults
+    await table.close()
+    await other.close()
 
 
 async def try_threefold(browser):
@@ -899,8 +951,8 @@ async def try_next(browser):
 
 OTHERS = {"firefox": Firefox, "webkit": WebKit}
 # What is tried in these too: what a person does most. Without a device for sound it makes none, so sounds are not among it.
-OFTEN = ["games", "castling", "mate", "typed", "goals", "next", "wire", "cut", "on_its_way", "ending_lost", "correct", "crash", "kept_pgn", "records", "list",
-         "newer", "round", "tabs", "tabs_attention", "tabs_from_disk"]
+OFTEN = ["games", "castling", "mate", "typed", "goals", "refused_claim", "next_name", "next", "wire", "cut", "on_its_way", "ending_lost", "correct", "crash",
+         "kept_pgn", "records", "list", "newer", "round", "round_pgn", "tabs", "tabs_pgn", "tabs_attention", "tabs_from_disk"]
 
 
 async def main():

@@ -16,7 +16,7 @@ from gone import beat, following, moved, over
 from relay_client.client import Client
 from relay_client.program import fens, start_fen
 from relay_client.relay import Relay
-from steps import WEB, text, tightened, unfold, until_moves, until_state, url
+from steps import WEB, catch_files, pgn, text, tightened, today, unfold, until_moves, until_state, url
 from told import Channels
 
 START = 387
@@ -113,6 +113,36 @@ async def try_round(browser):
     assert await text(page, "#watched") == "r1-4" and await page.run("document.title") == "r1-4 – Watch a board"
     assert await text(page, "#lower .side") == "Ding" and await text(page, "#upper .side") == "Black"
     assert not await page.run('document.querySelector("#settings").open')
+    assert not page.faults, page.faults
+    await page.close()
+    await client.close()
+
+
+async def try_round_pgn(browser):
+    """The games of a round are saved as one file, one of each board that is or was open, in their order; a board that goes on has its next name."""
+    relay = await Relay().start()
+    page = await browser.open(url("round.html", server=relay.address, boards="r1-1,r1-2,r1-3,r1-4,r1-5", players="Carlsen, Magnus–Caruana;Ding"))
+    await until_tiles(page, lambda them: [it["state"] for it in them] == ["refused"] * 5)
+    await catch_files(page)
+    assert await page.run('document.querySelector("#save-round").hidden'), "there is nothing to be saved yet"
+    client = await boards_of(relay, ("r1-1", START, MOVES), ("r1-2", 518, MATE), ("r1-4", 0, []), ("r1-5", 518, MATE[:2]))
+    await client.end("r1-5", "abandoned")
+    await client.open("r1-5_2", 518)
+    await client.submit("r1-5_2", MATE[0])
+    await until_tiles(page, lambda them: [it["move"] for it in them] == ["3… c5", "2… Qh4#", "", "", "1. f3"] and them[3]["state"] == "live")
+    day = await today(page)
+    others = [pgn("r1-2", 518, "1. f3 e5 2. g4 Qh4# {Black mates.} 0-1", day, ("Ding", "?"), "normal"), pgn("r1-4", 0, "*", day)]
+    await page.click("#save-round")
+    first = pgn("r1-1", START, "1. Ne3 Nd6 2. O-O O-O 3. f4 c5 *", day, ("Carlsen, Magnus", "Caruana"))
+    file = "\n".join([first, *others, pgn("r1-5_2", 518, "1. f3 *", day)])
+    assert await page.run("saved") == ["round.pgn", file, "application/vnd.chess-pgn"], await page.run("saved")
+    await client.end("r1-1")
+    await client.submit("r1-5_2", "d7d5")
+    await until_tiles(page, lambda them: them[0]["state"] == "over" and them[4]["move"] == "1… d5")
+    await page.click("#save-round")
+    first = pgn("r1-1", START, "1. Ne3 Nd6 2. O-O O-O 3. f4 c5 {Draw agreed.} 1/2-1/2", day, ("Carlsen, Magnus", "Caruana"), "normal")
+    file = "\n".join([first, *others, pgn("r1-5_2", 518, "1. f3 d5 *", day)])
+    assert (await page.run("saved"))[1] == file, await page.run("saved")
     assert not page.faults, page.faults
     await page.close()
     await client.close()
@@ -231,10 +261,10 @@ async def try_room(browser):
         address = url("round.html", server=relay.address, boards=",".join(names[:count]), players=";".join(["Vachier-Lagrave, Maxime–So"] * count))
         page = await browser.open(address)
         await until_settled(page, count)
-        for size in ((390, 800), (844, 390), (768, 1024), (1280, 900), (1920, 1080)):
+        for size in ((390, 800), (844, 390), (768, 1024), (1280, 900), (1366, 768), (1920, 1080)):
             had = await sizes(page, size)
             assert had["over"] <= 0 and not had["meeting"] and had["square"] and not had["cut"] and had["width"] >= 136, (count, size, had)
-            assert had["controls"] == count + 1, had
+            assert had["controls"] == count + 2, had
         if count == 64:
             assert had["inside"], "64 boards are on one screen of 1920 by 1080"
         tree = (await page.call("Accessibility.getFullAXTree"))["nodes"]
@@ -311,8 +341,9 @@ async def try_turns(browser):
         await page.close()
 
 
-SECONDS = 12
-QUIET = [move for file in "abcdeh" for move in ["g1f3", "g8f6", "f3g1", "f6g8", f"{file}2{file}3", f"{file}7{file}6"]]
+SECONDS = 60
+QUIET = [move for step in (("2", "3", "7", "6"), ("3", "4", "6", "5")) for file in "abcdeh"
+         for move in ["g1f3", "g8f6", "f3g1", "f6g8", f"{file}{step[0]}{file}{step[1]}", f"{file}{step[2]}{file}{step[3]}"]]
 
 
 async def traced(page, act):
@@ -328,8 +359,21 @@ async def traced(page, act):
     return [(it["ts"] // 1000000, it["dur"] / 1000, it["tdur"] / 1000) for it in events if it["name"] == "RunTask" and (it["pid"], it["tid"]) in mains and "tdur" in it]
 
 
+def longest_of(tasks):
+    """The longest task of each second, by the processor's time."""
+    longest = {}
+    for second, _, own in tasks:
+        longest[second] = max(own, longest.get(second, 0))
+    return list(longest.values())
+
+
+LONG = 50  # Milliseconds: a task that takes longer is felt.
+SPARE = 1  # So many of a minute's tasks may: a processor is now and then charged with what others do there.
+HARDLY = 0.02  # The part of the time that tasks worked for which they wait where nothing else runs.
+
+
 async def try_smooth(browser):
-    """64 boards on one screen, each with a move a second: no task takes 50 ms. On a busy machine that is said of most of the seconds."""
+    """64 boards on one screen, each with a move a second for a minute: no task of the page takes 50 ms, but for one that the machine may have disturbed."""
     relay = await Relay(boards=64, connections=100).start()
     names = [f"m{number}" for number in range(64)]
     client = await boards_of(relay, *((name, 518, []) for name in names))
@@ -357,17 +401,19 @@ async def try_smooth(browser):
     expected = men(fens(518, QUIET[:SECONDS])[-1])
     tiles = await until_tiles(page, lambda them: all(it["men"] == expected for it in them))
     assert len(tiles) == 64 and len(tasks) > 64 * SECONDS, len(tasks)
-    # On a busy machine tasks wait for the processor, and are now and then charged with what others do there. That differs from second to
-    # second; what the page does is the same in each.
+    # By the clock a task takes longer where it waits for the processor, which others have. What counts on any machine is its time of the
+    # processor; where tasks hardly wait, the clock counts too.
     waited, worked = sum(taken - own for _, taken, own in tasks), sum(own for _, _, own in tasks)
-    longest = [max(own for second, _, own in tasks if second == each) for each in sorted({it[0] for it in tasks})]
-    print(f"    {len(tasks)} tasks, which waited {waited / worked:.0%} of the time that they worked; the longest of each second, in ms of the processor: "
-          f"{', '.join(f'{it:.0f}' for it in longest)}; {len(seen)} long ones by the clock")
-    if waited < 0.02 * worked:
-        assert max(longest) < 50 and not seen, (longest, seen)
-    assert statistics.median(longest) < 50, longest
+    longest = longest_of(tasks)
+    print(f"    {len(tasks)} tasks in {len(longest)} s, which waited {waited / worked:.0%} of the time that they worked; the longest of each second, in ms of the "
+          f"processor: {statistics.median(longest):.0f} in the median, {', '.join(f'{it:.0f}' for it in sorted(longest)[-3:])} at most; "
+          f"{len(seen)} over {LONG} ms by the clock")
+    assert len(longest) >= SECONDS, len(longest)
+    assert sum(own > LONG for _, _, own in tasks) <= SPARE, sorted(longest)
+    if waited < HARDLY * worked:
+        assert len(seen) <= SPARE, seen
     blocked = await traced(page, block)
-    assert max(own for _, _, own in blocked) > 50 and len(await page.run("long")) > len(seen), "a long task is noticed"
+    assert max(own for _, _, own in blocked) > LONG and len(await page.run("long")) > len(seen), "a long task is noticed"
     assert not page.faults, page.faults
     await page.close()
     await client.close()

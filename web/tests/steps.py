@@ -3,6 +3,7 @@ import json
 import pathlib
 
 from relay_client.acts import PATIENCE
+from relay_client.program import start_fen
 
 WEB = pathlib.Path(__file__).resolve().parent.parent
 GRACE = 120  # Seconds for which a relay waits for an operator with a key, as in the documents' own commands.
@@ -130,6 +131,40 @@ async def say_end(page, selector):
     await page.click(selector)
     await page.until('document.querySelector("#sure").open')
     await page.click("#sure .main")
+
+
+PGN = """[Event "?"]
+[Site "?"]
+[Date "{day}"]
+[Round "?"]
+[White "{white}"]
+[Black "{black}"]
+[Result "{score}"]
+[BoardName "{board}"]
+[FEN "{fen}"]
+[SetUp "1"]
+[Termination "{termination}"]
+[Variant "Chess960"]
+
+{words}
+"""
+
+
+def pgn(board, start, words, day, players=("?", "?"), termination="unterminated"):
+    """The PGN of a game from a start, whose words end with the score."""
+    placement_, turn, _, *others = start_fen(start).split(" ")
+    return PGN.format(day=day, white=players[0], black=players[1], score=words.split()[-1], board=board, termination=termination, words=words,
+                      fen=" ".join([placement_, turn, "KQkq", *others]))
+
+
+async def catch_files(page):
+    """Lets a page keep the file that it saves, as window.saved: its name, content and type."""
+    await page.run("Saved.file = (...given) => { window.saved = given; }; 0")
+
+
+async def today(page):
+    """The day as PGN has it."""
+    return await page.run('new Date().toLocaleDateString("sv").replaceAll("-", ".")')
 
 
 async def said(page):

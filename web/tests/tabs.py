@@ -10,7 +10,7 @@ from back import log_of
 from relay_client.client import Client
 from relay_client.relay import Relay
 from relay_client.wire import Wire
-from steps import GRACE, WEB, text, url
+from steps import GRACE, WEB, catch_files, pgn, text, today, url
 
 LINES = "t1 387 Carlsen, Magnus – Caruana\n\nt2 So - Ding\nt3 0"
 TABS = """[...document.querySelectorAll(".tab")].map((it) => ({name: it.querySelector("b").textContent, players: it.querySelector(".players").textContent,
@@ -121,8 +121,90 @@ async def try_tabs_attention(browser):
     await wire.cut()
 
 
+ROOM = """(() => {
+  const tabs = [...document.querySelectorAll(".tab")];
+  const boxes = tabs.map((it) => it.getBoundingClientRect());
+  const meets = (a, b) => a.left < b.right && b.left < a.right && a.top < b.bottom && b.top < a.bottom;
+  const frame = document.querySelector(".shown iframe");
+  const {documentElement: inner} = frame.contentDocument;
+  const board = inner.querySelector(".board").getBoundingClientRect();
+  return {over: document.documentElement.scrollWidth - innerWidth, beside: inner.scrollWidth - inner.clientWidth,
+          inside: boxes.every((it) => it.left >= 0 && it.right <= innerWidth), meeting: boxes.some((a, index) => boxes.slice(index + 1).some((b) => meets(a, b))),
+          cut: tabs.flatMap((it) => [it, it.querySelector(".stand")]).filter((it) => it.scrollWidth > it.clientWidth + 1 || it.scrollHeight > it.clientHeight + 1).length,
+          tall: frame.getBoundingClientRect().height - innerHeight, board: board.width, low: frame.getBoundingClientRect().top + board.bottom - innerHeight};
+})()"""
+NAMES = ["r1-1 518 Vachier-Lagrave, Maxime – Nepomniachtchi, Ian", "r1-2 518 So – Ding", "r1-3", "a_long_name_of_thirty_two_letter 0 Vachier-Lagrave, Maxime – Ding"]
+
+
+async def try_tabs_room(browser):
+    """On a desk nothing has to be scrolled to see tabs and board; on a phone a frame is no higher than the screen, and its whole board is in sight there."""
+    relay = await Relay(grace=GRACE).start()
+    with site() as address:
+        page = await browser.open(f"{address}/tables.html?server={relay.address}")
+        await page.fill("#lines", "\n".join(NAMES))
+        await page.click("#source .main")
+        await until_stand(page, *4 * ["White to move"])
+        for count, move in enumerate(["Nf3", "Nf6", "Ng1", "Ng8"], 1):
+            await play(page, 0, move)
+            await page.until(frame(0, f'return document_.querySelectorAll(".move[data-place]").length === {count}'))
+        await page.until('document.querySelector(".tab").dataset.wants === "near"')
+        for media in ({}, {"prefers_color_scheme": "dark", "prefers_reduced_motion": "reduce"}):
+            await page.media(**media)
+            for size, is_phone in (((1280, 900), False), ((1366, 768), False), ((390, 800), True), ((844, 390), True)):
+                await page.resize(*size)
+                await page.run("scrollTo(0, 0)")
+                for index in range(4):
+                    await page.run(f'document.querySelectorAll(".tab")[{index}].click()')
+                    if is_phone:
+                        await page.run('document.querySelector("#frames").scrollIntoView()')
+                    await page.run("new Promise((done) => requestAnimationFrame(() => requestAnimationFrame(done)))")
+                    had = await page.run(ROOM)
+                    assert had["over"] <= 0 and had["beside"] <= 0 and had["inside"] and not had["meeting"] and not had["cut"], (size, index, had)
+                    assert had["tall"] <= 0 and had["low"] <= 0 and had["board"] >= 240, (size, index, had)
+        assert not page.faults, page.faults
+        await page.close()
+
+
+ROUND = [["Ne3"], ["f3", "e5", "g4", "Qh4#"], ["g3", "g6"]]
+
+
+async def try_tabs_pgn(browser):
+    """All games of the window are saved as one file: a corrected one is in it under its next name alone, and one with a result stays beside the next of its tab."""
+    relay = await Relay(grace=GRACE).start()
+    with site() as address:
+        page = await browser.open(f"{address}/tables.html?server={relay.address}")
+        assert await page.run('document.querySelector("#save-round").hidden'), "there is nothing to be saved yet"
+        await page.fill("#lines", LINES)
+        await page.click("#source .main")
+        await until_stand(page, *3 * ["White to move"])
+        await catch_files(page)
+        for index, moves in enumerate(ROUND):
+            for count, move in enumerate(moves, 1):
+                await play(page, index, move)
+                await page.until(frame(index, f'return document_.querySelectorAll(".move[data-place]").length === {count}'))
+        await until_stand(page, "Black to move", "0–1: Black wins by checkmate.", "White to move")
+        day = await today(page)
+        first = pgn("t1", 387, "1. Ne3 *", day, ("Carlsen, Magnus", "Caruana"))
+        mate = pgn("t2", 518, "1. f3 e5 2. g4 Qh4# {Black mates.} 0-1", day, ("So", "Ding"), "normal")
+        await page.click("#save-round")
+        file = "\n".join([first, mate, pgn("t3", 0, "1. g3 g6 *", day)])
+        assert await page.run("saved") == ["round.pgn", file, "application/vnd.chess-pgn"], await page.run("saved")
+        for press in ("#back", "#correct", "#sure-yes"):
+            await page.run(frame(2, f'document_.querySelector("{press}").click()'))
+        await page.until('document.querySelectorAll(".tab")[2].querySelector("b").textContent === "t3_2"')
+        await page.run(frame(1, 'document_.querySelector("#opening").requestSubmit()'))
+        await until_stand(page, "Black to move", "White to move", "Black to move")
+        await page.click("#save-round")
+        file = "\n".join([first, mate, pgn("t2_2", 518, "*", day), pgn("t3_2", 0, "1. g3 *", day)])
+        assert (await page.run("saved"))[1] == file, await page.run("saved")
+        assert await page.run('[...document.querySelectorAll("iframe")].map((it) => it.title)') == ["t1", "t2_2", "t3_2"]
+        assert [it["players"] for it in await page.run(TABS)] == ["Carlsen, Magnus–Caruana", "", ""]
+        assert not page.faults, page.faults
+        await page.close()
+
+
 async def try_tabs_from_disk(browser):
-    """The page of tabs works from disk, too."""
+    """The page of tabs works from disk, too, and saves the round."""
     relay = await Relay(grace=GRACE).start()
     page = await browser.open(url("tables.html", server=relay.address))
     for lines, words in (("f1\nf/2", "f/2 is no board's name"), ("f1\nf2\nf1", "f1 stands here twice"), ("f1 960", "f1: the start number is from 0 to 959")):
@@ -133,5 +215,9 @@ async def try_tabs_from_disk(browser):
     await page.click("#source .main")
     await until_stand(page, "White to move", "White to move")
     assert await log_of(relay, "d2") == ([], None)
+    await catch_files(page)
+    await page.click("#save-round")
+    day = await today(page)
+    assert (await page.run("saved"))[1] == "\n".join([pgn("d1", 518, "*", day), pgn("d2", 0, "*", day)]), await page.run("saved")
     assert not page.faults, page.faults
     await page.close()
