@@ -2,9 +2,10 @@
 """Refuses each allocation of the built program in turn, and looks at what is left.
 
     benches/refusals.py [MOST]        those of its jobs, until a run meets no refusal; then 1 to MOST (600) of the server, its start included
+    benches/refusals.py --watching    those of the loop of a watch port, until nothing is refused any more
     benches/refusals.py --tests       those of each test that is to hold then too, until a run meets no refusal
 
-What a job may do then is told in refused_jobs.py.
+The gate does all of these. What a job may do then is told in refused_jobs.py, and what a loop may do in refused_watching.py.
 
 The server has room for one board and one follower. In each run an owner opens the board, plays a move and closes; then three guests, one
 after another, follow from the first place. Where the owner was answered in full, at least two guests get the move, the end as abandoned and
@@ -30,6 +31,7 @@ CRATES = HERE.parent / "crates"
 sys.path[:0] = [str(HERE.parent / "tools"), str(CRATES / "relay960/replays")]
 
 from refused_jobs import refuse_in_jobs, run_refused  # noqa: E402
+from refused_watching import refuse_in_watching  # noqa: E402
 from relay_client.frames import REQUEST, frame, read_frame  # noqa: E402
 from relay_client.program import PATIENCE  # noqa: E402
 from relay_client.server import NotListening, Server  # noqa: E402
@@ -137,8 +139,8 @@ def refuse_in_tests(allocator, mark):
 
 
 def main():
-    tests = sys.argv[1:] == ["--tests"]
-    most = int(sys.argv[1]) if len(sys.argv) > 1 and not tests else 600
+    tests, watching = (sys.argv[1:] == [word] for word in ("--tests", "--watching"))
+    most = int(sys.argv[1]) if len(sys.argv) > 1 and not tests and not watching else 600
     counts, last = collections.Counter(), 0
     with tempfile.TemporaryDirectory() as room:
         allocator = f"{room}/refuse.so"
@@ -146,6 +148,8 @@ def main():
         mark = pathlib.Path(room, "met")
         if tests:
             return refuse_in_tests(allocator, mark)
+        if watching:
+            return 1 if refuse_in_watching(allocator, mark) else 0
         wrong = refuse_in_jobs(allocator, mark)
         for refused in range(1, most + 1):
             who = met(refused, allocator)

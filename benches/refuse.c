@@ -1,8 +1,13 @@
 // An allocator for benches/refusals.py, by LD_PRELOAD: the allocation of the number REFUSED is refused once, all others are the C library's.
 // Where it comes to that, the file MARK is made.
+//
+// Where SHEET names a file, the numbers in it say which one is refused, and only the allocations of the watch port's loop count. So one server
+// may be refused one after another. The loop's thread is the one that has waited for epoll.
 #include <errno.h>
 #include <fcntl.h>
 #include <stdlib.h>
+#include <sys/epoll.h>
+#include <sys/mman.h>
 #include <unistd.h>
 
 extern void *__libc_malloc(size_t);
@@ -10,9 +15,42 @@ extern void *__libc_calloc(size_t, size_t);
 extern void *__libc_realloc(void *, size_t);
 extern void *__libc_memalign(size_t, size_t);
 
+struct sheet {
+    long refused;  // the number of the allocation that is refused, 0 for none
+    long asked;    // how many were asked for since that was written
+    long waits;    // whether the loop waits
+};
+
 static long count;
+static struct sheet *sheet;
+// Found without a call, which would ask for memory itself.
+static __thread int is_loop __attribute__((tls_model("initial-exec")));
+
+__attribute__((constructor)) static void open_sheet(void) {
+    const char *path = getenv("SHEET");
+    if (!path) return;
+    int file = open(path, O_RDWR);
+    sheet = mmap(NULL, sizeof *sheet, PROT_READ | PROT_WRITE, MAP_SHARED, file, 0);
+    if (sheet == MAP_FAILED) abort();
+    close(file);
+}
+
+int epoll_wait(int poll, struct epoll_event *events, int most, int timeout) {
+    is_loop = 1;
+    if (sheet) sheet->waits = 1;
+    int ready = epoll_pwait(poll, events, most, timeout, NULL);
+    if (sheet) sheet->waits = 0;
+    return ready;
+}
+
+static int is_refused_of_sheet(void) {
+    if (!is_loop || __sync_add_and_fetch(&sheet->asked, 1) != sheet->refused) return 0;
+    errno = ENOMEM;
+    return 1;
+}
 
 static int is_refused(void) {
+    if (sheet) return is_refused_of_sheet();
     static long refused = -1;
     if (refused < 0) {
         const char *text = getenv("REFUSED");

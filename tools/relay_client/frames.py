@@ -18,13 +18,17 @@ TEXT, CLOSE, PING, PONG = 0x81, 0x88, 0x89, 0x8A
 def frame(line):
     """The frame of a text, or of `close CODE`."""
     closing = re.fullmatch(r"close (\d+)", line)
-    payload = struct.pack(">H", int(closing[1])) if closing else line.encode()
-    return head(CLOSE if closing else TEXT, len(payload)) + bytes(byte ^ MASK[at % 4] for at, byte in enumerate(payload))
+    return masked(CLOSE, struct.pack(">H", int(closing[1]))) if closing else masked(TEXT, line.encode())
+
+
+def masked(first, payload):
+    """A client's frame of this first byte."""
+    return head(first, len(payload)) + bytes(byte ^ MASK[at % 4] for at, byte in enumerate(payload))
 
 
 def pong():
     """The frame of a pong without a payload."""
-    return head(PONG, 0)
+    return masked(PONG, b"")
 
 
 def head(first, size):
@@ -37,7 +41,7 @@ def head(first, size):
 
 
 def read_frame(read):
-    """The server's next text, `close CODE` or `ping`. `read` gives so many bytes of the stream."""
+    """The server's next text, `close CODE`, `ping` or `pong`. `read` gives so many bytes of the stream."""
     first, length = read(2)
     if length == 126:
         length = struct.unpack(">H", read(2))[0]
@@ -56,7 +60,7 @@ def said(first, payload):
     """What a frame of this first byte says."""
     if first == CLOSE:
         return f"close {struct.unpack('>H', payload[:2])[0]}"
-    if first == PING:
-        return "ping"
+    if first in (PING, PONG):
+        return "ping" if first == PING else "pong"
     assert first == TEXT, first
     return payload.decode()

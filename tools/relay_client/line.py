@@ -1,5 +1,5 @@
-"""A connection that follows boards. One on which a board was refused is kept and may be asked again, since the relay accepts only so many
-(--connections); any other is closed when the following has ended, and the next one is made anew."""
+"""A connection that follows boards, or hears how all stand. One on which a board was refused is kept and may be asked again, since the relay
+accepts only so many (--connections); any other is closed when the following has ended, and the next one is made anew."""
 
 import asyncio
 import contextlib
@@ -34,6 +34,14 @@ class Line:
         """The position that the relay tells for a place of the board, as a FEN. It takes the connection."""
         return await self.keep_where_refused(self.look(board, place))
 
+    async def boards(self, hear):
+        """Asks a watch port for its boards, and awaits `hear` of each message and what it says, until the connection ends."""
+        await self.keep_where_refused(self.listen_to_all(hear))
+
+    async def stand(self, board):
+        """How a board that is there stands now, as a watch port tells it. It takes the connection."""
+        return await self.keep_where_refused(self.look_for(board))
+
     async def keep_where_refused(self, asking):
         try:
             answer = await asking
@@ -46,9 +54,16 @@ class Line:
         return answer
 
     async def ask(self, board, place):
+        await self.send({"cmd": "follow", "board": board, "spectator": 0, "from": place})
+
+    async def send(self, command):
+        await self.connect()
+        await self.socket.send(json.dumps(command))
+
+    async def connect(self):
+        """Connects, unless it is connected."""
         if self.socket is None:
             self.socket = await websockets.connect(self.server, ping_interval=None, compression=None, open_timeout=10)
-        await self.socket.send(json.dumps({"cmd": "follow", "board": board, "spectator": 0, "from": place}))
 
     async def look(self, board, place):
         await self.ask(board, place)
@@ -64,6 +79,18 @@ class Line:
             if text["reply"] == "over":
                 return True
         return False
+
+    async def look_for(self, board):
+        await self.send({"cmd": "boards"})
+        while True:
+            text = self.said(await asyncio.wait_for(self.socket.recv(), 10))
+            if text["board"] == board:
+                return text
+
+    async def listen_to_all(self, hear):
+        await self.send({"cmd": "boards"})
+        async for message in self.socket:
+            await hear(message, self.said(message))
 
     def said(self, message):
         """What a message says, where it is no refusal."""

@@ -7,12 +7,14 @@ from relay_client.server import Server
 
 
 class Relay:
-    """`relay960 serve` with these options; its queues hold as many moves as the documents' own commands give them."""
+    """`relay960 serve` with these options, and with a watch port where that is wanted; its queues hold as many moves as the documents' own
+    commands give them."""
 
     running = []
 
-    def __init__(self, **options):
+    def __init__(self, watch=False, **options):
         self.port = free_port()
+        self.watch_port = free_port() if watch else None
         self.options = {"connections": 10000, "capacity": 1024, **options}
         self.server = None
 
@@ -20,9 +22,13 @@ class Relay:
     def address(self):
         return f"ws://127.0.0.1:{self.port}"
 
+    @property
+    def watch_address(self):
+        return f"ws://127.0.0.1:{self.watch_port}"
+
     async def start(self):
         words = [word for name, value in self.options.items() for word in (f"--{name}", str(value))]
-        self.server = await asyncio.to_thread(Server, *words, port=self.port)
+        self.server = await asyncio.to_thread(Server, *words, port=self.port, watch=self.watch_port or False)
         Relay.running.append(self)
         return self
 

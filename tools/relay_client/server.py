@@ -2,16 +2,16 @@
 
 import pathlib
 import re
-import select
 import subprocess
 
 from relay_client.ports import free_port
 from relay_client.program import PATIENCE, PROGRAM
+from relay_client.waiting import is_readable
 
 
 def first_line(process):
     """The first line that it prints; an empty one where none comes."""
-    return process.stdout.readline() if select.select([process.stdout], [], [], PATIENCE)[0] else b""
+    return process.stdout.readline() if is_readable(process.stdout, PATIENCE) else b""
 
 
 class NotListening(Exception):
@@ -19,15 +19,20 @@ class NotListening(Exception):
 
 
 class Server:
-    """A server that listens on a free port, or on the port that is said, until the block that it is made for ends. Words before the
-    program's name run it by another program."""
+    """A server that listens on a free port, or on the port that is said, until the block that it is made for ends; and with `watch` on another
+    free one, or on the one that it says, for those who only watch. Words before the program's name run it by another program."""
 
-    def __init__(self, *words, port=None, before=(), **options):
+    def __init__(self, *words, port=None, watch=False, before=(), **options):
         for _ in range(5):
             self.port = port or free_port()
             given = [*before, PROGRAM, "serve", "--port", str(self.port), *words]
+            lines = [f"listening {self.port}\n"]
+            if watch:
+                self.watch_port = free_port() if watch is True else watch
+                given += ["--watch", f"127.0.0.1:{self.watch_port}"]
+                lines.append(f"watching 127.0.0.1:{self.watch_port}\n")
             self.process = subprocess.Popen(given, bufsize=0, stdout=subprocess.PIPE, stderr=subprocess.PIPE, **options)
-            if first_line(self.process) == f"listening {self.port}\n".encode():
+            if all(first_line(self.process) == line.encode() for line in lines):
                 return
             ended = self.ended()
             # Another program of the machine may take a port that was free.

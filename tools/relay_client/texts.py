@@ -27,6 +27,9 @@ def follows(board, spectator=1, place=None):
     return text(cmd="follow", board=board, spectator=spectator, **({} if place is None else {"from": place}))
 
 
+BOARDS = text(cmd="boards")  # On the port for those who only watch.
+
+
 def takes(spectator):
     return text(cmd="take", spectator=spectator)
 
@@ -61,6 +64,11 @@ def moved(move, place):
 
 def over(outcome):
     return text(reply="over", outcome=outcome)
+
+
+def stands(board, start=518, fen=None, last=None, plies=0, outcome=None):
+    """How a board stands, on the port for those who only watch."""
+    return text(reply="board", board=board, start=start, fen=fen or START_518, last=last, plies=plies, outcome=outcome)
 
 
 def left(joined, taken, limit, cut):

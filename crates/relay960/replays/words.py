@@ -71,16 +71,21 @@ SERVE_HELP = b"""Serve a relay over WebSocket: answer commands, push moves to fo
 Usage: relay960 serve [OPTIONS]
 
 Options:
-      --port <port>                The port of 127.0.0.1 on which it listens [default: 9600]
-      --connections <connections>  How many connections it accepts before it ends [default: 1000000]
-      --forever                    Accept connections without an end, in place of --connections
-      --until-input-ends           End in order when standard input ends
-      --grace <grace>              How many seconds a board waits for an operator with a key to come back [default: 0]
-      --boards <boards>            How many boards there may be [default: 16]
-      --followers <followers>      How many followers a board may have [default: 64]
-      --capacity <capacity>        How many moves a follower's queue holds [default: 64]
-      --plies <plies>              How many plies a game may have [default: 1024]
-  -h, --help                       Print help
+      --port <port>                    The port of 127.0.0.1 on which it listens [default: 9600]
+      --connections <connections>      How many connections it accepts before it ends [default: 1000000]
+      --forever                        Accept connections without an end, in place of --connections
+      --until-input-ends               End in order when standard input ends
+      --grace <grace>                  How many seconds a board waits for an operator with a key to come back [default: 0]
+      --idle <idle>                    How many seconds a peer that owns and follows nothing may send nothing; 0: without an end [default: 600]
+      --log                            Write a line to standard error for what happens to each board, and counts once a minute
+      --watch <ADDRESS:PORT>           The address and port on which spectators may only watch; without it there is none
+      --watch-threads <watch-threads>  How many threads serve the spectators of --watch [default: 2]
+      --watch-most <watch-most>        How many spectators of --watch there may be at once [default: 100000]
+      --boards <boards>                How many boards there may be [default: 16]
+      --followers <followers>          How many followers a board may have [default: 64]
+      --capacity <capacity>            How many moves a follower's queue holds [default: 64]
+      --plies <plies>                  How many plies a game may have [default: 1024]
+  -h, --help                           Print help
 """
 
 
@@ -94,6 +99,10 @@ def missing(job, word):
 
 def no_number(value, name):
     return error(f"invalid value '{value}' for '{name}': invalid digit found in string")
+
+
+def no_address(value):
+    return error(f"invalid value '{value}' for '--watch <ADDRESS:PORT>': invalid socket address syntax", "serve [OPTIONS]")
 
 
 def out_of_range(value, name, least, most):
@@ -125,7 +134,13 @@ TEXTS = [
     (("serve", "--connections", "0"), out_of_range(0, "--connections <connections>", 1, 1000000)),
     (("serve", "--connections", "1000001"), out_of_range(1000001, "--connections <connections>", 1, 1000000)),
     *[(("serve", f"--{name}", value), out_of_range(value, f"--{name} <{name}>", 0, most))
-      for name, most in (("grace", 3600),) for value in (str(most + 1), "4294967296")],
+      for name, most in (("grace", 3600), ("idle", 86400)) for value in (str(most + 1), "4294967296")],
+    *[(("serve", f"--{name}", value), out_of_range(value, f"--{name} <{name}>", 1, most))
+      for name, most in (("watch-threads", 64), ("watch-most", 1000000)) for value in ("0", str(most + 1), "4294967298")],
+    (("serve", "--watch"), error("a value is required for '--watch <ADDRESS:PORT>' but none was supplied")),
+    *[(("serve", "--watch", value), no_address(value))
+      for value in ("x", "", "9601", "127.0.0.1", "localhost:9601", "127.0.0.1:65536", "127.0.0.01:9601", "256.0.0.1:9601", "::1:9601", "[::1]")],
+    *[(("serve", "--watch=*:9601", *more), no_address("*:9601")) for more in ((), ("--watch-threads", "64"), ("--watch-most", "1000000"))],
     *[(("serve", "--forever", *given), error("the argument '--connections <connections>' cannot be used with '--forever'", "serve [OPTIONS]"))
       for given in (("--connections", "5"), ("--connections=1000000",))],
     *[((job, f"--{name}", value), out_of_range(value, f"--{name} <{name}>", 1, most))

@@ -2,7 +2,9 @@
 
 mod fault;
 mod service;
+mod showcase;
 mod status;
+mod watching;
 
 pub use fault::ServeFault;
 pub use service::serve_run;

@@ -3,6 +3,7 @@
 use Rattle.std.specs.Prelude.{ℕ, Bool, ◌≡◌, ◌≢◌, ◌⊎◌, if◌then◌else◌, List, [], ◌∷◌, find, Option, Some, None, option_and_then, pos, true, false, codes}
 use Rattle.std.specs.Str.{bytes_eq}
 use Rattle.std.specs.Str.Parse.{IsNumeral, digits_value, without_leading_plus}
+use Rattle.std.specs.Net.Grammar.{IsSocketText}
 use Rattle.c960_game.specs.Limits.{LimitNumbers}
 use Rattle.clap.specs.Words.{App, IsAmong, Row, Rule, Text, fault_of, first_of, matches_of, new_app, new_rule, one_of, subcommand_of, with_rule, with_subcommand}
 use Rattle.clap.specs.declared.builder.action.ArgAction.TheVariants.{Set, SetTrue}
@@ -16,6 +17,7 @@ use Rattle.relay960_words.specs.declared.order.Order.{Order}
 use Rattle.relay960_words.specs.declared.order.Order.TheVariants.{Run, Serve}
 use Rattle.relay960_words.specs.declared.order.Job.TheVariants.{Start, Moves, Play, Script, Version}
 use Rattle.relay960_words.specs.declared.order.Service.{Service}
+use Rattle.relay960_words.specs.declared.order.WatchPort.{WatchPort}
 
 -- ---- the commands
 
@@ -40,6 +42,10 @@ option_rule name least most default = record (new_rule name) {
 abbrev pub flag_rule : Text → Rule
 flag_rule name = record (new_rule name) { long = Some name; action = Some SetTrue }
 
+-- `--name TEXT`, which is given or is not
+abbrev pub text_rule : Text → Rule
+text_rule name = record (new_rule name) { long = Some name; action = Some Set; value_names = 1 }
+
 -- a command with the options of a relay's limits
 abbrev pub with_limits : App → App
 with_limits a = with_rule (with_rule (with_rule (with_rule a
@@ -50,12 +56,17 @@ with_limits a = with_rule (with_rule (with_rule (with_rule a
 
 -- a command with the options of a service, but for those of its limits
 abbrev pub with_service : App → App
-with_service a = with_rule (with_rule (with_rule (with_rule (with_rule a
+with_service a = with_rule (with_rule (with_rule (with_rule (with_rule (with_rule (with_rule (with_rule (with_rule (with_rule a
     (option_rule (codes "port") 1 65535 (codes "9600")))
     (option_rule (codes "connections") 1 1000000 (codes "1000000")))
     (flag_rule (codes "forever")))
     (flag_rule (codes "until-input-ends")))
-    (option_rule (codes "grace") 0 3600 (codes "0"))
+    (option_rule (codes "grace") 0 3600 (codes "0")))
+    (option_rule (codes "idle") 0 86400 (codes "600")))
+    (flag_rule (codes "log")))
+    (text_rule (codes "watch")))
+    (option_rule (codes "watch-threads") 1 64 (codes "2")))
+    (option_rule (codes "watch-most") 1 1000000 (codes "100000"))
 
 abbrev pub start_command : App
 start_command = with_rule (new_app (codes "start")) number_rule
@@ -106,12 +117,28 @@ pub record HasLimits (rows : List Row) (l : LimitNumbers) : Type 0 where
   pub capacity : HasNumber rows (codes "capacity") l.capacity
   pub plies : HasNumber rows (codes "plies") l.plies
 
+-- a watch port: its address is the one that the text of `--watch` writes, and its numbers are those of its two other options
+pub record HasWatchPort (rows : List Row) (w : WatchPort) : Type 0 where
+  pub text : Text
+  pub given : first_of (codes "watch") rows ≡ Some text
+  pub address : IsSocketText text w.address
+  pub threads : HasNumber rows (codes "watch-threads") w.threads
+  pub most : HasNumber rows (codes "watch-most") w.most
+
+-- there is a watch port where `--watch` is given, and else none
+abbrev pub HasWatch : List Row → Option WatchPort → Type 0
+HasWatch rows None = first_of (codes "watch") rows ≡ None
+HasWatch rows (Some w) = HasWatchPort rows w
+
 pub record HasService (rows : List Row) (s : Service) : Type 0 where
   pub port : HasNumber rows (codes "port") s.port
   pub connections : HasConnections rows s.connections
   pub until_input_ends : HasFlag rows (codes "until-input-ends") s.until_input_ends
   pub grace : HasNumber rows (codes "grace") s.grace
+  pub idle : HasNumber rows (codes "idle") s.idle
+  pub log : HasFlag rows (codes "log") s.log
   pub limits : HasLimits rows s.limits
+  pub watch : HasWatch rows s.watch
 
 -- a command of that name, with these entries, asks for the order
 abbrev pub AsksFor : Text → List Row → Order → Type 0

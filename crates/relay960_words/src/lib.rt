@@ -9,7 +9,7 @@ mod version;
 mod words;
 
 pub use fault::{status_of_no_text, status_without_memory};
-pub use order::{Connections, Job, Order, Service};
+pub use order::{Connections, Job, Order, Service, WatchPort};
 pub use status::Status;
 pub use version::VERSION;
 pub use words::order_of;

@@ -28,6 +28,23 @@ fn number_option<'a>(
         .default_value(default)
 }
 
+/// The option `--name TEXT`, which is given or is not.
+fn text_option<'a>(
+    alloc: Global,
+    name: &'static str,
+    value: &'static str,
+    help: &'static str,
+) -> Arg<'a>
+    ensures rule { rule_of result ≡ line.text_rule name.now }
+    ensures local { result.global ≡ false }
+{
+    Arg::new(alloc, name)
+        .long(name)
+        .value_name(value)
+        .help(help)
+        .action(ArgAction::Set)
+}
+
 /// The option `--name`, which is given or is not.
 fn flag_option<'a>(alloc: Global, name: &'static str, help: &'static str) -> Arg<'a>
     ensures rule { rule_of result ≡ line.flag_rule name.now }
@@ -83,10 +100,22 @@ pub(crate) fn with_service<'a>(
     let forever = "Accept connections without an end, in place of --connections";
     let until_input_ends = "End in order when standard input ends";
     let grace = "How many seconds a board waits for an operator with a key to come back";
+    let watch = "The address and port on which spectators may only watch; without it there is none";
+    let watch_threads = "How many threads serve the spectators of --watch";
+    let watch_most = "How many spectators of --watch there may be at once";
+    let idle =
+        "How many seconds a peer that owns and follows nothing may send nothing; 0: without an end";
+    let log =
+        "Write a line to standard error for what happens to each board, and counts once a minute";
     command
         .arg(number_option(alloc, "port", port, 1, 65535, "9600"))?
         .arg(number_option(alloc, "connections", connections, 1, 1_000_000, "1000000"))?
         .arg(flag_option(alloc, "forever", forever))?
         .arg(flag_option(alloc, "until-input-ends", until_input_ends))?
-        .arg(number_option(alloc, "grace", grace, 0, 3600, "0"))
+        .arg(number_option(alloc, "grace", grace, 0, 3600, "0"))?
+        .arg(number_option(alloc, "idle", idle, 0, 86_400, "600"))?
+        .arg(flag_option(alloc, "log", log))?
+        .arg(text_option(alloc, "watch", "ADDRESS:PORT", watch))?
+        .arg(number_option(alloc, "watch-threads", watch_threads, 1, 64, "2"))?
+        .arg(number_option(alloc, "watch-most", watch_most, 1, 1_000_000, "100000"))
 }

@@ -1,6 +1,7 @@
 //! What words ask for.
 
 use c960_game::Limits;
+use std::net::SocketAddr;
 
 /// What the words ask for.
 #[derive(Clone, Copy, PartialEq, Eq, Debug)]
@@ -37,8 +38,25 @@ pub struct Service {
     pub until_input_ends: bool,
     /// How many seconds a board waits for its operator to come back, where that has a key.
     pub grace: u16,
+    /// How many seconds a peer that owns and follows nothing may send nothing, or 0 where it always may.
+    pub idle: u32,
+    /// Whether standard error is told what happens to boards.
+    pub log: bool,
     /// The limits of the relay.
     pub limits: Limits,
+    /// The watch port, if there is one.
+    pub watch: Option<WatchPort>,
+}
+
+/// The watch port: another port, on which spectators may only watch.
+#[derive(Clone, Copy, PartialEq, Eq, Debug)]
+pub struct WatchPort {
+    /// The address and port on which it listens.
+    pub address: SocketAddr,
+    /// How many threads serve it.
+    pub threads: u16,
+    /// How many spectators it may have at once.
+    pub most: u32,
 }
 
 /// How many connections are accepted before serving ends.

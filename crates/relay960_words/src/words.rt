@@ -1,6 +1,7 @@
 //! The words of the command line, read by `clap`.
 
 ghost use Rattle.std.specs.Prelude.{◌≡◌, false, IfErr, IfOk, List, MatchResult, ℕ, Ok, Some, codes, map};
+ghost use Rattle.std.specs.Net.Grammar.{IsSocketText};
 ghost use Rattle.clap.specs.Words.{app_of, first_value, found_of, kind_of, one_text, subcommand_of, subcommand_rows_of};
 ghost use Rattle.clap.specs.Walk.{rows_of};
 ghost use Rattle.relay960_words.specs.CommandLine as line;
@@ -8,7 +9,7 @@ ghost use Rattle.relay960_words.specs.Statuses.{IsFault};
 
 use crate::fault::status_of_error;
 use crate::options::{with_limits, with_service};
-use crate::order::{Connections, Job, Order, Service};
+use crate::order::{Connections, Job, Order, Service, WatchPort};
 use crate::status::Status;
 use crate::version::VERSION;
 use c960_game::Limits;
@@ -17,6 +18,7 @@ use clap::parser::ValueSource;
 use clap::{Arg, ArgAction, ArgMatches, Command, Error, value_parser};
 use std::alloc::{AllocError, Global};
 use std::convert::AsStr;
+use std::net::SocketAddr;
 use std::str::FromStr;
 
 fn start_command<'a>(alloc: Global) -> Result<Command<'a>, AllocError>
@@ -206,12 +208,11 @@ fn connections_of(alloc: Global, given: &ArgMatches) -> Result<Connections, Erro
     }
     match given.value_source("connections") {
         Some(ValueSource::CommandLine) => {
-            Err(
-                serve_command(alloc)?.bin_name("relay960 serve")?.error(
-                    ErrorKind::ArgumentConflict,
-                    "the argument '--connections <connections>' cannot be used with '--forever'",
-                )?,
-            )
+            Err(serve_error(
+                alloc,
+                ErrorKind::ArgumentConflict,
+                "the argument '--connections <connections>' cannot be used with '--forever'",
+            )?)
         }
         _ => Ok(Connections::Forever),
     }
@@ -226,8 +227,47 @@ fn service_of(alloc: Global, given: &ArgMatches) -> Result<Service, Error>
         connections: connections_of(alloc, given)?,
         until_input_ends: flag_of(alloc, given, "until-input-ends")?,
         grace: value_of(alloc, given, "grace")?,
+        idle: value_of(alloc, given, "idle")?,
+        log: flag_of(alloc, given, "log")?,
         limits: limits_of(alloc, given)?,
+        watch: watch_of(alloc, given)?,
     })
+}
+
+/// The watch port that is given, if one is.
+fn watch_of(alloc: Global, given: &ArgMatches) -> Result<Option<WatchPort>, Error>
+    ensures { IfOk result (line.HasWatch (rows_of (found_of given.now))) }
+{
+    let Some(text) = given.get_str("watch") else {
+        return Ok(None);
+    };
+    Ok(Some(WatchPort {
+        address: address_of(alloc, text)?,
+        threads: value_of(alloc, given, "watch-threads")?,
+        most: value_of(alloc, given, "watch-most")?,
+    }))
+}
+
+/// The address and port that the text of `--watch` writes.
+fn address_of(alloc: Global, text: &str) -> Result<SocketAddr, Error>
+    ensures { IfOk result (IsSocketText text.now) }
+{
+    match text.parse::<SocketAddr>() {
+        Ok(address) => Ok(address),
+        Err(error) => {
+            let message = format!(in alloc;
+                "invalid value '{text}' for '--watch <ADDRESS:PORT>': {error}"
+            )?;
+            Err(serve_error(alloc, ErrorKind::ValueValidation, message.as_str())?)
+        }
+    }
+}
+
+/// An error of the command `serve`, with its usage.
+fn serve_error(alloc: Global, kind: ErrorKind, message: &str) -> Result<Error, AllocError> {
+    serve_command(alloc)?
+        .bin_name("relay960 serve")?
+        .error(kind, message)
 }
 
 /// The limits that are given.

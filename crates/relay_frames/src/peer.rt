@@ -128,7 +128,7 @@ impl Peer {
         }
     }
 
-    /// What the frame with this head says, which keeps the rules.
+    /// What the frame with this head says, which keeps the rules. Where more of it has to come, there is room for it from then on.
     fn next_whole(&mut self, header: &FrameHeader, size: usize) -> Result<Option<Event>, AllocError>
         requires open { self.old.is_over ≡ false }
         requires small { size ≤ most_bytes }
@@ -137,7 +137,9 @@ impl Peer {
         ensures then { OnOk result (self.new ≡ (read_frame self.old header.now size).then) }
         ensures unchanged { OnErr result (self.new ≡ self.old) }
     {
-        if self.unread.as_slice().len() < header.len(size as u64) + size {
+        let total = header.len(size as u64) + size;
+        if self.unread.as_slice().len() < total {
+            self.unread.expect(total)?;
             return Ok(None);
         }
         Ok(Some(self.next_frame(header, size)?))

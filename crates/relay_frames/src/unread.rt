@@ -54,6 +54,20 @@ impl Unread {
         self.bytes.extend_from_slice(bytes)
     }
 
+    /// Sees to it that there is room until so many bytes were not read, and for no more: a vector that grows by itself doubles.
+    ///
+    /// # Errors
+    ///
+    /// There was no memory.
+    pub(crate) fn expect(&mut self, total: usize) -> Result<(), AllocError>
+        ensures { self.new ≡ self.old }
+    {
+        self.bytes.drain(..self.read);
+        self.read = 0;
+        let missing = total.saturating_sub(self.bytes.len());
+        self.bytes.reserve_exact(missing)
+    }
+
     /// These were read.
     pub(crate) fn skip(&mut self, count: usize)
         requires { count ≤ length self.old }

@@ -3,3 +3,4 @@ pub mod Names
 pub mod Decoding
 pub mod PlainFacts
 pub mod PlainReading
+pub mod Ports

@@ -1,5 +1,5 @@
 -- The texts of answers: compact JSON objects whose keys stand in the order of their bytes.
-use Rattle.std.specs.Prelude.{ℕ, Bool, true, false, List, [], ◌∷◌, Option, Some, None, codes, decimal}
+use Rattle.std.specs.Prelude.{ℕ, Bool, true, false, List, [], ◌∷◌, Option, Some, None, option_map, codes, decimal}
 use Rattle.std.specs.List.{concat}
 use Rattle.c960_board.specs.declared.parts.Parts.{Parts}
 use Rattle.c960_board.specs.Fen.Canonical.{canonical}
@@ -14,6 +14,7 @@ use Rattle.relay_core.specs.declared.reply.Taken.{Taken}
 use Rattle.relay_core.specs.declared.reply.Taken.TheVariants.{Move, Nothing, Over, Cut}
 use Rattle.relay_messages.specs.declared.answer.Answer.{Answer}
 use Rattle.relay_messages.specs.declared.answer.Answer.TheVariants as answers
+use Rattle.relay_messages.specs.declared.board_summary.BoardSummary.{BoardSummary}
 use Rattle.relay_messages.specs.Faults.{message_fault_code, message_fault_name}
 
 -- {"reply":"opened"} and the like
@@ -73,3 +74,15 @@ reply_text (Refused refusal) = refused_text (refusal_code refusal) (refusal_name
 unfoldable pub answer_text : Answer → List ℕ
 answer_text (answers.Reply reply) = reply_text reply
 answer_text (answers.Fault fault) = refused_text (message_fault_code fault) (message_fault_name fault)
+
+-- "e2e4", or null where there is no text
+abbrev pub text_or_null : Option (List ℕ) → List ℕ
+text_or_null (Some text) = concat (codes "\"" ∷ text ∷ codes "\"" ∷ [])
+text_or_null None = codes "null"
+
+-- {"board":"b1","fen":"FEN","last":"e2e4","outcome":null,"plies":12,"reply":"board","start":518}
+abbrev pub board_text : BoardSummary → List ℕ
+board_text b =
+    concat (codes "{\"board\":\"" ∷ b.board ∷ codes "\",\"fen\":\"" ∷ canonical b.position ∷ codes "\",\"last\":"
+    ∷ text_or_null (option_map move_text b.last) ∷ codes ",\"outcome\":" ∷ text_or_null (option_map outcome_text b.outcome)
+    ∷ codes ",\"plies\":" ∷ decimal b.plies ∷ codes ",\"reply\":\"board\",\"start\":" ∷ decimal b.start ∷ codes "}" ∷ [])

@@ -1,6 +1,6 @@
 -- What the object of a command says: the step; or None where a key is missing, there is a key more, or a value has another form.
 -- An object has no key more where it has as many members as the command has keys, `cmd` counted.
-use Rattle.std.specs.Prelude.{ℕ, ◌==◌, cond, is_some, List, Option, Some, None, option_map, option_and_then, Result, Err, codes}
+use Rattle.std.specs.Prelude.{ℕ, ◌==◌, Bool, false, cond, is_some, List, Option, Some, None, option_map, option_and_then, Result, Ok, Err, codes}
 use Rattle.std.specs.Option.{ok_or}
 use Rattle.std.specs.Str.{bytes_eq}
 use Rattle.serde_json.specs.Data.{Data}
@@ -11,6 +11,8 @@ use Rattle.relay_core.specs.declared.step.Step.{Step}
 use Rattle.relay_core.specs.declared.step.Step.TheVariants.{Open, Submit, End, Follow, Take, Leave}
 use Rattle.relay_messages.specs.declared.fault.MessageFault.{MessageFault}
 use Rattle.relay_messages.specs.declared.fault.MessageFault.TheVariants.{NotObject, UnknownCommand, BadField}
+use Rattle.relay_messages.specs.declared.watch_command.WatchCommand.{WatchCommand}
+use Rattle.relay_messages.specs.declared.watch_command.WatchCommand.TheVariants as watch
 use Rattle.relay_messages.specs.Fields.{member_count, text_at, board_at, start_at, from_at, has_from, spectator_at, move_at, side_at}
 
 -- what is there, where the object has n members
@@ -76,3 +78,22 @@ command_by d None = Err UnknownCommand
 -- what a JSON value says
 unfoldable pub command_in : Data → Result Step MessageFault
 command_in d = cond (is_some (as_object d)) (command_by d (text_at (codes "cmd") d)) (Err NotObject)
+
+-- ---- On the watch port.
+
+abbrev pub is_boards : Option (List ℕ) → Bool
+is_boards (Some name) = bytes_eq name (codes "boards")
+is_boards None = false
+
+-- {"cmd":"boards"}
+abbrev pub boards_in : Data → Option WatchCommand
+boards_in d = with_members 1 d (Some watch.Boards)
+
+-- a command of the main port
+abbrev pub on_both_ports : Result Step MessageFault → Result WatchCommand MessageFault
+on_both_ports (Ok step) = Ok (watch.Step step)
+on_both_ports (Err fault) = Err fault
+
+-- what a JSON value says on the watch port: `boards`, or what it says on the main port
+unfoldable pub watch_command_in : Data → Result WatchCommand MessageFault
+watch_command_in d = cond (is_boards (text_at (codes "cmd") d)) (ok_or (boards_in d) BadField) (on_both_ports (command_in d))

@@ -1,4 +1,4 @@
--- What a text says.
+-- What a text says: on the main port, and on the watch port. The two differ only in what a JSON value says there.
 use Rattle.std.specs.Prelude.{ℕ, ◌≡◌, ◌≤◌, ◌⊎◌, nat_lt, cond, List, length, Option, Some, None, Result, Err}
 use Rattle.std.specs.Str.{is_utf8}
 use Rattle.serde_json.specs.Data.{Data}
@@ -6,24 +6,43 @@ use Rattle.serde_json.specs.Read.{read}
 use Rattle.relay_core.specs.declared.step.Step.{Step}
 use Rattle.relay_messages.specs.declared.fault.MessageFault.{MessageFault}
 use Rattle.relay_messages.specs.declared.fault.MessageFault.TheVariants.{OutOfMemory, NotJson, BadField}
-use Rattle.relay_messages.specs.Commands.{command_in}
+use Rattle.relay_messages.specs.declared.watch_command.WatchCommand.{WatchCommand}
+use Rattle.relay_messages.specs.Commands.{command_in, watch_command_in}
 
 -- a text may have this many bytes
 abbrev pub most_bytes : ℕ
 most_bytes = 1024
 
-abbrev pub command_read : Option Data → Result Step MessageFault
-command_read (Some d) = command_in d
-command_read None = Err NotJson
+-- what the value says that was read, if one was
+abbrev pub value_says : {A : Type 0} → (Data → Result A MessageFault) → Option Data → Result A MessageFault
+value_says says (Some d) = says d
+value_says says None = Err NotJson
+
+-- what a text says, where a JSON value says this; or its first fault
+unfoldable pub text_says : {A : Type 0} → (Data → Result A MessageFault) → List ℕ → Result A MessageFault
+text_says says text =
+    cond (nat_lt most_bytes (length text)) (Err BadField) (cond (is_utf8 text) (value_says says (read text)) (Err NotJson))
 
 -- the command that a text says, or its first fault
 unfoldable pub decoded : List ℕ → Result Step MessageFault
-decoded text = cond (nat_lt most_bytes (length text)) (Err BadField) (cond (is_utf8 text) (command_read (read text)) (Err NotJson))
+decoded text = text_says command_in text
 
--- what decoding answers: what the text says, or want of memory, which a text of more bytes than it may have does not meet
+-- the same on the watch port
+unfoldable pub watch_decoded : List ℕ → Result WatchCommand MessageFault
+watch_decoded text = text_says watch_command_in text
+
+-- the answer is what the text says, or want of memory, which a text of more bytes than it may have does not meet
+abbrev pub IsSaid : {A : Type 0} → List ℕ → Result A MessageFault → Result A MessageFault → Type 0
+IsSaid text said answer = (answer ≡ said) ⊎ ((length text ≤ most_bytes) × (answer ≡ Err OutOfMemory))
+
+-- what decoding answers
 abbrev pub IsDecoding : List ℕ → Result Step MessageFault → Type 0
-IsDecoding text answer = (answer ≡ decoded text) ⊎ ((length text ≤ most_bytes) × (answer ≡ Err OutOfMemory))
+IsDecoding text answer = IsSaid text (decoded text) answer
+
+-- what decoding answers on the watch port
+abbrev pub IsWatchDecoding : List ℕ → Result WatchCommand MessageFault → Type 0
+IsWatchDecoding text answer = IsSaid text (watch_decoded text) answer
 
 -- what reading a text in UTF-8 answers: what the text says, or want of memory
-abbrev pub IsReading : List ℕ → Result Step MessageFault → Type 0
-IsReading text answer = (answer ≡ command_read (read text)) ⊎ (answer ≡ Err OutOfMemory)
+abbrev pub IsReading : {A : Type 0} → (Data → Result A MessageFault) → List ℕ → Result A MessageFault → Type 0
+IsReading says text answer = (answer ≡ value_says says (read text)) ⊎ (answer ≡ Err OutOfMemory)

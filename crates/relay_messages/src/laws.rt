@@ -1,9 +1,11 @@
 //! Laws of the definitions.
 
-ghost use Rattle.std.specs.Prelude.{◌≡◌, ◌≢◌, ◌<◌, ℕ, List, length, take, Err};
-ghost use Rattle.relay_messages.specs.Decoding.{decoded};
+ghost use Rattle.std.specs.Prelude.{◌≡◌, ◌≢◌, ◌<◌, ◌↔◌, ℕ, List, length, take, Ok, Err};
+ghost use Rattle.relay_messages.specs.Decoding.{decoded, watch_decoded};
 
 use crate::fault::MessageFault;
+use crate::watch_command::WatchCommand;
+use relay_core::Step;
 
 /// A text says what its first 1,025 bytes say, so that no later byte of a line has to be kept.
 #[tactic(auto, using(crate::proofs::Decoding::decoded_front))]
@@ -21,4 +23,21 @@ pub fn long_texts_are_bad_fields()
 #[tactic(auto, using(crate::proofs::Decoding::never_memory))]
 pub fn no_text_says_want_of_memory()
     ensures { (text : List ℕ) → decoded text ≢ Err MessageFault.OutOfMemory }
+{}
+
+/// A text says a command of the main port there exactly where it says it on the watch port.
+pub fn commands_are_the_same_on_both_ports()
+    ensures { (text : List ℕ) (step : Step) → (decoded text ≡ Ok step) ↔ (watch_decoded text ≡ Ok (WatchCommand.Step step)) }
+{}
+
+/// A text that says `boards` on the watch port says no command on the main port.
+#[tactic(auto, using(crate::proofs::Ports::boards_unknown))]
+pub fn boards_is_unknown_on_the_main_port()
+    ensures { (text : List ℕ) → watch_decoded text ≡ Ok WatchCommand.Boards → decoded text ≡ Err MessageFault.UnknownCommand }
+{}
+
+/// No text says on the watch port that there was no memory.
+#[tactic(auto, using(crate::proofs::Decoding::watch_never_memory))]
+pub fn no_text_says_want_of_memory_on_the_watch_port()
+    ensures { (text : List ℕ) → watch_decoded text ≢ Err MessageFault.OutOfMemory }
 {}

@@ -3,6 +3,8 @@
 
 mod answer;
 mod answers;
+mod asking;
+mod board_summary;
 mod commands;
 mod encoding;
 mod fault;
@@ -12,8 +14,11 @@ mod member;
 mod object;
 mod plain;
 mod reading;
+mod watch_command;
 
 pub use answer::Answer;
+pub use board_summary::{BoardSummary, encode_board};
 pub use encoding::encode;
 pub use fault::MessageFault;
 pub use reading::{Command, Decoder, decode};
+pub use watch_command::WatchCommand;

@@ -2,7 +2,7 @@
 
 ghost use Rattle.std.specs.Prelude.{◌≡◌, is_some, option_map};
 ghost use Rattle.serde_json.specs.Data.{Data};
-ghost use Rattle.serde_json.specs.Find.{get};
+ghost use Rattle.serde_json.specs.Find.{as_object, get};
 ghost use Rattle.relay_messages.specs.Fields.{member_count, number_at, text_at};
 
 use crate::member::Field;
@@ -13,6 +13,10 @@ use serde_json::Value;
 pub trait Object {
     /// The value that it says.
     ghost said: { Self → Data };
+
+    /// Whether it is an object.
+    fn is_object(&self) -> bool
+        ensures { result ≡ is_some (as_object (said self.now)) };
 
     /// How many members it has.
     fn count(&self) -> usize
@@ -35,6 +39,10 @@ impl Object for Value {
     ghost use Rattle.serde_json.specs.View.{view};
 
     ghost said = { λ value. view value };
+
+    fn is_object(&self) -> bool {
+        Value::is_object(self)
+    }
 
     fn count(&self) -> usize {
         match self.as_object() {
@@ -60,6 +68,10 @@ impl<'t> Object for PlainObject<'t> {
     ghost use Rattle.relay_messages.specs.Plain.{plain_data};
 
     ghost said = { λ object. plain_data object };
+
+    fn is_object(&self) -> bool {
+        true
+    }
 
     fn count(&self) -> usize {
         self.len()

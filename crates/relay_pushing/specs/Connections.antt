@@ -39,6 +39,14 @@ opened_after opened step reply = cond (is_accepted reply) (opened ++ opened_by s
 abbrev pub IsOwn : (Question → Bool → Type 0) → List (List ℕ) → List ℕ → Type 0
 IsOwn tells opened board = (is_among board opened ≡ true) ⊎ tells (Owns board) true
 
+-- some board belongs to the connection: it opened one, or the keeper tells so
+abbrev pub OwnsSome : (Question → Bool → Type 0) → List (List ℕ) → Type 0
+OwnsSome tells opened = (opened ≢ []) ⊎ tells OwnsAny true
+
+-- no board belongs to the connection: it opened none, and the keeper tells so
+abbrev pub OwnsNone : (Question → Bool → Type 0) → List (List ℕ) → Type 0
+OwnsNone tells opened = (opened ≡ []) × tells OwnsAny false
+
 -- a board that does not belong to the connection is NotYourBoard or NoSuchBoard, as the keeper tells that it knows the board or not
 pub record IsForeign (tells : Question → Bool → Type 0) (opened : List (List ℕ)) (board : List ℕ) (refusal : Refusal) : Type 0 where
   pub foreign : is_among board opened ≡ false
@@ -52,7 +60,7 @@ abbrev pub Bars : (Question → Bool → Type 0) → List (List ℕ) → Step �
 Bars tells opened (Open board start) refusal = ⊥
 Bars tells opened (Submit board m) refusal = IsForeign tells opened board refusal
 Bars tells opened (End board ending) refusal = IsForeign tells opened board refusal
-Bars tells opened (Follow who board from) refusal = ((opened ≢ []) ⊎ tells OwnsAny true) × (refusal ≡ WrongMode)
+Bars tells opened (Follow who board from) refusal = OwnsSome tells opened × (refusal ≡ WrongMode)
 Bars tells opened (Take who) refusal = refusal ≡ WrongMode
 Bars tells opened (Leave who) refusal = refusal ≡ WrongMode
 
@@ -61,7 +69,7 @@ abbrev pub MayMake : (Question → Bool → Type 0) → List (List ℕ) → Step
 MayMake tells opened (Open board start) = ⊤
 MayMake tells opened (Submit board m) = IsOwn tells opened board
 MayMake tells opened (End board ending) = IsOwn tells opened board
-MayMake tells opened (Follow who board from) = (opened ≡ []) × tells OwnsAny false
+MayMake tells opened (Follow who board from) = OwnsNone tells opened
 MayMake tells opened (Take who) = ⊥
 MayMake tells opened (Leave who) = ⊥
 

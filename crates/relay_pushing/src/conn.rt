@@ -1,7 +1,7 @@
 //! A connection: which boards it opened, and what it may do.
 
-ghost use Rattle.std.specs.Prelude.{◌≡◌, [], IfOk, OnErr, IfSome, IfNone, string_bytes};
-ghost use Rattle.relay_pushing.specs.Connections.{Answered, Bars, Ends, IsUnmoved, Leads, MayMake, Replied, Stopped, is_among};
+ghost use Rattle.std.specs.Prelude.{◌≡◌, [], true, false, IfOk, OnErr, IfSome, IfNone, string_bytes};
+ghost use Rattle.relay_pushing.specs.Connections.{Answered, Bars, Ends, IsUnmoved, Leads, MayMake, OwnsNone, OwnsSome, Replied, Stopped, is_among};
 
 use crate::keeper::Keeper;
 use c960_game::{Ending, Refusal};
@@ -45,6 +45,14 @@ impl Conn {
         self.opened.contains(&board)
     }
 
+    /// Whether some board belongs to the connection: it opened one, or the keeper tells so.
+    pub fn is_owner<K: Keeper>(&self, keeper: &K) -> bool
+        ensures some { result ≡ true → OwnsSome (K.tells keeper.now) self.now }
+        ensures none { result ≡ false → OwnsNone (K.tells keeper.now) self.now }
+    {
+        !self.opened.is_empty() || keeper.owns_any()
+    }
+
     /// Why the connection may not make the step, if it may not.
     fn refusal<K: Keeper>(&self, step: &Step, keeper: &K) -> Option<Refusal>
         ensures some { IfSome result (λ refusal. Bars (K.tells keeper.now) self.now step.now refusal) }
@@ -62,7 +70,7 @@ impl Conn {
                 }
             }
             Step::Follow(_, _, _) => {
-                if !self.opened.is_empty() || keeper.owns_any() {
+                if self.is_owner(keeper) {
                     Some(Refusal::WrongMode)
                 } else {
                     None

@@ -1,5 +1,5 @@
 -- Whether connections with a key are there, and how long its boards wait where none is.
-use Rattle.std.specs.Prelude.{ℕ, ◌+◌, ◌-◌, ◌^◌, ◌≤◌, nat_lt, cond, Option, None, Some, ⊤}
+use Rattle.std.specs.Prelude.{◌+◌, ◌-◌, ◌^◌, ◌≤◌, nat_lt, cond, Option, None, Some, ⊤}
 use Rattle.std.specs.Time.{instant_nanos}
 use Rattle.std.specs.declared.time.Instant.{Instant}
 use Rattle.relay_server.specs.declared.presence.Presence.{Presence}

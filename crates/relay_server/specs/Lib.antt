@@ -1,11 +1,13 @@
 pub mod Broadcasting
 pub mod Dues
 pub mod Heads
+pub mod Holders
 pub mod Holding
 pub mod Keys
 pub mod Lines
 pub mod Memory
 pub mod Opening
 pub mod Seating
+pub mod Showing
 pub mod Spectating
 pub mod Talking

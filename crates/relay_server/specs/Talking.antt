@@ -5,7 +5,7 @@ use Rattle.relay_core.specs.declared.reply.Reply.{Reply}
 use Rattle.relay_messages.specs.Answers.{answer_text}
 use Rattle.relay_messages.specs.declared.answer.Answer.TheVariants.{Fault}
 use Rattle.relay_messages.specs.declared.fault.MessageFault.TheVariants.{BadField, NotJson}
-use Rattle.relay_pushing.specs.Connections.{Answered, IsUnmoved, Question, Stopped}
+use Rattle.relay_pushing.specs.Connections.{Answered, IsUnmoved, OwnsNone, Question, Stopped}
 use Rattle.relay_pushing.specs.Sending.{Gains}
 use Rattle.relay_frames.specs.declared.breach.Breach.{Breach}
 use Rattle.relay_frames.specs.declared.breach.Breach.TheVariants.{TooLong}
@@ -13,7 +13,7 @@ use Rattle.relay_frames.specs.declared.event.Event.{Event}
 use Rattle.relay_frames.specs.declared.event.Event.TheVariants as events
 use Rattle.live_board.specs.Seats.{FollowerSeat}
 use Rattle.relay_server.specs.declared.talk.TalkEnd.{TalkEnd}
-use Rattle.relay_server.specs.declared.talk.TalkEnd.TheVariants.{Closed, Full, Follows, Broken, Failed}
+use Rattle.relay_server.specs.declared.talk.TalkEnd.TheVariants.{Closed, Full, Follows, Broken, Idle, Failed}
 use Rattle.relay_server.specs.Spectating.{HasBeenTold}
 
 -- a text is answered as the connection answers it; any other message as a text that is no JSON, and nothing is made
@@ -45,7 +45,13 @@ TalkEnds Follows has texts = HasBeenTold has texts
 TalkEnds (Closed code) has texts = has ≡ None
 TalkEnds Full has texts = has ≡ None
 TalkEnds (Broken breach) has texts = has ≡ None
+TalkEnds Idle has texts = has ≡ None
 TalkEnds Failed has texts = ⊤
+
+-- who is sent away because it said nothing for too long owns nothing
+abbrev pub IsSentAway : (Question → Bool → Type 0) → TalkEnd → List (List ℕ) → Type 0
+IsSentAway tells Idle opened = OwnsNone tells opened
+IsSentAway tells _ opened = ⊤
 
 -- a peer that broke the protocol was told so: one whose message was too long got the answer to a text that is too long, and else nothing
 -- was answered

@@ -1,6 +1,6 @@
 //! A board that is broadcast: one connection plays it, others follow it.
 
-ghost use Rattle.std.specs.Prelude.{◌≡◌, ◌↔◌, ◌≤◌, ◌⊎◌, ◌++◌, ◌∷◌, [], Some, Err, IfOk, IfErr, OnErr, OnOk};
+ghost use Rattle.std.specs.Prelude.{◌≡◌, ◌↔◌, ◌≤◌, ◌⊎◌, ◌++◌, ◌∷◌, ◌+◌, ◌-◌, [], length, drop, vec_len, vec_capacity, Some, Err, IfOk, IfErr, OnErr, OnOk};
 ghost use Rattle.c960_game.specs.Ending.{named_outcome};
 ghost use Rattle.c960_game.specs.Ends.{own_outcome};
 ghost use Rattle.c960_game.specs.Positions.{last_position};
@@ -8,17 +8,20 @@ ghost use Rattle.live_steps.specs.Views.{finished};
 ghost use Rattle.live_board.specs.Board.{IsLegalGame};
 ghost use Rattle.live_board.specs.Desk.{Submitted};
 ghost use Rattle.relay_server.specs.Keys.{is_owner};
+ghost use Rattle.relay_server.specs.Showing.{IsNews, IsPositionAt, IsSummary, NewsOf, SummaryOf, last_of};
 ghost use Rattle.relay_server.specs.Broadcasting.{JoinAnswer, IsEndingAnswer, IsJoinAnswer, IsMoveAnswer, ending_answer, move_answer};
 
 use crate::chime::{BoardBell, Chime};
 use crate::key::Key;
+use crate::lookout::Lookout;
 use c960_board::{Move, Position};
 use c960_game::{Ending, Limits, Outcome, Refusal};
 use live_board::{Board, Follower};
 use relay_core::BoardName;
+use relay_messages::BoardSummary;
 use relay_pushing::Bell;
-use std::alloc::Global;
-use std::sync::{Mutex, Wait};
+use std::alloc::{AllocError, Global};
+use std::sync::{Arc, Mutex, Wait};
 
 /// A board under its name. Its lock is taken for one call on the board at a time: to play, and to join. A follower that has joined
 /// takes without it, and sleeps on the chime while there is nothing to take.
@@ -28,6 +31,8 @@ pub(crate) struct Broadcast {
     pub(crate) chime: Chime,
     /// The key of the connection that opened it, where that had one. Whoever has it owns the board as well.
     owner: Option<Key>,
+    /// Those who look at it beside its followers.
+    lookouts: Arc<Vec<Arc<Lookout, Global>>, Global>,
     board: Mutex<Board>,
 }
 
@@ -43,6 +48,7 @@ impl Broadcast {
         start: u16,
         owner: Option<Key>,
         limits: Limits,
+        lookouts: Arc<Vec<Arc<Lookout, Global>>, Global>,
     ) -> Result<Broadcast, Refusal>
         ensures name { IfOk result (λ broadcast. broadcast.name ≡ name) }
         ensures owner { IfOk result (λ broadcast. broadcast.owner ≡ owner) }
@@ -54,6 +60,7 @@ impl Broadcast {
             name,
             chime: Chime::new(),
             owner,
+            lookouts,
             board: Mutex::new(board),
         })
     }
@@ -66,6 +73,11 @@ impl Broadcast {
             Some(owner) => key.is_same(owner),
             None => false,
         }
+    }
+
+    /// Whether its game has not ended.
+    pub(crate) fn goes_on<R: Wait>(&self, rt: &R) -> bool {
+        self.board.lock(rt).outcome().is_none()
     }
 
     /// Makes a move, and then rings: who heard the ring finds the move. The sleepers are still to be woken.
@@ -103,6 +115,49 @@ impl Broadcast {
         ensures { IsJoinAnswer from result }
     {
         join(&mut self.board.lock(rt), from)
+    }
+
+    /// Puts the moves of the log from a place on behind `moves`, and tells the outcome of the game.
+    ///
+    /// # Errors
+    ///
+    /// There was no memory.
+    pub(crate) fn news<R: Wait>(
+        &self,
+        rt: &R,
+        from: u16,
+        moves: &mut Vec<Move>,
+    ) -> Result<Option<Outcome>, AllocError>
+        ensures { IsNews from moves.old.items moves.new.items result }
+    {
+        news_of(&self.board.lock(rt), from, moves)
+    }
+
+    /// How the board stands.
+    pub(crate) fn summary<R: Wait>(&self, rt: &R) -> BoardSummary
+        ensures { IsSummary result }
+    {
+        summary_of(&self.name, &self.board.lock(rt))
+    }
+
+    /// Whether the game is over.
+    pub(crate) fn is_over<R: Wait>(&self, rt: &R) -> bool {
+        self.board.lock(rt).outcome().is_some()
+    }
+
+    /// The position at a place of the log, if the log has reached it.
+    pub(crate) fn position_at<R: Wait>(&self, rt: &R, place: u16) -> Option<Position>
+        ensures { IsPositionAt place result }
+    {
+        self.board.lock(rt).position_at(place)
+    }
+
+    /// Wakes all who sleep until it is rung for, and all who look at it.
+    pub(crate) fn wake(&self) {
+        self.chime.wake();
+        for lookout in self.lookouts.iter() {
+            lookout.wake();
+        }
     }
 
     /// The chime as the board's bell.
@@ -172,4 +227,62 @@ fn join(board: &mut Board, from: Option<u16>) -> Result<(Follower, Position), Re
         unreachable!();
     };
     Ok((follower, position))
+}
+
+/// Puts the moves of a board's log from a place on behind `moves`, and tells the outcome of its game.
+///
+/// # Errors
+///
+/// There was no memory.
+fn news_of(board: &Board, from: u16, moves: &mut Vec<Move>) -> Result<Option<Outcome>, AllocError>
+    ensures news { NewsOf board.now.knows from moves.old.items moves.new.items result }
+    ensures legal { IsLegalGame board.now.knows }
+{
+    let outcome = board.outcome();
+    append_log(board, from, moves)?;
+    Ok(outcome)
+}
+
+/// Puts the moves of a board's log from a place on behind `moves`.
+///
+/// # Errors
+///
+/// There was no memory.
+fn append_log(board: &Board, from: u16, moves: &mut Vec<Move>) -> Result<(), AllocError>
+    ensures { OnOk result (moves.new.items ≡ moves.old.items ++ drop from board.now.knows.log) }
+{
+    for at in from..board.len() {
+        let Some(m) = board.move_at(at) else {
+            unreachable!();
+        };
+        moves.push(m)?;
+    }
+    Ok(())
+}
+
+/// How a board of this name stands.
+fn summary_of(name: &BoardName, board: &Board) -> BoardSummary
+    ensures summary { SummaryOf board.now.knows result }
+    ensures named { result.board ≡ name.now }
+    ensures legal { IsLegalGame board.now.knows }
+{
+    let plies = board.len();
+    BoardSummary {
+        board: *name,
+        start: board.start(),
+        position: board.position(),
+        last: last_move(board),
+        plies,
+        outcome: board.outcome(),
+    }
+}
+
+/// The last move of a board's log.
+fn last_move(board: &Board) -> Option<Move>
+    ensures { result ≡ last_of board.now.knows.log }
+{
+    match board.len() {
+        0 => None,
+        plies => board.move_at(plies - 1),
+    }
 }

@@ -1,8 +1,10 @@
 //! What stands behind the registry's lock: the boards, and who holds their keys. So coming back and running out meet under one lock.
 
-ghost use Rattle.std.specs.Prelude.{◌≡◌, Some, IfSome, true};
+ghost use Rattle.std.specs.Prelude.{◌≡◌, ◌&&◌, None, Some, IfSome, cond, is_none, is_some, length, true};
 ghost use Rattle.std.specs.Arc.{arc_value};
+ghost use Rattle.relay_server.specs.Holders.{is_waiting, presence_of, without_one, HasRunOut, NoneHasRunOut, OthersStay};
 ghost use Rattle.relay_server.specs.Keys.{is_owner};
+ghost use Rattle.relay_server.specs.Opening.{owners, owns_any};
 
 use crate::boards::Boards;
 use crate::broadcast::Broadcast;
@@ -31,27 +33,48 @@ pub(crate) struct Forsaken {
 
 impl Hall {
     /// A connection with this key goes. What is told is the boards that are to be ended now, if there are any; and whether the key's boards wait.
-    pub(crate) fn leave(&mut self, key: &Key, until: Option<Instant>) -> (Option<Forsaken>, bool) {
+    pub(crate) fn leave(&mut self, key: &Key, until: Option<Instant>) -> (Option<Forsaken>, bool)
+        ensures left { presence_of key.now self.new.holders.rows.items ≡ without_one (presence_of key.now self.old.holders.rows.items) (cond (owns_any (Some key.now) (owners self.old.boards.shared.map.entries (λ b. (arc_value b).owner)) && self.old.is_watched) until None) }
+        ensures others { OthersStay key.now self.old.holders.rows.items self.new.holders.rows.items }
+        ensures told { is_some result.0 ≡ (is_none (presence_of key.now self.new.holders.rows.items) && owns_any (Some key.now) (owners self.old.boards.shared.map.entries (λ b. (arc_value b).owner))) }
+        ensures key { IfSome result.0 (λ forsaken. forsaken.key ≡ key.now) }
+        ensures waits { result.1 ≡ is_waiting (presence_of key.now self.new.holders.rows.items) }
+    {
         let owns = self.boards.owns_any(key);
-        let until = if owns && self.is_watched { until } else { None };
+        let until = self.grace_end(owns, until);
         match self.holders.leave(key, until) {
             Departure::OneOfMore => (None, false),
             Departure::Waits => (None, true),
-            Departure::Last if owns => (Some(self.forsaken(*key)), false),
-            Departure::Last => (None, false),
+            Departure::Last => (self.forsaken(*key, owns), false),
         }
     }
 
+    /// Until when the boards of a key wait that owns any, or none; it is none where they do not wait.
+    fn grace_end(&self, owns: bool, until: Option<Instant>) -> Option<Instant>
+        ensures { result ≡ cond (owns && self.now.is_watched) until None }
+    {
+        if owns && self.is_watched { until } else { None }
+    }
+
     /// Boards that have waited until now, if there are any: one key's at a time. Where no time is given, those that wait.
-    pub(crate) fn expire(&mut self, now: Option<Instant>) -> Option<Forsaken> {
+    pub(crate) fn expire(&mut self, now: Option<Instant>) -> Option<Forsaken>
+        ensures due { IfSome result (λ forsaken. HasRunOut now (presence_of forsaken.key self.old.holders.rows.items)) }
+        ensures gone { IfSome result (λ forsaken. presence_of forsaken.key self.new.holders.rows.items ≡ None) }
+        ensures others { IfSome result (λ forsaken. OthersStay forsaken.key self.old.holders.rows.items self.new.holders.rows.items) }
+        ensures none { result ≡ None → NoneHasRunOut now self.old.holders.rows.items }
+    {
         let key = self.holders.expire(now)?;
-        Some(self.forsaken(key))
+        Some(Forsaken {
+            key,
+            count: self.boards.len(),
+        })
     }
 
     /// The board at this place, in the order of opening, where it is still to be ended: it was opened with this key, with which nobody has
     /// come back since its boards ran out.
     pub(crate) fn forsaken_at(&self, at: usize, key: &Key) -> Option<&Arc<Broadcast, Global>>
-        ensures { IfSome result (λ b. is_owner (Some key.now) (arc_value b.now).owner ≡ true) }
+        ensures owned { IfSome result (λ b. is_owner (Some key.now) (arc_value b.now).owner ≡ true) }
+        ensures gone { IfSome result (λ b. presence_of key.now self.now.holders.rows.items ≡ None) }
     {
         if self.holders.has(key) {
             return None;
@@ -59,11 +82,18 @@ impl Hall {
         self.boards.owned_at(at, key)
     }
 
-    /// The boards of this key that stand now.
-    fn forsaken(&self, key: Key) -> Forsaken {
-        Forsaken {
-            key,
-            count: self.boards.len(),
+    /// The boards of this key that stand now, where it owns any.
+    fn forsaken(&self, key: Key, owns: bool) -> Option<Forsaken>
+        ensures told { is_some result ≡ owns }
+        ensures key { IfSome result (λ forsaken. forsaken.key ≡ key) }
+    {
+        if owns {
+            Some(Forsaken {
+                key,
+                count: self.boards.len(),
+            })
+        } else {
+            None
         }
     }
 }

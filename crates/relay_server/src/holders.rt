@@ -1,6 +1,10 @@
 //! The keys that connections hold, and those whose boards wait for one to come back.
 
-ghost use Rattle.std.specs.Prelude.{◌≡◌, ◌<◌, [], vec_len, IfSome};
+ghost use Rattle.std.specs.Prelude.{◌≡◌, ◌<◌, ◌++◌, ◌∷◌, [], vec_len, is_some, true, slice_get, None, IfOk, IfSome, OnOk, OnErr};
+ghost use Rattle.relay_server.specs.Holders.{departure, is_waiting, presence_of, with_newcomer, without_one, HasRunOut, NoneHasRunOut, OthersStay, stand_once};
+ghost use Rattle.relay_server.specs.Holding.{IsDue};
+ghost use Rattle.relay_server.specs.Keys.{same_key};
+ghost use Rattle.std.proofs.Props.{props};
 
 use crate::key::Key;
 use crate::presence::Presence;
@@ -14,10 +18,11 @@ struct Holder {
     presence: Presence,
 }
 
-/// The keys that connections hold, and those whose boards wait, each once.
+/// The keys that connections hold, and those whose boards wait, each once (`once`).
 #[derive(Drop)]
 pub(crate) struct Holders {
     rows: Vec<Holder>,
+    ghost once: { stand_once rows.items ≡ true } by { Prim.hlevel props },
 }
 
 /// What became of a key as one of its connections went.
@@ -29,6 +34,18 @@ pub(crate) enum Departure {
     Waits,
     /// None is there, and its boards are to be ended now.
     Last,
+}
+
+impl Departure {
+    /// What became of a key of which this presence is left.
+    fn of(presence: Presence) -> Departure
+        ensures { result ≡ departure (Some presence) }
+    {
+        match presence {
+            Presence::Here(_) => Departure::OneOfMore,
+            Presence::Waits(_) => Departure::Waits,
+        }
+    }
 }
 
 impl Holders {
@@ -43,10 +60,12 @@ impl Holders {
 
     /// Where the key stands.
     fn place_of(&self, key: &Key) -> Option<usize>
-        ensures { IfSome result (λ at. at < vec_len self.now.rows) }
+        ensures within { IfSome result (λ at. at < vec_len self.now.rows) }
+        ensures found { IfSome result (λ at. IfSome (slice_get self.now.rows.items at) (λ holder. same_key key.now holder.key ≡ true)) }
+        ensures missing { result ≡ None → presence_of key.now self.now.rows.items ≡ None }
     {
         for at in 0..self.rows.len() {
-            if self.rows[at].key.is_same(key) {
+            if key.is_same(&self.rows[at].key) {
                 return Some(at);
             }
         }
@@ -54,28 +73,42 @@ impl Holders {
     }
 
     /// Whether a connection with this key is there, or its boards wait.
-    pub(crate) fn has(&self, key: &Key) -> bool {
+    pub(crate) fn has(&self, key: &Key) -> bool
+        ensures { result ≡ is_some (presence_of key.now self.now.rows.items) }
+    {
         self.place_of(key).is_some()
     }
 
-    /// A connection with this key has come. Its boards wait no longer.
+    /// A connection with this key has come. Its boards wait no longer; tells whether they did.
     ///
     /// # Errors
     ///
     /// There was no memory, or as many such connections are there as can be counted. Nothing has changed.
-    pub(crate) fn arrive(&mut self, key: &Key) -> Result<(), AllocError> {
+    pub(crate) fn arrive(&mut self, key: &Key) -> Result<bool, AllocError>
+        ensures there { OnOk result (is_some (presence_of key.now self.new.rows.items) ≡ true) }
+        ensures counted { OnOk result (presence_of key.now self.new.rows.items ≡ with_newcomer (presence_of key.now self.old.rows.items)) }
+        ensures others { OthersStay key.now self.old.rows.items self.new.rows.items }
+        ensures waited { IfOk result (λ waited. waited ≡ is_waiting (presence_of key.now self.old.rows.items)) }
+        ensures unchanged { OnErr result (self.new.rows.items ≡ self.old.rows.items) }
+    {
         let Some(at) = self.place_of(key) else {
-            return self.enter(*key);
+            self.enter(*key)?;
+            return Ok(false);
         };
         let Some(presence) = self.rows[at].presence.with_one_more() else {
             return Err(AllocError);
         };
+        let waited = self.rows[at].presence.is_due(None);
         self.rows[at].presence = presence;
-        Ok(())
+        Ok(waited)
     }
 
     /// Enters a key that stands nowhere yet.
-    fn enter(&mut self, key: Key) -> Result<(), AllocError> {
+    fn enter(&mut self, key: Key) -> Result<(), AllocError>
+        requires { presence_of key self.old.rows.items ≡ None }
+        ensures entered { OnOk result (self.new.rows.items ≡ self.old.rows.items ++ record { key = key; presence = Presence.Here 1 } ∷ []) }
+        ensures unchanged { OnErr result (self.new.rows.items ≡ self.old.rows.items) }
+    {
         self.rows.reserve(1)?;
         self.rows.push_reserved(Holder {
             key,
@@ -86,7 +119,11 @@ impl Holders {
 
     /// A connection with this key goes. Where none is left, the key's boards wait until then; where they do not wait, it is told that they are
     /// to be ended now, and the key is forgotten.
-    pub(crate) fn leave(&mut self, key: &Key, until: Option<Instant>) -> Departure {
+    pub(crate) fn leave(&mut self, key: &Key, until: Option<Instant>) -> Departure
+        ensures left { presence_of key.now self.new.rows.items ≡ without_one (presence_of key.now self.old.rows.items) until }
+        ensures others { OthersStay key.now self.old.rows.items self.new.rows.items }
+        ensures answer { result ≡ departure (presence_of key.now self.new.rows.items) }
+    {
         let Some(at) = self.place_of(key) else {
             return Departure::Last;
         };
@@ -95,18 +132,31 @@ impl Holders {
             return Departure::Last;
         };
         self.rows[at].presence = presence;
-        match presence {
-            Presence::Here(_) => Departure::OneOfMore,
-            Presence::Waits(_) => Departure::Waits,
-        }
+        Departure::of(presence)
     }
 
     /// Takes out the first key whose boards have waited until now; where no time is given, the first whose boards wait.
-    pub(crate) fn expire(&mut self, now: Option<Instant>) -> Option<Key> {
+    pub(crate) fn expire(&mut self, now: Option<Instant>) -> Option<Key>
+        ensures due { IfSome result (λ key. HasRunOut now (presence_of key self.old.rows.items)) }
+        ensures gone { IfSome result (λ key. presence_of key self.new.rows.items ≡ None) }
+        ensures others { IfSome result (λ key. OthersStay key self.old.rows.items self.new.rows.items) }
+        ensures none { result ≡ None → NoneHasRunOut now self.old.rows.items }
+        ensures unchanged { result ≡ None → self.new.rows.items ≡ self.old.rows.items }
+    {
+        let at = self.due_place(now)?;
+        let Holder { key, .. } = self.rows.remove(at);
+        Some(key)
+    }
+
+    /// Where the first key stands whose boards have waited until now; where no time is given, the first whose boards wait.
+    fn due_place(&self, now: Option<Instant>) -> Option<usize>
+        ensures within { IfSome result (λ at. at < vec_len self.now.rows) }
+        ensures due { IfSome result (λ at. IfSome (slice_get self.now.rows.items at) (λ holder. IsDue now holder.presence)) }
+        ensures none { result ≡ None → NoneHasRunOut now self.now.rows.items }
+    {
         for at in 0..self.rows.len() {
             if self.rows[at].presence.is_due(now) {
-                let Holder { key, .. } = self.rows.remove(at);
-                return Some(key);
+                return Some(at);
             }
         }
         None

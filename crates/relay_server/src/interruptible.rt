@@ -1,21 +1,29 @@
-//! A stream whose reads the end of serving interrupts.
+//! A stream whose reads are interrupted where the server goes away: serving is to end, or patience with the peer is over.
 
+use crate::deadline::Deadline;
 use crate::outlet::is_silence;
+use crate::patience::Patience;
 use crate::registry::Registry;
 use crate::stream::Stream;
 use std::io;
 use std::io::{ErrorKind, Read, Write};
-use std::time::Duration;
+use std::time::{Clock, Duration};
 
-/// How many seconds a read waits until it looks again whether serving is to end.
+/// How many seconds a read waits until it looks again whether the server goes away.
 const TURN_SECONDS: u64 = 1;
 
-/// A stream whose reads fail once serving is to end before its time: one that waits then notices within a second. What the peer sends
-/// behind the end of the output is read all the same, so that it gets what it was sent last.
+/// How many milliseconds before its bound a read gives up. The system may wake it some milliseconds late, and so the three waits of half a
+/// minute for a peer that has vanished end within 90 seconds.
+const MARGIN_MILLIS: u64 = 100;
+
+/// A stream whose reads fail once serving is to end before its time, or patience with the peer is over: one that waits then notices within a
+/// second. What the peer sends behind the end of the output is read all the same, so that it gets what it was sent last.
 #[derive(Drop)]
-pub(crate) struct Interruptible<'a, S> {
+pub(crate) struct Interruptible<'a, S, C> {
     stream: S,
     registry: &'a Registry,
+    patience: &'a Patience,
+    clock: &'a C,
     /// How long a read waits at most, where that is bounded.
     most: Option<Duration>,
     /// How long the stream's own reads wait at most, where it was told.
@@ -24,21 +32,50 @@ pub(crate) struct Interruptible<'a, S> {
     has_ended: bool,
 }
 
-impl<'a, S: Stream> Interruptible<'a, S> {
-    /// A stream that was not bounded yet, of a connection to the server with this registry.
-    pub(crate) fn new(stream: S, registry: &'a Registry) -> Interruptible<'a, S> {
+impl<'a, S: Stream, C: Clock> Interruptible<'a, S, C> {
+    /// A stream that was not bounded yet, of a connection to the server with this registry, and with this patience.
+    pub(crate) fn new(
+        stream: S,
+        registry: &'a Registry,
+        patience: &'a Patience,
+        clock: &'a C,
+    ) -> Interruptible<'a, S, C> {
         Interruptible {
             stream,
             registry,
+            patience,
+            clock,
             most: None,
             turn: None,
             has_ended: false,
         }
     }
 
-    /// Whether reads fail, since serving is to end.
+    /// Whether reads fail, since the server goes away.
     fn is_interrupted(&self) -> bool {
-        !self.has_ended && self.registry.is_ending()
+        !self.has_ended && (self.registry.is_ending() || self.patience.is_over(self.clock))
+    }
+
+    /// By when a read that begins now gives up, where that is bounded.
+    fn due(&self) -> io::Result<Option<Deadline>> {
+        let Some(most) = self.most else {
+            return Ok(None);
+        };
+        let most = most.saturating_sub(Duration::from_millis(MARGIN_MILLIS));
+        Ok(Some(Deadline::after(self.clock, most)?))
+    }
+
+    /// Lets the stream's own reads wait for a turn at most, and no longer than until then.
+    ///
+    /// # Errors
+    ///
+    /// No time is left (`TimedOut`), or as the system's own calls.
+    fn begin_turn(&mut self, due: Option<Deadline>) -> io::Result<()> {
+        let turn = Duration::from_secs(TURN_SECONDS);
+        match due {
+            Some(due) => self.bound_turn(due.left(self.clock)?.min(turn)),
+            None => self.bound_turn(turn),
+        }
     }
 
     /// Lets the stream's own reads wait for so long at most.
@@ -53,18 +90,16 @@ impl<'a, S: Stream> Interruptible<'a, S> {
     }
 }
 
-impl<S: Stream> Read for Interruptible<'_, S> {
+impl<S: Stream, C: Clock> Read for Interruptible<'_, S, C> {
     fn read(&mut self, buf: &mut [u8]) -> io::Result<usize> {
-        let mut left = self.most.unwrap_or(Duration::MAX);
+        let due = self.due()?;
         for _ in 0..u64::MAX {
             if self.is_interrupted() {
                 return Err(io::Error::from(ErrorKind::ConnectionAborted));
             }
-            let turn = left.min(Duration::from_secs(TURN_SECONDS));
-            self.bound_turn(turn)?;
-            left = left.saturating_sub(turn);
+            self.begin_turn(due)?;
             let heard = self.stream.read(buf);
-            if left.is_zero() || !is_silence(&heard) {
+            if !is_silence(&heard) {
                 return heard;
             }
         }
@@ -72,7 +107,7 @@ impl<S: Stream> Read for Interruptible<'_, S> {
     }
 }
 
-impl<S: Stream> Write for Interruptible<'_, S> {
+impl<S: Stream, C: Clock> Write for Interruptible<'_, S, C> {
     ghost contents = { λ s. S.contents s.stream };
 
     fn write(&mut self, buf: &[u8]) -> io::Result<usize> {
@@ -84,7 +119,7 @@ impl<S: Stream> Write for Interruptible<'_, S> {
     }
 }
 
-impl<S: Stream> Stream for Interruptible<'_, S> {
+impl<S: Stream, C: Clock> Stream for Interruptible<'_, S, C> {
     fn bound_reads(&mut self, most: Option<Duration>) -> io::Result<()> {
         self.most = most;
         Ok(())

@@ -9,14 +9,18 @@ use crate::board_map::BoardMap;
 use crate::boards::Boards;
 use crate::broadcast::Broadcast;
 use crate::chime::Chime;
+use crate::chronicle::{Chronicle, What};
 use crate::hall::{Forsaken, Hall};
 use crate::holders::Holders;
 use crate::key::Key;
+use crate::lookout::Lookout;
+use crate::patience::Patience;
+use crate::shown::Shown;
 use c960_game::{Ending, Limits, Refusal};
 use relay_core::BoardName;
 use std::alloc::{AllocError, Global};
 use std::marker::Model;
-use std::sync::atomic::{AtomicBool, AtomicU64, Ordering};
+use std::sync::atomic::{AtomicBool, AtomicU32, AtomicU64, Ordering};
 use std::sync::{Arc, Mutex, Wait};
 use std::time::{Clock, Duration, Instant};
 
@@ -28,10 +32,18 @@ pub struct Registry {
     limits: Limits,
     /// How long the boards of a key wait for a connection with it.
     grace: Duration,
+    /// How long a peer that owns and follows nothing may send nothing, if that has a bound.
+    idle: Option<Duration>,
     alloc: Global,
+    /// Those who look at all boards.
+    lookouts: Arc<Vec<Arc<Lookout, Global>>, Global>,
+    /// How many watch by them, where there are any.
+    watching: Option<Arc<AtomicU32, Global>>,
     /// Rung as a session's thread ends. It stands here, made before anybody is listened for, so that serving needs no memory before
     /// it accepts.
     pub(crate) ended: Chime,
+    /// What is noted for the log.
+    pub(crate) chronicle: Chronicle,
     /// Rung where the boards of a key begin to wait, and where serving ends.
     pub(crate) waiting: Chime,
     /// Whether no more connections are accepted.
@@ -80,13 +92,101 @@ impl Registry {
             hall: Mutex::new(hall),
             limits,
             grace: Duration::from_secs(u64::from(seconds)),
+            idle: None,
             alloc,
+            lookouts: Arc::new(alloc, Vec::new(alloc)).map_err(|_| AllocError)?,
+            watching: None,
             ended: Chime::new(),
+            chronicle: Chronicle::new(alloc),
             waiting: Chime::new(),
             is_closed: AtomicBool::new(false),
             is_ending: AtomicBool::new(false),
             coming: AtomicU64::new(0),
         })
+    }
+
+    /// The same registry, at whose boards these look, by which so many watch. Each is woken where a board is rung for that is opened from now on,
+    /// or is opened.
+    ///
+    /// # Errors
+    ///
+    /// There was no memory.
+    pub fn looked_at_by(
+        mut self,
+        lookouts: Vec<Arc<Lookout, Global>>,
+        watching: Arc<AtomicU32, Global>,
+    ) -> Result<Registry, AllocError>
+        ensures limits { IfOk result (λ registry. registry ≡ self) }
+    {
+        match Arc::new(self.alloc, lookouts) {
+            Ok(lookouts) => {
+                self.lookouts = lookouts;
+                self.watching = Some(watching);
+                Ok(self)
+            }
+            Err(_) => Err(AllocError),
+        }
+    }
+
+    /// How many watch by those who look at all boards, where there are any.
+    pub(crate) fn watching(&self) -> Option<u32> {
+        match &self.watching {
+            Some(count) => Some(count.load(Ordering::SeqCst)),
+            None => None,
+        }
+    }
+
+    /// The board of this name, to look at.
+    ///
+    /// # Errors
+    ///
+    /// There was no memory.
+    pub fn show<R: Wait>(&self, rt: &R, name: &BoardName) -> Result<Option<Shown>, AllocError> {
+        match self.find(rt, name) {
+            Ok(broadcast) => Ok(Some(Shown::new(broadcast))),
+            Err(Refusal::NoSuchBoard) => Ok(None),
+            Err(_) => Err(AllocError),
+        }
+    }
+
+    /// The same registry, at which a peer that owns and follows nothing may send nothing for so many seconds; with 0 it always may.
+    pub fn with_idle(mut self, seconds: u32) -> Registry
+        ensures limits { result ≡ self }
+    {
+        self.idle = if seconds == 0 {
+            None
+        } else {
+            Some(Duration::from_secs(u64::from(seconds)))
+        };
+        self
+    }
+
+    /// The same registry, where what happens to boards is noted for the log.
+    pub fn with_log(mut self) -> Registry
+        ensures limits { result ≡ self }
+    {
+        self.chronicle.is_kept = true;
+        self
+    }
+
+    /// A patience for one peer, which has not begun.
+    pub(crate) fn patience(&self) -> Patience {
+        Patience::new(self.idle)
+    }
+
+    /// The board at this place, in the order of opening, to look at.
+    ///
+    /// # Errors
+    ///
+    /// There was no memory.
+    pub fn show_at<R: Wait>(&self, rt: &R, at: usize) -> Result<Option<Shown>, AllocError> {
+        match self.hall.lock(rt).boards.at(at) {
+            Some(broadcast) => match share(broadcast) {
+                Ok(broadcast) => Ok(Some(Shown::new(broadcast))),
+                Err(_) => Err(AllocError),
+            },
+            None => Ok(None),
+        }
     }
 
     /// Whether the keys of connections are looked at.
@@ -99,9 +199,30 @@ impl Registry {
         self.hall.lock(rt).is_watched = is_watched;
     }
 
+    /// Notes for the log what happened to a board.
+    pub(crate) fn note<R: Wait>(&self, rt: &R, board: BoardName, what: What) {
+        self.chronicle.note(rt, board, what);
+    }
+
+    /// Notes that a connection follows a board.
+    pub(crate) fn follows(&self) {
+        self.chronicle.followers.fetch_add(1, Ordering::SeqCst);
+    }
+
+    /// Notes that one follows a board no more.
+    pub(crate) fn unfollows(&self) {
+        self.chronicle.followers.fetch_sub(1, Ordering::SeqCst);
+    }
+
     /// Notes that a connection was accepted.
     pub(crate) fn comes(&self) {
         self.coming.fetch_add(1, Ordering::SeqCst);
+        self.chronicle.connections.fetch_add(1, Ordering::SeqCst);
+    }
+
+    /// Notes that a connection has gone, or got no thread.
+    pub(crate) fn goes(&self) {
+        self.chronicle.connections.fetch_sub(1, Ordering::SeqCst);
     }
 
     /// Notes that one has shaken hands, or failed to.
@@ -150,7 +271,30 @@ impl Registry {
     ///
     /// There was no memory.
     pub(crate) fn arrive<R: Wait>(&self, rt: &R, key: &Key) -> Result<(), AllocError> {
-        self.hall.lock(rt).holders.arrive(key)
+        let waited = self.hall.lock(rt).holders.arrive(key)?;
+        if waited {
+            self.note_own(rt, key, What::IsBack);
+        }
+        Ok(())
+    }
+
+    /// Notes this of each board of a key whose game goes on.
+    fn note_own<R: Wait>(&self, rt: &R, key: &Key, what: What) {
+        if !self.chronicle.is_kept {
+            return;
+        }
+        for at in 0..self.count(rt) {
+            if let Some(board) = self.board_at(rt, at) {
+                if board.is_owned_by(key) && board.goes_on(rt) {
+                    self.chronicle.note(rt, board.name, what);
+                }
+            }
+        }
+    }
+
+    /// How many boards there are.
+    pub(crate) fn count<R: Wait>(&self, rt: &R) -> usize {
+        self.hall.lock(rt).boards.len()
     }
 
     /// A connection with this key goes. Where it was the last one, the key's boards wait, or are ended as abandoned.
@@ -161,6 +305,7 @@ impl Registry {
         };
         let (forsaken, waits) = self.hall.lock(rt).leave(key, until);
         if waits {
+            self.note_own(rt, key, What::Waits);
             self.waiting.ring();
             self.waiting.wake();
         }
@@ -195,19 +340,27 @@ impl Registry {
         for at in 0..forsaken.count {
             let hall = self.hall.lock(rt);
             if let Some(broadcast) = hall.forsaken_at(at, &forsaken.key) {
-                abandon(rt, broadcast);
+                self.abandon(rt, broadcast);
             }
         }
     }
 
     /// Ends all boards as abandoned. A game that has ended stays as it ended. A board that is opened meanwhile is ended with its connection.
     pub(crate) fn end_all<R: Wait>(&self, rt: &R) {
-        let count = self.hall.lock(rt).boards.len();
-        for at in 0..count {
+        for at in 0..self.count(rt) {
             if let Some(broadcast) = self.board_at(rt, at) {
-                abandon(rt, &broadcast);
+                self.abandon(rt, &broadcast);
             }
         }
+    }
+
+    /// Ends a board as abandoned, unless it has ended, and wakes its followers.
+    fn abandon<R: Wait>(&self, rt: &R, broadcast: &Broadcast) {
+        if let Ok(outcome) = broadcast.end(rt, Ending::Abandoned) {
+            self.chronicle
+                .note(rt, broadcast.name, What::Ended(outcome));
+        }
+        broadcast.wake();
     }
 
     /// The board at this place, in the order of opening.
@@ -293,6 +446,7 @@ impl Registry {
         let opened = self.make(name, start, owner)?;
         let entered = share(&opened)?;
         self.hall.lock(rt).boards.enter(start, entered)?;
+        opened.wake();
         Ok(opened)
     }
 
@@ -312,18 +466,15 @@ impl Registry {
         ensures bad_start { (result ≡ Err Refusal.BadStart) → 960 ≤ start }
         ensures refusals { IfErr result (λ r. (r ≡ Refusal.BadStart) ⊎ (r ≡ Refusal.OutOfMemory)) }
     {
-        let broadcast = Broadcast::open(self.alloc, name, start, owner, self.limits)?;
+        let Ok(lookouts) = Arc::try_clone(&self.lookouts) else {
+            return Err(Refusal::OutOfMemory);
+        };
+        let broadcast = Broadcast::open(self.alloc, name, start, owner, self.limits, lookouts)?;
         match Arc::new(self.alloc, broadcast) {
             Ok(broadcast) => Ok(broadcast),
             Err(_) => Err(Refusal::OutOfMemory),
         }
     }
-}
-
-/// Ends a board as abandoned, unless it has ended, and wakes its followers.
-fn abandon<R: Wait>(rt: &R, broadcast: &Broadcast) {
-    let _ = broadcast.end(rt, Ending::Abandoned);
-    broadcast.chime.wake();
 }
 
 /// One more owner of the board.

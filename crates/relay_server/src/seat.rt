@@ -7,11 +7,12 @@ ghost use Rattle.relay_server.specs.Seating.{EndReply, FollowReply, OpenReply, R
 
 use crate::board_map::BoardMap;
 use crate::broadcast::Broadcast;
+use crate::chronicle::What;
 use crate::key::Key;
 use crate::registry::{Registry, share};
 use crate::spectating::Spectating;
 use c960_board::Move;
-use c960_game::{Ending, Refusal};
+use c960_game::{Ending, Outcome, Refusal};
 use relay_core::{BoardName, Reply, Step};
 use relay_pushing::Keeper;
 use std::alloc::Global;
@@ -82,15 +83,17 @@ impl<'a, R: Wait> Seat<'a, R> {
     /// Gives the seat up: who is still asleep is woken, and the follower leaves.
     pub(crate) fn leave(self) {
         let Seat {
+            registry,
             spectating,
             rung,
             ..
         } = self;
         if let Some(rung) = &rung {
-            rung.chime.wake();
+            rung.wake();
         }
         if let Some(spectating) = spectating {
             spectating.leave();
+            registry.unfollows();
         }
     }
 
@@ -111,6 +114,7 @@ impl<'a, R: Wait> Seat<'a, R> {
         ensures follows { self.new ≡ self.old }
     {
         let opened = self.registry.open(self.rt, name, start, self.key)?;
+        self.registry.note(self.rt, name, What::Opened);
         let _ = self.own.insert(opened);
         Ok(Reply::Opened)
     }
@@ -122,6 +126,9 @@ impl<'a, R: Wait> Seat<'a, R> {
     {
         let broadcast = self.find(name)?;
         let (place, outcome) = broadcast.submit(self.rt, m)?;
+        if let Some(outcome) = outcome {
+            self.note_end(name, outcome);
+        }
         self.note(broadcast);
         Ok(Reply::Played { place, outcome })
     }
@@ -133,6 +140,7 @@ impl<'a, R: Wait> Seat<'a, R> {
     {
         let broadcast = self.find(name)?;
         let outcome = broadcast.end(self.rt, ending)?;
+        self.note_end(name, outcome);
         self.note(broadcast);
         Ok(Reply::Ended(outcome))
     }
@@ -149,7 +157,13 @@ impl<'a, R: Wait> Seat<'a, R> {
         let (follower, position) = broadcast.follow(self.rt, from)?;
         let joined = follower.joined();
         self.spectating = Some(Spectating::new(broadcast, follower));
+        self.registry.follows();
         Ok(Reply::Following { joined, position })
+    }
+
+    /// Notes for the log that a game has ended so.
+    fn note_end(&self, name: BoardName, outcome: Outcome) {
+        self.registry.note(self.rt, name, What::Ended(outcome));
     }
 
     /// Notes a board that was rung. The sleepers of one noted before are woken.
@@ -158,7 +172,7 @@ impl<'a, R: Wait> Seat<'a, R> {
     {
         if let Some(earlier) = &self.rung {
             if earlier.name != rung.name {
-                earlier.chime.wake();
+                earlier.wake();
             }
         }
         self.rung = Some(rung);

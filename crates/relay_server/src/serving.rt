@@ -6,7 +6,9 @@ use crate::door::{Door, Newcomer, turn_away};
 use crate::ending::watch_input;
 use crate::grace::Grace;
 use crate::interruptible::Interruptible;
+use crate::patience::Patience;
 use crate::registry::Registry;
+use crate::scribe::Scribe;
 use crate::sessions::{Arrival, SessionEnd, attend, come};
 use crate::socket::Socket;
 use crate::threads::{Running, Shared, join_all, join_ended, join_until_due, join_until_ending};
@@ -99,6 +101,7 @@ where
     if until_input_ends {
         watch_input(rt, registry, &listener);
     }
+    let scribe = Scribe::start(rt, registry);
     let grace = Grace::start(rt, registry);
     let mut reception = Reception {
         rt,
@@ -117,7 +120,7 @@ where
         Some(most) => reception.meet_all(most),
         None => reception.meet_forever(),
     }
-    reception.close(grace)
+    reception.close(grace, scribe)
 }
 
 impl<'a, R, G> Reception<'a, R, G>
@@ -267,7 +270,7 @@ where
 
     /// Closes the listener, and waits until all sessions have ended; where serving is to end before its time, for so long at most. The boards
     /// that wait are ended first.
-    fn close(self, grace: Grace) -> ServeEnd
+    fn close(self, grace: Grace, scribe: Scribe) -> ServeEnd
         requires counted { self.failed ≤ self.met }
         ensures { result.served + result.failed ≡ self.entry.met }
     {
@@ -295,6 +298,7 @@ where
             join_all(rt, running);
         }
         grace.join(rt);
+        scribe.end(rt, registry);
         ServeEnd {
             served: met.saturating_sub(failed),
             failed,
@@ -307,15 +311,17 @@ fn come_in<'a, R: Wait + Clock>(
     own: &'a R,
     alloc: Global,
     registry: &'a Registry,
+    patience: &'a Patience,
     shared: &Shared,
-) -> Result<Arrival<Interruptible<'a, Socket<'a, R>>>, SessionEnd> {
+) -> Result<Arrival<Interruptible<'a, Socket<'a, R>, R>>, SessionEnd> {
     let Some(stream) = shared.take(own) else {
         return Err(SessionEnd::Failed);
     };
     let Ok(socket) = Socket::new(own, stream) else {
         return Err(SessionEnd::Failed);
     };
-    come(own, alloc, registry, Interruptible::new(socket, registry))
+    let stream = Interruptible::new(socket, registry, patience, own);
+    come(own, alloc, registry, stream)
 }
 
 /// Starts a thread for the session of a connection.
@@ -343,12 +349,16 @@ where
     let started = Builder::new()
         .stack_size(STACK_BYTES)
         .spawn(rt, move || {
-            let arrival = come_in(&own, alloc, &registry, &*of_thread);
+            let patience = registry.patience();
+            let arrival = come_in(&own, alloc, &registry, &patience, &*of_thread);
             registry.has_come();
             let end = match arrival {
-                Ok(arrival) => attend(&own, alloc, &registry, connection, arrival, &*gate),
+                Ok(arrival) => attend(
+                    &own, alloc, &registry, connection, arrival, &*gate, &patience,
+                ),
                 Err(end) => end,
             };
+            registry.goes();
             of_thread.has_ended.store(true, Ordering::SeqCst);
             registry.ended.ring();
             registry.ended.wake();
@@ -357,6 +367,7 @@ where
         .ok();
     let Some(handle) = started else {
         coming.has_come();
+        coming.goes();
         return None;
     };
     running.push_reserved(Running {

@@ -1,20 +1,23 @@
 //! Sessions: one connection from its handshake to its end.
 
-ghost use Rattle.std.specs.Prelude.{◌≡◌, ◌↔◌, if◌then◌else◌, None, Some};
+ghost use Rattle.std.specs.Prelude.{◌≡◌, ◌↔◌, if◌then◌else◌, None, Some, is_some, true};
+ghost use Rattle.relay_pushing.specs.Connections.{Ends};
 ghost use Rattle.relay_server.specs.Memory.{LacksMemory};
 ghost use Rattle.relay_server.specs.Spectating.{Conversed, Followed, Pushed};
 
+use crate::chronicle::What;
 use crate::key::Key;
 use crate::line::Line;
 use crate::memory::is_want_of_memory;
 use crate::outlet::{MOST_SILENT_SECONDS, SocketOutlet};
+use crate::patience::Patience;
 use crate::registry::Registry;
 use crate::request::receive;
 use crate::seat::Seat;
 use crate::spectating::Spectating;
 use crate::stream::Stream;
 use crate::talk::{Stop, Talk, TalkEnd};
-use relay_pushing::{Conn, Gate, Outlet, PushEnd};
+use relay_pushing::{Conn, Gate, Keeper, Outlet, PushEnd};
 use std::alloc::Global;
 use std::sync::Wait;
 use std::time::{Clock, Duration};
@@ -37,12 +40,14 @@ pub enum SessionEnd {
     NoHandshake,
     /// Serving was to end, and the peer was told so.
     Ending,
+    /// The peer owned and followed nothing, said nothing for too long, and was told to go.
+    Idle,
 }
 
 /// The close code after `Over`, and where as many messages were read as may be: a normal end (RFC 6455, section 7.4.1).
 const NORMAL: u16 = 1000;
 
-/// The close code where serving is to end: the server goes away (RFC 6455, section 7.4.1).
+/// The close code where serving is to end, or patience with a peer is over: the server goes away (RFC 6455, section 7.4.1).
 const GOING_AWAY: u16 = 1001;
 
 /// The close code after `Cut`: this server's own, of those for private use (RFC 6455, section 7.4.2).
@@ -63,8 +68,9 @@ pub fn session<'a, R: Wait + Clock, S: Stream + Drop, G: Gate>(
     stream: S,
     gate: &G,
 ) -> SessionEnd {
+    let patience = Patience::new(None);
     match come(rt, alloc, registry, stream) {
-        Ok(arrival) => attend(rt, alloc, registry, connection, arrival, gate),
+        Ok(arrival) => attend(rt, alloc, registry, connection, arrival, gate, &patience),
         Err(end) => end,
     }
 }
@@ -100,6 +106,7 @@ pub(crate) fn attend<'a, R: Wait + Clock, S: Stream + Drop, G: Gate>(
     connection: u32,
     arrival: Arrival<S>,
     gate: &G,
+    patience: &Patience,
 ) -> SessionEnd {
     let Arrival { outlet, key } = arrival;
     let mut talk = Talk {
@@ -110,6 +117,8 @@ pub(crate) fn attend<'a, R: Wait + Clock, S: Stream + Drop, G: Gate>(
         seat: Seat::new(rt, registry, key),
         gate,
         is_open: false,
+        patience,
+        is_owner: false,
     };
     let end = converse(rt, &mut talk);
     let Talk {
@@ -119,21 +128,28 @@ pub(crate) fn attend<'a, R: Wait + Clock, S: Stream + Drop, G: Gate>(
         ..
     } = talk;
     outlet.give_up();
-    match &key {
-        None => {
-            conn.finish(&mut seat);
-            seat.leave();
-        }
-        Some(key) => {
-            let _ = conn.part();
-            seat.leave();
-            registry.leave(rt, key);
-        }
+    end_own(conn, &key, &mut seat);
+    seat.leave();
+    if let Some(key) = &key {
+        registry.leave(rt, key);
     }
     if end != SessionEnd::Failed {
         outlet.drain(rt);
     }
     end
+}
+
+/// Ends the boards that a connection opened as abandoned, where it has no key. With one no step is made: its boards may outlive it.
+fn end_own<K: Keeper>(conn: Conn, key: &Option<Key>, keeper: &mut K)
+    ensures unkeyed { key.now ≡ None → Ends K.makes keeper.old conn keeper.new }
+    ensures keyed { is_some key.now ≡ true → keeper.new ≡ keeper.old }
+{
+    match key {
+        None => conn.finish(keeper),
+        Some(_) => {
+            let _ = conn.part();
+        }
+    }
 }
 
 /// Reads the request and answers it.
@@ -196,6 +212,10 @@ fn converse<'a, R: Wait + Clock, S: Stream + Drop, G: Gate>(
             Err(Stop) => SessionEnd::Failed,
         },
         TalkEnd::Follows => follow(rt, talk.alloc, &mut talk.outlet, &mut talk.seat),
+        TalkEnd::Idle => {
+            let _ = talk.outlet.close(GOING_AWAY);
+            SessionEnd::Idle
+        }
         TalkEnd::Failed if talk.seat.registry().is_ending() => {
             let _ = talk.outlet.close(GOING_AWAY);
             SessionEnd::Ending
@@ -236,6 +256,7 @@ fn push<R: Wait, S: Stream + Drop>(
             SessionEnd::Over
         }
         PushEnd::Cut => {
+            registry.note(rt, spectating.board(), What::Cut);
             let _ = outlet.close(CUT_OFF);
             SessionEnd::Cut
         }

@@ -6,7 +6,7 @@ ghost use Rattle.relay_server.specs.Spectating.{Sent};
 use crate::broadcast::Broadcast;
 use crate::chime::BoardBell;
 use live_board::Follower;
-use relay_core::Taken;
+use relay_core::{BoardName, Taken};
 use relay_pushing::{Outlet, PushEnd, Source, push_all};
 use std::alloc::Global;
 use std::marker::Model;
@@ -53,6 +53,11 @@ impl Spectating {
             broadcast,
             source: FollowerSource { follower },
         }
+    }
+
+    /// The name of the board that it follows.
+    pub(crate) fn board(&self) -> BoardName {
+        self.broadcast.name
     }
 
     /// Sends what the follower takes, until its end: the moves from its next place on, each once and in order, and then the end.

@@ -5,9 +5,10 @@ ghost use Rattle.relay_messages.specs.Answers.{answer_text};
 ghost use Rattle.relay_messages.specs.declared.answer.Answer.TheVariants.{Fault};
 ghost use Rattle.relay_messages.specs.declared.fault.MessageFault.TheVariants.{BadField};
 ghost use Rattle.relay_pushing.specs.Sending.{Gains};
-ghost use Rattle.relay_server.specs.Talking.{AnswerSent, BreachTold, Heard, MessageAnswered, MessageStopped, TalkEnds};
+ghost use Rattle.relay_server.specs.Talking.{AnswerSent, BreachTold, Heard, IsSentAway, MessageAnswered, MessageStopped, TalkEnds};
 
 use crate::outlet::SocketOutlet;
+use crate::patience::Patience;
 use crate::seat::Seat;
 use crate::stream::Stream;
 use relay_frames::{Breach, Code, Event};
@@ -31,6 +32,8 @@ pub(crate) enum TalkEnd {
     Follows,
     /// The peer broke the protocol.
     Broken(Breach),
+    /// The peer owns and follows nothing, and said nothing for too long.
+    Idle,
     /// The device failed, or there was no memory.
     Failed,
 }
@@ -46,19 +49,30 @@ pub(crate) struct Talk<'a, 'g, R, S, G> {
     pub(crate) gate: &'g G,
     /// Whether a command was answered.
     pub(crate) is_open: bool,
+    /// How long the peer is waited for.
+    pub(crate) patience: &'g Patience,
+    /// Whether a board is known to belong to the connection. None is ever removed, so it stays so.
+    pub(crate) is_owner: bool,
 }
 
 impl<'a, 'g, R: Wait, S: Stream + Drop, G: Gate> Talk<'a, 'g, R, S, G> {
     /// Reads and answers. The text that makes the connection follow is the last one that it hears.
     pub(crate) fn run<C: Clock>(&mut self, clock: &C) -> TalkEnd
-        ensures { self.old.seat.follower ≡ None → TalkEnds result self.new.seat.follower self.new.outlet.texts.items }
+        ensures follows { self.old.seat.follower ≡ None → TalkEnds result self.new.seat.follower self.new.outlet.texts.items }
+        ensures idle { IsSentAway (⟦<Seat<'a, R> as Keeper>⟧.tells self.new.seat) result self.new.conn }
     {
+        self.be_patient(clock);
         for _ in 0..MOST_MESSAGES {
             let event = match self.outlet.read(clock) {
                 Ok(Event::Closed(code)) => return TalkEnd::Closed(code),
                 Ok(Event::Broken(breach)) => return TalkEnd::Broken(breach),
                 Ok(event) => event,
-                Err(_) => return TalkEnd::Failed,
+                Err(_) if !self.patience.is_over(clock) => return TalkEnd::Failed,
+                Err(_) if !self.conn.is_owner(&self.seat) => return TalkEnd::Idle,
+                Err(_) => {
+                    self.be_patient(clock);
+                    continue;
+                }
             };
             match self.hear(&event) {
                 Ok(()) => {}
@@ -67,8 +81,25 @@ impl<'a, 'g, R: Wait, S: Stream + Drop, G: Gate> Talk<'a, 'g, R, S, G> {
             if self.seat.follows() {
                 return TalkEnd::Follows;
             }
+            if matches!(event, Event::Text(_) | Event::Binary(_)) {
+                self.be_patient(clock);
+            }
         }
         TalkEnd::Full
+    }
+
+    /// Patience begins anew, as it does behind each message. With an owner it has no end.
+    fn be_patient<C: Clock>(&mut self, clock: &C)
+        ensures conn { self.new.conn ≡ self.old.conn }
+        ensures seat { self.new.seat ≡ self.old.seat }
+        ensures texts { self.new.outlet.texts ≡ self.old.outlet.texts }
+    {
+        self.is_owner = self.is_owner || self.conn.is_owner(&self.seat);
+        if self.is_owner {
+            self.patience.lift();
+        } else {
+            self.patience.begin(clock);
+        }
     }
 
     /// Answers what the peer said: a text and a binary message by a text, a ping by a pong.

@@ -55,7 +55,7 @@ impl Wakes {
         ensures most { self.new.most ≡ self.old.most }
     {
         if let Some(rung) = &self.rung {
-            rung.chime.wake();
+            rung.wake();
         }
         self.rung = None;
         self.put_off = 0;

@@ -1,6 +1,6 @@
 //! The tape of a board: the bytes that all its spectators are sent behind their greetings.
 
-ghost use Rattle.std.specs.Prelude.{◌≡◌, ◌+◌, ◌<◌, ◌≤◌, [], ◌∷◌, ◌++◌, length, drop, None, is_some, OnOk, OnErr, IfOk, vec_len, vec_capacity};
+ghost use Rattle.std.specs.Prelude.{◌≡◌, ◌+◌, ◌<◌, ◌≤◌, [], ◌∷◌, ◌++◌, length, drop, take, None, is_some, OnOk, OnErr, IfOk, vec_len, vec_capacity};
 ghost use Rattle.relay_watching.specs.Between.{is_closed, is_end};
 ghost use Rattle.relay_watching.specs.Course.{HasSomeMore, opened, with_move, with_moves, with_outcome};
 ghost use Rattle.relay_watching.specs.Progress.{GoesOn, WasSent, newcomer};
@@ -149,6 +149,20 @@ impl Tape {
         } else {
             &[]
         }
+    }
+
+    /// Of the bytes behind so many those up to the next end of a frame.
+    pub(crate) fn frame_behind(&self, at: usize) -> &[u8]
+        ensures part { result.now ≡ take (length result.now) (drop at (tape_bytes self.now)) }
+        ensures all { result.now ≡ [] → drop at (tape_bytes self.now) ≡ [] }
+    {
+        let rest = self.behind(at);
+        let next = self.ends.partition_point(|end| *end <= at);
+        let length = match self.ends.get(next) {
+            Some(end) => end.saturating_sub(at).min(rest.len()),
+            None => 0,
+        };
+        if length == 0 { rest } else { &rest[..length] }
     }
 
     /// Whether a frame ends behind so many bytes, or the first begins.

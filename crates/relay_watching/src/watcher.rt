@@ -77,6 +77,20 @@ impl Watcher {
         self.offered(tape)
     }
 
+    /// Of the bytes that are to be written next those of one frame: of the one that is written in part, or else of the next.
+    #[tactic(auto, using(crate::proofs::Progresses::due_none))]
+    pub fn due_of_frame<'a>(&'a self, tape: &'a Tape) -> &'a [u8]
+        ensures part { result.now ≡ take (length result.now) (offered tape.now self.now) }
+        ensures all { result.now ≡ [] → due tape.now self.now ≡ [] }
+    {
+        let left = self.left();
+        if left.is_empty() {
+            tape.frame_behind(self.at)
+        } else {
+            left
+        }
+    }
+
     /// Counts so many of the bytes offered as written.
     fn advance(&mut self, tape: &Tape, n: usize)
         requires { n ≤ length (offered tape.now self.old) }

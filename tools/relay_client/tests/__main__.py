@@ -8,6 +8,8 @@ import sys
 import unittest
 
 HERE = pathlib.Path(__file__).resolve().parent
+# So many tests at most are tried again. They hang on time, and a machine may be too busy with the others.
+MOST_AGAIN = 5
 
 
 def cases(suite):
@@ -26,6 +28,31 @@ def run(case):
     return case.id(), faults, [why for _, why in result.skipped]
 
 
+def told(cases, run_all):
+    """Runs the tests and prints what comes of each; answers those that failed, and how many were skipped."""
+    failed, skipped = [], 0
+    for case, (name, faults, reasons) in run_all(cases):
+        for words in faults:
+            print(f"failed: {name}\n{words}", flush=True)
+        for words in reasons:
+            print(f"skipped: {name}: {words}", flush=True)
+        failed += [case] if faults else []
+        skipped += bool(reasons)
+    return failed, skipped
+
+
+def side_by_side(found):
+    with concurrent.futures.ThreadPoolExecutor(len(found)) as pool:
+        running = {pool.submit(run, case): case for case in found}
+        for ended in concurrent.futures.as_completed(running):
+            yield running[ended], ended.result()
+
+
+def one_after_another(found):
+    for case in found:
+        yield case, run(case)
+
+
 def main():
     # The servers are of its group. Where it is told to end, they end with it.
     if os.getpgrp() != os.getpid():
@@ -34,20 +61,16 @@ def main():
     # A shell starts what is to run in its background with INT ignored, and then no script that this starts hears it either.
     signal.signal(signal.SIGINT, signal.default_int_handler)
     found = list(cases(unittest.defaultTestLoader.discover(str(HERE), top_level_dir=str(HERE.parents[1]))))
-    failed, skipped = 0, 0
-    with concurrent.futures.ThreadPoolExecutor(len(found)) as pool:
-        for ended in concurrent.futures.as_completed([pool.submit(run, case) for case in found]):
-            name, faults, reasons = ended.result()
-            for words in faults:
-                print(f"failed: {name}\n{words}", flush=True)
-            for words in reasons:
-                print(f"skipped: {name}: {words}", flush=True)
-            failed, skipped = failed + bool(faults), skipped + bool(reasons)
+    failed, skipped = told(found, side_by_side)
+    again = len(failed)
+    if 0 < again <= MOST_AGAIN:
+        print(f"{again} of {len(found)} checks of sessions failed beside the others: once more, each by itself", flush=True)
+        failed, _ = told(failed, one_after_another)
     if failed:
-        print(f"{failed} of {len(found)} checks of sessions failed")
+        print(f"{len(failed)} of {len(found)} checks of sessions failed")
         return 1
     transcripts = sum(".test_transcripts." in case.id() for case in found)
-    print(f"{len(found) - transcripts - skipped} more checks of sessions")
+    print(f"{len(found) - transcripts - skipped} more checks of sessions" + (f", {again} of them in a second try" if again else ""))
     return 0
 
 

@@ -1,9 +1,27 @@
 """What the tests of sessions share: an owner and a guest of a board, and a long game."""
 
+import contextlib
+
 from relay_client.connection import Connection
+from relay_client.server import Server
 from relay_client.texts import OPENED, following, follows, moved, opens, over, played, submits
 
 ABANDONED = over("abandoned")
+
+
+@contextlib.contextmanager
+def main_port(count):
+    """The port of a server that serves so many connections."""
+    with Server("--connections", str(count)) as server:
+        yield server.port
+        server.has_served(count)
+
+
+@contextlib.contextmanager
+def watch_port(_count):
+    """The port of a server for those who only watch. It counts no connections."""
+    with Server("--forever", watch=True) as server:
+        yield server.watch_port
 
 
 def owner_of(server, board="b1", **options):

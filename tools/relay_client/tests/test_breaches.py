@@ -4,8 +4,8 @@ import struct
 import unittest
 
 from relay_client.connection import Connection
-from relay_client.frames import CLOSE, MASK, PING, PONG, TEXT, head
-from relay_client.server import Server
+from relay_client.frames import CLOSE, MASK, PING, PONG, TEXT, masked
+from relay_client.tests.sessions import main_port, watch_port
 from relay_client.texts import BAD_FIELD, NOT_JSON
 
 BINARY = 0x82
@@ -17,11 +17,6 @@ PROTOCOL, NOT_UTF8, TOO_BIG = "close 1002", "close 1007", "close 1009"
 
 # Section 8.1 and RFC 3629: a byte that no character has, an overlong form, a surrogate, beyond the last character, cut short.
 NO_TEXTS = b"a\xff", b"\xc0\xaf", b"\xed\xa0\x80", b"\xf4\x90\x80\x80", b"a\xe2\x82"
-
-
-def masked(first, payload):
-    """A client's frame of this first byte."""
-    return head(first, len(payload)) + bytes(byte ^ MASK[at % 4] for at, byte in enumerate(payload))
 
 
 def code(number, reason=b""):
@@ -77,18 +72,19 @@ FRAGMENTS = {
 
 
 class Breaches(unittest.TestCase):
+    listening = staticmethod(main_port)
+
     def get(self, breaches, *told):
         """Each of these breaches is told these lines and then the end, behind an answer to what was sent before it."""
-        with Server("--connections", str(len(breaches))) as server:
+        with self.listening(len(breaches)) as port:
             for name, sent in breaches.items():
                 with self.subTest(name):
-                    peer = Connection(server.port)
+                    peer = Connection(port)
                     peer.send("[")
                     peer.stream.sendall(sent)
                     self.assertEqual([peer.receive_any() for _ in range(1 + len(told))], [NOT_JSON, *told])
                     peer.has_ended()
                     peer.close()
-            server.has_served(len(breaches))
 
     def test_frames_that_break_the_protocol_are_told_1002(self):
         self.get({**UNMASKED, **HEADS, **CONTROLS, **PLACES}, PROTOCOL)
@@ -103,21 +99,23 @@ class Breaches(unittest.TestCase):
         self.get(FRAGMENTS, TOO_BIG)
 
     def test_a_message_of_1024_fragments_is_answered(self):
-        with Server("--connections", "1") as server:
-            peer = Connection(server.port)
+        with self.listening(1) as port:
+            peer = Connection(port)
             peer.stream.sendall(masked(FIRST_OF_TEXT, b"") + masked(MIDDLE, b"") * 1022 + masked(LAST, b"["))
             peer.hears(NOT_JSON)
             peer.close()
-            server.has_served(1)
 
     def test_a_peer_that_sends_on_behind_its_breach_still_reads_why(self):
         """What still comes is read and dropped: a reset would take the close away."""
-        with Server("--connections", "1") as server:
-            peer = Connection(server.port)
+        with self.listening(1) as port:
+            peer = Connection(port)
             peer.stream.sendall(b"\x83\x80" + MASK)
             for _ in range(100):
                 peer.stream.sendall(masked(TEXT, b"[" * 10_000))
             peer.hears(PROTOCOL)
             peer.has_ended()
             peer.close()
-            server.has_served(1)
+
+
+class BreachesOfThoseWhoWatch(Breaches):
+    listening = staticmethod(watch_port)

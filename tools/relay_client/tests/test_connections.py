@@ -3,17 +3,20 @@
 import pathlib
 import re
 import resource
-import select
+import signal
 import socket
 import subprocess
 import time
 import unittest
 
 from relay_client.connection import Connection
+from relay_client.frames import request
 from relay_client.program import PATIENCE, PROGRAM
 from relay_client.server import Server
 from relay_client.texts import NOT_OBJECT
+from relay_client.waiting import is_readable
 
+WAITING = 300  # Newcomers that wait to be accepted.
 UNBOUNDED = (resource.RLIM_INFINITY, resource.RLIM_INFINITY)
 
 
@@ -47,6 +50,23 @@ class Connections(unittest.TestCase):
                 connection.close()
             server.has_served(131)
 
+    def test_more_newcomers_wait_to_be_accepted_than_128(self):
+        """The server is stopped meanwhile, so it accepts none. The system answers as many as the backlog has room for."""
+        allowed = int(pathlib.Path("/proc/sys/net/core/somaxconn").read_text())
+        if allowed < WAITING:
+            self.skipTest(f"the system lets {allowed} wait")
+        with Server("--connections", str(WAITING)) as server:
+            server.process.send_signal(signal.SIGSTOP)
+            newcomers = [socket.create_connection(("127.0.0.1", server.port), timeout=30) for _ in range(WAITING)]
+            server.process.send_signal(signal.SIGCONT)
+            for newcomer in newcomers:
+                newcomer.settimeout(PATIENCE)
+                newcomer.sendall(request())
+            for newcomer in newcomers:
+                self.assertEqual(newcomer.recv(13), b"HTTP/1.1 101 ")
+                newcomer.close()
+            server.has_served(WAITING)
+
     def test_threads_that_have_ended_are_joined(self):
         """Behind 500 short connections the process maps little more memory than behind none: a thread that is not joined keeps two maps."""
         with Server("--connections", "501") as server:
@@ -64,7 +84,7 @@ class Connections(unittest.TestCase):
             resource.prlimit(server.process.pid, resource.RLIMIT_NOFILE, (16, 16))
             peers = [socket.create_connection(("127.0.0.1", server.port), timeout=PATIENCE) for _ in range(16)]
             time.sleep(0.5)
-            told = [peer.recv(4096) for peer in select.select(peers, [], [], 0)[0]]
+            told = [peer.recv(4096) for peer in peers if is_readable(peer, 0)]
             self.assertEqual({answer.partition(b"\r\n")[0] for answer in told}, {b"HTTP/1.1 503 Service Unavailable"})
             self.assertGreaterEqual(len(told), 4)
             for peer in peers:

@@ -26,6 +26,36 @@ HALVES = {
 }
 
 
+def seconds_until_given_up(stream):
+    """Sends a byte each second until nobody takes it: that is after ten seconds, however often one came."""
+    began = time.monotonic()
+    try:
+        while time.monotonic() - began < 25:
+            stream.sendall(b"G")
+            time.sleep(1)
+    except (BrokenPipeError, ConnectionResetError):
+        pass
+    return time.monotonic() - began
+
+
+def seconds_of_half(name, stream):
+    """Sends a half of a message, and more of it each second, until the connection ends: that is after ten seconds."""
+    first, more = HALVES[name]
+    began = time.monotonic()
+    stream.settimeout(1)
+    try:
+        stream.sendall(first)
+        while time.monotonic() - began < 25:
+            try:
+                if not stream.recv(4096):
+                    break
+            except TimeoutError:
+                stream.sendall(more)
+    except (BrokenPipeError, ConnectionResetError):
+        pass
+    return time.monotonic() - began
+
+
 class Deadlines(unittest.TestCase):
     def lasts(self, began, least, most):
         """So many seconds have passed since."""
@@ -33,15 +63,9 @@ class Deadlines(unittest.TestCase):
         self.assertTrue(least < took < most, took)
 
     def is_given_up(self, stream):
-        """Sends a byte each second until nobody takes it: that is after ten seconds, however often one came."""
-        began = time.monotonic()
-        try:
-            while time.monotonic() - began < 25:
-                stream.sendall(b"G")
-                time.sleep(1)
-        except (BrokenPipeError, ConnectionResetError):
-            pass
-        self.lasts(began, 9, 24)
+        """It is given up after ten seconds, though it sends a byte each second."""
+        took = seconds_until_given_up(stream)
+        self.assertTrue(9 < took < 24, took)
 
     def asks_until_nothing_is_taken(self, owner):
         """Sends faulty texts until the server takes no more, since their answers are not read."""
@@ -102,27 +126,10 @@ class Deadlines(unittest.TestCase):
                 self.is_given_up(slow)
             server.has_served(1)
 
-    def ends(self, name, stream):
-        """Sends a half of a message, and more of it each second, until the connection ends: that is after ten seconds."""
-        first, more = HALVES[name]
-        began = time.monotonic()
-        stream.settimeout(1)
-        try:
-            stream.sendall(first)
-            while time.monotonic() - began < 25:
-                try:
-                    if not stream.recv(4096):
-                        break
-                except TimeoutError:
-                    stream.sendall(more)
-        except (BrokenPipeError, ConnectionResetError):
-            pass
-        return name, time.monotonic() - began
-
     def test_half_a_message_has_ten_seconds_in_all_however_it_comes(self):
         with Server("--connections", str(len(HALVES))) as server, concurrent.futures.ThreadPoolExecutor(len(HALVES)) as pool:
             peers = {name: Connection(server.port) for name in HALVES}
-            took = dict(pool.map(lambda it: self.ends(it[0], it[1].stream), peers.items()))
+            took = dict(pool.map(lambda it: (it[0], seconds_of_half(it[0], it[1].stream)), peers.items()))
             for name, seconds in took.items():
                 with self.subTest(name):
                     self.assertTrue(9 < seconds < 24, seconds)

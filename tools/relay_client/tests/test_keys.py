@@ -1,6 +1,5 @@
 """Operators that lose their connection and come back with their key: `serve --grace SECONDS`."""
 
-import select
 import socket
 import subprocess
 import threading
@@ -15,6 +14,7 @@ from relay_client.server import Server
 from relay_client.tests.sessions import ABANDONED, guest_of, owner_of
 from relay_client.texts import (BAD_FIELD, GAME_OVER, NO_BOARD, NOT_JSON, OPENED, ended, ends, following, follows, moved, opens, over,
                                 played, refused, submits)
+from relay_client.waiting import is_readable
 
 NOT_YOURS = refused(13, "NotYourBoard")
 WRONG_MODE = refused(14, "WrongMode")
@@ -37,7 +37,7 @@ def close_in_order(connection):
 
 def says_nothing(connection, seconds):
     """Whether nothing comes for so long, no end of the connection either."""
-    return not select.select([connection.stream], [], [], seconds)[0]
+    return not is_readable(connection.stream, seconds)
 
 
 class Keys(unittest.TestCase):

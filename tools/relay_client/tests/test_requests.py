@@ -5,7 +5,7 @@ import unittest
 
 from relay_client.frames import REQUEST
 from relay_client.program import PATIENCE
-from relay_client.server import Server
+from relay_client.tests.sessions import main_port, watch_port
 
 LINE, *FIELDS = REQUEST.removesuffix(b"\r\n\r\n").split(b"\r\n")
 HOST, CONNECTION, UPGRADE, VERSION, KEY = FIELDS
@@ -55,11 +55,13 @@ LARGE = {
 
 
 class Requests(unittest.TestCase):
+    listening = staticmethod(main_port)
+
     def get(self, requests, status, *fields):
         """Each of these requests, with more behind it, is answered with this status and these fields, and then comes the end."""
-        with Server("--connections", str(len(requests))) as server:
+        with self.listening(len(requests)) as port:
             for name, sent in requests.items():
-                with self.subTest(name), socket.create_connection(("127.0.0.1", server.port), timeout=PATIENCE) as peer:
+                with self.subTest(name), socket.create_connection(("127.0.0.1", port), timeout=PATIENCE) as peer:
                     peer.sendall(sent)
                     peer.sendall(b"more" * 1000)
                     answer = b""
@@ -70,7 +72,6 @@ class Requests(unittest.TestCase):
                     self.assertEqual(lines[-2:], ["", ""])
                     for field in ("Content-Length: 0", *(fields or ("Connection: close",))):
                         self.assertIn(field, lines)
-            server.has_served(len(requests))
 
     def test_a_broken_request_and_one_for_no_websocket_are_answered_400(self):
         self.get(BAD, 400)
@@ -83,3 +84,7 @@ class Requests(unittest.TestCase):
 
     def test_a_head_of_more_than_8192_bytes_or_64_fields_is_answered_431(self):
         self.get(LARGE, 431)
+
+
+class RequestsOfThoseWhoWatch(Requests):
+    listening = staticmethod(watch_port)

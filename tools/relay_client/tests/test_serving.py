@@ -1,4 +1,4 @@
-"""How long the server serves: `--forever`, `--connections` and `--until-input-ends`."""
+"""How long the server serves: `--forever`, `--connections`, `--until-input-ends` and `--idle`."""
 
 import resource
 import signal
@@ -9,18 +9,19 @@ import time
 import unittest
 
 from relay_client.connection import Connection
-from relay_client.frames import frame
+from relay_client.frames import frame, pong
 from relay_client.keys import new_key
 from relay_client.program import PROGRAM, TOP
 from relay_client.server import Server
 from relay_client.tests.sessions import ABANDONED, guest_of, owner_of, play
-from relay_client.texts import NOT_OBJECT, ended, ends, follows, moved, over, played, submits
+from relay_client.texts import NO_BOARD, NOT_OBJECT, ended, ends, follows, moved, over, played, refused, submits
 
 SOON = 10  # Seconds within which what happens at once has happened, on a machine that is busy with proofs too.
 IN_ORDER = 5  # Seconds within which an end in order has come; a busy machine has SOON more.
 LEAVING = 4  # Seconds for which peers are waited for that do not go.
 MOVES = ["e2e4", "e7e5", "g1f3", "b8c6", "f1b5", "a7a6"]
 AWAY = "close 1001"
+NOT_YOURS = refused(13, "NotYourBoard")
 UNTIL_TERM = TOP / "examples/deployment/until-term"
 
 
@@ -59,6 +60,83 @@ class HowLong(unittest.TestCase):
             guest.hears(ABANDONED, "close 1000")
             guest.close()
             server.has_served(2)
+
+
+class Idle(unittest.TestCase):
+    def lasts(self, began, least):
+        """So many seconds have passed since, and not many more."""
+        took = time.monotonic() - began
+        self.assertTrue(least - 0.1 < took < least + SOON, took)
+
+    def goes(self, peer, began, least):
+        """The peer is told to go, and then the connection ends."""
+        self.assertEqual(peer.receive(), AWAY)
+        self.lasts(began, least)
+        peer.has_ended()
+        peer.close()
+
+    def test_a_peer_that_says_nothing_goes_and_one_that_asks_stays_until_it_does_not(self):
+        with Server("--idle", "6", "--connections", "4") as server:
+            owner, guest = owner_of(server), guest_of(server)
+            began, silent, asking = time.monotonic(), Connection(server.port), Connection(server.port)
+            for text, answer in ("[]", NOT_OBJECT), (submits("b9", "e2e4"), NO_BOARD), (submits("b1", "e2e4"), NOT_YOURS):
+                time.sleep(4)
+                asked = time.monotonic()
+                asking.asks(text, answer)
+            self.goes(silent, began, 6)
+            self.goes(asking, asked, 6)
+            # Who owns or follows a board may say nothing for longer.
+            owner.asks(submits("b1", "e2e4"), played(0))
+            guest.hears(moved("e2e4", 0))
+            owner.asks("close 1000", "close 1000")
+            guest.hears(ABANDONED, "close 1000")
+            self.all_close(owner, guest)
+            server.has_served(4)
+
+    def all_close(self, *connections):
+        for connection in connections:
+            connection.close()
+
+    def test_who_has_the_key_of_a_board_may_say_nothing_for_longer(self):
+        """Also where another connection opened it, before or behind the handshake."""
+        key = new_key()
+        with Server("--idle", "4", "--grace", "60", "--connections", "3") as server:
+            before, owner = Connection(server.port, key=key), owner_of(server, key=key)
+            began, other = time.monotonic(), Connection(server.port, key=new_key())
+            self.goes(other, began, 4)
+            time.sleep(5)
+            before.asks(submits("b1", "e2e4"), played(0))
+            owner.asks(submits("b1", "e7e5"), played(1))
+            time.sleep(6)
+            before.asks(submits("b1", "g1f3"), played(2))
+            self.all_close(before, owner)
+            server.has_served(3)
+
+    def test_pings_and_pongs_are_no_messages(self):
+        with Server("--idle", "4", "--connections", "1") as server:
+            began, peer = time.monotonic(), Connection(server.port)
+            pinging = threading.Event()
+
+            def ping():
+                while not pinging.wait(1):
+                    peer.stream.sendall(pong())
+            thread = threading.Thread(target=ping)
+            thread.start()
+            self.assertEqual(peer.receive(), AWAY)
+            pinging.set()
+            thread.join()
+            self.lasts(began, 4)
+            peer.close()
+            server.has_served(1)
+
+    def test_with_nought_nobody_goes_and_not_at_once_by_default(self):
+        for words in ["--idle", "0"], []:
+            with Server(*words, "--connections", "1") as server:
+                peer = Connection(server.port)
+                time.sleep(5)
+                peer.asks("[]", NOT_OBJECT)
+                peer.close()
+                server.has_served(1)
 
 
 class UntilInputEnds(unittest.TestCase):

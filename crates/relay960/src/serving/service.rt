@@ -4,22 +4,23 @@ ghost use Rattle.std.specs.Prelude.{IfOk};
 ghost use Rattle.relay960.specs.Serving.{MeetsWith};
 
 use crate::serving::fault::ServeFault;
+use crate::serving::watching::{Loops, Watch};
 use relay_server::{OpenGate, Registry, ServeEnd, serve};
 use relay960_words::{Connections, Service};
-use std::alloc::Global;
+use std::alloc::{AllocError, Global};
 use std::io;
 use std::io::{StdinLock, Write};
-use std::net::{Net, TcpListener, TcpStream};
+use std::net::{Ipv4Addr, Net, SocketAddr, TcpListener, TcpStream};
 use std::sync::{Arc, Wait};
 use std::thread::Threads;
 use std::time::Clock;
 
-/// Listens, writes the line `listening P` to standard output, and serves until all sessions have ended, or standard input where that is
-/// asked for.
+/// Listens, writes the line `listening P` to standard output, and `watching A:P` where there is a watch port, and serves until all sessions
+/// have ended, or standard input where that is asked for.
 ///
 /// # Errors
 ///
-/// Nothing was served: the port cannot be listened on, the line could not be written, or there was no memory.
+/// Nothing was served: a port cannot be listened on, the lines could not be written, or there was no memory.
 pub fn serve_run<R>(rt: &R, alloc: Global, service: &Service) -> Result<ServeEnd, ServeFault>
 where
     R: Net<Listener = TcpListener, Stream = TcpStream>
@@ -35,34 +36,184 @@ where
         + 'static,
     ensures { IfOk result (MeetsWith service.now.connections service.now.until_input_ends) }
 {
-    let Ok(registry) = Registry::with_grace(alloc, service.limits, u32::from(service.grace)) else {
-        return Err(ServeFault::OutOfMemory);
-    };
-    let Ok(registry) = Arc::new(alloc, registry) else {
-        return Err(ServeFault::OutOfMemory);
-    };
+    let watch = open_watch(rt, alloc, service)?;
+    let registry = shared_registry(alloc, service, &watch)?;
     let Ok(gate) = Arc::new(alloc, OpenGate) else {
         return Err(ServeFault::OutOfMemory);
     };
-    let Ok(listener) = TcpListener::bind(rt, ("127.0.0.1", service.port)) else {
+    let Ok(listener) = listen(rt, service.port) else {
         return Err(ServeFault::Device);
     };
-    let mut out = io::writer(rt);
-    if writeln!(out, "listening {}", service.port).is_err() {
+    let loops = start_loops(rt, alloc, watch, &registry)?;
+    if announce(rt, service).is_err() {
+        end_loops(rt, loops);
         return Err(ServeFault::Write);
     }
-    let most = match service.connections {
-        Connections::Count(most) => Some(most),
-        Connections::Forever => None,
+    Ok(meet(rt, alloc, listener, &registry, &gate, service, loops))
+}
+
+/// Listens on the watch port, where there is to be one.
+///
+/// # Errors
+///
+/// It cannot be listened there, or there was no memory.
+fn open_watch<R: Net>(
+    rt: &R,
+    alloc: Global,
+    service: &Service,
+) -> Result<Option<Watch>, ServeFault> {
+    match &service.watch {
+        Some(asked) => Ok(Some(Watch::open(rt, alloc, asked, most_idle(service.idle))?)),
+        None => Ok(None),
+    }
+}
+
+/// The registry of what is served, which wakes the loops of the watch port where there is news.
+///
+/// # Errors
+///
+/// There was no memory.
+fn shared_registry(
+    alloc: Global,
+    service: &Service,
+    watch: &Option<Watch>,
+) -> Result<Arc<Registry, Global>, ServeFault> {
+    let Ok(registry) = registry_of(alloc, service) else {
+        return Err(ServeFault::OutOfMemory);
     };
+    let registry = match watch {
+        Some(watch) => match registry.looked_at_by(watch.lookouts(alloc)?, watch.count()?) {
+            Ok(registry) => registry,
+            Err(_) => return Err(ServeFault::OutOfMemory),
+        },
+        None => registry,
+    };
+    match Arc::new(alloc, registry) {
+        Ok(registry) => Ok(registry),
+        Err(_) => Err(ServeFault::OutOfMemory),
+    }
+}
+
+/// Starts the loops of the watch port, where there is one.
+///
+/// # Errors
+///
+/// There was no memory, or no thread.
+fn start_loops<R>(
+    rt: &R,
+    alloc: Global,
+    watch: Option<Watch>,
+    registry: &Arc<Registry, Global>,
+) -> Result<Option<Loops>, ServeFault>
+where
+    R: Net<Listener = TcpListener, Stream = TcpStream>
+        + Threads
+        + Wait
+        + Clock
+        + Clone
+        + Send
+        + Drop
+        + 'static,
+{
+    match watch {
+        Some(watch) => Ok(Some(watch.start(rt, alloc, registry)?)),
+        None => Ok(None),
+    }
+}
+
+/// Ends the loops of the watch port, where there is one.
+fn end_loops<R: Threads>(rt: &R, loops: Option<Loops>) {
+    if let Some(loops) = loops {
+        loops.end(rt);
+    }
+}
+
+/// Tells on standard output that all is ready: `listening P`, and `watching A:P` where there is a watch port.
+///
+/// # Errors
+///
+/// As the system's own calls.
+fn announce<R: Print>(rt: &R, service: &Service) -> io::Result<()> {
+    let mut out = io::writer(rt);
+    writeln!(out, "listening {}", service.port)?;
+    match &service.watch {
+        Some(asked) => writeln!(out, "watching {}", asked.address),
+        None => Ok(()),
+    }
+}
+
+/// Meets with connections until serving ends, and ends the loops of the watch port then.
+fn meet<R>(
+    rt: &R,
+    alloc: Global,
+    listener: TcpListener,
+    registry: &Arc<Registry, Global>,
+    gate: &Arc<OpenGate, Global>,
+    service: &Service,
+    loops: Option<Loops>,
+) -> ServeEnd
+where
+    R: Net<Listener = TcpListener, Stream = TcpStream>
+        + Input<Reader = StdinLock<'static>>
+        + Eprint
+        + Threads
+        + Wait
+        + Clock
+        + Clone
+        + Send
+        + Drop
+        + 'static,
+    ensures { MeetsWith service.now.connections service.now.until_input_ends result }
+{
     let until_input_ends = service.until_input_ends;
-    Ok(serve(
-        rt,
-        alloc,
-        listener,
-        &registry,
-        &gate,
-        most,
-        until_input_ends,
-    ))
+    let end = match service.connections {
+        Connections::Count(most) => serve(
+            rt,
+            alloc,
+            listener,
+            registry,
+            gate,
+            Some(most),
+            until_input_ends,
+        ),
+        Connections::Forever => serve(rt, alloc, listener, registry, gate, None, until_input_ends),
+    };
+    end_loops(rt, loops);
+    end
+}
+
+/// For how many seconds one who asks for nothing is waited for.
+fn most_idle(idle: u32) -> Option<u64> {
+    if idle == 0 {
+        None
+    } else {
+        Some(u64::from(idle))
+    }
+}
+
+/// The registry of what is served.
+///
+/// # Errors
+///
+/// There was no memory.
+fn registry_of(alloc: Global, service: &Service) -> Result<Registry, AllocError> {
+    let grace = u32::from(service.grace);
+    let registry = Registry::with_grace(alloc, service.limits, grace)?.with_idle(service.idle);
+    if service.log {
+        Ok(registry.with_log())
+    } else {
+        Ok(registry)
+    }
+}
+
+/// Listens on this port of 127.0.0.1. As many newcomers as the system allows wait there until they are accepted: std's own `bind` allows 128.
+///
+/// # Errors
+///
+/// As the system's own calls.
+fn listen<R: Net>(rt: &R, port: u16) -> io::Result<TcpListener> {
+    let address = SocketAddr::from((Ipv4Addr::LOCALHOST, port));
+    let listener = TcpListener::from(mio::net::TcpListener::bind(rt, address)?);
+    listener.set_nonblocking(false)?;
+    Ok(listener)
 }

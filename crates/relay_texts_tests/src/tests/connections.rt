@@ -341,8 +341,10 @@ fn a_connection_may_what_the_keeper_tells_to_be_its_own(rt: HostRuntime) {
         assert!(rt; is_answered(&mut keyed, &mut desk, text, wanted), "{text}");
         assert_eq!(rt; desk.accepted, before.saturating_add(steps), "{text}");
     }
+    assert!(rt; keyed.is_owner(&desk));
     // Once no board belongs to it any more, it is a stranger.
     desk.owned = &[];
+    assert!(rt; owner.is_owner(&desk) && !keyed.is_owner(&desk));
     assert!(&rt;
         is_answered(
             &mut keyed,

@@ -1,9 +1,11 @@
 //! Worked cases of commands and answers.
 
 mod answers;
+mod boards;
 mod bounds;
 mod commands;
 mod decoders;
 mod faults;
 mod round_trip;
 mod values;
+mod watch_commands;

@@ -1,7 +1,9 @@
 //! Each breach of the protocol has the code that it is due (RFC 6455, section 7.4.1), however its bytes are cut, and nothing is told
 //! behind it.
 
-use crate::tests::frames_alone::client::{frame, head, hear, joined};
+use crate::tests::frames_alone::client::{
+    expect_fragment, expect_too_long, frame, head, hear, joined,
+};
 use relay_frames::{Event, Peer};
 use std::alloc::Global;
 use std::process::Abort;
@@ -200,10 +202,8 @@ fn messages_that_are_too_long(rt: HostRuntime) -> Result<(), Fail> {
         )?;
         let mut peer = Peer::new(alloc);
         peer.feed(bytes.as_slice())?;
-        assert!(rt; matches!(peer.next()?, Some(Event::Fragment)));
-        assert!(rt;
-            matches!(peer.next()?, Some(Event::Broken(breach)) if breach.code().number == 1009)
-        );
+        expect_fragment(&rt, &mut peer)?;
+        expect_too_long(&rt, &mut peer)?;
     }
     Ok(())
 }
@@ -216,14 +216,12 @@ fn messages_of_too_many_fragments(rt: HostRuntime) -> Result<(), Fail> {
     peer.feed(frame(alloc, 0x01, b"")?.as_slice())?;
     let more = frame(alloc, 0x00, b"")?;
     for _ in 0..1023 {
-        assert!(rt; matches!(peer.next()?, Some(Event::Fragment)));
+        expect_fragment(&rt, &mut peer)?;
         assert!(rt; peer.next()?.is_none());
         peer.feed(more.as_slice())?;
     }
-    assert!(rt; matches!(peer.next()?, Some(Event::Fragment)));
+    expect_fragment(&rt, &mut peer)?;
     peer.feed(frame(alloc, 0x80, b"")?.as_slice())?;
-    assert!(rt;
-        matches!(peer.next()?, Some(Event::Broken(breach)) if breach.code().number == 1009)
-    );
+    expect_too_long(&rt, &mut peer)?;
     Ok(())
 }

@@ -2,6 +2,7 @@
 
 use relay_frames::{Event, Peer};
 use std::alloc::{AllocError, Global};
+use std::process::Abort;
 
 /// The masking key of the examples of RFC 6455, section 5.7.
 const KEY: [u8; 4] = [0x37, 0xfa, 0x21, 0x3d];
@@ -63,5 +64,27 @@ pub fn hear(peer: &mut Peer, bytes: &[u8], said: &mut Vec<Event>) -> Result<(), 
             None => break,
         }
     }
+    Ok(())
+}
+
+/// Asserts that the next event is a fragment.
+///
+/// # Errors
+///
+/// There was no memory.
+pub fn expect_fragment(rt: &impl Abort, peer: &mut Peer) -> Result<(), AllocError> {
+    let event = peer.next()?;
+    assert!(rt; matches!(event, Some(Event::Fragment)));
+    Ok(())
+}
+
+/// Asserts that the next event is a breach with the code of a message that is too long.
+///
+/// # Errors
+///
+/// There was no memory.
+pub fn expect_too_long(rt: &impl Abort, peer: &mut Peer) -> Result<(), AllocError> {
+    let event = peer.next()?;
+    assert!(rt; matches!(event, Some(Event::Broken(breach)) if breach.code().number == 1009));
     Ok(())
 }

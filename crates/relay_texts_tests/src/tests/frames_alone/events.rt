@@ -1,6 +1,6 @@
 //! What whole frames say, by the examples of RFC 6455, section 5.7, and by the bounds.
 
-use crate::tests::frames_alone::client::{frame, joined};
+use crate::tests::frames_alone::client::{expect_fragment, frame, joined};
 use relay_frames::{Event, Peer};
 use std::alloc::Global;
 use std::process::Abort;
@@ -95,7 +95,7 @@ fn a_message_of_65536_bytes(rt: HostRuntime) -> Result<(), Fail> {
     peer.feed(frame(alloc, 0x02, &half)?.as_slice())?;
     peer.feed(frame(alloc, 0x89, &[b'p'; 125])?.as_slice())?;
     peer.feed(frame(alloc, 0x80, &half)?.as_slice())?;
-    assert!(rt; matches!(peer.next()?, Some(Event::Fragment)));
+    expect_fragment(&rt, &mut peer)?;
     assert!(rt; peer.is_midway());
     assert!(rt; matches!(peer.next()?, Some(Event::Ping(_))));
     expect_binary(&rt, peer.next()?, whole.as_slice());
@@ -111,8 +111,8 @@ fn a_text_whose_characters_are_cut(rt: HostRuntime) -> Result<(), Fail> {
     peer.feed(frame(alloc, 0x01, b"\xe2")?.as_slice())?;
     peer.feed(frame(alloc, 0x00, b"\x82")?.as_slice())?;
     peer.feed(frame(alloc, 0x80, b"\xac!")?.as_slice())?;
-    assert!(rt; matches!(peer.next()?, Some(Event::Fragment)));
-    assert!(rt; matches!(peer.next()?, Some(Event::Fragment)));
+    expect_fragment(&rt, &mut peer)?;
+    expect_fragment(&rt, &mut peer)?;
     match peer.next()? {
         Some(Event::Text(text)) => assert_eq!(rt; text.as_str(), "\u{20ac}!"),
         _ => panic!(rt; "a text"),

@@ -1,0 +1,55 @@
+-- Which presence each key has, of those that connections hold and those whose boards wait.
+use Rattle.std.specs.Prelude.{◌≡◌, ℕ, cond, List, [], ◌∷◌, Bool, true, false, ◌&&◌, is_none, Option, None, Some}
+use Rattle.std.specs.declared.time.Instant.{Instant}
+use Rattle.relay_server.specs.declared.holders.Departure.{Departure}
+use Rattle.relay_server.specs.declared.holders.Departure.TheVariants.{OneOfMore, Last, Waits as WaitsOn}
+use Rattle.relay_server.specs.declared.holders.Holder.{Holder}
+use Rattle.relay_server.specs.declared.presence.Presence.{Presence}
+use Rattle.relay_server.specs.declared.presence.Presence.TheVariants.{Here, Waits}
+use Rattle.relay_server.specs.Holding.{IsDue, with_one_less, with_one_more}
+use Rattle.relay_server.specs.Keys.{same_key}
+
+-- the presence of a key, or none
+abbrev pub presence_of : List ℕ → List Holder → Option Presence
+presence_of key [] = None
+presence_of key (holder ∷ holders) = cond (same_key key holder.key) (Some holder.presence) (presence_of key holders)
+
+-- whether no key stands twice
+abbrev pub stand_once : List Holder → Bool
+stand_once [] = true
+stand_once (holder ∷ holders) = is_none (presence_of holder.key holders) && stand_once holders
+
+-- all keys but this one have the presence that they had
+abbrev pub OthersStay : List ℕ → List Holder → List Holder → Type 0
+OthersStay key old new = (other : List ℕ) → same_key other key ≡ false → presence_of other new ≡ presence_of other old
+
+-- a connection with the key has come: it is counted, or is the first
+abbrev pub with_newcomer : Option Presence → Option Presence
+with_newcomer None = Some (Here 1)
+with_newcomer (Some presence) = with_one_more presence
+
+-- a connection with the key has gone
+abbrev pub without_one : Option Presence → Option Instant → Option Presence
+without_one None until = None
+without_one (Some presence) until = with_one_less presence until
+
+-- whether the boards of the key wait
+abbrev pub is_waiting : Option Presence → Bool
+is_waiting None = false
+is_waiting (Some (Here present)) = false
+is_waiting (Some (Waits until)) = true
+
+-- what became of a key of which this is left
+abbrev pub departure : Option Presence → Departure
+departure None = Last
+departure (Some (Here present)) = OneOfMore
+departure (Some (Waits until)) = WaitsOn
+
+-- the boards of the key have waited until now; where no time is given, they wait
+abbrev pub HasRunOut : Option Instant → Option Presence → Type 0
+HasRunOut now None = ⊥
+HasRunOut now (Some presence) = IsDue now presence
+
+-- no key's boards have
+abbrev pub NoneHasRunOut : Option Instant → List Holder → Type 0
+NoneHasRunOut now holders = (key : List ℕ) → HasRunOut now (presence_of key holders) → ⊥

@@ -1,0 +1,24 @@
+//! The watch port: a few threads, each an event loop, send any number of spectators what happens on boards. Who comes there may look at
+//! everything and change nothing.
+//!
+//! What is sent is the tape of a board (`relay_watching`), and what peers say is heard by `relay_frames`. Neither knows of sockets. What stands here
+//! is who is written to when, and how long is waited for whom.
+#![tactic(auto)]
+
+mod audience;
+mod boards;
+mod crowd;
+mod entrance;
+mod event_loop;
+mod exchange;
+mod guest;
+mod patience;
+mod port;
+mod ready;
+mod request;
+mod round;
+mod visitor;
+
+pub use boards::Boards;
+pub use event_loop::EventLoop;
+pub use port::Port;

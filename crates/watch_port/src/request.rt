@@ -1,0 +1,97 @@
+//! A visitor's request, as it comes, and its answer.
+
+use crate::exchange::answer_to;
+use crate::visitor::{Doing, Visitor};
+use relay_frames::Refusal;
+use std::alloc::{AllocError, Global};
+use std::mem;
+
+/// What a head ends with.
+const BLANK_LINE: &[u8; 4] = b"\r\n\r\n";
+
+/// How many bytes a head may have.
+const MOST_BYTES: usize = 8192;
+
+/// What has come of a head.
+#[derive(Drop)]
+enum Head {
+    /// A part.
+    Part(Vec<u8>),
+    /// All of it, and so many bytes of the last piece.
+    Whole(Vec<u8>, usize),
+    /// It is refused before its end.
+    Refused(Refusal),
+}
+
+/// Takes what came of a visitor that sends its request. How many of these bytes belong to the request is told. The request is answered
+/// once it is whole; where it is refused the visitor leaves.
+///
+/// # Errors
+///
+/// There was no memory.
+pub(crate) fn take_request(
+    alloc: Global,
+    visitor: &mut Visitor,
+    bytes: &[u8],
+) -> Result<usize, AllocError> {
+    let Doing::Comes(begun) = &mut visitor.doing else {
+        return Ok(0);
+    };
+    let begun = mem::replace(begun, Vec::new(alloc));
+    match grow(begun, bytes)? {
+        Head::Part(head) => {
+            visitor.doing = Doing::Comes(head);
+            Ok(bytes.len())
+        }
+        Head::Whole(head, used) => {
+            match answer_to(alloc, head)? {
+                Ok(answer) => {
+                    visitor.output().extend_from_slice(answer.as_slice())?;
+                    visitor.doing = Doing::Asks;
+                }
+                Err(refusal) => refuse(visitor, refusal)?,
+            }
+            Ok(used)
+        }
+        Head::Refused(refusal) => {
+            refuse(visitor, refusal)?;
+            Ok(bytes.len())
+        }
+    }
+}
+
+/// Tells a visitor that its request is refused, behind which it leaves.
+fn refuse(visitor: &mut Visitor, refusal: Refusal) -> Result<(), AllocError> {
+    visitor.output().extend_from_slice(refusal.answer())?;
+    visitor.doing = Doing::Asks;
+    visitor.leaves();
+    Ok(())
+}
+
+/// A head of which a piece more has come.
+fn grow(mut head: Vec<u8>, piece: &[u8]) -> Result<Head, AllocError> {
+    let seen = head.len();
+    head.extend_from_slice(piece)?;
+    if matches!(head.first(), Some(b'\r' | b'\n')) {
+        return Ok(Head::Refused(Refusal::BadRequest));
+    }
+    if let Some(end) = end_of_head(head.as_slice(), seen) {
+        head.truncate(end);
+        return Ok(Head::Whole(head, end.saturating_sub(seen)));
+    }
+    if head.len() >= MOST_BYTES {
+        return Ok(Head::Refused(Refusal::HeadTooLarge));
+    }
+    Ok(Head::Part(head))
+}
+
+/// Where the head ends: behind the first blank line, which does not end within the bytes seen before. One that ends beyond the
+/// greatest number of bytes is none.
+fn end_of_head(bytes: &[u8], seen: usize) -> Option<usize> {
+    for at in seen.max(3)..bytes.len().min(MOST_BYTES) {
+        if &bytes[at - 3..at + 1] == BLANK_LINE.as_slice() {
+            return Some(at + 1);
+        }
+    }
+    None
+}
