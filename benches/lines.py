@@ -35,6 +35,11 @@ def lines(followers):
                 yield f'{{"cmd":"take","spectator":{seat}}}'
 
 
-made = lines(int(sys.argv[1]))
-for _ in range(LINES):
-    print(next(made))
+def main():
+    made = lines(int(sys.argv[1]))
+    for _ in range(LINES):
+        print(next(made))
+
+
+if __name__ == "__main__":
+    main()

@@ -1,15 +1,16 @@
 // The reading client of benches/serving.py: the same for a relay, for nginx with nchan and for mosquitto, so that what is measured is the
 // server. One thread and one epoll; a follower costs a read of what came and a walk over the heads of its frames.
 //
-//   reader burst KIND PORT FOLLOWERS MOVES PIDS   moves sent at once; prints deliveries, seconds, processor seconds, context switches
+//   reader burst KIND PORT FOLLOWERS MOVES PIDS   moves sent at once; prints deliveries, seconds, processor time, context switches, memory
 //   reader turns KIND PORT FOLLOWERS MOVES PIDS   each move is sent when all followers had the one before
-//   reader connects KIND PORT CONNECTIONS PIDS    connections opened and closed, 64 at a time; prints how many a second
+//   reader connects KIND PORT CONNECTIONS PIDS    connections opened and closed, 64 at a time; prints how many a second, processor time
+//   reader rush KIND PORT JOININGS MOVES PIDS     the same of followers that come to a board of so many moves, and go once they are greeted
 //   reader idle KIND PORT FOLLOWERS PIDS          followers that wait; prints the server's resident kilobytes before and with them
 //
-// KIND is relay, nchan or mosquitto; PIDS are the server's processes, parted by commas.
+// KIND is relay, nchan or mosquitto. Of a relay PORT may be MAIN/WATCH: then followers watch at the second one. PIDS are the server's processes,
+// parted by commas.
 #define _GNU_SOURCE
 #include <arpa/inet.h>
-#include <dirent.h>
 #include <errno.h>
 #include <fcntl.h>
 #include <netinet/tcp.h>
@@ -21,72 +22,19 @@
 #include <time.h>
 #include <unistd.h>
 
+#include "processes.h"
+
 enum kind { RELAY, NCHAN, MOSQUITTO };
 
 static enum kind kind;
 static int port;
+static int follow_port;  // where followers come in
 static char name[32];  // of the board or channel, another one each run
-static const char *pids;
-
-static void die(const char *what) {
-    perror(what);
-    exit(1);
-}
 
 static double now(void) {
     struct timespec t;
     clock_gettime(CLOCK_MONOTONIC, &t);
     return t.tv_sec + t.tv_nsec / 1e9;
-}
-
-// ---- the server's processes
-
-struct spent {
-    double seconds;
-    long switches;
-};
-
-static struct spent spent(void) {
-    struct spent all = {0, 0};
-    char list[256], path[300], line[256];
-    snprintf(list, sizeof list, "%s", pids);
-    for (char *pid = strtok(list, ","); pid; pid = strtok(NULL, ",")) {
-        snprintf(path, sizeof path, "/proc/%s/task", pid);
-        DIR *tasks = opendir(path);
-        if (!tasks) die(path);
-        for (struct dirent *task; (task = readdir(tasks));) {
-            if (task->d_name[0] == '.') continue;
-            snprintf(path, sizeof path, "/proc/%s/task/%s/schedstat", pid, task->d_name);
-            FILE *file = fopen(path, "r");
-            unsigned long long on, wait;
-            long slices;
-            if (!file) continue;
-            if (fscanf(file, "%llu %llu %ld", &on, &wait, &slices) == 3) {
-                all.seconds += on / 1e9;
-                all.switches += slices;
-            }
-            fclose(file);
-        }
-        closedir(tasks);
-    }
-    (void)line;
-    return all;
-}
-
-static long resident(void) {
-    long all = 0;
-    char list[256], path[300], line[256];
-    snprintf(list, sizeof list, "%s", pids);
-    for (char *pid = strtok(list, ","); pid; pid = strtok(NULL, ",")) {
-        snprintf(path, sizeof path, "/proc/%s/status", pid);
-        FILE *file = fopen(path, "r");
-        if (!file) die(path);
-        long kilobytes;
-        while (fgets(line, sizeof line, file))
-            if (sscanf(line, "VmRSS: %ld", &kilobytes) == 1) all += kilobytes;
-        fclose(file);
-    }
-    return all;
 }
 
 // ---- a game that no draw ends: both sides' knights go round, with a pawn's step each 91 plies
@@ -213,9 +161,12 @@ static void take(struct peer *p, const unsigned char *bytes, long n) {
 
 // ---- connections
 
-static int dial(void) {
+// There are some 28,000 ports of the own machine for connections to one address, so of many each 20,000 go to another one of loopback. There
+// a relay has to watch at 0.0.0.0.
+static int dial(int port) {
+    static int dialled;
     int fd = socket(AF_INET, SOCK_STREAM, 0), one = 1;
-    struct sockaddr_in to = {.sin_family = AF_INET, .sin_port = htons(port), .sin_addr.s_addr = htonl(INADDR_LOOPBACK)};
+    struct sockaddr_in to = {.sin_family = AF_INET, .sin_port = htons(port), .sin_addr.s_addr = htonl(INADDR_LOOPBACK + dialled++ / 20000)};
     if (fd < 0) die("socket");
     setsockopt(fd, IPPROTO_TCP, TCP_NODELAY, &one, sizeof one);
     if (connect(fd, (struct sockaddr *)&to, sizeof to)) die("connect");
@@ -238,8 +189,8 @@ static size_t request(char *to, size_t room, const char *path) {
                     path, port);
 }
 
-static int shake_hands(const char *path) {
-    int fd = dial(), at = 0;
+static int shake_hands(int port, const char *path) {
+    int fd = dial(port), at = 0;
     char text[1024];
     put(fd, text, request(text, sizeof text, path));
     while (at < 4 || memcmp(text + at - 4, "\r\n\r\n", 4)) {
@@ -260,7 +211,7 @@ static void read_text(struct peer *p) {
 }
 
 static int mqtt(int subscribes) {
-    int fd = dial();
+    int fd = dial(port);
     unsigned char text[128], answer[8];
     static int client;
     int n = snprintf((char *)text + 14, 100, "b%d-%d", getpid(), client++);
@@ -287,9 +238,9 @@ static struct peer publisher(void) {
         p.fd = mqtt(0);
     } else if (kind == NCHAN) {
         snprintf(text, sizeof text, "/pub/%s", name);
-        p.fd = shake_hands(text);
+        p.fd = shake_hands(port, text);
     } else {
-        p.fd = shake_hands("/");
+        p.fd = shake_hands(port, "/");
         snprintf(text, sizeof text, "{\"cmd\":\"open\",\"board\":\"%s\",\"start\":518}", name);
         put(p.fd, frame, ws_text(frame, text));
         read_text(&p);
@@ -306,9 +257,9 @@ static struct peer follower(void) {
         p.fd = mqtt(1);
     } else if (kind == NCHAN) {
         snprintf(text, sizeof text, "/sub/%s", name);
-        p.fd = shake_hands(text);
+        p.fd = shake_hands(port, text);
     } else {
-        p.fd = shake_hands("/");
+        p.fd = shake_hands(follow_port, "/");
         snprintf(text, sizeof text, "{\"cmd\":\"follow\",\"board\":\"%s\",\"spectator\":1}", name);
         put(p.fd, frame, ws_text(frame, text));
         read_text(&p);
@@ -341,7 +292,10 @@ static void moves(int followers, int count, int at_once) {
     unsigned char *out = malloc((size_t)count * 160);
     size_t *ends = malloc((count + 1) * sizeof *ends), end = 0;
     peers[0] = publisher();
+    long empty = resident();
+    double began = now(), idle = spent_in_all();
     for (int i = 1; i <= followers; i++) peers[i] = follower();
+    double joined = now() - began, joining = spent_in_all() - idle;
     for (int i = 0; i < count; i++) {
         end += publication(out + end, i);
         ends[i] = end;
@@ -353,6 +307,7 @@ static void moves(int followers, int count, int at_once) {
         if (epoll_ctl(poll, EPOLL_CTL_ADD, peers[i].fd, &e)) die("epoll_ctl");
     }
     usleep(300000);
+    long full = resident();
     struct spent before = spent();
     double start = now();
     size_t sent = 0;
@@ -387,26 +342,46 @@ static void moves(int followers, int count, int at_once) {
     struct rusage own;
     getrusage(RUSAGE_SELF, &own);
     double all = (double)followers * count;
-    printf("{\"deliveries\": %.0f, \"seconds\": %.6f, \"a_second\": %.0f, \"cpu_us\": %.3f, \"switches\": %.4f, \"client_seconds\": %.3f}\n", all, took,
+    printf("{\"deliveries\": %.0f, \"seconds\": %.6f, \"a_second\": %.0f, \"cpu_us\": %.3f, \"switches\": %.4f, \"client_seconds\": %.3f, ", all, took,
            all / took, (after.seconds - before.seconds) * 1e6 / all, (after.switches - before.switches) / all,
            own.ru_utime.tv_sec + own.ru_stime.tv_sec + (own.ru_utime.tv_usec + own.ru_stime.tv_usec) / 1e6);
+    printf("\"joinings_a_second\": %.0f, \"joining_cpu_us\": %.1f, \"before_kb\": %ld, \"resident_kb\": %ld, \"bytes_each\": %.0f}\n", followers / joined,
+           joining * 1e6 / followers, empty, full, (full - empty) * 1024. / followers);
 }
 
-static void connects(int count) {
+// What one asks for who connects, and joins where that is said; the bytes in all.
+static size_t asking(char *ask, size_t room, int joins) {
+    char text[100];
+    snprintf(text, sizeof text, kind == NCHAN ? "/sub/%s" : "/", name);
+    size_t length = request(ask, room, text);
+    if (!joins) return length;
+    snprintf(text, sizeof text, "{\"cmd\":\"follow\",\"board\":\"%s\",\"spectator\":1}", name);
+    return length + ws_text((unsigned char *)ask + length, text);
+}
+
+// Whether all has come that one asked for: the head, or the greeting after it.
+static int is_answered(const char *text, int length, int joins) {
+    static const char greeted[] = "\"reply\":\"following\"}", ended[] = "\r\n\r\n";
+    const char *last = joins ? greeted : ended;
+    int n = strlen(last);
+    if (length < n || memcmp(text + length - n, last, n)) return 0;
+    if (memcmp(text, "HTTP/1.1 101", 12)) die("no upgrade");
+    return 1;
+}
+
+static void connects(int count, int joins) {
     enum { MOST = 64 };
     static struct {
         int fd, at;
         char text[1024];
     } open[MOST];
     char ask[512];
-    char path[64];
-    snprintf(path, sizeof path, kind == NCHAN ? "/sub/%s" : "/", name);
-    size_t length = request(ask, sizeof ask, path);
+    size_t length = asking(ask, sizeof ask, joins);
     int poll = epoll_create1(0), started = 0, ended = 0;
-    double start = now();
+    double before = spent_in_all(), start = now();
     for (int i = 0; i < MOST && started < count; i++, started++) {
         struct epoll_event e = {.events = EPOLLIN, .data.u32 = i};
-        open[i].fd = dial();
+        open[i].fd = dial(follow_port);
         put(open[i].fd, ask, length);
         epoll_ctl(poll, EPOLL_CTL_ADD, open[i].fd, &e);
     }
@@ -419,22 +394,35 @@ static void connects(int count) {
             ssize_t came = read(open[i].fd, open[i].text + open[i].at, sizeof open[i].text - open[i].at);
             if (came <= 0) die("handshake");
             open[i].at += came;
-            if (open[i].at < 4 || memcmp(open[i].text + open[i].at - 4, "\r\n\r\n", 4)) continue;
-            if (memcmp(open[i].text, "HTTP/1.1 101", 12)) die("no upgrade");
+            if (!is_answered(open[i].text, open[i].at, joins)) continue;
             ended++;
             close(open[i].fd);
             open[i].at = 0;
             if (started == count) continue;
             started++;
             struct epoll_event e = {.events = EPOLLIN, .data.u32 = i};
-            open[i].fd = dial();
+            open[i].fd = dial(follow_port);
             put(open[i].fd, ask, length);
             epoll_ctl(poll, EPOLL_CTL_ADD, open[i].fd, &e);
         }
     }
     double took = now() - start;
     usleep(500000);
-    printf("{\"connections\": %d, \"seconds\": %.3f, \"a_second\": %.0f, \"resident_kb\": %ld}\n", count, took, count / took, resident());
+    printf("{\"connections\": %d, \"seconds\": %.3f, \"a_second\": %.0f, \"cpu_us\": %.1f, \"resident_kb\": %ld}\n", count, took, count / took,
+           (spent_in_all() - before) * 1e6 / count, resident());
+}
+
+// Followers that come at once to a board on which so many moves were made.
+static void rush(int joinings, int count) {
+    unsigned char frame[160];
+    struct peer board = publisher();
+    if (kind != RELAY) die("only a relay tells who joined");
+    for (int ply = 0; ply < count; ply++) {
+        put(board.fd, frame, publication(frame, ply));
+        read_text(&board);
+    }
+    follower();  // stays, so that the board is watched all the time
+    connects(joinings, 1);
 }
 
 static void idle(int followers) {
@@ -462,10 +450,12 @@ int main(int argc, char **argv) {
     setrlimit(RLIMIT_NOFILE, &most);
     kind = !strcmp(argv[2], "relay") ? RELAY : !strcmp(argv[2], "nchan") ? NCHAN : MOSQUITTO;
     port = atoi(argv[3]);
+    follow_port = strchr(argv[3], '/') ? atoi(strchr(argv[3], '/') + 1) : port;
     pids = argv[argc - 1];
     snprintf(name, sizeof name, "r%d", getpid());
     int first = atoi(argv[4]);
-    if (!strcmp(argv[1], "connects")) connects(first);
+    if (!strcmp(argv[1], "connects")) connects(first, 0);
+    else if (!strcmp(argv[1], "rush")) rush(first, atoi(argv[5]));
     else if (!strcmp(argv[1], "idle")) idle(first);
     else moves(first, atoi(argv[5]), !strcmp(argv[1], "burst"));
     return 0;

@@ -4,12 +4,18 @@ the same reading client (reader.c, built by cc). Prints a table's rows: the medi
 
     benches/serving.py                        all servers, 100 followers, 1,000 moves, 7 rounds
     benches/serving.py --followers 1000 --only relay --rounds 5
-    benches/serving.py --what turns|connects|idle
+    benches/serving.py --what turns|connects|rush|idle
+    benches/serving.py --only relay-watch-2 --rounds 1 --under "strace -c -f -o calls"
+
+A relay-watch-N is the relay's watch port with N loops. A connection is a descriptor of the server and one of the reading client. Where the hard limit
+on them is too low for the followers asked for, nothing is measured.
 """
 import argparse
 import json
 import os
 import pathlib
+import resource
+import shlex
 import signal
 import statistics
 import subprocess
@@ -25,9 +31,9 @@ from relay_client.program import PROGRAM  # noqa: E402
 
 
 NGINX = """
-daemon off; master_process on; worker_processes {workers}; worker_rlimit_nofile 20000; pid {room}/nginx.pid; error_log {room}/error.log;
+daemon off; master_process on; worker_processes {workers}; worker_rlimit_nofile {most}; pid {room}/nginx.pid; error_log {room}/error.log;
 load_module /usr/share/nginx/modules/ngx_nchan_module.so;
-events {{ worker_connections 10000; }}
+events {{ worker_connections {most}; }}
 http {{
     access_log off; client_body_temp_path {room}/a; proxy_temp_path {room}/b; fastcgi_temp_path {room}/c; uwsgi_temp_path {room}/d; scgi_temp_path {room}/e;
     nchan_shared_memory_size 256M;
@@ -54,28 +60,45 @@ def children(pid):
     return [str(pid), *listed]
 
 
+def raised_limit(followers):
+    """Raises the limit on descriptors, which servers and the reading client inherit, and tells it."""
+    _, most = resource.getrlimit(resource.RLIMIT_NOFILE)
+    if most < followers + 100:
+        raise SystemExit(f"a process may have {most} descriptors here: raise the hard limit first (ulimit -Hn)")
+    resource.setrlimit(resource.RLIMIT_NOFILE, (most, most))
+    return most
+
+
 class Server:
-    def __init__(self, kind, words, room, port):
+    def __init__(self, kind, words, room, port, watched=None):
         self.kind, self.port = kind, port
+        self.ports = f"{port}/{watched}" if watched else str(port)
         self.process = subprocess.Popen(words, stdout=subprocess.DEVNULL, stderr=open(f"{room}/{kind}.err", "w"))
         if not come_up({port}):
             raise SystemExit(open(f"{room}/{kind}.err").read())
 
     def stop(self):
-        self.process.send_signal(signal.SIGTERM)
+        """Ends the server itself, and not what it runs under, which would let it go on."""
+        own, *started = map(int, children(self.process.pid))
+        os.kill(started[0] if self.kind == "relay" and started else own, signal.SIGTERM)
         self.process.wait()
 
 
-def servers(names, binary, room):
+def servers(names, given, room, most):
     for name in names:
         port = free_port()
         if name.startswith("relay"):
-            words = [binary, "serve", "--port", str(port), "--boards", "256", "--followers", "1024", "--capacity", "1024", "--plies", "1024"]
-            yield name, Server("relay", words, room, port)
+            words = [*shlex.split(given.under), given.binary, "serve", "--port", str(port), "--forever"]
+            words += ["--boards", "256", "--followers", "1024", "--capacity", "1024", "--plies", "1024"]
+            watched = None
+            if name.startswith("relay-watch"):
+                watched, threads = free_port(), name.removeprefix("relay-watch").strip("-") or "2"
+                words += ["--watch", f"0.0.0.0:{watched}", "--watch-threads", threads, "--watch-most", str(most)]
+            yield name, Server("relay", words, room, port, watched)
         elif name.startswith("nchan"):
             workers = name.partition("-")[2] or "1"
             file = pathlib.Path(room, "nginx.conf")
-            file.write_text(NGINX.format(workers=workers, room=room, port=port))
+            file.write_text(NGINX.format(workers=workers, room=room, port=port, most=most))
             yield name, Server("nchan", ["nginx", "-p", room, "-c", str(file)], room, port)
         else:
             file = pathlib.Path(room, "mosquitto.conf")
@@ -85,23 +108,25 @@ def servers(names, binary, room):
 
 def main():
     words = argparse.ArgumentParser(description=__doc__, formatter_class=argparse.RawDescriptionHelpFormatter)
-    words.add_argument("--what", default="burst", choices=["burst", "turns", "connects", "idle"])
-    words.add_argument("--only", default="relay,nchan-1,nchan-4,mosquitto", help="which, parted by commas; the number of nchan is that of its workers")
-    words.add_argument("--followers", type=int, default=100, help="of connects: how many connections")
+    words.add_argument("--what", default="burst", choices=["burst", "turns", "connects", "rush", "idle"])
+    words.add_argument("--only", default="relay,relay-watch-2,nchan-1,nchan-4,mosquitto", help="which, parted by commas; the number is that of its workers or loops")
+    words.add_argument("--followers", type=int, default=100, help="of connects and rush: how many connections")
     words.add_argument("--moves", type=int, default=1000)
     words.add_argument("--rounds", type=int, default=7)
     words.add_argument("--binary", default=str(PROGRAM))
+    words.add_argument("--under", default="", help="what the relay runs under")
     given = words.parse_args()
+    most = raised_limit(64 if given.what in ("connects", "rush") else given.followers)
     with tempfile.TemporaryDirectory() as room:
         os.chmod(room, 0o755)
         reader = f"{room}/reader"
         subprocess.run(["cc", "-O2", "-o", reader, str(HERE / "reader.c")], check=True)
-        for name, server in servers(given.only.split(","), given.binary, room):
+        for name, server in servers(given.only.split(","), given, room, most):
             rows = []
             try:
                 for _ in range(given.rounds):
                     pids = ",".join(children(server.process.pid))
-                    said = subprocess.run([reader, given.what, server.kind, str(server.port), str(given.followers), str(given.moves), pids], capture_output=True, text=True)
+                    said = subprocess.run([reader, given.what, server.kind, server.ports, str(given.followers), str(given.moves), pids], capture_output=True, text=True)
                     if said.returncode:
                         print(name, "round lost:", said.stderr.strip())
                         continue
