@@ -12,8 +12,9 @@ import time
 
 import websockets
 
+import test_all
 import test_gone
-from feeds import RELAY, RELAY_PORT, feed, running, until
+from feeds import RELAY, RELAY_PORT, WATCH_PORT, feed, passed, running, until
 from relay_client.client import Client
 from relay_client.program import game_by_chance
 from relay_client.relay import Relay
@@ -139,7 +140,7 @@ async def main():
     starts = [chance.randrange(960) for _ in BOARDS]
     games = {board: game_by_chance(start, chance, PLIES) for board, start in zip(BOARDS, starts)}
     with tempfile.TemporaryDirectory(ignore_cleanup_errors=True) as run:
-        env = {**os.environ, "RUN": run, "RELAY_PORT": RELAY_PORT}
+        env = {**os.environ, "RUN": run, "RELAY_PORT": RELAY_PORT, "WATCH_PORT": WATCH_PORT}
         async with running("./start.sh", *BOARDS, env=env, stdout=subprocess.PIPE) as everything:
             line = await asyncio.wait_for(everything.stdout.readline(), 120)
             assert line.startswith(b"relay at"), line
@@ -162,16 +163,17 @@ async def tried(games, starts, run):
         status = await asyncio.wait_for(third.wait(), 60)
     refused = await refuses_one_board() and await gives_up_one_board()
     waited = await waits_on_one_connection(games[BOARDS[0]], starts[0])
-    gone = await test_gone.tried()
+    gone = await passed(test_gone)
+    every = await passed(test_all)
     right = sum(it.right(games[it.board]) for it in subscribers)
     came_late = sum(it.right(games[it.board]) for it in late)
     moves = ", ".join(f"{len(games[it])}" for it in BOARDS)
-    passed = right == SUBSCRIBERS and came_late == LATE and status == 0 and refused and waited and gone
-    print(f"{'passed' if passed else 'failed'}: {right} of {SUBSCRIBERS} subscribers and {came_late} of {LATE} late ones had every place "
+    whole = right == SUBSCRIBERS and came_late == LATE and status == 0 and refused and waited and gone and every
+    print(f"{'passed' if whole else 'failed'}: {right} of {SUBSCRIBERS} subscribers and {came_late} of {LATE} late ones had every place "
           f"once and in order; games of {moves} moves in {took:.1f} s; the feed was killed twice, and "
           f"{'told' if refused else 'did not tell'} of boards that are refused or not opened; waiting for a board took "
           f"{'one connection' if waited else 'other than one connection'}")
-    return 0 if passed else 1
+    return 0 if whole else 1
 
 
 sys.exit(asyncio.run(main()))

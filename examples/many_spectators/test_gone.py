@@ -1,8 +1,6 @@
 """What a channel tells where its board is gone, goes on under another name, or has another game, and what it tells in silence. Each test
 is an async function whose name begins with try_; test_channels.py runs them, beside the nginx and the Redis that it has started."""
 import asyncio
-import contextlib
-import json
 import os
 import pathlib
 import signal
@@ -10,75 +8,10 @@ import subprocess
 import tempfile
 import time
 
-import websockets
-
-from feeds import feed, until
+from feeds import FIRST, OTHER, QUICK, QUIET, Reader, again, feed, follow_on, following, game, moved, over, until
 from relay_client.client import Client
 from relay_client.keys import new_key
-from relay_client.program import fens, start_fen
 from relay_client.relay import Relay
-
-CHANNELS = "ws://127.0.0.1:9100/sub"
-FIRST = ["d2d4", "d7d5"]
-OTHER = ["e2e4", "e7e5"]
-QUICK = ("--wait", "0.05")
-QUIET = {"stdout": subprocess.DEVNULL, "stderr": subprocess.DEVNULL}
-
-
-class Reader:
-    """Reads a channel from its oldest text on, and keeps its texts, the beats apart."""
-
-    def __init__(self, board):
-        self.board, self.texts, self.beats = board, [], []
-
-    async def __aenter__(self):
-        self.socket = await websockets.connect(f"{CHANNELS}/{self.board}", ping_interval=None, compression=None)
-        self.task = asyncio.create_task(self.run())
-        return self
-
-    async def run(self):
-        with contextlib.suppress(websockets.ConnectionClosed):
-            async for message in self.socket:
-                text = json.loads(message)
-                (self.beats if text["reply"] == "beat" else self.texts).append(text)
-
-    async def has(self, *texts):
-        """Waits until the channel has told this, beats apart, and nothing else."""
-        with contextlib.suppress(AssertionError):
-            await until(lambda: self.texts == list(texts), 20)
-        assert self.texts == list(texts), (self.board, self.texts)
-
-    async def __aexit__(self, *_):
-        await self.socket.close()
-        await self.task
-
-
-def following(moves=()):
-    return {"fen": fens(518, moves)[-1] if moves else start_fen(518), "joined": len(moves), "reply": "following"}
-
-
-def moved(moves):
-    return [{"move": move, "place": place, "reply": "move"} for place, move in enumerate(moves)]
-
-
-def over(outcome="abandoned"):
-    return {"outcome": outcome, "reply": "over"}
-
-
-def follow_on(board):
-    return {"board": board, "reply": "next"}
-
-
-async def game(relay, board, moves=()):
-    client = await Client.to(relay.address)
-    await client.open(board)
-    await client.submit(board, *moves)
-    return client
-
-
-async def again(relay):
-    await relay.kill()
-    await relay.start()
 
 
 async def try_vanished(relay):
@@ -233,19 +166,3 @@ async def try_key(_):
         await client.submit("k1", "c2c4")
         await client.end("k1")
         await reader.has(following(), *moved([*FIRST, "c2c4"]), over("agreed"))
-
-
-async def tried():
-    """Whether all tests passed, each beside a relay of its own."""
-    failed = []
-    for name, it in [(name[4:], it) for name, it in globals().items() if name.startswith("try_")]:
-        relay = await Relay(capacity=1024).start()
-        try:
-            await asyncio.wait_for(it(relay), 120)
-            print(f"ok      {name}: {it.__doc__}", flush=True)
-        except Exception as fault:
-            failed.append(name)
-            print(f"failed  {name}: {type(fault).__name__} {fault}", flush=True)
-        finally:
-            await Relay.stop_all()
-    return not failed

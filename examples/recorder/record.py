@@ -3,6 +3,7 @@
 
     record.py ws://127.0.0.1:9600 b1 b1.record        (Debian: apt-get install python3-websockets)
     record.py ws://127.0.0.1:9600 b1 b1.record b2 b2.record --pgn round.pgn --event "Club final" --round 3 --players b1 Adams Baker
+    record.py ws://127.0.0.1:9601 --all FOLDER        over the relay's watch port, which tells what boards there are
 
 With --pgn it also writes the games of all its boards to one file that other chess programs read, anew at each text.
 
@@ -13,6 +14,9 @@ connection it follows from the first move again and compares what it is told wit
 game may have the board's name, and nothing of that is added. It ends with the game (status 0), where the relay no longer gives the first
 moves (1), where the file is there already (1), after so many tries in a row that brought nothing new (2), or where the board has another
 game than the record (3). Where nothing came, it leaves no file. With several boards it ends when all have ended, with the highest status.
+
+With --all it records each board that is there or is opened, to FOLDER/BOARD.record, until it is told to end. A name that is there already
+gets a number: b1.2.record. So does another game of a board. After so many tries in a row that told of no board it ends with status 2.
 """
 import argparse
 import asyncio
@@ -24,6 +28,9 @@ import signal
 import sys
 
 import websockets
+
+FAULTS = (OSError, asyncio.TimeoutError, websockets.WebSocketException)
+ENDED, REFUSED, GIVEN_UP, ANOTHER, GONE = range(5)  # How a record ended: the statuses, and for --all that the board is no longer there.
 
 sys.path.append(str(pathlib.Path(__file__).resolve().parent.parent.parent / "tools"))
 
@@ -72,6 +79,7 @@ class Record:
         self.kept = kept
         self.first = None
         self.moves = []
+        self.outcome = None
         self.told = 0
 
     def write(self, value):
@@ -109,8 +117,10 @@ class Record:
     def move(self, text):
         place, move = text["place"], text["move"]
         if place != self.told:
-            raise Broken(1, f"place {self.told} is missing: the relay told {place}")
+            raise Broken(REFUSED, f"place {self.told} is missing: the relay told {place}")
         if place == len(self.moves):
+            if self.outcome is not None:
+                raise self.another(f"it goes on after {place} moves, where the record has {self.outcome}")
             self.keep(text)
             self.moves.append(move)
         elif move != self.moves[place]:
@@ -120,17 +130,22 @@ class Record:
     def over(self, text):
         if self.told < len(self.moves):
             raise self.another(f"it ended after {self.told} moves, the record has {len(self.moves)}")
-        self.keep(text)
+        if self.outcome is None:
+            self.keep(text)
+            self.outcome = text["outcome"]
+        elif self.outcome != text["outcome"]:
+            raise self.another(f"it ended as {text['outcome']}, the record as {self.outcome}")
 
     def another(self, words):
-        return Broken(3, f"another game: {words}; nothing of it is in the record")
+        return Broken(ANOTHER, f"another game: {words}; nothing of it is in the record")
 
     def say(self, words):
         print(f"{self.board}: {words}", file=sys.stderr)
 
 
-async def keep(server, record, tries, wait):
-    """Follows the board until its game is over, or so many tries in a row brought nothing new. Answers the status to end with."""
+async def keep(server, record, tries, wait, waits=True):
+    """Follows the board until its game is over, or so many tries in a row brought nothing new. Answers how it ended. Where it is not to wait
+    for the board, it ends where the relay has none."""
     line = Line(server)
     failed = 0
     try:
@@ -138,12 +153,14 @@ async def keep(server, record, tries, wait):
             had = record.size()
             try:
                 if await line.follow(record.board, record.hear):
-                    return 0
+                    return ENDED
             except Refused as fault:
                 record.say(fault)
+                if fault.name == "NoSuchBoard" and not waits:
+                    return GONE
                 if not fault.later:
-                    return 1
-            except (OSError, asyncio.TimeoutError, websockets.WebSocketException) as fault:
+                    return REFUSED
+            except FAULTS as fault:
                 record.say(f"no connection: {fault}")
             except Broken as fault:
                 record.say(fault)
@@ -152,15 +169,79 @@ async def keep(server, record, tries, wait):
             if failed > 0:
                 await asyncio.sleep(wait)
         record.say(f"given up after {tries} tries in a row that brought nothing new")
-        return 2
+        return GIVEN_UP
     finally:
         await line.close()
+
+
+class Every:
+    """The records of all boards that a watch port tells. `make(board, number)` makes the board's next record, from this number on, and
+    answers it with its own number."""
+
+    def __init__(self, given, make):
+        self.given, self.make = given, make
+        self.records = {}  # The last record of each board, and its number.
+        self.told = set()  # The boards that were told on the present connection.
+        self.again = set()  # Those that were told on a new connection since they were followed last.
+        self.tasks = {}
+        self.group = None
+
+    async def for_ever(self):
+        """Answers the status to end with, where it has to."""
+        async with asyncio.TaskGroup() as self.group:
+            status = await self.listen()
+            for task in self.tasks.values():
+                task.cancel()
+        return status
+
+    async def listen(self):
+        line, failed = Line(self.given.server), 0
+        try:
+            while failed < self.given.tries:
+                self.told.clear()
+                try:
+                    await line.boards(self.hear)
+                except Refused as fault:
+                    print(f"boards: {fault}", file=sys.stderr, flush=True)
+                    if not fault.later:
+                        return REFUSED
+                except FAULTS as fault:
+                    print(f"boards: no connection: {fault}", file=sys.stderr, flush=True)
+                failed = 0 if self.told else failed + 1
+                await asyncio.sleep(self.given.wait)
+            print(f"boards: given up after {failed} tries in a row that told of none", file=sys.stderr, flush=True)
+            return GIVEN_UP
+        finally:
+            await line.close()
+
+    async def hear(self, _, text):
+        board = text["board"]
+        if board not in self.told:
+            self.told.add(board)
+            self.again.add(board)
+            if board not in self.tasks:
+                self.tasks[board] = self.group.create_task(self.keep(board))
+
+    async def keep(self, board):
+        """Records a board until its game is over or the relay no longer has it. One that is told on a new connection is compared with its
+        record, and has another record where its game is another."""
+        while board in self.again:
+            self.again.discard(board)
+            if board not in self.records:
+                self.records[board] = self.make(board, 1)
+            record, number = self.records[board]
+            status = await keep(self.given.server, record, self.given.tries, self.given.wait, waits=False)
+            if status == ANOTHER:
+                self.records[board] = self.make(board, number + 1)
+                self.again.add(board)
+        del self.tasks[board]  # Nothing is awaited between the last test and this, so no telling is missed.
 
 
 def arguments():
     words = argparse.ArgumentParser(description="Keeps the records of boards in files, and their games as PGN.")
     words.add_argument("server", help="the relay, as ws://127.0.0.1:9600")
-    words.add_argument("boards", nargs="+", metavar="BOARD FILE", help="a board and a new file for its record, or several such pairs")
+    words.add_argument("boards", nargs="*", metavar="BOARD FILE", help="a board and a new file for its record, or several such pairs")
+    words.add_argument("--all", metavar="FOLDER", help="record all boards of a watch port, each to a new file of this folder")
     words.add_argument("--tries", type=int, default=3600, help="tries in a row that bring nothing new (3600)")
     words.add_argument("--wait", type=float, default=1, help="seconds between two tries (1)")
     words.add_argument("--pgn", metavar="FILE", help="a new file for the games of all boards as PGN")
@@ -168,6 +249,12 @@ def arguments():
         words.add_argument(f"--{name}", metavar="TEXT", default="?", help=f"the {name} that the PGN tells")
     words.add_argument("--players", nargs=3, action="append", default=[], metavar=("BOARD", "WHITE", "BLACK"), help="a board's players, in its record and in the PGN")
     given = words.parse_intermixed_args()
+    if bool(given.boards) == bool(given.all):
+        words.error("give either boards and their files or --all FOLDER")
+    if given.all:
+        if not pathlib.Path(given.all).is_dir():
+            words.error(f"{given.all} is no folder")
+        return given
     if len(given.boards) % 2 != 0:
         words.error("each board needs a file")
     given.boards = list(zip(given.boards[::2], given.boards[1::2]))
@@ -188,17 +275,33 @@ def labels(given, board):
     return {"Event": given.event, "Site": given.site, "Round": given.round, "White": players.get("white", "?"), "Black": players.get("black", "?")}
 
 
-def made(given, closing):
-    """The records of all boards, which are ended with `closing`."""
-    together = Round(given.pgn) if given.pgn else None
-    for board, file in given.boards:
-        players = players_of(given, board)
-        record = Record(file, board, players, together.game(board, labels(given, board))) if together else Record(file, board, players)
-        closing.callback(record.close)
-        yield record
+class Maker:
+    """Makes records, which are ended with `closing`."""
+
+    def __init__(self, given, closing):
+        self.given, self.closing = given, closing
+        self.together = Round(given.pgn) if given.pgn else None
+
+    def record(self, board, file):
+        players = players_of(self.given, board)
+        record = Record(file, board, players)
+        if self.together:
+            record.kept = self.together.game(board, labels(self.given, board))
+        self.closing.callback(record.close)
+        return record
+
+    def numbered(self, board, number):
+        """A record of the folder, with the first number from this one on whose file is not there."""
+        while True:
+            try:
+                tail = f".{number}" if number > 1 else ""
+                return self.record(board, pathlib.Path(self.given.all, f"{board}{tail}.record")), number
+            except FileExistsError:
+                number += 1
 
 
 async def keep_all(given, records):
+    """Answers the highest status."""
     return max(await asyncio.gather(*(keep(given.server, it, given.tries, given.wait) for it in records)))
 
 
@@ -207,10 +310,15 @@ def main():
     signal.signal(signal.SIGTERM, lambda *_: sys.exit(128 + signal.SIGTERM))
     with contextlib.ExitStack() as closing:
         try:
-            records = list(made(given, closing))
+            maker = Maker(given, closing)
+            if given.all:
+                return asyncio.run(Every(given, maker.numbered).for_ever())
+            records = [maker.record(board, file) for board, file in given.boards]
         except FileExistsError as fault:
             print(f"{fault.filename} is there already", file=sys.stderr)
             return 1
+        except KeyboardInterrupt:
+            return 128 + signal.SIGINT
         return asyncio.run(keep_all(given, records))
 
 

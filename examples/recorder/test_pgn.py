@@ -36,10 +36,15 @@ def extract(file, *words):
 
 
 def games_of(text):
-    """The tags and the words of each game of a text of pgn-extract."""
-    parts = [it for it in text.split("\n\n") if it.strip()]
-    for tags, words in zip(parts[::2], parts[1::2]):
-        yield dict(re.findall(r'^\[(\w+) "(.*)"\]$', tags, re.M)), re.sub(r"\{[^}]*\}", "", words).split()
+    """The tags and the words of each game of a text of pgn-extract, which sets the comment of a game without a move apart from its result."""
+    games = []
+    for part in filter(str.strip, text.split("\n\n")):
+        if part.lstrip().startswith("["):
+            games.append((part, []))
+        else:
+            games[-1][1].append(part)
+    for tags, parts in games:
+        yield dict(re.findall(r'^\[(\w+) "(.*)"\]$', tags, re.M)), re.sub(r"\{[^}]*\}", "", " ".join(parts)).split()
 
 
 class Stockfish:

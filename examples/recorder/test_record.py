@@ -269,6 +269,155 @@ async def try_pgn_unwritten(folder):
     assert said.count("round.pgn is not written: ") == 4, said
 
 
+class All:
+    """record.py of all boards, and the folder to which it writes."""
+
+    @classmethod
+    async def start(cls, folder, relay, *words):
+        self = cls()
+        self.folder = pathlib.Path(folder)
+        self.process = await asyncio.create_subprocess_exec(
+            "/usr/bin/python3", str(HERE / "record.py"), relay.watch_address, "--all", folder, "--wait", "0.1", *words,
+            stderr=asyncio.subprocess.DEVNULL)
+        return self
+
+    def had(self, name):
+        file = self.folder / name
+        return [json.loads(it) for it in file.read_text().splitlines()] if file.exists() else []
+
+    async def has(self, name, board, start, moves, outcome=None):
+        """Waits until the file has this game, and nothing else."""
+        texts = [{"board": board, "record": 1, "start": start}, {"fen": start_fen(start), "joined": 0, "reply": "following"}]
+        texts += [{"move": move, "place": place, "reply": "move"} for place, move in enumerate(moves)]
+        texts += [{"outcome": outcome, "reply": "over"}] if outcome else []
+        for _ in range(20 * PATIENCE):
+            if self.had(name) == texts:
+                return
+            await asyncio.sleep(0.05)
+        raise AssertionError((name, self.had(name), texts))
+
+    def files(self):
+        return {it.name for it in self.folder.iterdir() if it.stat().st_size > 0}
+
+    async def end(self):
+        self.process.terminate()
+        await asyncio.wait_for(self.process.wait(), PATIENCE)
+        assert self.process.returncode == 128 + 15, self.process.returncode
+
+
+async def opened(relay, board, start, moves, outcome=None):
+    client = await Client.to(relay.address)
+    await client.open(board, start)
+    await client.submit(board, *moves)
+    if outcome:
+        await client.end(board, outcome)
+    return client
+
+
+async def try_all(folder):
+    """All boards, some there before and some opened later, each in its file, and in one PGN. One that is started again begins new files with
+    the whole games."""
+    relay = await Relay(watch=True).start()
+    first = await opened(relay, "a1", 518, MOVES[:2])
+    await opened(relay, "a2", 0, [], "agreed")
+    recorder = await All.start(folder, relay, "--pgn", f"{folder}/all.pgn", "--players", "a3", "Adams", "Baker")
+    await recorder.has("a1.record", "a1", 518, MOVES[:2])
+    await recorder.has("a2.record", "a2", 0, [], "agreed")
+    third = await opened(relay, "a3", 518, MOVES[:1])
+    for _ in range(20 * PATIENCE):
+        if len(recorder.had("a3.record")) == 3:
+            break
+        await asyncio.sleep(0.05)
+    await third.end("a3")
+    await first.submit("a1", *MOVES[2:])
+    await recorder.has("a1.record", "a1", 518, MOVES)
+    for _ in range(20 * PATIENCE):
+        if len(recorder.had("a3.record")) == 4:
+            break
+        await asyncio.sleep(0.05)
+    head, *texts = recorder.had("a3.record")
+    assert head == {"black": "Baker", "board": "a3", "record": 1, "start": 518, "white": "Adams"}, head
+    assert texts[1:] == [{"move": MOVES[0], "place": 0, "reply": "move"}, {"outcome": "agreed", "reply": "over"}], texts
+    await recorder.end()
+    names = [line[12:-2] for line in (recorder.folder / "all.pgn").read_text().splitlines() if line.startswith("[BoardName")]
+    assert names == ["a1", "a2", "a3"], names
+    assert recorder.files() == {"a1.record", "a2.record", "a3.record", "all.pgn"}, recorder.files()
+    recorder = await All.start(folder, relay)
+    await recorder.has("a1.2.record", "a1", 518, MOVES)
+    await first.end("a1")
+    await recorder.has("a1.2.record", "a1", 518, MOVES, "agreed")
+    await recorder.has("a1.record", "a1", 518, MOVES)
+    await recorder.end()
+
+
+async def try_all_anew(folder):
+    """The relay is started anew: of its boards one has the same game again, one another after it had ended, one another that is going on, and
+    one is gone. What is another game has a file of its own, and nothing is written twice."""
+    relay = await Relay(watch=True).start()
+    await opened(relay, "same", 518, MOVES[:2])
+    await opened(relay, "ended", 518, MOVES[:2], "agreed")
+    await opened(relay, "other", 518, MOVES[:2])
+    await opened(relay, "gone", 518, MOVES[:2])
+    recorder = await All.start(folder, relay)
+    for name in ("same", "other", "gone"):
+        await recorder.has(f"{name}.record", name, 518, MOVES[:2])
+    await recorder.has("ended.record", "ended", 518, MOVES[:2], "agreed")
+    await relay.kill()
+    await relay.start()
+    same = await opened(relay, "same", 518, MOVES[:3])
+    await opened(relay, "ended", 518, MOVES[:3])
+    await opened(relay, "other", 0, ["a2a4"])
+    await recorder.has("same.record", "same", 518, MOVES[:3])
+    await recorder.has("ended.2.record", "ended", 518, MOVES[:3])
+    await recorder.has("other.2.record", "other", 0, ["a2a4"])
+    await same.end("same")
+    await recorder.has("same.record", "same", 518, MOVES[:3], "agreed")
+    await recorder.has("ended.record", "ended", 518, MOVES[:2], "agreed")
+    await opened(relay, "gone", 518, MOVES[:2], "agreed")
+    await recorder.has("gone.record", "gone", 518, MOVES[:2], "agreed")
+    await recorder.end()
+    wanted = {f"{it}.record" for it in ("same", "ended", "ended.2", "other", "other.2", "gone")}
+    assert recorder.files() == wanted, recorder.files()
+
+
+async def try_all_wire(folder):
+    """Lost connections while games go on and after they have ended: each record is whole, and nothing is written twice."""
+    relay = await Relay(watch=True).start()
+    wire = await Wire(relay.watch_port).mend()
+    relay.watch_port = wire.port
+    client = await opened(relay, "b1", 518, [])
+    await opened(relay, "b2", 518, MOVES[:1], "agreed")
+    recorder = await All.start(folder, relay)
+    for count, move in enumerate(MOVES, 1):
+        await client.submit("b1", move)
+        await recorder.has("b1.record", "b1", 518, MOVES[:count])
+        wire.drop()
+    await client.end("b1")
+    await recorder.has("b1.record", "b1", 518, MOVES, "agreed")
+    wire.drop()
+    await asyncio.sleep(2)
+    await opened(relay, "b3", 518, [], "agreed")
+    await recorder.has("b3.record", "b3", 518, [], "agreed")
+    await recorder.has("b1.record", "b1", 518, MOVES, "agreed")
+    await recorder.has("b2.record", "b2", 518, MOVES[:1], "agreed")
+    await recorder.end()
+    assert recorder.files() == {"b1.record", "b2.record", "b3.record"}, recorder.files()
+    wire.server.close()
+
+
+async def try_all_refused(folder):
+    """On the relay's own port there is no list, and where there is no relay it is given up."""
+    relay = await Relay(watch=True).start()
+    watch_port, relay.watch_port = relay.watch_port, relay.port
+    recorder = await All.start(folder, relay)
+    assert await asyncio.wait_for(recorder.process.wait(), PATIENCE) == 1
+    relay.watch_port = watch_port
+    await relay.kill()
+    recorder = await All.start(folder, relay, "--tries", "3")
+    assert await asyncio.wait_for(recorder.process.wait(), PATIENCE) == 2
+    assert recorder.files() == set()
+
+
 async def main():
     wanted = sys.argv[1:]
     tries = {name[4:]: it for name, it in globals().items() if name.startswith("try_") and (not wanted or name[4:] in wanted)}
