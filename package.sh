@@ -34,8 +34,10 @@ put 644 /usr/share/relay960/pages web/*.html web/*.js web/*.css
 put 755 /usr/lib/relay960 examples/many_spectators/feed.py examples/recorder/record.py examples/hall/hall.py \
     examples/deployment/certificate-renewed examples/deployment/until-term
 put 644 /usr/lib/relay960 examples/hall/hall.conf
-put 644 /usr/lib/relay960/relay_client tools/relay_client/__init__.py tools/relay_client/line.py \
+put 644 /usr/lib/relay960/relay_client tools/relay_client/__init__.py tools/relay_client/frames.py tools/relay_client/line.py \
     tools/relay_client/men.py tools/relay_client/names.py tools/relay_client/ports.py
+put 644 /usr/lib/relay960 examples/many_spectators/channel.py examples/many_spectators/every.py \
+    examples/many_spectators/follower.py examples/many_spectators/list_channel.py
 put 644 /usr/lib/relay960 examples/recorder/pgn.py examples/recorder/san.py examples/recorder/rules.py examples/recorder/position.py
 put 644 /usr/lib/systemd/system examples/deployment/*.service
 put 644 /etc/relay960 examples/deployment/feed examples/many_spectators/redis.conf

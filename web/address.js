@@ -1,31 +1,50 @@
 "use strict";
 /*
  * What the address of a page says behind its "?":
- *   server=ws://HOST:PORT     the relay to ask
+ *   watch=ws://HOST:PORT      the relay's watch port
+ *   server=ws://HOST:PORT     the relay, at its own port or at its watch port
  *   channel=wss://HOST/sub    the channels to read, in place of a relay
  *   board=NAME                one board
  *   boards=NAME,NAME,..       the boards of a round
  *   players=A–B;C–D;..        their players, White first, in the order of the boards. A name may have a comma, as in "Carlsen, Magnus",
- *                             so pairs are parted by ";". A hyphen between spaces does for the dash.
- * Where neither server nor channel is given, a page of a site takes the site's own channels, and a page from disk its machine's relay.
+ *                             so pairs are parted by ";". A hyphen between spaces does for the dash. Without boards= each pair stands
+ *                             after the name of its board: players=NAME A–B;NAME C–D;..
+ * Where no source is given, a page of a site takes the site's own channels, and a page from disk its machine's relay: its watch port, or where
+ * none is there its own.
  */
 const Address = (() => {
   const RELAY = "ws://127.0.0.1:9600";
+  const WATCH = "ws://127.0.0.1:9601";
+  const KINDS = { watch: "watch", server: "relay", channel: "channel" };
   const given = new URLSearchParams(location.search);
   const isName = (text) => /^[A-Za-z0-9_-]{1,32}$/.test(text);
 
-  /** Where the texts come from: { kind, server }. */
+  /** The key of the source that the address gives, or undefined. */
+  const sourceKey = () => ["channel", "watch", "server"].find((it) => given.get(it));
+
+  /** Where the texts come from: { kind, server }, and with `instead` what is asked where nothing answers there. */
   function source() {
-    if (given.get("channel")) {
-      return { kind: "channel", server: given.get("channel") };
+    const key = sourceKey();
+    if (key !== undefined) {
+      return { kind: KINDS[key], server: given.get(key), instead: null };
     }
-    if (given.get("server")) {
-      return { kind: "relay", server: given.get("server") };
-    }
-    return location.protocol === "https:" ? { kind: "channel", server: `wss://${location.host}/sub` } : { kind: "relay", server: RELAY };
+    return location.protocol === "https:" ? { kind: "channel", server: `wss://${location.host}/sub`, instead: null }
+      : { kind: "watch", server: WATCH, instead: RELAY };
   }
 
+  /** The keys of a link to a source. */
+  const keysOf = (kind, server) => ({ [Object.keys(KINDS).find((it) => KINDS[it] === kind)]: server });
+
   const parts = (key, mark) => (given.get(key) || "").split(mark).map((it) => it.trim());
+
+  /** The address of a channel. */
+  const ofChannel = (server, name) => `${server.replace(/\/+$/, "")}/${name}`;
+
+  /** The boards whose players the address names without saying which boards there are: { name, players }, each once. */
+  function named() {
+    const lines = Lines.read((given.get("players") || "").split(";").join("\n"));
+    return lines.filter(({ name }, index) => isName(name) && lines.findIndex((it) => it.name === name) === index);
+  }
 
   /** The boards of a round, each once: { name, players }. A name that no board can have is left out. */
   function boards() {
@@ -47,8 +66,9 @@ const Address = (() => {
 
   /** The address at which one board is watched, from where this page has its texts, with its players. */
   const ofBoard = (board, players) => link("watch.html", {
-    channel: given.get("channel"), server: given.get("server"), board, players: Players.written(players) || null,
+    channel: given.get("channel"), watch: given.get("watch"), server: given.get("server"), board, players: Players.written(players) || null,
   });
 
-  return { source, boards, wrongNames, isName, link, ofBoard, get: (key) => given.get(key), has: (key) => given.has(key) };
+  return { RELAY, source, saysSource: () => sourceKey() !== undefined, keysOf, ofChannel, boards, named, wrongNames, isName, link, ofBoard,
+    get: (key) => given.get(key), has: (key) => given.has(key) };
 })();

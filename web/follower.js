@@ -19,16 +19,18 @@ const createFollower = (view) => {
   const ASK_AGAIN = 2;
   const ASKS = 5400; // Three hours: a spectator may open the page long before the round.
   const LATER = ["NoSuchBoard", "TooManyFollowers", "OutOfMemory"];
-  const SHORT = { NoSuchBoard: "Not open yet", TooManyFollowers: "No room", OutOfMemory: "No memory" };
+  const SHORT = { NoSuchBoard: "Not open yet", TooManyFollowers: "No room", OutOfMemory: "No memory", [Link.FELL_BEHIND]: "Fell behind",
+    [Link.NO_ROOM]: "No room" };
+  const WHY = { [Link.FELL_BEHIND]: "The relay closed this page's connection because it fell behind.",
+    [Link.NO_ROOM]: "The relay has no room for another spectator." };
   const HEIRS = 3; // How many next names a lost game is looked for under.
-  const SILENT = 45; // Seconds: a feed gives a sign every 15.
-  const KEPT = 5; // Seconds in which a channel hands out what it kept.
   const SETTLED = 100; // Milliseconds after which no other text follows that a channel kept,
   const PASSED = 500; // and behind the name of the next board.
 
-  /* What is wanted, the waits between tries to connect, how often a board was asked for in a row, and why it was refused or the connection
-   * lost, as it was said last. */
-  const wish = { server: "", board: "", from: "first", kind: "relay", isPatient: false, waits: Link.waits(), asks: 0, said: null };
+  /* What is wanted, whether it is had of a watch port, the waits between tries to connect, how often a board was asked for in a row, and why
+   * it was refused or the connection lost, as it was said last. */
+  const wish = { server: "", instead: null, board: "", from: "first", kind: "relay", isPatient: false, isAtWatchPort: false, waits: Link.waits(),
+    asks: 0, said: null };
 
   /*
    * The states, and what belongs to each. `behind` says that the relay closed the connection because this follower fell behind.
@@ -40,8 +42,8 @@ const createFollower = (view) => {
    *   waiting     link, timer         it refused for now, and is asked again
    *   live        link                it tells the game
    *   over        link                it told the end
-   * At a channel, which has been read since a time; `sign` is when it showed last that it is fed, `beat` is what its last beat says, and
-   * `kept` has the texts that it kept, from its oldest on, until they are shown together:
+   * At a channel; `since`, `sign` and `beat` are its signal's (signal.js), and `kept` has the texts that it kept, from its oldest on, until
+   * they are shown together:
    *   listening   link, since, sign, beat, kept, timer    it has shown no sign
    *   hearing     the same                                its signs come
    *   silent      the same                                for 45 s there was none
@@ -64,7 +66,7 @@ const createFollower = (view) => {
   }, view.entered);
 
   const isChannel = () => wish.kind === "channel";
-  const address = () => (isChannel() ? `${wish.server.replace(/\/+$/, "")}/${wish.board}` : wish.server);
+  const addresses = () => (isChannel() ? [Address.ofChannel(wish.server, wish.board)] : [wish.server, wish.instead].filter((it) => it !== null));
 
   /** Says how the connection is, unless the end of the game is what is to be said. */
   function pill(name, text, short) {
@@ -79,15 +81,16 @@ const createFollower = (view) => {
     pill("connecting", "Connecting …", "Connecting …");
     const lost = ({ code, fault }) => phase.take(fault ? "broken" : "closed", fault || code);
     const texted = (text) => phase.take(text.reply, text);
-    const link = Link.open(address(), { opened: () => phase.take("connected"), heard: texted, closed: lost });
+    const link = Link.open(addresses(), { opened: (address) => phase.take("connected", address), heard: texted, closed: lost });
     phase.go("connecting", { link, behind });
   }
 
-  function connected({ link, behind }) {
+  function connected({ link, behind }, address) {
     if (isChannel()) {
       reached();
-      listen({ link, since: Date.now(), sign: null, beat: null, kept: [] });
+      listen({ link, ...Signal.begin(), kept: [] });
     } else {
+      wish.isAtWatchPort = wish.kind === "watch" && address === wish.server;
       ask({ link, behind });
     }
   }
@@ -105,7 +108,7 @@ const createFollower = (view) => {
   function closed({ timer }, code) {
     clearTimeout(timer);
     const behind = code === Link.FELL_BEHIND;
-    const why = behind ? "The relay closed this page's connection because it fell behind." : "No connection to the server.";
+    const why = WHY[code] || "No connection to the server.";
     const seconds = wish.waits.next(() => phase.take("retry"));
     if (view.record().outcome === null && (behind || wish.said !== why)) {
       view.notice(behind ? `The relay closed the connection after ${view.record().next} half-moves, because this page fell behind (4001).` : why);
@@ -115,7 +118,7 @@ const createFollower = (view) => {
       pill("stopped", `${why} Gave up. Press Watch to try again.`, "No connection");
       phase.take("stop");
     } else {
-      pill(behind ? "behind" : "lost", `${why} Trying again in ${seconds} s.`, behind ? "Fell behind" : "No connection");
+      pill(behind ? "behind" : "lost", `${why} Trying again in ${seconds} s.`, SHORT[code] || "No connection");
       phase.go("lost", { behind });
     }
   }
@@ -212,6 +215,9 @@ const createFollower = (view) => {
     }
     view.refresh();
     live();
+    if (wish.isAtWatchPort) {
+      link.keepAlive();
+    }
     phase.go("live", { link });
   }
 
@@ -289,19 +295,9 @@ const createFollower = (view) => {
     }
   }
 
-  /** Whether the channel may still be handing out what it kept. */
-  const isKept = ({ since }) => Date.now() - since < 1000 * KEPT;
-
-  /** The value after a text: what a channel kept is no sign of the present, but for a beat that tells its time. */
-  function signed(value, { reply, time }) {
-    const said = reply === "beat" ? 1000 * time : null;
-    const isFresh = !isKept(value) || (said !== null && Math.abs(Date.now() - said) < 1000 * SILENT);
-    return { ...value, sign: isFresh ? Date.now() : value.sign, beat: said || value.beat };
-  }
-
   function heard(value, text) {
     clearTimeout(value.timer);
-    const now = signed(value, text);
+    const now = Signal.after(value, text);
     if (now.kept === null) {
       say(view.record().take(text));
       view.refresh();
@@ -310,13 +306,13 @@ const createFollower = (view) => {
     }
     now.kept.push(text);
     phase.go(now.name, { ...now, timer: setTimeout(() => phase.take("settle"), SETTLED) });
-    if (!isKept(value)) {
+    if (!Signal.isKept(value)) {
       phase.take("settle");
     }
   }
 
   function beat(value, text) {
-    const now = signed(value, text);
+    const now = Signal.after(value, text);
     if (now.kept === null) {
       listen(now);
     } else {
@@ -356,10 +352,8 @@ const createFollower = (view) => {
 
   /** Each second: a channel without a sign for too long says so. */
   function tick(value) {
-    if (view.record().origin !== null && Date.now() - (value.sign || value.since) >= 1000 * SILENT) {
-      const time = value.sign || value.beat;
-      const clock = time && new Date(time).toLocaleTimeString([], { hour: "2-digit", minute: "2-digit", hourCycle: "h23" });
-      const text = clock ? `No signal since ${clock}` : "No signal";
+    if (view.record().origin !== null && Signal.isSilent(value)) {
+      const text = Signal.words(value);
       view.state("silent", text, text);
       phase.go("silent", value);
     }
@@ -371,13 +365,13 @@ const createFollower = (view) => {
 
   function begin(_, given) {
     phase.take("stop");
-    Object.assign(wish, given, { waits: Link.waits(given.isPatient), asks: 0, said: null });
+    Object.assign(wish, { instead: null }, given, { waits: Link.waits(given.isPatient), asks: 0, said: null, isAtWatchPort: false });
     forget();
     connect();
   }
 
   return {
-    /** Follows what is given: { server, board, from, kind, isPatient }. A patient follower never gives up. */
+    /** Follows what is given: { kind, server, instead, board, from, isPatient } (address.js). A patient follower never gives up. */
     begin: (given) => phase.take("begin", given),
     /** Answers false where nothing was followed. */
     stop: () => phase.take("stop"),

@@ -25,5 +25,8 @@ const Lines = (() => {
     return /^;*$/.test(text) ? null : text;
   }
 
-  return { read, fault, players };
+  /** The players of all boards, each with its name, as an address has them that says no boards, or null where there are none. */
+  const named = (boards) => boards.map(({ name, players: both }) => `${name} ${Players.written(both)}`.trim()).join(";") || null;
+
+  return { read, fault, players, named };
 })();

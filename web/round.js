@@ -1,14 +1,19 @@
 "use strict";
 /*
- * The boards of a round on one page, each with a follower of its own. Which boards, and their players, the page's address says
- * (address.js). With &hall it is for a projector: it has no control, and the boards fill the screen.
+ * The boards of a round on one page. Where the page's address says which (address.js), each has a follower of its own. Else they come from
+ * the list of boards, on one connection: all that there are, and each that is opened. With &hall it is for a projector: it has no control,
+ * and the boards fill the screen.
  */
 (() => {
   const at = (id) => document.getElementById(id);
   const isHall = Address.has("hall");
   const source = Address.source();
   const boards = Address.boards();
-  const tiles = [];
+  const isListed = boards.length === 0;
+  const named = isListed ? Address.named() : boards;
+  const link = { name: "live", text: "", short: "" }; // How the connection of the list is.
+  let tiles = [];
+  let tileCount = named.length; // Of the places, a tile each.
 
   const GAP = 8; // Pixels between tiles, as in round.css.
   const TALL = isHall ? 1.375 : 1.42; // How many times as high as wide a tile is, at most; round.css has its height.
@@ -39,7 +44,7 @@
     const holder = at("boards");
     const width = holder.clientWidth;
     const height = innerHeight - (isHall ? 2 * GAP : holder.getBoundingClientRect().top + scrollY + GAP);
-    const fit = fitting(boards.length, width, height);
+    const fit = fitting(tileCount, width, height);
     const { columns, tile } = isHall || fit.tile >= LEAST ? fit : scrolling(width);
     holder.style.setProperty("--columns", columns);
     holder.style.setProperty("--tile", `${Math.floor(isHall ? tile : Math.min(MOST, tile))}px`);
@@ -110,23 +115,51 @@
   /** The games of the boards that are open or were, in their order. */
   const games = () => tiles.map((it) => it.game()).filter(({ record }) => record.origin !== null);
 
-  function sum() {
-    const count = (test) => tiles.filter(test).length;
-    const over = count((it) => it.record().outcome !== null);
-    const live = count((it) => it.record().outcome === null && it.stateName() === "live");
-    const rest = tiles.length - over - live;
-    const words = [[live, "live"], [over, "over"], [rest, "waiting"]].filter(([number]) => number > 0).map(([number, word]) => `${number} ${word}`);
-    const text = tiles.length === 0 ? "No boards" : words.join(", ");
-    at("state").dataset.state = live > 0 ? "live" : rest > 0 ? "connecting" : tiles.length > 0 ? "over" : "idle";
+  function say(state, text) {
+    at("state").dataset.state = state;
     if (at("state").textContent !== text) {
       at("state").textContent = text;
     }
+  }
+
+  function sum() {
+    const those = (test) => tiles.filter(test).length;
+    const over = those((it) => it.record().outcome !== null);
+    const live = those((it) => it.record().outcome === null && it.stateName() === "live");
+    const rest = tiles.length - over - live;
+    const words = [[live, "live"], [over, "over"], [rest, "waiting"]].filter(([number]) => number > 0).map(([number, word]) => `${number} ${word}`);
+    if (link.name !== "live") {
+      say(link.name, link.text);
+    } else if (tiles.length === 0) {
+      say("connecting", "No boards yet");
+    } else {
+      say(live > 0 ? "live" : rest > 0 ? "connecting" : "over", words.join(", "));
+    }
+    at("none").hidden = !isHall || tiles.length > 0;
+    at("none").textContent = at("state").textContent;
     at("save-round").hidden = games().length === 0;
+  }
+
+  const save = () => Saved.pgn("round", Pgn.round(games()));
+
+  /** Saves the games of the list, of which the page has no more than the last moves: it asks for them first. */
+  function saveListed() {
+    const open = tiles.filter((it) => it.told() !== null);
+    at("save-round").disabled = true;
+    Gather.games(source, open.map((it) => it.told()), (records) => {
+      at("save-round").disabled = false;
+      const whole = open.map((it, index) => it.game(records[index])).filter(({ record }) => record !== null);
+      const missing = open.filter((_, index) => records[index] === null).map((it) => it.name());
+      warn(missing.length === 0 ? "" : `Not saved, since their moves did not come: ${missing.join(", ")}.`);
+      if (whole.length > 0) {
+        Saved.pgn("round", Pgn.round(whole));
+      }
+    });
   }
 
   /* The boards. */
 
-  function add({ name, players }) {
+  function make({ name, players }) {
     const href = (board) => (isHall ? null : Address.ofBoard(board, players));
     const shown = () => {
       const watch = tile && watches.get(tile.element);
@@ -137,19 +170,118 @@
     };
     let tile = null;
     tile = createTile({ name, players, href, shown });
-    tiles.push(tile);
     watches.set(tile.element, watchOver(tile));
-    at("boards").append(tile.element);
     sight.observe(tile.element);
-    createFollower(tile).begin({ ...source, board: name, from: "first", isPatient: true });
+    return tile;
   }
 
-  /** Adds the boards, each in a task of its own, so that the page answers in between. */
+  function remove(tile) {
+    watches.get(tile.element).sighted(false);
+    watches.delete(tile.element);
+    sight.unobserve(tile.element);
+    tile.element.remove();
+  }
+
+  /** Adds the boards that are followed, each in a task of its own, so that the page answers in between. */
   function addAll([first, ...others]) {
     if (first) {
-      add(first);
+      const tile = make(first);
+      tiles.push(tile);
+      at("boards").append(tile.element);
+      createFollower(tile).begin({ ...source, board: first.name, from: "first", isPatient: true });
       setTimeout(() => addAll(others), 0);
     }
+  }
+
+  /* The boards of the list. */
+
+  const list = createList({ listed: () => Frames.soon(place), told, state: linked });
+
+  /** How a tile of the list stands, as the list has its connection. */
+  function stand(tile) {
+    if (tile.record().outcome !== null) {
+      tile.state("over", "The game is over", "Over");
+    } else if (tile.told() === null && link.name === "live") {
+      tile.state("refused", "This board is not open yet.", "Not open yet");
+    } else {
+      tile.state(link.name, link.text, link.short);
+    }
+  }
+
+  function linked(name, text, short) {
+    if (name !== link.name || text !== link.text) {
+      Object.assign(link, { name, text, short });
+      tiles.forEach(stand);
+      sum();
+    }
+  }
+
+  /** The game of a tile is gone: all moves of another one under its name are new. */
+  function forget(tile) {
+    if (Seen.of(keyOf(tile)) !== null) {
+      Seen.keep(keyOf(tile), { next: 0, isOver: false });
+    }
+  }
+
+  /** Shows a text of the list on its tile. */
+  function tell(tile, text) {
+    const before = tile.told();
+    if (before !== null && (text === null || !Summary.goesOn(text, before))) {
+      forget(tile);
+    }
+    tile.tell(text);
+    stand(tile);
+  }
+
+  /** One board has a new text. Where that moves no board to another place, its tile alone changes. */
+  function told(text) {
+    const tile = tiles.find((it) => it.name() === text.board);
+    if (tile && tile.told() !== null && text.outcome === null && Summary.goesOn(text, tile.told())) {
+      tell(tile, text);
+    } else {
+      Frames.soon(place);
+    }
+  }
+
+  /** Shows these tiles in this order, and no others. */
+  function order(wanted) {
+    const holder = at("boards");
+    const gone = tiles.filter((it) => !wanted.includes(it));
+    gone.filter((it) => !list.texts().has(it.name())).forEach(forget);
+    gone.forEach(remove);
+    tiles = wanted;
+    tiles.forEach(({ element }, index) => {
+      if (holder.children[index] !== element) {
+        holder.insertBefore(element, holder.children[index] || null);
+      }
+    });
+  }
+
+  /** Sees to it that each place of the round has its tile. One is made at a time, so that the page answers in between. */
+  function place() {
+    const places = Places.of(list.texts(), named);
+    const had = new Map(tiles.map((it) => [it.name(), it]));
+    places.forEach(({ name, text }) => had.has(name) && had.get(name).told() !== text && tell(had.get(name), text));
+    const missing = places.find((it) => !had.has(it.name));
+    if (missing) {
+      had.set(missing.name, make(missing));
+      tell(had.get(missing.name), missing.text);
+    }
+    order(places.filter((it) => had.has(it.name)).map((it) => had.get(it.name)));
+    if (tileCount !== places.length) {
+      tileCount = places.length;
+      layOut();
+    }
+    sum();
+    if (tiles.length < places.length) {
+      Frames.soon(place);
+    }
+  }
+
+  /** Says what went wrong, or "" for nothing. */
+  function warn(text) {
+    at("said").hidden = text === "";
+    at("said").textContent = text;
   }
 
   /* The form. It makes the address that shows the boards, to keep and to hand on. */
@@ -163,10 +295,11 @@
   function submit(event) {
     event.preventDefault();
     const wanted = lines();
+    const isEvery = at("every").checked || wanted.length === 0;
     location.assign(Address.link(location.pathname, {
-      [at("kind").value === "channel" ? "channel" : "server"]: at("server").value.trim(),
-      boards: wanted.map((it) => it.name).join(","),
-      players: Lines.players(wanted),
+      ...Address.keysOf(at("kind").value, at("server").value.trim()),
+      boards: isEvery ? null : wanted.map((it) => it.name).join(","),
+      players: isEvery ? Lines.named(wanted) : Lines.players(wanted),
       hall: at("hall").checked ? "" : null,
     }));
   }
@@ -175,20 +308,25 @@
     at("server").value = source.server;
     at("kind").value = source.kind;
     at("hall").checked = isHall;
-    at("lines").value = boards.map((it) => `${it.name} ${Players.written(it.players)}`.trim()).join("\n");
-    at("settings").open = boards.length === 0;
+    at("every").checked = isListed && named.length > 0;
+    at("lines").value = named.map((it) => `${it.name} ${Players.written(it.players)}`.trim()).join("\n");
+    at("settings").open = isListed && !Address.saysSource();
   }
 
   const wrong = Address.wrongNames();
-  document.body.classList.toggle("hall", isHall && boards.length > 0);
-  at("said").hidden = wrong.length === 0;
-  at("said").textContent = `No board can have this name: ${wrong.join(", ")}.`;
+  document.body.classList.toggle("hall", isHall);
+  warn(wrong.length === 0 ? "" : `No board can have this name: ${wrong.join(", ")}.`);
   fill();
   at("lines").addEventListener("input", check);
   at("source").addEventListener("submit", submit);
-  at("save-round").addEventListener("click", () => Saved.pgn("round", Pgn.round(games())));
+  at("save-round").addEventListener("click", isListed ? saveListed : save);
   addEventListener("resize", layOut);
   layOut();
   Pieces.giveImages();
-  addAll(boards);
+  if (isListed) {
+    list.begin(source);
+    place();
+  } else {
+    addAll(boards);
+  }
 })();

@@ -129,7 +129,7 @@
   function spectators() {
     const game = operator.game();
     at("watch").hidden = game === null || location.protocol === "https:";
-    at("watch").href = game === null ? "" : Address.link("watch.html", { server: server(), board: game.board, players: Players.written(game.players) || null });
+    at("watch").href = game === null ? "" : Address.link("watch.html", { server: server() === Address.RELAY ? null : server(), board: game.board, players: Players.written(game.players) || null });
   }
 
   function controls() {

@@ -6,7 +6,7 @@
  */
 (() => {
   const at = (id) => document.getElementById(id);
-  const server = Address.get("server") || "ws://127.0.0.1:9600";
+  const server = Address.get("server") || Address.RELAY;
   const OPENING = "sirvandu.opening"; // The address whose boards are to be opened when it is shown first, and not when it is loaded again.
   const tabs = [];
 

@@ -10,17 +10,19 @@ const Texts = (() => {
   const isMove = (it) => isText(it) && /^[a-h][1-8][a-h][1-8][nbrq]?$/.test(it);
   const FEN = /^[pnbrqkPNBRQK1-8]+(\/[pnbrqkPNBRQK1-8]+){7} [wb] (-|[A-Ha-h]{1,4}) (-|[a-h][36]) \d+ \d+$/;
   const isFen = (it) => isText(it) && FEN.test(it) && Position.write(Position.read(it)) === it;
+  const orNull = (test) => (it) => it === null || test(it);
 
   /* What each text has beside its `reply`. */
   const FORMS = new Map([
     ["opened", {}],
-    ["played", { place: isPlace, outcome: (it) => it === null || isText(it) }],
+    ["played", { place: isPlace, outcome: orNull(isText) }],
     ["ended", { outcome: isText }],
     ["refused", { code: isPlace, name: isText }],
     ["following", { fen: isFen, joined: isPlace }],
     ["move", { place: isPlace, move: isMove }],
     ["over", { outcome: isText }],
     ["cut", {}],
+    ["board", { board: isName, fen: isFen, last: orNull(isMove), outcome: orNull(isText), plies: isPlace, start: (it) => Position.isStart(it) }],
     ["beat", { time: isPlace }],
     ["next", { board: isName }],
   ]);

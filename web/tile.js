@@ -1,10 +1,10 @@
 "use strict";
 /*
  * A board of a round, small: its name, players, start number, position, last move, and whose move it is or the result. It is the view of a
- * follower. `href(board)` is where a click leads, or null in a hall, where nothing can be clicked. `shown()` is called when it was drawn.
+ * follower, or shows what a list of boards tells of it. `href(board)` is where a click leads, or null in a hall, where nothing can be clicked. `shown()` is called when it was drawn.
  */
 const createTile = ({ name, players, href, shown }) => {
-  const tile = { name, record: createRecord(), state: "connecting", text: "", short: "", origin: null, start: null, ply: null, move: "" };
+  const tile = { name, record: createRecord(), told: null, state: "connecting", text: "", short: "", origin: null, start: null, ply: null, move: "" };
 
   function make(tag, className, ...children) {
     const it = document.createElement(tag);
@@ -40,9 +40,12 @@ const createTile = ({ name, players, href, shown }) => {
     }
   }
 
-  /** The number of the start, where the game is known from there. It is looked for once. */
+  /** The number of the start, where a list tells it or the game is known from there. It is looked for once. */
   function startNumber() {
     const { origin } = tile.record;
+    if (tile.told !== null) {
+      return tile.told.start;
+    }
     if (origin !== tile.origin) {
       tile.origin = origin;
       tile.start = origin === null ? null : Position.startNumber(origin.position);
@@ -50,14 +53,27 @@ const createTile = ({ name, players, href, shown }) => {
     return tile.start;
   }
 
+  const present = () => (tile.record.origin === null ? null : tile.record.present());
+
   function written(ply, before) {
     const isBlack = ply.deed.colour === Position.BLACK;
     return `${before.number}${isBlack ? "…" : "."} ${San.write(before, ply.text)}`;
   }
 
+  /** The last move that a list tells, where the position before it is not known: 12… g8–f6. */
+  function bareMove({ last }) {
+    const { turn, number } = present();
+    return `${turn === Position.BLACK ? `${number}.` : `${number - 1}…`} ${last.slice(0, 2)}–${last.slice(2)}`;
+  }
+
+  const isBare = () => tile.told !== null && tile.told.last !== null && tile.record.plies.length === 0;
+
   /** The last move as a score sheet has it: 12. Nf3, 12… Nf6. It is written once. */
   function lastMove() {
     const { plies, origin } = tile.record;
+    if (isBare()) {
+      return bareMove(tile.told);
+    }
     const [before, ply = null] = [{ after: origin && origin.position }, ...plies].slice(-2);
     if (ply !== tile.ply) {
       tile.ply = ply;
@@ -65,8 +81,6 @@ const createTile = ({ name, players, href, shown }) => {
     }
     return tile.move;
   }
-
-  const present = () => (tile.record.origin === null ? null : tile.record.present());
 
   /** What is to be said of the whole: how the game ended, or why nothing comes. */
   function stand() {
@@ -112,11 +126,20 @@ const createTile = ({ name, players, href, shown }) => {
       turn(), outcome, head.fresh.textContent].filter((it) => it !== "").join(", ");
   }
 
+  /** The squares of the last move, where it is known. */
+  function lastDeed() {
+    if (isBare()) {
+      const { from, to } = Position.parts(tile.told.last);
+      return { from, to, castling: null };
+    }
+    const ply = tile.record.plies[tile.record.plies.length - 1];
+    return ply && !ply.gap ? ply.deed : null;
+  }
+
   function draw() {
     const { record } = tile;
     const position = present();
-    const ply = record.plies[record.plies.length - 1];
-    board.show(position, ply && !ply.gap ? ply.deed : null);
+    board.show(position, lastDeed());
     const start = startNumber();
     write(head.name, tile.name);
     write(head.start, start === null ? "" : `no. ${start}`);
@@ -141,6 +164,14 @@ const createTile = ({ name, players, href, shown }) => {
     refresh();
   }
 
+  /** Shows what a list tells of it, or with null that the list has it not. */
+  function tell(text) {
+    const isSame = text !== null && tile.told !== null && Summary.goesOn(text, tile.told);
+    const record = text === null ? createRecord() : Summary.record(text, isSame ? tile.record : null);
+    tile.told = text;
+    start(record);
+  }
+
   function state(given, text, short) {
     Object.assign(tile, { state: given, text, short });
     refresh();
@@ -160,8 +191,8 @@ const createTile = ({ name, players, href, shown }) => {
 
   draw();
   return {
-    element, refresh, start, goOn: start, state, renamed, mark, notice: () => {}, entered: () => {},
-    record: () => tile.record, name: () => tile.name, stateName: () => tile.state,
-    game: () => ({ board: tile.name, record: tile.record, labels: Players.tags(players) }),
+    element, refresh, start, goOn: start, tell, state, renamed, mark, notice: () => {}, entered: () => {},
+    record: () => tile.record, told: () => tile.told, name: () => tile.name, stateName: () => tile.state,
+    game: (record = tile.record) => ({ board: tile.name, record, labels: Players.tags(players) }),
   };
 };

@@ -3,6 +3,7 @@
 (() => {
   const page = createPage();
   const { at, state } = page;
+  const source = Address.source();
   const follower = createFollower({ ...page, state: said, start, renamed, entered: buttons });
 
   /** Says how the connection is. Where a game was abandoned, the name is offered under which it may go on. */
@@ -42,7 +43,9 @@
     entitle(board);
     page.named(players);
     at("outcome").hidden = true;
-    follower.begin({ server: at("server").value.trim(), board, from: at("from").value, kind: at("kind").value });
+    const server = at("server").value.trim();
+    const instead = server === source.server ? source.instead : null;
+    follower.begin({ kind: at("kind").value, server, instead, board, from: at("from").value });
   }
 
   /** The players that the page's address names, where it is its board that is wanted. */
@@ -67,10 +70,9 @@
   });
 
   /* An address that names a board (address.js) begins at once, with the form folded away; from=present begins at the present. */
-  const { kind, server } = Address.source();
-  at("kind").value = kind;
-  at("from").disabled = kind === "channel";
-  at("server").value = server;
+  at("kind").value = source.kind;
+  at("from").disabled = source.kind === "channel";
+  at("server").value = source.server;
   at("from").value = Address.get("from") === "present" ? "present" : "first";
   at("name").value = Address.get("board") || "";
   buttons();

@@ -146,8 +146,8 @@ const Words = (() => {
 
   const HEIRS = 99;
 
-  /** Whether the game of a board may go on under this name. */
-  const isHeir = (name, board) => nextNames(board, HEIRS).includes(name);
+  /** Whether the game of a board may go on under this name. Most names are told by their first letters, of which next names keep 27. */
+  const isHeir = (name, board) => name.startsWith(board.replace(/_\d{1,3}$/, "").slice(0, 27)) && nextNames(board, HEIRS).includes(name);
 
   return { ILLEGAL, outcome, score, refusal, coded, kind, colour, piece, sheet, spoken, missed, near, placement, nextName, nextNames, isHeir };
 })();

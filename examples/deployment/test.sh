@@ -1,8 +1,9 @@
 #!/bin/sh
 # Tries the Debian package and what a site does with it, on loopback: the package is made, installed under a folder of the trial, and run
 # from there; the units and the manual page are looked at; a site's nginx with TLS includes the two files for it, with a certificate and a
-# password made for the trial; a renewed certificate is taken over, and the relay is restarted in the middle of a game. RELAY960 names another program than the built one. Its last line
-# says what came.
+# password made for the trial; spectators come to the watch port; a renewed certificate is taken over, and the relay is restarted in the middle
+# of a game. RELAY960 names another program than the built one. Its last line says what came.
+# Words are the names of tests of the site: ./test.sh game watch
 set -eu
 cd "$(dirname "$0")"
 top=$(cd ../.. && pwd)
@@ -10,7 +11,7 @@ top=$(cd ../.. && pwd)
 . "$top/tools/trial.sh"
 begin_trial nginx-light libnginx-mod-nchan redis-server python3-websockets chromium openssl systemd mandoc dpkg qrencode
 ports() { /usr/bin/python3 -m relay_client.ports "$@"; }
-ports free 9110 9379 9443 9600 9960
+ports free 9110 9379 9443 9600 9601 9960
 run=$(mktemp -d)
 chmod 755 "$run"
 root=$run/root
@@ -18,7 +19,7 @@ pids=""
 stop() {
     status=$?
     trap - EXIT INT TERM
-    for name in feed relay; do [ ! -f "$run/$name.pid" ] || pids="$pids $(cat "$run/$name.pid")"; done
+    for name in relay960-feed relay960; do [ ! -f "$run/$name.pid" ] || pids="$pids $(cat "$run/$name.pid")"; done
     for pid in $pids; do kill "$pid" 2> /dev/null || true; done
     wait || true
     rm -rf "$run"
@@ -79,24 +80,29 @@ ports wait 9379
 nginx -p "$site" -c "$site/nginx.conf" > "$run/nginx.log" 2>&1 &
 pids="$pids $!"
 
-# What a site and the hook for renewed certificates call: systemctl, here on the processes of the trial.
+# What a site and the hook for renewed certificates call: systemctl, here on the processes of the trial. They are started by their units' own words.
 mkdir "$run/bin"
 cat > "$run/bin/systemctl" <<END
 #!/bin/sh
 set -eu
+begin() {
+    eval "PYTHONPATH= \$(sed -n 's/^ExecStart=//p' "$root/usr/lib/systemd/system/\$1.service") >> '$run/\$1.log' 2>&1 &"
+    echo \$! > "$run/\$1.pid"
+}
+end() {
+    [ ! -f "$run/\$1.pid" ] || kill "\$(cat "$run/\$1.pid")"
+    rm -f "$run/\$1.pid"
+}
+end_relay() {
+    end relay960
+    until /usr/bin/python3 -m relay_client.ports free 9600 9601 > /dev/null; do sleep 0.1; done
+}
 case "\$*" in
     "reload nginx") kill -HUP "\$(cat "$site/nginx.pid")" ;;
-    "restart relay960-feed")
-        [ ! -f "$run/feed.pid" ] || kill "\$(cat "$run/feed.pid")"
-        PYTHONPATH= "$root/usr/lib/relay960/feed.py" --names "$root/etc/relay960/feed" >> "$run/feed.log" 2>&1 &
-        echo \$! > "$run/feed.pid" ;;
-    "restart relay960")
-        [ ! -f "$run/relay.pid" ] || kill "\$(cat "$run/relay.pid")"
-        until /usr/bin/python3 -m relay_client.ports free 9600 > /dev/null; do sleep 0.1; done
-        "$root/usr/bin/relay960" serve --port 9600 --forever --boards 64 --capacity 1024 --grace 120 >> "$run/relay.log" 2>&1 &
-        echo \$! > "$run/relay.pid" ;;
-    "stop relay960") kill "\$(cat "$run/relay.pid")"; rm "$run/relay.pid" ;;
-    "reload relay960-feed") kill -HUP "\$(cat "$run/feed.pid")" ;;
+    "restart relay960-feed") end relay960-feed; begin relay960-feed ;;
+    "restart relay960") end_relay; begin relay960 ;;
+    "stop relay960") end_relay ;;
+    "reload relay960-feed") kill -HUP "\$(cat "$run/relay960-feed.pid")" ;;
     *) echo "no such call: systemctl \$*" >&2; exit 1 ;;
 esac
 END
@@ -106,8 +112,8 @@ echo hall > "$root/etc/relay960/feed"
 "$run/bin/systemctl" restart relay960-feed
 export SITE_FEED="$root/etc/relay960/feed"
 export SITE_HOOK="$root/usr/lib/relay960/certificate-renewed" SITE_FOLDER="$site" SITE_LOGS="$run"
-if ports wait 9110 9443 9600 && PATH="$run/bin:$PATH" /usr/bin/python3 test_site.py "$site/certificate.pem"; then
-    echo "passed: package, units, manual page, nginx with TLS, a renewed certificate, a restarted relay"
+if ports wait 9110 9443 9600 9601 && PATH="$run/bin:$PATH" /usr/bin/python3 test_site.py "$site/certificate.pem" "$@"; then
+    echo "passed: package, units, manual page, nginx with TLS, the watch port, a renewed certificate, a restarted relay"
 else
     tail -n 5 "$run"/*.log
     echo "failed"

@@ -1,17 +1,18 @@
 #!/usr/bin/python3
 """Shows the boards of a round to the phones and screens of a hall, beside a relay on the same machine.
 
-    hall.py ROUND           (Debian: apt-get install nginx-light libnginx-mod-nchan python3-websockets qrencode)
+    relay960 serve --forever --boards 64 --capacity 1024 --grace 120 --watch 127.0.0.1:9601
+    hall.py [ROUND]                                                  (Debian: apt-get install nginx-light qrencode)
 
-ROUND is a file with one board a line, as the forms of the pages take them: its name, perhaps its start number, and perhaps its players:
+All boards of the relay are shown, as they are opened. ROUND is a file that names the players, one board a line, as the forms of the pages
+take them: its name, perhaps its start number, and its players. A board that it names is shown before it is open, too:
 
     r3-1 518 Carlsen – Caruana
     r3-2 518 Nakamura – So
 
-It serves pages and channels for watching at an address of this machine in the hall's network, and prints that address and its QR code.
-Nothing that it serves reaches the relay: a feed on this machine follows the boards and fills the channels. Boards are opened and played
-on this machine alone, at the relay's own address. Ctrl-C ends what is served, and no game; started again it has the games from their
-first move.
+It serves the pages for watching at an address of this machine in the hall's network, and passes /watch there on to the relay's watch port,
+on which nothing can be changed. It prints that address and its QR code. Boards are opened and played on this machine alone, at the
+relay's own port. Ctrl-C ends what is served, and no game.
 """
 import argparse
 import html
@@ -22,6 +23,7 @@ import re
 import shutil
 import signal
 import socket
+import struct
 import subprocess
 import sys
 import tempfile
@@ -30,13 +32,12 @@ import urllib.parse
 
 HERE = pathlib.Path(__file__).resolve().parent
 TOP = HERE.parent.parent
-# Where it is installed, the package and the feed stand beside it.
+# Where it is installed, the package stands beside it.
 sys.path.append(str(TOP / "tools"))
 
-from relay_client.ports import free_port, listened  # noqa: E402
+from relay_client.frames import REQUEST, frame, read_frame  # noqa: E402
+from relay_client.ports import listened  # noqa: E402
 
-MODULE = pathlib.Path("/usr/lib/nginx/modules/ngx_nchan_module.so")
-FEEDS = (TOP / "examples/many_spectators/feed.py", HERE / "feed.py")
 PAGES = (TOP / "web", TOP / "share/relay960/pages")
 FOR_OPERATORS = ("table.html", "table.js", "operator.js", "tables.html", "tables.js", "key.js")
 FRONT = '<!doctype html><meta charset="utf-8"><meta name="viewport" content="width=device-width"><title>The round</title>' \
@@ -56,13 +57,8 @@ def first_there(paths):
 
 def missing():
     """The packages of Debian that it needs and that are not there."""
-    websockets = subprocess.run(["/usr/bin/python3", "-c", "import websockets"], capture_output=True, check=False)
-    there = {
-        "nginx-light": shutil.which("nginx"), "libnginx-mod-nchan": MODULE.exists(), "qrencode": shutil.which("qrencode"),
-        "iproute2": shutil.which("ip"),
-        "python3-websockets": websockets.returncode == 0,
-    }
-    return [package for package, found in there.items() if not found]
+    commands = {"nginx-light": "nginx", "qrencode": "qrencode", "iproute2": "ip"}
+    return [package for package, command in commands.items() if shutil.which(command) is None]
 
 
 # The round.
@@ -96,10 +92,9 @@ def read_round(file):
 
 def page_of(boards, host):
     """The address of the round's page, behind its host."""
-    said = {"channel": f"ws://{host}/sub", "boards": ",".join(name for name, _ in boards)}
-    players = ";".join(players for _, players in boards)
-    if players.strip(";"):
-        said["players"] = players
+    said = {"watch": f"ws://{host}/watch"}
+    if boards:
+        said["players"] = ";".join(f"{name} {players}".strip() for name, players in boards)
     return "/pages/round.html?" + urllib.parse.urlencode(said, quote_via=urllib.parse.quote, safe=",:/;")
 
 
@@ -146,18 +141,38 @@ def try_port(address, port):
             raise Wrong(f"{address}:{port} cannot be listened on: {fault}") from fault
 
 
+# The relay.
+
+
+def answers_as_watch_port(address):
+    """Whether a relay's watch port answers there; None where nothing answers. A relay's own port does not know the command."""
+    host, port = address.rsplit(":", 1)
+    try:
+        with socket.create_connection((host, int(port)), timeout=5) as stream, stream.makefile("rb") as said:
+            stream.sendall(REQUEST)
+            while said.readline() not in (b"\r\n", b""):
+                pass
+            stream.sendall(2 * frame('{"cmd":"boards"}'))  # The second is refused, where there are no boards.
+            return "UnknownCommand" not in read_frame(said.read)
+    except OSError:
+        return None
+    except (ValueError, AssertionError, struct.error):
+        return False
+
+
 # What is served.
 
 
 class Serving:
-    """nginx and the feed, with a folder of their own, until the block ends."""
+    """nginx, with a folder of its own, until the block ends."""
 
     def __init__(self, given, boards):
         self.given = given
         self.boards = boards
         self.host = f"{given.address}:{given.port}"
         self.folder = pathlib.Path(tempfile.mkdtemp(prefix="relay960-hall-"))
-        self.processes = {}
+        self.nginx = None
+        self.is_watched = False
 
     def __enter__(self):
         try:
@@ -173,17 +188,13 @@ class Serving:
     def begin(self):
         os.umask(0o022)  # nginx reads it as another user, where root starts it.
         self.folder.chmod(0o755)
+        self.look_at_relay()
         self.write_pages()
-        channels = free_port()
         text = (HERE / "hall.conf").read_text(encoding="utf-8")
-        for word, value in ("ADDRESS", self.given.address), ("PORT", self.given.port), ("CHANNELS", channels):
+        for word, value in ("ADDRESS", self.given.address), ("PORT", self.given.port), ("WATCH", self.given.watch):
             text = text.replace(f"@{word}@", str(value))
         (self.folder / "hall.conf").write_text(text, encoding="utf-8")
-        (self.folder / "names").write_text("\n".join(name for name, _ in self.boards) + "\n", encoding="utf-8")
-        self.start("nginx", "nginx", "-p", self.folder, "-c", self.folder / "hall.conf", "-e", "stderr")
-        self.wait_for({channels, self.given.port})
-        self.start("feed", "/usr/bin/python3", first_there(FEEDS), "--relay", self.given.relay, "--channels", f"127.0.0.1:{channels}",
-                   "--names", self.folder / "names")
+        self.start()
 
     def write_pages(self):
         """The pages for watching, and the front, which leads to the round's page."""
@@ -197,32 +208,38 @@ class Serving:
         (front / "round.html").write_text(FRONT.format(html.escape(page)), encoding="utf-8")
         (front / "screen.html").write_text(FRONT.format(html.escape(page + "&hall")), encoding="utf-8")
 
-    def start(self, name, *words):
-        with open(self.folder / f"{name}.log", "wb") as log:
-            # Ctrl-C reaches this program alone, which ends the others.
-            self.processes[name] = subprocess.Popen(words, stdout=log, stderr=log, stdin=subprocess.DEVNULL, start_new_session=True)
-
-    def wait_for(self, ports):
+    def start(self):
+        with open(self.folder / "nginx.log", "wb") as log:
+            # Ctrl-C reaches this program alone, which ends the other.
+            self.nginx = subprocess.Popen(["nginx", "-p", self.folder, "-c", self.folder / "hall.conf", "-e", "stderr"], stdout=log, stderr=log,
+                                          stdin=subprocess.DEVNULL, start_new_session=True)
         until = time.monotonic() + 30
-        while not ports <= listened():
+        while self.given.port not in listened():
             self.look()
             if time.monotonic() > until:
-                raise Wrong(f"nginx listens on {sorted(ports & listened())} of {sorted(ports)}")
+                raise Wrong(f"nginx does not listen on {self.given.port}")
             time.sleep(0.05)
         self.look()
 
+    def look_at_relay(self):
+        """Whether what /watch leads to can only be watched, once something is there: the hall reaches no other port."""
+        answer = answers_as_watch_port(self.given.watch)
+        if answer is False:
+            raise Wrong(f"{self.given.watch} is no relay's watch port: start it by relay960 serve --watch {self.given.watch}")
+        self.is_watched = answer is True
+
     def look(self):
-        """Whether all go on."""
-        for name, process in self.processes.items():
-            if process.poll() is not None:
-                said = (self.folder / f"{name}.log").read_text(encoding="utf-8", errors="replace").splitlines()[-5:]
-                raise Wrong("\n".join([f"{name} has ended:", *said]))
+        """Whether all goes on."""
+        if not self.is_watched:
+            self.look_at_relay()
+        if self.nginx.poll() is not None:
+            said = (self.folder / "nginx.log").read_text(encoding="utf-8", errors="replace").splitlines()[-5:]
+            raise Wrong("\n".join(["nginx has ended:", *said]))
 
     def end(self):
-        for process in self.processes.values():
-            process.terminate()
-        for process in self.processes.values():
-            process.wait()
+        if self.nginx:
+            self.nginx.terminate()
+            self.nginx.wait()
         shutil.rmtree(self.folder, ignore_errors=True)
 
 
@@ -230,22 +247,27 @@ def tell(serving, given):
     address = f"http://{serving.host}/"
     kind = "ANSIUTF8" if sys.stdout.isatty() else "UTF8"
     code = subprocess.run(["qrencode", "-t", kind, "-o", "-", address], stdout=subprocess.PIPE, check=True).stdout.decode()
-    print(f"{len(serving.boards)} boards to watch at {address}; for a projector: {address}screen")
+    print(f"The round is at {address}; for a projector: {address}screen")
     print(code, end="")
-    print(f"Boards are played at {given.relay}, on this machine. Ctrl-C ends what the hall sees, and no game.", flush=True)
-    relay = urllib.parse.urlsplit(given.relay)
-    try:
-        socket.create_connection((relay.hostname, relay.port or 80), timeout=5).close()
-    except OSError:
-        print("No relay answers there yet. Its boards come when it does: relay960 serve --forever --capacity 1024 --grace 120", file=sys.stderr, flush=True)
+    print(f"All boards of the relay with the watch port {given.watch} are shown. Ctrl-C ends what the hall sees, and no game.", flush=True)
+    if not serving.is_watched:
+        print("No watch port is there yet. Its boards come when it is: relay960 serve --forever --boards 64 --capacity 1024 --grace 120 "
+              f"--watch {given.watch}", file=sys.stderr, flush=True)
+
+
+def read_watch(text):
+    """The address of a watch port, HOST:PORT as `relay960 serve --watch` takes it."""
+    if not re.fullmatch(r"[0-9.]+:[0-9]{1,5}", text):
+        raise argparse.ArgumentTypeError(f"{text} is no address and port, such as 127.0.0.1:9601")
+    return text
 
 
 def read_words():
     words = argparse.ArgumentParser(description="Shows the boards of a round to a hall.")
     words.add_argument("--address", help="this machine's address in the hall's network (found by itself where there is but one)")
     words.add_argument("--port", type=int, default=8960, help="the port for the hall (8960)")
-    words.add_argument("--relay", default="ws://127.0.0.1:9600")
-    words.add_argument("round", help="a file with one board a line: its name, perhaps a start number, perhaps its players")
+    words.add_argument("--watch", type=read_watch, default="127.0.0.1:9601", help="the relay's watch port (127.0.0.1:9601)")
+    words.add_argument("round", nargs="?", help="a file with one board a line: its name, perhaps a start number, perhaps its players")
     return words.parse_args()
 
 
@@ -257,7 +279,7 @@ def main():
         lacks = missing()
         if lacks:
             raise Wrong(f"missing of Debian: apt-get install {' '.join(lacks)}")
-        boards = read_round(given.round)
+        boards = read_round(given.round) if given.round else []
         given.address = given.address or hall_address()
         try_port(given.address, given.port)
         with Serving(given, boards) as serving:

@@ -7,7 +7,7 @@ cd "$(dirname "$0")"
 top=$(cd ../.. && pwd)
 # shellcheck disable=SC1091
 . "$top/tools/trial.sh"
-begin_trial nginx-light libnginx-mod-nchan python3-websockets chromium qrencode zbar-tools iproute2
+begin_trial nginx-light python3-websockets chromium qrencode zbar-tools iproute2
 if [ "$(id -u)" -eq 0 ] && unshare --net true 2> /dev/null; then
     exec unshare --net /usr/bin/python3 test_hall.py namespaces
 fi

@@ -10,6 +10,7 @@ import sys
 import tempfile
 
 from relay_client.client import Client
+from relay_client.keys import new_key
 from relay_client.ports import listened
 from relay_client.relay import Relay
 
@@ -44,15 +45,15 @@ class Phone:
 
     async def does(self, *words):
         process = await asyncio.create_subprocess_exec(*self.words(*words))
-        assert await asyncio.wait_for(process.wait(), 120) == 0, words
+        assert await asyncio.wait_for(process.wait(), 300) == 0, words
 
     @contextlib.asynccontextmanager
     async def ready(self, *words):
         """A program that says when it is ready; answers what it says next. It has ended well when the block has."""
         process = await asyncio.create_subprocess_exec(*self.words(*words), stdout=asyncio.subprocess.PIPE)
         assert await asyncio.wait_for(process.stdout.readline(), 60) == b"ready\n"
-        yield lambda: asyncio.wait_for(process.stdout.readline(), 60)
-        assert await asyncio.wait_for(process.wait(), 90) == 0, words
+        yield lambda: asyncio.wait_for(process.stdout.readline(), 300)
+        assert await asyncio.wait_for(process.wait(), 300) == 0, words
 
     def end(self):
         if self.keeper:
@@ -64,17 +65,17 @@ class Hall:
     """hall.py as an arbiter starts it; it finds the laptop's address by itself where that has but one."""
 
     def __init__(self, phone, relay, folder):
-        self.words = [PYTHON, HERE / "hall.py", "--relay", relay.address, *([] if phone.keeper else ["--address", phone.laptop])]
+        self.words = [PYTHON, HERE / "hall.py", "--watch", f"127.0.0.1:{relay.watch_port}", *([] if phone.keeper else ["--address", phone.laptop])]
         self.folder = folder
         self.process = None
         self.printed = []
 
-    async def start(self):
+    async def start(self, has_round=True):
         file = pathlib.Path(self.folder, "round3.txt")
         file.write_text(ROUND, encoding="utf-8")
-        self.process = await asyncio.create_subprocess_exec(*self.words, file, stdout=asyncio.subprocess.PIPE)
+        self.process = await asyncio.create_subprocess_exec(*self.words, *([file] if has_round else []), stdout=asyncio.subprocess.PIPE)
         self.printed = []
-        while not self.printed or not self.printed[-1].startswith("Boards are played"):
+        while not self.printed or not self.printed[-1].startswith("All boards of the relay"):
             line = await asyncio.wait_for(self.process.stdout.readline(), 60)
             assert line, self.printed
             self.printed.append(line.decode().rstrip("\n"))
@@ -98,13 +99,13 @@ def scanned(lines):
 
 
 def try_printed(hall, address):
-    assert hall.printed[0] == f"3 boards to watch at {address}/; for a projector: {address}/screen", hall.printed[0]
+    assert hall.printed[0] == f"The round is at {address}/; for a projector: {address}/screen", hall.printed[0]
     assert scanned(hall.printed[1:-1]) == f"{address}/"
 
 
 def try_wrong_words(folder, taken):
-    """Wrong rounds, an address that is not this machine's, and a port that is taken: each is refused in one line, and nothing is left
-    running."""
+    """Wrong rounds, an address that is not this machine's, a port that is taken, and a relay's own port for its watch port: each is refused
+    in one line, and nothing is left running."""
     before = listened()
     for text, why in (("", "names no board"), ("b1\nb1\n", "twice"), ("b.1\n", "no board's name"), ("b1 A;B - C\n", "has no ;")):
         file = pathlib.Path(folder, "wrong.txt")
@@ -117,19 +118,24 @@ def try_wrong_words(folder, taken):
         words = ["--address", address, "--port", port, good]
         run = subprocess.run([PYTHON, HERE / "hall.py", *words], capture_output=True, text=True, timeout=60, check=False)
         assert (run.returncode, run.stdout) == (1, "") and "cannot be listened on" in run.stderr and run.stderr.count("\n") == 1, run
+    words = ["--address", "127.0.0.1", "--watch", f"127.0.0.1:{taken}", good]
+    run = subprocess.run([PYTHON, HERE / "hall.py", *words], capture_output=True, text=True, timeout=60, check=False)
+    assert (run.returncode, run.stdout) == (1, "") and "is no relay's watch port" in run.stderr and run.stderr.count("\n") == 1, run
     assert listened() == before
 
 
 async def try_watching(phone, hall, relay, address):
     """The phone has each text of a game as it is played. What it sent before opened no board. Where the hall's part is ended in the middle
-    and started again, the game goes on, a page that is open comes back, and the channel has the game from its first move."""
-    operator = await Client.to(relay.address)
+    and started again, the game goes on, and a page that is open comes back. A round without a file is the boards that there are."""
+    key = new_key()
+    operator = await Client.to(relay.address, key)
     await operator.open("r3-1")
     async with phone.ready("follows", address, "r3-1") as text:
         assert json.loads(await text())["reply"] == "following"
         for place, move in enumerate(["e2e4", "e7e5"]):
             await operator.submit("r3-1", move)
             assert json.loads(await text()) == {"reply": "move", "move": move, "place": place}
+        await phone.does("tries", address, key)
         await phone.does("browses", address)
         await operator.submit("r3-1", "f1c4")
         await operator.end("r3-1")
@@ -146,13 +152,17 @@ async def try_watching(phone, hall, relay, address):
         texts = [json.loads(await text()) for _ in range(4)]
     assert [it["reply"] for it in texts] == ["following", "move", "move", "over"], texts
     assert [it.get("move") for it in texts[1:3]] == ["d2d4", "d7d5"]
+    await hall.stop()
+    await hall.start(has_round=False)
+    await operator.open("another")
+    await phone.does("lists", address, "r3-1", "r3-2", "another")
     await operator.close()
 
 
 async def main():
     phone = Phone(sys.argv[1] == "namespaces")
     others = listened()  # Ports of other programs of this machine.
-    relay = await Relay().start()
+    relay = await Relay(watch=True, grace=120).start()
     with tempfile.TemporaryDirectory() as folder:
         hall = Hall(phone, relay, folder)
         try:

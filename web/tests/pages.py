@@ -12,6 +12,7 @@ import websockets
 import back
 import contrast
 import gone
+import lists
 import notation
 import rounds
 import senses
@@ -952,7 +953,7 @@ async def try_next(browser):
 OTHERS = {"firefox": Firefox, "webkit": WebKit}
 # What is tried in these too: what a person does most. Without a device for sound it makes none, so sounds are not among it.
 OFTEN = ["games", "castling", "mate", "typed", "goals", "refused_claim", "next_name", "next", "wire", "cut", "on_its_way", "ending_lost", "correct", "crash",
-         "kept_pgn", "records", "list", "newer", "round", "round_pgn", "tabs", "tabs_pgn", "tabs_attention", "tabs_from_disk"]
+         "kept_pgn", "records", "list", "newer", "round", "round_pgn", "listed", "watch_port", "tabs", "tabs_pgn", "tabs_attention", "tabs_from_disk"]
 
 
 async def main():
@@ -960,7 +961,7 @@ async def main():
     pictures = words[1] if words[:1] == ["--pictures"] else None
     other = OTHERS.get(words[0]) if words else None
     words = (words[1:] or OFTEN) if other else words
-    modules = (back, contrast, gone, notation, rounds, senses, tabs)
+    modules = (back, contrast, gone, lists, notation, rounds, senses, tabs)
     tries = {name[4:]: it for module in (globals(), *map(vars, modules)) for name, it in module.items() if name.startswith("try_")}
     # A test's site makes its own certificate.
     browser = await (other().start() if other else Browser().start("--ignore-certificate-errors"))

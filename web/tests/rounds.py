@@ -290,9 +290,10 @@ async def try_form(browser):
     relay = await Relay().start()
     client = await boards_of(relay, ("f1", START, MOVES), ("f2", 518, []))
     page = await browser.open(url("round.html"))
-    assert await page.run('document.querySelector("#settings").open') and await text(page, "#state") == "No boards"
-    assert await page.run('document.querySelector("#server").value') == "ws://127.0.0.1:9600"
+    assert await page.run('document.querySelector("#settings").open')
+    assert await page.run('["server", "kind"].map((it) => document.querySelector(`#${it}`).value)') == ["ws://127.0.0.1:9601", "watch"]
     await page.fill("#server", relay.address)
+    await page.choose("#kind", "relay")
     for lines, words in (("f1\nf/2", "f/2 is no board's name"), ("f1\nf2\nf1", "f1 stands here twice")):
         await page.fill("#lines", lines)
         await page.click("#source .main")
@@ -376,8 +377,13 @@ async def try_smooth(browser):
     """64 boards on one screen, each with a move a second for a minute: no task of the page takes 50 ms, but for one that the machine may have disturbed."""
     relay = await Relay(boards=64, connections=100).start()
     names = [f"m{number}" for number in range(64)]
+    await smooth_for(browser, relay, names, url("round.html", server=relay.address, boards=",".join(names)))
+
+
+async def smooth_for(browser, relay, names, address):
+    """Whether the page at an address is smooth while each of these boards of the relay has a move a second."""
     client = await boards_of(relay, *((name, 518, []) for name in names))
-    page = await browser.open(url("round.html", server=relay.address, boards=",".join(names)), (1920, 1080))
+    page = await browser.open(address, (1920, 1080))
     await until_settled(page, 64)
     await page.run('window.long = []; new PerformanceObserver((list) => list.getEntries().forEach((it) => long.push(Math.round(it.duration))))'
                    '.observe({entryTypes: ["longtask"]})')
