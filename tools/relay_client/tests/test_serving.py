@@ -1,5 +1,6 @@
 """How long the server serves: `--forever`, `--connections`, `--until-input-ends` and `--idle`."""
 
+import errno
 import resource
 import signal
 import socket
@@ -26,11 +27,12 @@ UNTIL_TERM = TOP / "examples/deployment/until-term"
 
 
 def refuses(port):
-    """Whether nothing listens on the port within a while."""
+    """Whether the system refuses who comes to the port, within a while. Who is left waiting by a full backlog is not refused."""
     until = time.monotonic() + SOON
     while time.monotonic() < until:
         with socket.socket() as probe:
-            if probe.connect_ex(("127.0.0.1", port)) != 0:
+            probe.settimeout(SOON)
+            if probe.connect_ex(("127.0.0.1", port)) == errno.ECONNREFUSED:
                 return True
         time.sleep(0.05)
     return False
