@@ -64,7 +64,7 @@ class Connections(unittest.TestCase):
             server.has_served(1)
 
     def test_130_connections_at_once_are_all_served_and_take_less_than_800_kib_each(self):
-        """None has ended. What they map counts, stacks of 512 KiB among it. Before, each mapped 6.5 MiB."""
+        """None has ended. What they map counts, stacks of 512 KiB among it."""
         with Server("--connections", "131") as server:
             connections = [Connection(server.port)]
             first = server.data_kibibytes()
