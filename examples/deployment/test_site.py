@@ -386,7 +386,7 @@ async def try_restart():
 
 async def try_key():
     """A key in the target of an operator's request stands in no log, neither where the relay answers nor where the request is refused for its
-    password or its page, nor where there is no relay."""
+    password or its page, nor where there is no relay. Before, nginx logged the whole request."""
     key = new_key()
 
     async def comes(expected, **more):

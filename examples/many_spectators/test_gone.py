@@ -15,7 +15,8 @@ from relay_client.relay import Relay
 
 
 async def try_vanished(relay):
-    """A relay that was started anew: the channel tells the end of the game, then the name under which it goes on, which is fed too."""
+    """A relay that was started anew: the channel tells the end of the game, then the name under which it goes on, which is fed too. Before, it
+    told nothing more, and its readers had a game that was gone."""
     await game(relay, "v1", FIRST)
     async with feed("v1", *QUICK, relay=relay.address, **QUIET), Reader("v1") as first, Reader("v1_2") as second:
         await first.has(following(), *moved(FIRST))
@@ -28,7 +29,8 @@ async def try_vanished(relay):
 
 
 async def try_abandoned(relay):
-    """A lost connection of the operator: the next names are fed in turn, also by a feed that was started anew in between."""
+    """A lost connection of the operator: the next names are fed in turn, also by a feed that was started anew in between. Before, a feed knew no
+    name but those that it was given."""
     client = await game(relay, "a1", FIRST)
     async with Reader("a1") as first, Reader("a1_2") as second, Reader("a1_3") as third:
         async with feed("a1", *QUICK, relay=relay.address, **QUIET):
@@ -49,7 +51,7 @@ async def try_abandoned(relay):
 
 
 async def try_late(relay):
-    """A name that the relay never had in this run, since its game went on under another: the channel tells that one."""
+    """A name that the relay never had in this run, since its game went on under another: the channel tells that one. Before, it told nothing."""
     await game(relay, "l1_2", OTHER)
     async with feed("l1", *QUICK, relay=relay.address, **QUIET), Reader("l1") as first, Reader("l1_2") as second:
         await first.has(follow_on("l1_2"))
@@ -57,8 +59,9 @@ async def try_late(relay):
 
 
 async def try_another(relay):
-    """Another game of the name, opened before the feed is back: a shorter one of the same moves, and one of other moves. The channel tells
-    the end of the first, and the other from its start."""
+    """Another game of the name, opened before the feed is back: a shorter one of the same moves, and one of other moves. The channel tells the
+    end of the first, and the other from its start. Before, the feed joined both into one where the other had more moves, and told nothing where
+    it had not."""
     for board, other in (("o1", FIRST[:1]), ("o2", OTHER), ("o3", [])):
         await game(relay, board, FIRST)
         async with Reader(board) as reader:
@@ -73,7 +76,8 @@ async def try_another(relay):
 
 
 async def try_middle(relay):
-    """Another game of which the relay no longer gives the first moves: its position is compared, and it begins where it is given."""
+    """Another game of which the relay no longer gives the first moves: its position is compared, and it begins where it is given. Before, its
+    moves were told behind those of the first game."""
     small = await Relay(capacity=2).start()
     moves = [*OTHER, "g1f3"]
     await game(small, "m1", FIRST)
@@ -87,7 +91,8 @@ async def try_middle(relay):
 
 
 async def try_beats(relay):
-    """While a board is followed, its channel has a beat as often as is said, with the time; it has none once the relay or the game is gone."""
+    """While a board is followed, its channel has a beat as often as is said, with the time; it has none once the relay or the game is gone.
+    Before, there were none, so that a game in which nobody moved looked like one that is gone."""
     client = await game(relay, "p1", FIRST)
     async with feed("p1", *QUICK, "--beat", "0.3", relay=relay.address, **QUIET), Reader("p1") as reader:
         await until(lambda: len(reader.beats) >= 4)
@@ -113,7 +118,8 @@ async def try_beats(relay):
 
 
 async def try_names(relay):
-    """At SIGHUP the names are read again: a new one is fed, one that is gone is left, and another is not disturbed."""
+    """At SIGHUP the names are read again: a new one is fed, one that is gone is left, and another is not disturbed. Before, a feed had to be
+    started anew for each name."""
     stays, goes = await game(relay, "n1", FIRST), await game(relay, "n2", FIRST)
     with tempfile.TemporaryDirectory() as folder:
         file = pathlib.Path(folder, "names")

@@ -72,7 +72,8 @@ async def close(table, wire):
 
 
 async def try_cut(browser):
-    """A connection that is lost before a move is entered, or after it was answered: the game goes on under its name, and nothing is entered before."""
+    """A connection that is lost before a move is entered, or after it was answered: the game goes on under its name, and nothing is entered
+    before. A page without a key had its game abandoned, and went on under another name."""
     relay = await Relay(grace=GRACE).start()
     table, wire = await table_of(browser, relay)
     for times in range(2):
@@ -89,7 +90,8 @@ async def try_cut(browser):
 
 
 async def try_on_its_way(browser):
-    """A connection that is lost while a move is on its way, before or behind the relay: the move is played once, under the same name."""
+    """A connection that is lost while a move is on its way, before or behind the relay: the move is played once, under the same name. Before, it
+    went on under another name."""
     relay = await Relay(grace=GRACE).start()
     for board, way in (("up", UP), ("down", DOWN)):
         table, wire = await table_of(browser, relay, board)
@@ -104,7 +106,8 @@ async def try_on_its_way(browser):
 
 
 async def try_pulled(browser):
-    """A cable that is pulled tells nothing: a move without an answer for 10 s counts as lost on its way, and the page comes back."""
+    """A cable that is pulled tells nothing: a move without an answer for 10 s counts as lost on its way, and the page comes back. Before, a page
+    waited for the answer for as long as the browser took the connection for alive."""
     relay = await Relay(grace=GRACE).start()
     table, wire = await table_of(browser, relay)
     wire.lose(UP, DOWN)
@@ -155,7 +158,7 @@ async def try_ending_lost(browser):
 
 
 async def try_opening_lost(browser):
-    """A board whose opening was not answered is this page's, and gets no other name."""
+    """A board whose opening was not answered is this page's, and gets no other name. Before, it went on under another name."""
     relay = await Relay(grace=GRACE).start()
     wire = await Wire(relay.port).mend()
     wire.lose(DOWN, word=b'"opened"')
@@ -272,7 +275,8 @@ async def try_no_room(browser):
 
 
 async def try_page_gone(browser):
-    """A page that was closed is opened again, and goes on with the kept game under its name, also with a move that it did not see answered."""
+    """A page that was closed is opened again, and goes on with the kept game under its name, also with a move that it did not see answered.
+    Before, it went on under another name."""
     relay = await Relay(grace=GRACE).start()
     table, wire = await table_of(browser, relay)
     wire.lose(DOWN)

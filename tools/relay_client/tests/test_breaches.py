@@ -87,15 +87,19 @@ class Breaches(unittest.TestCase):
                     peer.close()
 
     def test_frames_that_break_the_protocol_are_told_1002(self):
+        """Before, the connection ended without a close. Closes with a bad code alone were told 1002."""
         self.get({**UNMASKED, **HEADS, **CONTROLS, **PLACES}, PROTOCOL)
 
     def test_texts_and_reasons_that_are_no_utf8_are_told_1007(self):
+        """Before, the connection ended without a close."""
         self.get(TEXTS, NOT_UTF8)
 
     def test_a_text_of_more_than_65536_bytes_is_answered_24_and_told_1009(self):
+        """Before, the connection was reset, or ended without an answer and without a close."""
         self.get(LONG, BAD_FIELD, TOO_BIG)
 
     def test_a_message_of_more_than_1024_fragments_is_told_1009(self):
+        """Before, empty fragments were taken without end, and others up to the bytes that a text may have."""
         self.get(FRAGMENTS, TOO_BIG)
 
     def test_a_message_of_1024_fragments_is_answered(self):
@@ -106,7 +110,7 @@ class Breaches(unittest.TestCase):
             peer.close()
 
     def test_a_peer_that_sends_on_behind_its_breach_still_reads_why(self):
-        """What still comes is read and dropped: a reset would take the close away."""
+        """What still comes is read and dropped: a reset would take the close away. Before, there was no close, and a reset."""
         with self.listening(1) as port:
             peer = Connection(port)
             peer.stream.sendall(b"\x83\x80" + MASK)

@@ -5,6 +5,7 @@ import re
 import resource
 import signal
 import socket
+import struct
 import subprocess
 import time
 import unittest
@@ -17,6 +18,11 @@ from relay_client.texts import NOT_OBJECT
 from relay_client.waiting import is_readable
 
 WAITING = 300  # Newcomers that wait to be accepted.
+BACKLOG = 4096
+# Linux, sock_diag(7): the question for all sockets of TCP that listen, and where an answer has the port and the backlog.
+SOCK_DIAG, BY_FAMILY, ASKS_FOR_ALL, DONE, LISTENING = 4, 20, 0x301, 3, 1 << 10
+QUESTION = struct.pack("=IHHIIBBxxI48x", 72, BY_FAMILY, ASKS_FOR_ALL, 0, 0, socket.AF_INET, socket.IPPROTO_TCP, LISTENING)
+PORT_AT, BACKLOG_AT = 20, 76
 UNBOUNDED = (resource.RLIM_INFINITY, resource.RLIM_INFINITY)
 
 
@@ -24,6 +30,26 @@ def mapped_bytes(server):
     """How much memory it has mapped."""
     status = pathlib.Path(f"/proc/{server.process.pid}/status").read_text()
     return 1024 * int(re.search(r"^VmSize:\s+(\d+) kB$", status, re.M)[1])
+
+
+def somaxconn():
+    """How many newcomers the system lets wait for a port at most."""
+    return int(pathlib.Path("/proc/sys/net/core/somaxconn").read_text())
+
+
+def backlog(port):
+    """How many newcomers the system lets wait for this port, as it says itself."""
+    with socket.socket(socket.AF_NETLINK, socket.SOCK_DGRAM, SOCK_DIAG) as asking:
+        asking.send(QUESTION)
+        while True:
+            told = asking.recv(1 << 20)
+            while told:
+                size, kind = struct.unpack_from("=IH", told)
+                if kind == DONE:
+                    raise AssertionError(f"nobody listens on {port}")
+                if struct.unpack_from(">H", told, PORT_AT)[0] == port:
+                    return struct.unpack_from("=I", told, BACKLOG_AT)[0]
+                told = told[size + -size % 4:]
 
 
 class Connections(unittest.TestCase):
@@ -51,10 +77,10 @@ class Connections(unittest.TestCase):
             server.has_served(131)
 
     def test_more_newcomers_wait_to_be_accepted_than_128(self):
-        """The server is stopped meanwhile, so it accepts none. The system answers as many as the backlog has room for."""
-        allowed = int(pathlib.Path("/proc/sys/net/core/somaxconn").read_text())
-        if allowed < WAITING:
-            self.skipTest(f"the system lets {allowed} wait")
+        """The server is stopped meanwhile, so it accepts none. The system answers as many as the backlog has room for. Before, that was 128, and
+        all others were left without an answer."""
+        if somaxconn() < WAITING:
+            self.skipTest(f"the system lets {somaxconn()} wait")
         with Server("--connections", str(WAITING)) as server:
             server.process.send_signal(signal.SIGSTOP)
             newcomers = [socket.create_connection(("127.0.0.1", server.port), timeout=30) for _ in range(WAITING)]
@@ -66,6 +92,11 @@ class Connections(unittest.TestCase):
                 self.assertEqual(newcomer.recv(13), b"HTTP/1.1 101 ")
                 newcomer.close()
             server.has_served(WAITING)
+
+    def test_as_many_newcomers_may_wait_as_4096_or_as_the_system_allows(self):
+        """Before, they were 128."""
+        with Server("--connections", "1") as server:
+            self.assertEqual(backlog(server.port), min(BACKLOG, somaxconn()))
 
     def test_threads_that_have_ended_are_joined(self):
         """Behind 500 short connections the process maps little more memory than behind none: a thread that is not joined keeps two maps."""
@@ -79,7 +110,7 @@ class Connections(unittest.TestCase):
 
     def test_newcomers_without_a_descriptor_are_told_so_and_later_ones_are_served(self):
         """The server has no descriptor left for some of its peers. Each of them counts as failed, so 60 would be spent in no time if the server
-        tried again at once. Once its peers are gone, it still accepts."""
+        tried again at once. Once its peers are gone, it still accepts. Before, nobody was told anything."""
         with Server("--connections", "60") as server:
             resource.prlimit(server.process.pid, resource.RLIMIT_NOFILE, (16, 16))
             peers = [socket.create_connection(("127.0.0.1", server.port), timeout=PATIENCE) for _ in range(16)]
@@ -93,7 +124,8 @@ class Connections(unittest.TestCase):
             Connection(server.port).asks("[]", NOT_OBJECT)
 
     def test_a_newcomer_without_a_thread_is_told_so_and_later_ones_are_served(self):
-        """There is memory for all but the thread's stack. Who is connected stays, and standard error has one line."""
+        """There is memory for all but the thread's stack. Who is connected stays, and standard error has one line. Before, the connection ended
+        without a word, and there was no line."""
         with Server("--connections", "4") as server:
             peer = Connection(server.port)
             peer.asks("[]", NOT_OBJECT)

@@ -127,6 +127,7 @@ class Deadlines(unittest.TestCase):
             server.has_served(1)
 
     def test_half_a_message_has_ten_seconds_in_all_however_it_comes(self):
+        """Before, each of them was waited for without end."""
         with Server("--connections", str(len(HALVES))) as server, concurrent.futures.ThreadPoolExecutor(len(HALVES)) as pool:
             peers = {name: Connection(server.port) for name in HALVES}
             took = dict(pool.map(lambda it: (it[0], seconds_of_half(it[0], it[1].stream)), peers.items()))
@@ -189,6 +190,7 @@ class Deadlines(unittest.TestCase):
             server.has_served(3)
 
     def test_an_operator_that_answers_no_ping_has_gone_after_ninety_seconds_and_one_that_does_stays(self):
+        """Before, none was sent a ping, and a board stood open as long as its operator's connection did."""
         with Server("--connections", "4") as server:
             began, heard = time.monotonic(), []
             vanished, guest = owner_of(server), guest_of(server)
@@ -211,7 +213,8 @@ class Deadlines(unittest.TestCase):
             server.has_served(4)
 
     def test_an_operator_whose_machine_has_vanished_has_gone_after_ninety_seconds_though_no_move_is_played(self):
-        """Nothing is acknowledged any more, and no end of the connection comes. Without pings its board stands open for as long as one waits."""
+        """Nothing is acknowledged any more, and no end of the connection comes. Before, there
+        were no pings, and its board was still open after 1,100 seconds."""
         with Server("--connections", "2") as server:
             vanished, guest = owner_of(server), guest_of(server)
             vanished.vanish()

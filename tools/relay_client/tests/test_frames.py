@@ -14,6 +14,7 @@ NO_KIND = b"\x83\x80" + MASK
 
 class BrokenFrames(unittest.TestCase):
     def test_a_command_before_a_broken_frame_is_answered_and_the_session_ends_with_1002(self):
+        """Before, it ended without a close."""
         with Server("--connections", "2") as server:
             owner = Connection(server.port)
             owner.stream.sendall(frame(opens("b1")) + NO_KIND)
@@ -42,7 +43,7 @@ class BrokenFrames(unittest.TestCase):
 class LongTexts(unittest.TestCase):
     def test_a_text_of_65536_bytes_is_refused_and_one_byte_more_ends_the_session(self):
         """It is refused too, and the session ends with 1009, whether the frame says so, before its bytes have come, or a second one makes
-        the message that long."""
+        the message that long. Before, the connection ended without an answer and without a close: who pasted too much was not told why."""
         with Server("--connections", "4") as server:
             longer = head(0x81, 65537)
             in_two = head(0x01, 65536) + bytes(65536) + head(0x80, 1) + bytes(1)

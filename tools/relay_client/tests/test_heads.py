@@ -16,7 +16,7 @@ class Heads(unittest.TestCase):
         self.assertEqual(peer.recv(13), f"HTTP/1.1 {status} ".encode())
 
     def test_a_head_in_pieces_may_have_8192_bytes_and_not_8250(self):
-        """Its first piece has 100 bytes, and not those that are read at a time."""
+        """Its first piece has 100 bytes, and not those that are read at a time. Before, the longer one was closed without a word."""
         with Server("--connections", "2") as server:
             for size, status in (8192, 101), (8250, 431):
                 with socket.create_connection(("127.0.0.1", server.port), timeout=9) as peer:
@@ -29,7 +29,7 @@ class Heads(unittest.TestCase):
             server.has_served(2)
 
     def test_a_request_may_have_64_header_fields_and_not_65(self):
-        """Each takes room on its session's stack."""
+        """Each takes room on its session's stack. Before, 65 were let in."""
         with Server("--connections", "2") as server:
             for extra, status in (59, 101), (60, 431):
                 with socket.create_connection(("127.0.0.1", server.port), timeout=PATIENCE) as peer:
@@ -38,7 +38,7 @@ class Heads(unittest.TestCase):
             server.has_served(2)
 
     def test_a_head_that_begins_with_an_empty_line_is_none(self):
-        """It is answered at once, and nothing is waited for behind it."""
+        """It is answered at once, and nothing is waited for behind it. Before, it was closed without a word."""
         with Server("--connections", "2") as server:
             for before in (b"\r\n\r\n", b"\n"):
                 with socket.create_connection(("127.0.0.1", server.port), timeout=9) as peer:

@@ -1,5 +1,7 @@
-"""Operators that lose their connection and come back with their key: `serve --grace SECONDS`."""
+"""Operators that lose their connection and come back with their key: `serve --grace SECONDS`. Before, no key was looked at. A board was abandoned
+as soon as the connection that had opened it ended, and every other connection was a stranger to it."""
 
+import pathlib
 import socket
 import subprocess
 import threading
@@ -60,6 +62,8 @@ class Keys(unittest.TestCase):
 
 
 class ALostConnection(Keys):
+    """Before, the followers were told `abandoned` at once, and who came back was refused 13."""
+
     def goes_on_after(self, lose):
         """A board whose operator's connection was lost in this way waits, and goes on under its name from where it was."""
         with waits(LONG) as server:
@@ -132,6 +136,8 @@ def close_in_order_unread(owner):
 
 
 class TheGrace(Keys):
+    """Before, there was none: each of these boards had ended within a moment."""
+
     def test_a_board_ends_as_abandoned_when_the_grace_is_over(self):
         """Its followers are told once. It stays its owner's, and no name is given twice."""
         with waits(2) as server:
@@ -156,6 +162,19 @@ class TheGrace(Keys):
             first.reset()
             for guest in guests:
                 self.is_abandoned(guest, 2, lost)
+
+    def test_boards_that_wait_take_no_thread_each(self):
+        """One thread ends all those whose time is over. Beside it there is the one that accepts."""
+        with waits(LONG) as server:
+            boards = [(f"b{number}", f"{KEY}{number}") for number in range(40)]
+            for name, key in boards:
+                owner_of(server, name, key=key).reset()
+            threads, until = pathlib.Path(f"/proc/{server.process.pid}/task"), time.monotonic() + SOON
+            while (count := len(list(threads.iterdir()))) > 2 and time.monotonic() < until:
+                time.sleep(0.05)
+            self.assertEqual(count, 2)
+            for name, key in boards:
+                self.is_owned(Connection(server.port, key=key), 0, "e2e4", name)
 
     def test_an_operator_in_time_keeps_its_board_past_the_grace(self):
         with waits(10) as server:
@@ -300,6 +319,8 @@ class TheGrace(Keys):
 
 
 class WhoseBoard(Keys):
+    """Before, it was that of the connection that opened it: one with the same key was refused 13, and might follow."""
+
     def test_every_connection_of_the_key_plays_on_its_boards_those_that_were_there_before_too(self):
         with waits(LONG) as server:
             before, owner, guest = Connection(server.port, key=KEY), owner_of(server, key=KEY), guest_of(server)
@@ -349,6 +370,8 @@ class WhoseBoard(Keys):
 
 
 class WhatIsAKey(Keys):
+    """Before, nothing was."""
+
     def owns_with(self, opener, other):
         """Whether a connection with the second target owns what one with the first opened."""
         with waits(LONG) as server:
@@ -402,6 +425,8 @@ class WhatIsAKey(Keys):
 
 
 class TheEndOfTheServer(Keys):
+    """Before, no board waited, so none was left to end."""
+
     def test_boards_that_wait_end_when_no_further_connection_is_accepted(self):
         """It does not wait for the grace: nobody can come back."""
         with Server("--grace", str(LONG), "--connections", "3") as server:

@@ -46,6 +46,8 @@ class Reader:
 
 
 class Log(unittest.TestCase):
+    """Before, a server wrote nothing of its boards."""
+
     def test_each_board_that_is_opened_ends_waits_or_has_its_operator_back_is_a_line(self):
         """No line has a move or a key."""
         key = new_key()

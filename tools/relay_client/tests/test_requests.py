@@ -74,15 +74,19 @@ class Requests(unittest.TestCase):
                         self.assertIn(field, lines)
 
     def test_a_broken_request_and_one_for_no_websocket_are_answered_400(self):
+        """Before, each was closed without a word, but that one without Host, and one with two, were let in."""
         self.get(BAD, 400)
 
     def test_another_version_is_answered_426_and_told_which_is_spoken(self):
+        """Before, it was closed without a word."""
         self.get(VERSIONS, 426, "Sec-WebSocket-Version: 13", "Upgrade: websocket", "Connection: Upgrade, close")
 
     def test_another_method_is_answered_405(self):
+        """Before, it was closed without a word."""
         self.get(METHODS, 405, "Allow: GET", "Connection: close")
 
     def test_a_head_of_more_than_8192_bytes_or_64_fields_is_answered_431(self):
+        """Before, a long head was reset, 300 fields were closed without a word, and 65 were let in."""
         self.get(LARGE, 431)
 
 

@@ -1,5 +1,6 @@
 """How long the server serves: `--forever`, `--connections`, `--until-input-ends` and `--idle`."""
 
+import errno
 import resource
 import signal
 import socket
@@ -26,11 +27,12 @@ UNTIL_TERM = TOP / "examples/deployment/until-term"
 
 
 def refuses(port):
-    """Whether nothing listens on the port within a while."""
+    """Whether the system refuses who comes to the port, within a while. Who is left waiting by a full backlog is not refused."""
     until = time.monotonic() + SOON
     while time.monotonic() < until:
         with socket.socket() as probe:
-            if probe.connect_ex(("127.0.0.1", port)) != 0:
+            probe.settimeout(SOON)
+            if probe.connect_ex(("127.0.0.1", port)) == errno.ECONNREFUSED:
                 return True
         time.sleep(0.05)
     return False
@@ -38,6 +40,7 @@ def refuses(port):
 
 class HowLong(unittest.TestCase):
     def test_a_server_for_ever_counts_no_connections(self):
+        """Before, each had a number of connections, of 1,000,000 at most, and ended behind them. One peer that connects and goes could spend them."""
         with Server("--forever") as server:
             for _ in range(300):
                 Connection(server.port).close()
@@ -51,6 +54,7 @@ class HowLong(unittest.TestCase):
             self.assertIn(b"'--connections <connections>' cannot be used with '--forever'", run.stderr)
 
     def test_behind_the_last_connection_newcomers_are_refused_and_who_is_there_is_served(self):
+        """Before, newcomers were connected by the system, and then waited for an answer that did not come."""
         with Server("--connections", "2") as server:
             owner, guest = owner_of(server), guest_of(server)
             self.assertTrue(refuses(server.port))
@@ -63,6 +67,8 @@ class HowLong(unittest.TestCase):
 
 
 class Idle(unittest.TestCase):
+    """Before, nobody was sent away for saying nothing. Who owned and followed nothing kept a thread for as long as he liked."""
+
     def lasts(self, began, least):
         """So many seconds have passed since, and not many more."""
         took = time.monotonic() - began
@@ -140,6 +146,8 @@ class Idle(unittest.TestCase):
 
 
 class UntilInputEnds(unittest.TestCase):
+    """Before, a server could only be killed. Nobody was told of it, and in most ends some followers lacked the last moves."""
+
     def server(self, *words, **options):
         """A server whose input is open."""
         return Server("--until-input-ends", *words, stdin=subprocess.PIPE, **options)
