@@ -1,7 +1,6 @@
 """What the documents name is there: files, headings, crates, functions, definitions and tests."""
 import pathlib
 import re
-import subprocess
 import sys
 import unittest
 
