@@ -47,6 +47,15 @@ def rows(text):
     return [[cell.strip() for cell in line.strip("|").split(" | ")] for line in lines[2:]]
 
 
+def sentences(text):
+    """The sentences of a document, of its lists and of the cells of its tables."""
+    text = re.sub(r"^    .*$", "", without_blocks(text), flags=re.M)
+    for paragraph in re.split(r"\n\s*\n", text):
+        for piece in re.split(r"\n(?=\s*(?:[-*]|\d+\.) )|\n(?=\|)", paragraph):
+            for cell in piece.strip("|").split(" | ") if piece.startswith("|") else [piece]:
+                yield from re.split(r"(?<=[.?!:;])\s+", re.sub(r"\]\([^)]*\)", "]", cell))
+
+
 def code(text):
     return re.findall(r"`([^`\n]+)`", text)
 
@@ -200,6 +209,12 @@ class Terms(unittest.TestCase):
         terms = [term.strip() for row in self.rows() for term in row[0].split(",")]
         self.assertEqual(sorted(terms), sorted(set(terms)))
 
+    def test_what_the_documents_speak_of_is_explained(self):
+        terms = {term.strip() for row in self.rows() for term in row[0].split(",")}
+        wanted = ("place, ply, capacity, closing, seat, view, note, bell, tape, visitor, crowd, lookout, watch port, main port, spectator, "
+                  "follower, owner, operator, limit, queue, cut, channel, feed, beat, key, grace, kit, crate, clause, headline, gate")
+        self.assertLessEqual(set(wanted.split(", ")), terms)
+
     def test_each_place_is_there(self):
         """A place is a crate and what is in it: a file of its src/, or a name that its specs/ or src/ define or have as a file."""
         for row in self.rows():
@@ -231,6 +246,13 @@ class Lengths(unittest.TestCase):
         for path in sorted((ROOT / "examples/clients").iterdir()):
             if path.suffix in (".py", ".js"):
                 self.assertLessEqual(len(path.read_text().splitlines()), 40, path.name)
+
+
+    def test_most_sentences_have_at_most_25_words(self):
+        for name in ("README.md", "CONTRIBUTING.md", "docs/TERMS.md", "docs/PROTOCOL.md", "docs/SCRIPTS.md", "docs/DEPLOYMENT.md"):
+            lengths = [len(it.split()) for it in sentences(DOCUMENTS[name])]
+            long = sum(it > 25 for it in lengths)
+            self.assertLessEqual(long, 0.03 * len(lengths), f"{name}: {long} of {len(lengths)} sentences have more than 25 words")
 
 
 class Versions(unittest.TestCase):
