@@ -229,6 +229,57 @@ class Quick(Commands):
         self.assertEqual(done.returncode, 1)
 
 
+class Gate(Commands):
+    """`.ci/run`, with stand-ins for all that it calls. Its proofs go on for a second after the program is built."""
+
+    CALLED = ("replay .ci/replay", "replay crates/relay960/replays/all.py", "replay .ci/replay-sessions", "replay benches/refusals.py")
+
+    def setUp(self):
+        super().setUp()
+        shutil.rmtree(self.top / "tools/tests")
+        write(self.top / "tools/tests/test_one.py", "import unittest\nclass One(unittest.TestCase):\n    def test_it(self):\n        pass\n")
+        write(self.state / "bin/cc", "#!/bin/sh\n", 0o755)
+        write(self.state / "bin/rt", """#!/bin/sh
+            sleep 0.5; mkdir -p crates/relay960/out; cp /bin/true crates/relay960/out/relay960
+            echo "rt: relay960 proved"; sleep "${RT_SLEEP:-3}"; echo 0 proofs: $* >> "$RT_STAND_IN/calls"; ! grep -q proofs "$RT_STAND_IN/wrong"
+            """, 0o755)
+        for called in (".ci/replay", "crates/relay960/replays/all.py", ".ci/replay-sessions", "benches/refusals.py"):
+            write(self.top / called, f"#!/bin/sh\necho 0 replay: {called} >> \"$RT_STAND_IN/calls\"\n"
+                  f"[ ! -f \"$RT_STAND_IN/$(basename {called})\" ] || {{ rm \"$RT_STAND_IN/$(basename {called})\"; exit 1; }}\n", 0o755)
+        shutil.copy2(TOP / ".ci/run", self.top / ".ci/run")
+        self.is_wrong("nothing")
+
+    def called(self):
+        return [f"{it[0]} {it[1]}" for it in self.calls()]
+
+    def test_the_replays_begin_while_proofs_go_on(self):
+        done = self.run_it(".ci/run")
+        self.assertEqual(done.returncode, 0, done.stdout + done.stderr)
+        replays, tables, sessions, refusals = self.CALLED
+        called = self.called()
+        self.assertEqual(called, [replays, tables, "proofs ci", sessions, refusals, refusals, refusals])
+
+    def test_replays_that_failed_beside_proofs_are_tried_again(self):
+        write(self.state / "all.py", "")
+        done = self.run_it(".ci/run")
+        self.assertEqual((done.returncode, self.called().count(self.CALLED[1])), (0, 2), done.stdout + done.stderr)
+
+    def test_it_fails_where_anything_fails(self):
+        self.env["RT_SLEEP"] = "0"
+        for wrong in ("proofs", "replay-sessions", "refusals.py"):
+            self.is_wrong(wrong)
+            if wrong != "proofs":
+                write(self.state / wrong, "")
+            self.assertNotEqual(self.run_it(".ci/run").returncode, 0, wrong)
+
+    def test_it_fails_without_a_c_compiler(self):
+        (self.state / "bin/cc").unlink()
+        for tool in ("sh", "dirname"):
+            os.symlink(shutil.which(tool), self.state / "bin" / tool)
+        done = subprocess.run([self.top / ".ci/run"], env={**self.env, "PATH": f"{self.state}/bin"}, capture_output=True, text=True)
+        self.assertEqual((done.returncode, done.stderr), (1, "no C compiler: no allocation can be refused\n"))
+
+
 class Trials(unittest.TestCase):
     """The tests of the pages, the package and the examples."""
 
