@@ -1,6 +1,8 @@
 """What the documents name is there: files, headings, crates, functions, definitions and tests."""
 import pathlib
 import re
+import shutil
+import subprocess
 import sys
 import unittest
 
@@ -253,6 +255,23 @@ class Lengths(unittest.TestCase):
             lengths = [len(it.split()) for it in sentences(DOCUMENTS[name])]
             long = sum(it > 25 for it in lengths)
             self.assertLessEqual(long, 0.03 * len(lengths), f"{name}: {long} of {len(lengths)} sentences have more than 25 words")
+
+
+class ManualPage(unittest.TestCase):
+    PAGE = ROOT / "docs/relay960.1"
+
+    @unittest.skipUnless(shutil.which("mandoc"), "mandoc is missing")
+    def test_mandoc_finds_nothing_to_say(self):
+        found = subprocess.run(["mandoc", "-T", "lint", "-W", "style", self.PAGE], capture_output=True, text=True)
+        self.assertEqual((found.stdout + found.stderr, found.returncode), ("", 0))
+
+    def test_it_has_each_option_of_the_program(self):
+        sources = "".join(it for name in ("relay960_words", "relay960") for it in CRATES[name].sources("*.rt"))
+        options = set(re.findall(r'_(?:option|flag)\(\s*alloc,\s*"([a-z-]+)"', sources))
+        page = self.PAGE.read_text()
+        self.assertGreater(len(options), 10)
+        for option in options:
+            self.assertRegex(page, rf"Fl -{option}\b")
 
 
 class Versions(unittest.TestCase):
