@@ -12,6 +12,7 @@ import unittest
 TOP = pathlib.Path(__file__).resolve().parents[2]
 sys.path.insert(0, str(TOP / "tools"))
 
+import planted  # noqa: E402
 from workplace import width_of_machine  # noqa: E402
 
 # It writes what it was asked in `calls`, makes what the true one makes, and refuses the crates and the edits that are named in `wrong`.
@@ -184,14 +185,26 @@ class Check(Commands):
 
 class Planted(Commands):
     def test_the_rotation_begins_with_what_was_tried_longest_ago_and_keeps_its_place(self):
+        """No edit fits a minute, so each crate tries a tenth of its own, and two at least."""
+        self.edits("left", *(f"edit{at:02}" for at in range(30)))
+        self.run_it("planted.sh", "--rotate", "1")
+        self.assertEqual(self.tried(), ["left/edit00.edit", "left/edit01.edit", "left/edit02.edit"])
+        self.run_it("planted.sh", "--rotate", "1")
+        self.assertEqual(len(self.tried()), 6)
+
+    def test_a_crate_that_was_never_tried_comes_before_others(self):
         self.edits("left", "one", "two")
+        self.run_it("planted.sh", "--rotate", "1")
         self.edits("right", "three", "four")
-        self.run_it("planted.sh", "--rotate", "1")
-        kept = (self.top / "out/planted").read_text().splitlines()
-        self.assertEqual(len(kept), 2, "one crate's edits fit a minute")
-        self.run_it("planted.sh", "--rotate", "1")
-        self.assertEqual([it.split()[1] for it in (self.top / "out/planted").read_text().splitlines()],
-                         ["left/one.edit", "left/two.edit", "right/four.edit", "right/three.edit"])
+        self.assertRegex(self.run_it("planted.sh", "--rotate", "1").stdout, r"(?s)right: 2 edits.*4 of 4 tried")
+        self.assertEqual(self.tried(), ["left/one.edit", "left/two.edit", "right/four.edit", "right/three.edit"])
+
+    def tried(self):
+        return [it.split()[1] for it in (self.top / "out/planted").read_text().splitlines()]
+
+    def test_each_crate_is_through_after_ten_turns(self):
+        for count in range(1, 200):
+            self.assertLessEqual(-(-count // planted.least_of(count)), 10, count)
 
     def test_an_edit_that_is_proved_is_named(self):
         self.edits("left", "one", "two")
