@@ -8,8 +8,8 @@ umask 022
 folder=$(cd "${1:-.}" && pwd)
 cd "$(dirname "$0")"
 program="${RELAY960:-crates/relay960/out/relay960}"
-command -v dpkg-deb > /dev/null || { echo "missing of Debian: apt-get install dpkg" >&2; exit 1; }
-[ -x "$program" ] || { echo "there is no $program: build it with ./run.sh < crates/relay960/stdin" >&2; exit 1; }
+command -v dpkg-deb > /dev/null || { echo "missing: apt-get install dpkg" >&2; exit 1; }
+[ -x "$program" ] || { echo "missing: $program, which ./run.sh < crates/relay960/stdin builds" >&2; exit 1; }
 program=$(realpath "$program")
 version=$("$program" --version) || { echo "$program does not tell its version" >&2; exit 1; }
 version=${version#relay960 }

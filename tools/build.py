@@ -108,6 +108,12 @@ class Plan:
         return round(100 * sum(self.seconds[it] for it in done) / sum(self.seconds.values()))
 
 
+def seconds_to_prove(crates, names):
+    """About how long the proofs of those that are not proved yet take, on as many processors as there are."""
+    seconds = {it: measured().get(it, SECONDS_UNKNOWN) for it in names}
+    return round(Plan(crates, names, seconds, width_of_machine()).seconds_left(Records(crates).proved(names), {}))
+
+
 class Failed(Exception):
     """A crate is not proved; its output has been printed."""
 

@@ -22,6 +22,9 @@ from workplace import Workplace, scratch_folder, width_of_machine
 
 KEPT = ROOT / "out/planted"
 MINUTES = 10
+# Each crate that begins with the time tries at least this part of its edits, even where that takes longer: of some crates the first edit
+# alone takes as long. So four at a time, ten minutes a day, try all within a fortnight.
+PARTS = 10
 # The first edit of a crate takes a proof of it from nothing by one job, where the table's seconds are those of up to four. Each further
 # one takes what it changes, and what it takes to read all that stands below, which the table has where it is much (NAME:edit).
 JOBS = 2
@@ -112,6 +115,11 @@ class Trial:
         return 1 if left else 0
 
 
+def least_of(count):
+    """How many of so many edits a crate tries at least."""
+    return min(max(2, -(-count // PARTS)), count)
+
+
 def prove_below(names):
     """The libraries below these crates are built first."""
     if build.main(names):
@@ -133,17 +141,18 @@ def rotate(crates, limit):
     all_edits = {it: edits_of(crates, it) for it in crates if edits_of(crates, it)}
     rotation = Rotation([edit for edits in all_edits.values() for edit in edits])
     print(f"tries for {minutes(limit)} what was tried longest ago: {rotation.place()}", flush=True)
-    left, chosen = dict(all_edits), []
+    left, chosen, width = dict(all_edits), [], width_of_machine()
 
     def next_crate():
-        """The edits of the crate that has waited longest, as many as fit the time; at least those of one crate."""
+        """The edits of the crate that has waited longest, as many as fit the time; of the first ones at least a part."""
         with choosing:
             time_left = limit - (time.monotonic() - began)
             for name in sorted(left, key=lambda it: rotation.age(left[it])):
                 count = min(int((time_left - seconds_of(name, 0)) / seconds_of_edit(name)), len(left[name]))
-                if chosen and count < min(2, len(left[name])):
+                least = least_of(len(left[name]))
+                if len(chosen) >= width and count < least:
                     continue
-                edits = rotation.oldest_first(left.pop(name))[: max(count, 2)]
+                edits = rotation.oldest_first(left.pop(name))[: max(count, least)]
                 chosen.append(name)
                 print(f"{name}: {len(edits)} edits, about {minutes(seconds_of(name, len(edits)))}", flush=True)
                 return name, edits

@@ -1,8 +1,9 @@
 #!/usr/bin/env -S python3 -B
 """What a change needs, cheap things first: quick.py [BASE]
 
-The linters and the tests of the tools; the proofs of the crates that differ from BASE and of all above them; the tests of these crates;
-and the replays on the program that was built. BASE is a commit, by default where this branch left main, or else the commit before the last.
+It says first what it will do and about how long that takes. Then come the linters and the tests of the tools; the proofs of the program, and
+the replays on it; the proofs of the other crates that differ from BASE and of all above them; and the tests of these crates. BASE is a
+commit, by default where this branch left main, or else the commit before the last.
 """
 import subprocess
 import sys
@@ -11,9 +12,14 @@ import time
 import build
 import change
 import lint
+from change import Step
 from crates import ROOT, SOURCES, Crates, minutes
 
 REPLAYS = ("./.ci/replay", "./crates/relay960/replays/all.py")
+# At least and at most.
+SECONDS_OF_LINTERS = (10, 20)
+SECONDS_OF_TOOLS = (10, 30)
+SECONDS_OF_REPLAYS = (10, 40)
 
 
 def git(*words):
@@ -39,34 +45,37 @@ def changed(crates, base):
     return [it for it in crates if it in named]
 
 
-def step(what, words, folder=ROOT):
-    """Runs a command, and ends all where it fails."""
-    print(f"== {what}", flush=True)
-    began = time.monotonic()
-    if subprocess.run(words, cwd=folder, stdin=subprocess.DEVNULL, check=False).returncode:
-        sys.exit(f".ci/quick FAILS at {what}, after {minutes(time.monotonic() - began)}")
+def steps_of(crates, names):
+    """All that a change of these crates needs, in the order of its cost but that a proof comes before what stands on it."""
+    python = [sys.executable, "-B"]
+    steps = [Step("the linters", ROOT, [*python, lint.__file__], *SECONDS_OF_LINTERS),
+             Step("the tests of the tools", ROOT, [*python, "-m", "unittest", "discover", "-s", "tools/tests"], *SECONDS_OF_TOOLS)]
+    of_program = [*crates.below(build.NAME), build.NAME]
+    most = build.seconds_to_prove(crates, of_program)
+    steps.append(Step("the proofs of the program and of all below it", ROOT, [*python, build.__file__], most // 2, most))
+    steps += [Step(replay, ROOT, [replay], *SECONDS_OF_REPLAYS) for replay in REPLAYS]
+    above = [it for it in crates if it in names or any(name in crates.below(it) for name in names)]
+    steps += [change.proof(crates, it) for it in above if it not in of_program]
+    steps += [change.tests(crates, it) for it in dict.fromkeys(tests for name in names for tests in crates.tests_of(name))]
+    return steps
 
 
 def main(words):
     crates, base, began = Crates(), base_of(words), time.monotonic()
     if not git("rev-parse", "--verify", f"{base}^{{commit}}"):
         sys.exit(f".ci/quick: there is no commit {base}")
-    step("the linters", [sys.executable, "-B", lint.__file__])
-    step("the tests of the tools", [sys.executable, "-B", "-m", "unittest", "discover", "-s", "tools/tests"])
     names = changed(crates, base)
-    print(f"differ from {base}: {', '.join(names) or 'no crate'}", flush=True)
-    above = [it for it in crates if it in names or any(name in crates.below(it) for name in names)]
-    of_program = [*crates.below(build.NAME), build.NAME]
-    step("the proofs of the program and of all below it", [sys.executable, "-B", build.__file__])
-    for name in above:
-        if name not in of_program:
-            step(f"the proof of {name}", ["rt", "check"], crates.folder(name))
-    for name in dict.fromkeys(tests for it in names for tests in crates.tests_of(it)):
-        test = change.tests(crates, name)
-        step(test.what, test.words, test.folder)
-    for replay in REPLAYS:
-        step(replay, [replay])
-    print(f".ci/quick: all holds, after {minutes(time.monotonic() - began)}")
+    print(f"differ from {base}: {', '.join(names) or 'no crate'}")
+    steps = steps_of(crates, names)
+    named = minutes(sum(it.most for it in steps))
+    for number, step in enumerate(steps, 1):
+        print(f"{number}. {step.what}: {step.cost()}")
+    print(f"in all {named} at most on an idle machine, less where little has changed", flush=True)
+    for number, step in enumerate(steps, 1):
+        print(f"{number}. {step.what}", flush=True)
+        if not step.run():
+            sys.exit(f".ci/quick FAILS at {step.what}, after {minutes(time.monotonic() - began)}")
+    print(f".ci/quick: all holds, after {minutes(time.monotonic() - began)} ({named} were named)")
 
 
 if __name__ == "__main__":

@@ -22,17 +22,18 @@ is_there() {
 }
 
 # begin_trial PACKAGE..
-# Says in one line which packages are missing, and ends the script then. Gives it RELAY960, the program to try, which is the built one or
-# the one that the environment names, and PYTHONPATH for the package relay_client.
+# Says in one line all that is missing, packages of Debian and the program, and ends the script then. Gives it RELAY960, the program to
+# try, which is the built one or the one that the environment names, and PYTHONPATH for the package relay_client.
 begin_trial() {
     PATH="$PATH:/usr/sbin:/sbin"
+    RELAY960="${RELAY960:-$top/crates/relay960/out/relay960}"
     missing=""
     for package; do
         is_there "$package" || missing="$missing $package"
     done
-    [ -z "$missing" ] || { echo "missing of Debian: apt-get install$missing"; exit 1; }
-    RELAY960="${RELAY960:-$top/crates/relay960/out/relay960}"
-    [ -x "$RELAY960" ] || { echo "there is no $RELAY960: build it with ./run.sh < crates/relay960/stdin"; exit 1; }
+    missing="${missing:+ apt-get install$missing}"
+    [ -x "$RELAY960" ] || missing="${missing:+$missing;} $RELAY960, which ./run.sh < crates/relay960/stdin builds"
+    [ -z "$missing" ] || { echo "missing:$missing"; exit 1; }
     PYTHONPATH="$top/tools"
     PYTHONDONTWRITEBYTECODE=1
     export PATH RELAY960 PYTHONPATH PYTHONDONTWRITEBYTECODE

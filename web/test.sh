@@ -8,16 +8,17 @@ cd "$(dirname "$0")"
 top=$(cd .. && pwd)
 # shellcheck disable=SC1091
 . "$top/tools/trial.sh"
-if [ "${1:-chess}" = chess ]; then
-    begin_trial nodejs pychess stockfish pgn-extract
-    /usr/bin/python3 tests/chess.py
-    [ $# -eq 0 ] || exit 0
-fi
 case ${1:-} in
+    "") begin_trial nodejs pychess stockfish pgn-extract chromium openssl python3-websockets firefox-esr webkit2gtk-driver xvfb ;;
+    chess) begin_trial nodejs pychess stockfish pgn-extract ;;
     firefox) begin_trial firefox-esr python3-websockets ;;
     webkit) begin_trial webkit2gtk-driver xvfb python3-websockets ;;
     *) begin_trial chromium openssl python3-websockets ;;
 esac
+if [ "${1:-chess}" = chess ]; then
+    /usr/bin/python3 tests/chess.py
+    [ $# -eq 0 ] || exit 0
+fi
 /usr/bin/python3 tests/pages.py "$@"
 [ $# -eq 0 ] || exit 0
 ./test.sh firefox

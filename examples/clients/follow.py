@@ -1,18 +1,8 @@
 """Follows a board and prints its texts: python3 follow.py ws://127.0.0.1:9600 b1 (Debian: apt-get install python3-websockets)."""
-import asyncio, json, sys, websockets  # noqa: E401
+import asyncio, json, pathlib, sys, websockets  # noqa: E401
 
-def men_of(fen):  # By square. A digit stands for so many vacant squares.
-    rows = ["".join("." * int(it) if it.isdigit() else it for it in row) for row in fen.split(" ")[0].split("/")]
-    return {"abcdefgh"[file] + str(8 - down): man for down, row in enumerate(rows) for file, man in enumerate(row) if man != "."}
-
-def play(men, move):
-    origin, goal, rank = move[:2], move[2:4], move[1]
-    man, taken = men.pop(origin), men.pop(goal, "")
-    if man + taken in ("KR", "kr"):  # Castling: the king moves onto its own rook.
-        men.update({"g" + rank: man, "f" + rank: taken} if goal > origin else {"c" + rank: man, "d" + rank: taken})
-    else:
-        men[goal] = man if len(move) == 4 else move[4].upper() if man == "P" else move[4]
-        men.pop(goal[0] + rank if man in "Pp" and not taken and goal[0] != origin[0] else "", None)  # En passant.
+sys.path.append(str(pathlib.Path(__file__).resolve().parent.parent.parent / "tools"))  # A relay_client beside this file is found first.
+from relay_client.men import men_of, play  # noqa: E402
 
 async def follow(server, board):
     men, place, reply = None, {"from": 0}, None  # The position, and the place of the next move; without one: from now on.

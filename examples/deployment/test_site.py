@@ -1,4 +1,4 @@
-"""The test of the site behind TLS; test.sh starts it. Spectators reach pages, channels and the watch port, and never the relay's own port;
+"""The test of the site behind TLS; test.sh starts it. Spectators reach pages, channels and the watch port, and never the main port;
 operators do."""
 import asyncio
 import base64

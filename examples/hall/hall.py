@@ -12,7 +12,7 @@ take them: its name, perhaps its start number, and its players. A board that it 
 
 It serves the pages for watching at an address of this machine in the hall's network, and passes /watch there on to the relay's watch port,
 on which nothing can be changed. It prints that address and its QR code. Boards are opened and played on this machine alone, at the
-relay's own port. Ctrl-C ends what is served, and no game.
+relay's main port. Ctrl-C ends what is served, and no game.
 """
 import argparse
 import html
@@ -145,7 +145,7 @@ def try_port(address, port):
 
 
 def answers_as_watch_port(address):
-    """Whether a relay's watch port answers there; None where nothing answers. A relay's own port does not know the command."""
+    """Whether a relay's watch port answers there; None where nothing answers. A main port does not know the command."""
     host, port = address.rsplit(":", 1)
     try:
         with socket.create_connection((host, int(port)), timeout=5) as stream, stream.makefile("rb") as said:

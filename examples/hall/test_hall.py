@@ -104,7 +104,7 @@ def try_printed(hall, address):
 
 
 def try_wrong_words(folder, taken):
-    """Wrong rounds, an address that is not this machine's, a port that is taken, and a relay's own port for its watch port: each is refused
+    """Wrong rounds, an address that is not this machine's, a port that is taken, and a main port in place of a watch port: each is refused
     in one line, and nothing is left running."""
     before = listened()
     for text, why in (("", "names no board"), ("b1\nb1\n", "twice"), ("b.1\n", "no board's name"), ("b1 A;B - C\n", "has no ;")):

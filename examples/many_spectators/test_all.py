@@ -303,7 +303,7 @@ async def try_list_name(relay):
 
 
 async def try_own_port(relay):
-    """On the relay's own port there is no list: that is said, and the feed ends."""
+    """On the main port there is no list: that is said, and the feed ends."""
     words = ("./feed.py", "--all", "--watch", relay.address)
     async with running(*words, stdout=subprocess.PIPE, stderr=subprocess.PIPE) as process:
         printed, said = await asyncio.wait_for(process.communicate(), 20)

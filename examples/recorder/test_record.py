@@ -406,7 +406,7 @@ async def try_all_wire(folder):
 
 
 async def try_all_refused(folder):
-    """On the relay's own port there is no list, and where there is no relay it is given up."""
+    """On the main port there is no list, and where there is no relay it is given up."""
     relay = await Relay(watch=True).start()
     watch_port, relay.watch_port = relay.watch_port, relay.port
     recorder = await All.start(folder, relay)

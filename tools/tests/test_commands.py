@@ -1,0 +1,355 @@
+"""What try.sh, run.sh, check.sh, planted.sh, package.sh and .ci/quick say and do, on a small repository and with a stand-in for `rt`."""
+import os
+import pathlib
+import re
+import shutil
+import socket
+import subprocess
+import sys
+import tempfile
+import unittest
+
+TOP = pathlib.Path(__file__).resolve().parents[2]
+sys.path.insert(0, str(TOP / "tools"))
+
+import planted  # noqa: E402
+from workplace import width_of_machine  # noqa: E402
+
+# It writes what it was asked in `calls`, makes what the true one makes, and refuses the crates and the edits that are named in `wrong`.
+RT = r'''#!/usr/bin/env -S python3 -B
+import os, pathlib, sys, time
+folder, words = pathlib.Path.cwd(), sys.argv[1:]
+state = pathlib.Path(os.environ["RT_STAND_IN"])
+with (state / "calls").open("a") as calls:
+    calls.write(f"{time.monotonic()} {folder.name}: {' '.join(words)}\n")
+wrong = (state / "wrong").read_text().split() if (state / "wrong").exists() else []
+out = folder / "out"
+if words[:1] == ["version"]:
+    print("stand-in")
+elif words[:1] == ["try"]:
+    print("\n".join(words))
+elif words[:1] == ["must-fail"]:
+    for edit in sorted((folder / "crates" / words[1] / "must-fail").glob("*.edit")):
+        print(f"rt: must-fail {words[1]}/{edit.name}: " + ("NOT refused" if edit.name in wrong else "refused, as it must be"))
+elif words[0] in ("lib", "run", "check", "test"):
+    both = [f"{it}: lib" for it in ("left", "right")] if (state / "meet").exists() and words[0] == "lib" and folder.name != "low" else []
+    until = time.monotonic() + 60
+    while not all(it in (state / "calls").read_text() for it in both) and time.monotonic() < until:
+        time.sleep(0.05)
+    if folder.name in wrong:
+        print(f"{folder.name} is wrong")
+        sys.exit(1)
+    if words[0] == "lib":
+        (out / "rlib").mkdir(parents=True, exist_ok=True)
+        (out / "rlib/stamp").write_text(folder.name)
+    elif words[0] == "run":
+        out.mkdir(exist_ok=True)
+        program = out / folder.name
+        program.write_text("#!/bin/sh\necho the program: \"$@\"\n")
+        program.chmod(0o755)
+with (state / "calls").open("a") as calls:
+    calls.write(f"{time.monotonic()} {folder.name}: ended\n")
+'''
+CRATES = """low: arrayvec
+left: low
+right: low
+left_tests: left low
+relay960: low left right
+"""
+
+
+def write(path, text, mode=0o644):
+    path.parent.mkdir(parents=True, exist_ok=True)
+    path.write_text(text)
+    path.chmod(mode)
+
+
+class Commands(unittest.TestCase):
+    """Five crates: `left` and `right` stand on `low`, the program on all three, and the tests of `left` in a crate of their own."""
+
+    def setUp(self):
+        room = tempfile.TemporaryDirectory(dir="/var/tmp")
+        self.addCleanup(room.cleanup)
+        self.state = pathlib.Path(room.name)
+        self.top = self.state / "top"
+        for name in ("try.sh", "run.sh", "check.sh", "planted.sh", "tools", "HANDLES"):
+            copy = shutil.copytree if (TOP / name).is_dir() else shutil.copy2
+            self.top.mkdir(exist_ok=True)
+            copy(TOP / name, self.top / name)
+        write(self.top / "crates.txt", CRATES)
+        write(self.top / "tools/seconds.txt", "low 100\nleft 200\nright 50\nrelay960 30\nleft_tests:tests 70\n")
+        for name in ("low", "left", "right"):
+            write(self.top / f"crates/{name}/src/lib.rt", f"//! {name}.\n")
+        write(self.top / "crates/left_tests/src/lib.rt", "#[test]\nfn holds() {}\n")
+        write(self.top / "crates/relay960/src/main.rt", "fn main() {}\n")
+        write(self.state / "bin/rt", RT, 0o755)
+        self.env = {**os.environ, "PATH": f"{self.state}/bin:{os.environ['PATH']}", "RT_STAND_IN": str(self.state)}
+
+    def run_it(self, *words):
+        return subprocess.run([self.top / words[0], *words[1:]], env=self.env, capture_output=True, text=True, timeout=600, stdin=subprocess.DEVNULL)
+
+    def is_wrong(self, *names):
+        write(self.state / "wrong", " ".join(names))
+
+    def calls(self):
+        """The calls of `rt` that do some work, with when they began and ended."""
+        found, file = [], self.state / "calls"
+        for line in file.read_text().splitlines() if file.exists() else []:
+            when, _, call = line.partition(" ")
+            name, _, what = call.partition(": ")
+            if what == "ended":
+                for it in found:
+                    if it[0] == name and it[3] is None:
+                        it[3] = float(when)
+            elif what != "version":
+                found.append([name, what, float(when), None])
+        file.unlink(missing_ok=True)
+        return found
+
+    def edits(self, name, *edits):
+        for edit in edits:
+            write(self.top / f"crates/{name}/planted/{edit}.edit", "")
+
+
+class Try(Commands):
+    def test_the_first_line_says_that_nothing_is_proved(self):
+        done = self.run_it("try.sh", "start", "518")
+        self.assertIn("nothing is proved", done.stderr.splitlines()[0])
+        self.assertEqual((done.stdout, done.returncode), ("try\n--seconds\n60\n--\nstart\n518\n", 0))
+        served = self.run_it("try.sh", "--seconds", "5", "serve", "--port", "1")
+        self.assertIn("nothing is proved", served.stderr.splitlines()[0])
+
+    def test_a_port_that_is_taken_is_named_before_anything_is_compiled(self):
+        with socket.create_server(("127.0.0.1", 0)) as taken:
+            port = taken.getsockname()[1]
+            done = self.run_it("try.sh", "serve", "--port", str(port))
+        self.assertIn(f"port {port}", done.stderr.splitlines()[1])
+        self.assertEqual((done.returncode, self.calls()), (1, []))
+
+
+class Run(Commands):
+    def test_it_proves_side_by_side_and_says_which_crate_how_far_and_how_long(self):
+        """`left` and `right` each wait until the other has begun, where the machine holds two proofs at a time."""
+        if width_of_machine() > 1:
+            write(self.state / "meet", "")
+        done = self.run_it("run.sh", "start", "0")
+        self.assertEqual((done.stdout, done.returncode), ("the program: start 0\n", 0), done.stderr)
+        calls = {it[0]: it for it in self.calls()}
+        self.assertEqual(set(calls), {"low", "left", "right", "relay960"})
+        self.assertLess(calls["low"][3], min(calls["left"][2], calls["right"][2]))
+        lines = done.stderr.splitlines()
+        self.assertRegex(lines[0], r"4 crates; about \d+ (s|min)\b")
+        proved = next(it for it in lines if "low is proved" in it)
+        self.assertRegex(proved, r"1 of 4 crates, 26 % of the work; now .*; about .* left")
+        if (self.state / "meet").exists():
+            self.assertLess(max(calls["left"][2], calls["right"][2]), min(calls["left"][3], calls["right"][3]), "not side by side")
+
+    def test_what_is_proved_is_not_proved_again_until_it_changes(self):
+        self.run_it("run.sh", "start", "0")
+        self.calls()
+        self.assertEqual(self.run_it("run.sh", "start", "1").stderr, "")
+        self.assertEqual(self.calls(), [])
+        write(self.top / "crates/right/src/lib.rt", "//! right, changed.\n")
+        self.run_it("run.sh", "start", "1")
+        self.assertEqual({it[0] for it in self.calls()}, {"right", "relay960"})
+
+    def test_a_crate_that_is_not_proved_starts_no_program(self):
+        self.is_wrong("left")
+        done = self.run_it("run.sh", "start", "0")
+        self.assertEqual((done.stdout, done.returncode), ("", 1))
+        self.assertIn("left is not proved", done.stderr)
+        self.assertIn("left is wrong", done.stderr)
+
+
+class Check(Commands):
+    def test_it_says_its_cost_before_it_begins_and_its_verdict_at_the_end(self):
+        done = self.run_it("check.sh", "left")
+        lines = done.stdout.splitlines()
+        self.assertRegex(lines[0], r"^1\. the proofs of low below it: .*2 min$")
+        self.assertRegex(lines[1], r"^2\. the proof of left \(rt check\): 3 min$")
+        self.assertRegex(lines[2], r"^3\. the tests in left_tests \(rt test\): 70 s$")
+        self.assertRegex(lines[3], r"^in all 6 min at most")
+        self.assertRegex(lines[-1], r"^check\.sh: left holds, after .* \(6 min were named\)$")
+        self.assertEqual([(it[0], it[1]) for it in self.calls()], [("low", "lib"), ("left", "check"), ("left_tests", "test")])
+
+    def test_the_verdict_names_the_step_that_fails(self):
+        self.is_wrong("left_tests")
+        done = self.run_it("check.sh", "left")
+        self.assertRegex(done.stdout.splitlines()[-1], r"^check\.sh: left FAILS at the tests in left_tests")
+        self.assertEqual(done.returncode, 1)
+
+    def test_the_crates_above_are_proved_where_that_is_asked(self):
+        self.run_it("check.sh", "right", "--above")
+        self.assertEqual([it[0] for it in self.calls()], ["low", "right", "relay960"])
+
+
+class Planted(Commands):
+    def test_the_rotation_begins_with_what_was_tried_longest_ago_and_keeps_its_place(self):
+        """No edit fits a minute, so each crate tries a tenth of its own, and two at least."""
+        self.edits("left", *(f"edit{at:02}" for at in range(30)))
+        self.run_it("planted.sh", "--rotate", "1")
+        self.assertEqual(self.tried(), ["left/edit00.edit", "left/edit01.edit", "left/edit02.edit"])
+        self.run_it("planted.sh", "--rotate", "1")
+        self.assertEqual(len(self.tried()), 6)
+
+    def test_a_crate_that_was_never_tried_comes_before_others(self):
+        self.edits("left", "one", "two")
+        self.run_it("planted.sh", "--rotate", "1")
+        self.edits("right", "three", "four")
+        self.assertRegex(self.run_it("planted.sh", "--rotate", "1").stdout, r"(?s)right: 2 edits.*4 of 4 tried")
+        self.assertEqual(self.tried(), ["left/one.edit", "left/two.edit", "right/four.edit", "right/three.edit"])
+
+    def tried(self):
+        return [it.split()[1] for it in (self.top / "out/planted").read_text().splitlines()]
+
+    def test_each_crate_is_through_after_ten_turns(self):
+        for count in range(1, 200):
+            self.assertLessEqual(-(-count // planted.least_of(count)), 10, count)
+
+    def test_an_edit_that_is_proved_is_named(self):
+        self.edits("left", "one", "two")
+        self.is_wrong("two.edit")
+        done = self.run_it("planted.sh", "left")
+        self.assertEqual(done.stdout.splitlines()[-2:], ["not refused: left/two.edit", "1 refused, 1 not"])
+        self.assertEqual(done.returncode, 1)
+
+
+class Quick(Commands):
+    """With stand-ins for the linters and the replays too, in a repository of its own."""
+
+    def setUp(self):
+        super().setUp()
+        for linter in ("rattle", "pyflakes3", "shellcheck", "node"):
+            write(self.state / "bin" / linter, "#!/bin/sh\n", 0o755)
+        shutil.rmtree(self.top / "tools/tests")
+        write(self.top / "tools/tests/test_one.py", "import unittest\nclass One(unittest.TestCase):\n    def test_it(self):\n        pass\n")
+        for replay in (".ci/replay", "crates/relay960/replays/all.py"):
+            write(self.top / replay, f"#!/bin/sh\necho 0 replay: {replay} >> \"$RT_STAND_IN/calls\"\n", 0o755)
+        (self.top / ".ci").mkdir(exist_ok=True)
+        shutil.copy2(TOP / ".ci/quick", self.top / ".ci/quick")
+        write(self.top / ".gitignore", "out/\n__pycache__/\n")
+        self.git("init", "-q")
+        self.git("add", "-A")
+        self.git("-c", "user.name=a", "-c", "user.email=a@b", "commit", "-qm", "One")
+
+    def git(self, *words):
+        subprocess.run(["git", *words], cwd=self.top, check=True, stdin=subprocess.DEVNULL, capture_output=True)
+
+    def test_a_crate_that_differs_is_proved_with_what_stands_on_it_and_its_tests_are_run(self):
+        write(self.top / "crates/left/src/lib.rt", "//! left, changed.\n")
+        done = self.run_it(".ci/quick", "HEAD")
+        lines = done.stdout.splitlines()
+        self.assertEqual(done.returncode, 0, done.stdout + done.stderr)
+        self.assertEqual(lines[0], "differ from HEAD: left")
+        self.assertRegex(next(it for it in lines if it.startswith("in all")), r"in all \d+ min at most")
+        self.assertRegex(lines[-1], r"^\.ci/quick: all holds, after .* were named\)$")
+        calls = [f"{it[0]} {it[1]}" for it in self.calls() if it[0] != "relay960" and it[1] != "lib"]
+        self.assertEqual(calls, ["replay .ci/replay", "replay crates/relay960/replays/all.py", "left_tests check", "left_tests test"])
+
+    def test_a_failure_ends_it_and_is_named(self):
+        self.is_wrong("low")
+        done = self.run_it(".ci/quick", "HEAD")
+        self.assertIn(".ci/quick FAILS at the proofs of the program", done.stderr)
+        self.assertEqual(done.returncode, 1)
+
+
+class Gate(Commands):
+    """`.ci/run`, with stand-ins for all that it calls. Its proofs go on for a second after the program is built."""
+
+    CALLED = ("replay .ci/replay", "replay crates/relay960/replays/all.py", "replay .ci/replay-sessions", "replay benches/refusals.py")
+
+    def setUp(self):
+        super().setUp()
+        shutil.rmtree(self.top / "tools/tests")
+        write(self.top / "tools/tests/test_one.py", "import unittest\nclass One(unittest.TestCase):\n    def test_it(self):\n        pass\n")
+        write(self.state / "bin/cc", "#!/bin/sh\n", 0o755)
+        write(self.state / "bin/rt", """#!/bin/sh
+            sleep 0.5; mkdir -p crates/relay960/out; cp /bin/true crates/relay960/out/relay960
+            echo "rt: relay960 proved"; sleep "${RT_SLEEP:-3}"; echo 0 proofs: $* >> "$RT_STAND_IN/calls"; ! grep -q proofs "$RT_STAND_IN/wrong"
+            """, 0o755)
+        for called in (".ci/replay", "crates/relay960/replays/all.py", ".ci/replay-sessions", "benches/refusals.py"):
+            write(self.top / called, f"#!/bin/sh\necho 0 replay: {called} >> \"$RT_STAND_IN/calls\"\n"
+                  f"[ ! -f \"$RT_STAND_IN/$(basename {called})\" ] || {{ rm \"$RT_STAND_IN/$(basename {called})\"; exit 1; }}\n", 0o755)
+        shutil.copy2(TOP / ".ci/run", self.top / ".ci/run")
+        self.is_wrong("nothing")
+
+    def called(self):
+        return [f"{it[0]} {it[1]}" for it in self.calls()]
+
+    def test_the_replays_begin_while_proofs_go_on(self):
+        done = self.run_it(".ci/run")
+        self.assertEqual(done.returncode, 0, done.stdout + done.stderr)
+        replays, tables, sessions, refusals = self.CALLED
+        called = self.called()
+        self.assertEqual(called, [replays, tables, "proofs ci", sessions, refusals, refusals, refusals])
+
+    def test_replays_that_failed_beside_proofs_are_tried_again(self):
+        write(self.state / "all.py", "")
+        done = self.run_it(".ci/run")
+        self.assertEqual((done.returncode, self.called().count(self.CALLED[1])), (0, 2), done.stdout + done.stderr)
+
+    def test_it_fails_where_anything_fails(self):
+        self.env["RT_SLEEP"] = "0"
+        for wrong in ("proofs", "replay-sessions", "refusals.py"):
+            self.is_wrong(wrong)
+            if wrong != "proofs":
+                write(self.state / wrong, "")
+            self.assertNotEqual(self.run_it(".ci/run").returncode, 0, wrong)
+
+    def test_it_fails_without_a_c_compiler(self):
+        (self.state / "bin/cc").unlink()
+        for tool in ("sh", "dirname"):
+            os.symlink(shutil.which(tool), self.state / "bin" / tool)
+        done = subprocess.run([self.top / ".ci/run"], env={**self.env, "PATH": f"{self.state}/bin"}, capture_output=True, text=True)
+        self.assertEqual((done.returncode, done.stderr), (1, "no C compiler: no allocation can be refused\n"))
+
+
+class Trials(unittest.TestCase):
+    """The tests of the pages, the package and the examples."""
+
+    SCRIPTS = sorted([*TOP.glob("examples/*/test.sh"), TOP / "web/test.sh"])
+    # What a path without /usr/bin lacks.
+    FROM_THE_PATH = {"chromium", "dpkg", "firefox-esr", "mandoc", "nodejs", "openssl", "qrencode", "redis-server", "zbar-tools"}
+
+    def test_each_names_in_one_line_all_that_is_missing(self):
+        """The path leads to nothing but a shell. What is looked for in its own place, as modules of Python are, may be there."""
+        with tempfile.TemporaryDirectory() as name:
+            for tool in ("sh", "dirname"):
+                os.symlink(shutil.which(tool), pathlib.Path(name, tool))
+            for script in self.SCRIPTS:
+                text = script.read_text()
+                wanted = re.search(r"begin_trial (.*)", text)[1].split()
+                done = subprocess.run(["/bin/sh", script], env={"PATH": name, "RELAY960": f"{name}/relay960"}, capture_output=True, text=True, timeout=60, stdin=subprocess.DEVNULL)
+                self.assertEqual((len(done.stdout.splitlines()), done.returncode, done.stderr), (1, 1, ""), f"{script}: {done}")
+                packages, _, rest = done.stdout.removeprefix("missing:").removeprefix(" apt-get install").rpartition(";")
+                self.assertLessEqual(set(packages.split()), set(wanted), script)
+                self.assertLessEqual(self.FROM_THE_PATH & set(wanted), set(packages.split()), script)
+                self.assertEqual(rest.strip(), f"{name}/relay960, which ./run.sh < crates/relay960/stdin builds")
+
+
+class Package(unittest.TestCase):
+    @unittest.skipUnless(shutil.which("dpkg-deb"), "dpkg-deb is missing (Debian: dpkg)")
+    def test_it_has_what_a_site_needs_and_its_python_finds_what_it_imports(self):
+        with tempfile.TemporaryDirectory() as name:
+            room = pathlib.Path(name)
+            write(room / "relay960", "#!/bin/sh\necho relay960 0.0.1\n", 0o755)
+            made = subprocess.run([TOP / "package.sh", room], env={**os.environ, "RELAY960": str(room / "relay960")}, capture_output=True, text=True)
+            self.assertEqual(made.returncode, 0, made.stderr)
+            package = made.stdout.splitlines()[-1]
+            self.assertRegex(package, r"/relay960_0\.0\.1_\w+\.deb$")
+            subprocess.run(["dpkg-deb", "-x", package, room / "root"], check=True)
+            root = room / "root"
+            for path in ("usr/bin/relay960", "usr/share/relay960/pages/watch.html", "usr/share/man/man1/relay960.1.gz",
+                         "usr/lib/systemd/system/relay960.service", "usr/lib/relay960/feed.py", "etc/relay960/nginx/relay960-http.conf"):
+                self.assertTrue((root / path).is_file(), path)
+            library = root / "usr/lib/relay960"
+            there = {str(it.relative_to(library).with_suffix("")).replace("/", ".") for it in library.rglob("*.py")}
+            ours = {it.stem for folder in ("many_spectators", "recorder", "hall") for it in (TOP / "examples" / folder).glob("*.py")}
+            for path in library.rglob("*.py"):
+                for module in re.findall(r"^\s*(?:from|import) ([\w.]+)", path.read_text(), re.M):
+                    if module in ours or module.startswith("relay_client."):
+                        self.assertIn(module, there, path.name)
+
+
+if __name__ == "__main__":
+    unittest.main()
