@@ -11,6 +11,7 @@ import websockets
 
 import back
 import contrast
+import desk
 import gone
 import lists
 import notation
@@ -961,7 +962,7 @@ async def main():
     pictures = words[1] if words[:1] == ["--pictures"] else None
     other = OTHERS.get(words[0]) if words else None
     words = (words[1:] or OFTEN) if other else words
-    modules = (back, contrast, gone, lists, notation, rounds, senses, tabs)
+    modules = (back, contrast, desk, gone, lists, notation, rounds, senses, tabs)
     tries = {name[4:]: it for module in (globals(), *map(vars, modules)) for name, it in module.items() if name.startswith("try_")}
     # A test's site makes its own certificate.
     browser = await (other().start() if other else Browser().start("--ignore-certificate-errors"))
