@@ -38,7 +38,10 @@ const draws = (texts) => {
   texts.forEach((it) => record.take(it));
   return Draws.of(record);
 };
-const castles = (fen, move) => Position.effect(Position.read(fen), move).castling !== null;
+const rare = (fen) => {
+  const position = Position.read(fen);
+  return Rules.legal(position).filter((it) => it.length === 5 || Position.effect(position, it).castling !== null);
+};
 const checked = (fen) => Position.inCheck(Position.read(fen));
 const next = (fen, move) => Position.write(Position.after(Position.read(fen), move));
 """
@@ -259,10 +262,9 @@ def game_told(pages, chance, outcome):
     begin = chance.choice((0, 0, 5, 20))
     for _ in range(chance.randrange(begin, 120)):
         legal = list(pages.call("counts", positions[-1], 1))
-        rare = [it for it in legal if len(it) == 5 or pages.call("castles", positions[-1], it)]
         if not legal:
             break
-        moves.append(chance.choice(rare or legal))
+        moves.append(chance.choice(pages.call("rare", positions[-1]) or legal))
         positions.append(pages.call("next", positions[-1], moves[-1]))
     begin, fen = min(begin, len(moves)), positions[-1]
     by_itself = "stalemate" if not pages.call("counts", fen, 1) else None
@@ -272,15 +274,19 @@ def game_told(pages, chance, outcome):
     return following(positions[begin], moves[begin:], begin) + ([{"reply": "over", "outcome": end}] if end else []), moves[begin:], end, fen
 
 
-# A game of 19 plies that ends in stalemate, by Sam Loyd.
+# Games whose ends hardly come by chance: Sam Loyd's stalemate, and the shortest mate.
 STALEMATE = ("e2e3 a7a5 d1h5 a8a6 h5a5 h7h5 h2h4 a6h6 a5c7 f7f6 c7d7 e8f7 d7b7 d8d3 b7b8 d3h7 b8c8 f7g6 c8e6").split()
 
 
-def stalemated(pages):
-    positions = [start_fen(518)]
-    for move in STALEMATE:
-        positions.append(pages.call("next", positions[-1], move))
-    return [*following(positions[0], STALEMATE), {"reply": "over", "outcome": "stalemate"}], STALEMATE, "stalemate", positions[-1]
+MATE = "f2f3 e7e5 g2g4 d8h4".split()
+
+
+def known(pages, moves, outcome):
+    """The texts of a game from the ordinary start, its moves, its end and its last position."""
+    fen = START
+    for move in moves:
+        fen = pages.call("next", fen, move)
+    return [*following(START, moves), {"reply": "over", "outcome": outcome}], moves, outcome, fen
 
 
 RARE = {f"{side} {wing}" for side in ("white", "black") for wing in ("O-O", "O-O-O")} | {f"={it}" for it in "QRBN"}
@@ -311,7 +317,8 @@ def try_pgn():
     ends = [None, *SCORES, "agreed", "threefold", "fifty moves", "fivefold", "seventy-five moves"]
     ends = [it for it in ends if it not in ("white mates", "black mates")]
     with chess() as pages:
-        games = [stalemated(pages), *(game_told(pages, chance, ends[number % len(ends)]) for number in range(199))]
+        games = [game_told(pages, chance, ends[number % len(ends)]) for number in range(198)]
+        games += [known(pages, STALEMATE, "stalemate"), known(pages, MATE, "black mates")]
         file = pages.call(ROUND, [(f"b{number}", {"white": 'A "B"', "black": ""}, texts) for number, (texts, *_) in enumerate(games)])
     with Stockfish() as stockfish:
         for number, ((texts, moves, end, final), text, (tags, words)) in enumerate(zip(games, games_in(file), extracted(file), strict=True)):

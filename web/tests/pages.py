@@ -964,8 +964,9 @@ async def main():
     words = (words[1:] or OFTEN) if other else words
     modules = (back, contrast, desk, gone, lists, notation, rounds, senses, tabs)
     tries = {name[4:]: it for module in (globals(), *map(vars, modules)) for name, it in module.items() if name.startswith("try_")}
-    # A test's site makes its own certificate.
-    browser = await (other().start() if other else Browser().start("--ignore-certificate-errors"))
+    # A test's site makes its own certificate, and has a name of its own.
+    hosts = f"--host-resolver-rules=MAP {rounds.OTHER_HOST} 127.0.0.1, MAP * ~NOTFOUND, EXCLUDE 127.0.0.1, EXCLUDE localhost"
+    browser = await (other().start() if other else Browser().start("--ignore-certificate-errors", hosts))
     failed = []
     began = time.monotonic()
     try:
