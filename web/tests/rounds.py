@@ -262,6 +262,8 @@ async def try_room(browser):
         address = url("round.html", server=relay.address, boards=",".join(names[:count]), players=";".join(["Vachier-Lagrave, Maxime–So"] * count))
         page = await browser.open(address)
         await until_settled(page, count)
+        if count == 6:
+            await page.media(prefers_color_scheme="dark", prefers_reduced_motion="reduce")
         for size in ((390, 800), (844, 390), (768, 1024), (1280, 900), (1366, 768), (1920, 1080)):
             had = await sizes(page, size)
             assert had["over"] <= 0 and not had["meeting"] and had["square"] and not had["cut"] and had["width"] >= 136, (count, size, had)
