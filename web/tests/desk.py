@@ -107,6 +107,8 @@ async def try_interrupted(browser):
     relay = await Relay(grace=GRACE).start()
     address = url("table.html", server=relay.address, board="b1", players="Adams–Baker")
     table = await browser.open(address)
+    await table.run('localStorage.removeItem("sirvandu.games")')
+    await table.go(address)
     assert await table.run(OFFERED) == ""
     await table.click("#opening .main")
     await until_state(table, "live")

@@ -954,7 +954,8 @@ async def try_next(browser):
 OTHERS = {"firefox": Firefox, "webkit": WebKit}
 # What is tried in these too: what a person does most. Without a device for sound it makes none, so sounds are not among it.
 OFTEN = ["games", "castling", "mate", "typed", "goals", "refused_claim", "next_name", "next", "wire", "cut", "on_its_way", "ending_lost", "correct", "crash",
-         "kept_pgn", "records", "list", "newer", "round", "round_pgn", "listed", "watch_port", "tabs", "tabs_pgn", "tabs_attention", "tabs_from_disk"]
+         "interrupted", "freed", "kept_pgn", "records", "list", "newer", "round", "round_pgn", "listed", "watch_port", "tabs", "tabs_pgn", "tabs_attention", "tabs_from_disk",
+         "tabs_desk"]
 
 
 async def main():
