@@ -2,21 +2,24 @@
 /*
  * What the address of a page says behind its "?":
  *   watch=ws://HOST:PORT      the relay's watch port
- *   server=ws://HOST:PORT     the relay, at its own port or at its watch port
+ *   server=ws://HOST:PORT     the relay, at its main port or at its watch port
  *   channel=wss://HOST/sub    the channels to read, in place of a relay
  *   board=NAME                one board
  *   boards=NAME,NAME,..       the boards of a round
  *   players=A–B;C–D;..        their players, White first, in the order of the boards. A name may have a comma, as in "Carlsen, Magnus",
  *                             so pairs are parted by ";". A hyphen between spaces does for the dash. Without boards= each pair stands
  *                             after the name of its board: players=NAME A–B;NAME C–D;..
- * Where no source is given, a page of a site takes the site's own channels, and a page from disk its machine's relay: its watch port, or where
- * none is there its own.
+ * Where no source is given, a page of a site takes the site's own channels. A page from disk, or served by its own machine, takes that
+ * machine's relay: its watch port, or where none is there its main port.
  */
 const Address = (() => {
   const RELAY = "ws://127.0.0.1:9600";
   const WATCH = "ws://127.0.0.1:9601";
   const KINDS = { watch: "watch", server: "relay", channel: "channel" };
   const given = new URLSearchParams(location.search);
+  const isOwnMachine = location.protocol === "http:" && /^(localhost|127(\.\d+){3}|\[::1\])$/.test(location.hostname);
+  /* Whether a site serves the page. Its spectators have its channels. */
+  const IS_OF_SITE = ["http:", "https:"].includes(location.protocol) && !isOwnMachine;
   const isName = (text) => /^[A-Za-z0-9_-]{1,32}$/.test(text);
 
   /** The key of the source that the address gives, or undefined. */
@@ -28,7 +31,7 @@ const Address = (() => {
     if (key !== undefined) {
       return { kind: KINDS[key], server: given.get(key), instead: null };
     }
-    return location.protocol === "https:" ? { kind: "channel", server: `wss://${location.host}/sub`, instead: null }
+    return IS_OF_SITE ? { kind: "channel", server: `${location.protocol.replace("http", "ws")}//${location.host}/sub`, instead: null }
       : { kind: "watch", server: WATCH, instead: RELAY };
   }
 
@@ -69,6 +72,6 @@ const Address = (() => {
     channel: given.get("channel"), watch: given.get("watch"), server: given.get("server"), board, players: Players.written(players) || null,
   });
 
-  return { RELAY, source, saysSource: () => sourceKey() !== undefined, keysOf, ofChannel, boards, named, wrongNames, isName, link, ofBoard,
+  return { RELAY, IS_OF_SITE, source, saysSource: () => sourceKey() !== undefined, keysOf, ofChannel, boards, named, wrongNames, isName, link, ofBoard,
     get: (key) => given.get(key), has: (key) => given.has(key) };
 })();

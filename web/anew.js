@@ -6,14 +6,16 @@
 const createAnew = ({ at, back, open }) => {
   /* The game that is offered: { board, start, players, moves, outcome }, and its `id` and the date when it was `saved` where it was kept. */
   let chosen = null;
+  let isShown = true;
+
+  const day = (saved) => new Date(saved).toLocaleString([], { dateStyle: "short", timeStyle: "short" });
 
   function list() {
     const options = Kept.all().map((game) => {
       const it = document.createElement("option");
-      const saved = new Date(game.saved).toLocaleString([], { dateStyle: "short", timeStyle: "short" });
       it.value = game.id;
       const players = Players.written(game.players);
-      const words = [game.board, players, `start ${game.start}`, `${game.moves.length} moves`, saved, game.outcome];
+      const words = [game.board, players, `start ${game.start}`, `${game.moves.length} moves`, day(game.saved), game.outcome];
       it.textContent = words.filter(Boolean).join(", ");
       return it;
     });
@@ -21,18 +23,40 @@ const createAnew = ({ at, back, open }) => {
     none.value = "";
     none.textContent = options.length > 0 ? "choose one" : "none yet";
     at("kept").replaceChildren(none, ...options);
+    interrupted();
+  }
+
+  /** Whether the game that is offered has no end, also not since it was offered. */
+  const isInterrupted = () => chosen !== null && !chosen.outcome && !Kept.all().some((it) => it.id === chosen.id && it.outcome);
+
+  /** Shows a game that has no end at the head of the page, so that it is not overlooked. */
+  function interrupted() {
+    const isOne = isShown && isInterrupted();
+    at("going-on").hidden = !isOne;
+    if (isOne) {
+      const { board, players, moves, saved } = chosen;
+      const words = [board, Players.written(players), moves.length === 1 ? "1 move" : `${moves.length} moves`, saved ? `saved ${day(saved)}` : ""];
+      at("interrupted").textContent = `Not finished: ${words.filter(Boolean).join(", ")}.`;
+      at("go-on").textContent = `Continue ${board}`;
+    }
+  }
+
+  /** Shows what can be resumed, or hides it while a game is played. */
+  function show(isIdle) {
+    isShown = isIdle;
+    at("anew").hidden = !isIdle;
+    interrupted();
   }
 
   /** Offers a game, or says why there is none: { fault }. */
   function offer(offered) {
     chosen = offered.fault ? null : offered;
-    at("go-on").hidden = chosen === null || Boolean(chosen.outcome);
     at("kept-pgn").hidden = chosen === null;
+    interrupted();
     if (offered.fault) {
       at("anew-said").textContent = offered.fault;
       return;
     }
-    at("go-on").textContent = `Continue ${offered.board}`;
     at("new-name").value = Words.nextName(offered.board);
     at("count").max = offered.moves.length;
     at("count").value = offered.moves.length;
@@ -95,5 +119,5 @@ const createAnew = ({ at, back, open }) => {
     submit();
   });
 
-  return { list, offer, offerLast };
+  return { list, offer, offerLast, show };
 };

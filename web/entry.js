@@ -35,10 +35,18 @@ const createEntry = ({ page, questions, ready, game, say, submit }) => {
     }
   }
 
+  /** Takes back that no move can be played, once one can. */
+  function freed() {
+    if (ready() && at("said").textContent === BUSY) {
+      say("");
+    }
+  }
+
   at("typed").addEventListener("submit", (event) => {
     event.preventDefault();
     typed();
   });
+  at("move").addEventListener("input", () => say("")); // What was said is of the text that stood there.
 
-  return { play };
+  return { play, freed };
 };

@@ -101,7 +101,7 @@ const createList = (view) => {
     phase.go("idle");
   }
 
-  /** The relay's own port knows no list. It may be restarted with a watch port. */
+  /** The relay's main port knows no list. It may be restarted with a watch port. */
   function refused(value, answer) {
     if (answer.name === "WrongMode") {
       clearTimeout(value.timer);

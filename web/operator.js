@@ -163,10 +163,6 @@ const createOperator = (view) => {
     send(link, command, [], correct);
   }
 
-  function submit(move) {
-    phase.take("enter", { cmd: "submit", move });
-  }
-
   /** A move was played; false where it is none of the game that this page has. */
   function played({ link, command, resend }, { place, outcome }) {
     if (command.cmd !== "submit" || view.record().take({ reply: "move", place, move: command.move }) !== "moved") {

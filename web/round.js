@@ -310,7 +310,7 @@
     at("hall").checked = isHall;
     at("every").checked = isListed && named.length > 0;
     at("lines").value = named.map((it) => `${it.name} ${Players.written(it.players)}`.trim()).join("\n");
-    at("settings").open = isListed && !Address.saysSource();
+    at("settings").open = isListed && !Address.saysSource() && !Address.IS_OF_SITE; // A site's front is its round.
   }
 
   const wrong = Address.wrongNames();

@@ -128,22 +128,23 @@
   /** The link that spectators need. A site's spectators have its channels, at another address. */
   function spectators() {
     const game = operator.game();
-    at("watch").hidden = game === null || location.protocol === "https:";
+    at("watch").hidden = game === null || Address.IS_OF_SITE;
     at("watch").href = game === null ? "" : Address.link("watch.html", { server: server() === Address.RELAY ? null : server(), board: game.board, players: Players.written(game.players) || null });
   }
 
   function controls() {
     const busy = !operator.isIdle();
     const isOpen = operator.isOpen();
-    document.body.classList.toggle("idle", !busy);
+    document.body.classList.toggle("idle", operator.game() === null);
     at("opening").hidden = busy;
-    at("anew").hidden = busy;
+    anew.show(!busy);
     at("alone-card").hidden = !busy;
     at("give-up").hidden = !busy || isOpen;
     at("ending").hidden = !isOpen;
     at("ending").querySelectorAll("button").forEach((it) => it.setAttribute("aria-disabled", String(!operator.isReady())));
     at("save").hidden = operator.game() === null;
     at("typed").hidden = !isOpen;
+    entry.freed();
     spectators();
     browsed();
   }

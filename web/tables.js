@@ -173,7 +173,7 @@
     at("server").value = server;
     at("lines").value = boards.map((it, index) => `${it.name} ${starts[index] || ""} ${Players.written(it.players)}`.replace(/ +/g, " ").trim()).join("\n");
     at("settings").open = boards.length === 0;
-    at("watch").hidden = boards.length === 0 || location.protocol === "https:"; // A site's spectators have its channels, at another address.
+    at("watch").hidden = boards.length === 0 || Address.IS_OF_SITE; // A site's spectators have its channels, at another address.
     at("watch").href = Address.link("round.html", {
       server, boards: boards.map((it) => it.name).join(","), players: Lines.players(boards),
     });

@@ -36,6 +36,7 @@ sys.path.append(str(pathlib.Path(__file__).resolve().parent.parent.parent / "too
 
 from pgn import Round  # noqa: E402
 from relay_client.line import Line, Refused  # noqa: E402
+from relay_client.names import first_name  # noqa: E402
 
 KNIGHTS = [(0, 1), (0, 2), (0, 3), (0, 4), (1, 2), (1, 3), (1, 4), (2, 3), (2, 4), (3, 4)]
 
@@ -265,8 +266,9 @@ def arguments():
 
 
 def players_of(given, board):
-    """The players of a board, where they are given."""
-    return next(({"white": white, "black": black} for name, white, black in given.players if name == board), {})
+    """The players of a board, where they are given: for it, or for the first game, which goes on under its name."""
+    told = {name: {"white": white, "black": black} for name, white, black in reversed(given.players)}
+    return told.get(board, told.get(first_name(board), {}))
 
 
 def labels(given, board):

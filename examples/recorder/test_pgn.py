@@ -2,7 +2,7 @@
 
 Games by chance over all kinds of ends are played through the built relay, and recorded as rounds of several boards. Debian's pgn-extract
 reads each file without complaint, and finds the moves that were played. Debian's Stockfish plays them through and ends in the position
-that the relay tells.
+that the relay tells, and so does Debian's PyChess, which reads each game of a file.
 """
 import asyncio
 import collections
@@ -18,6 +18,7 @@ import plays
 from position import Position
 from relay_client.client import Client
 from relay_client.program import start_fen
+from relay_client.readers import Stockfish, games_in, is_same, read_by_pychess
 from relay_client.relay import Relay
 
 HERE = pathlib.Path(__file__).resolve().parent
@@ -45,32 +46,6 @@ def games_of(text):
             games[-1][1].append(part)
     for tags, parts in games:
         yield dict(re.findall(r'^\[(\w+) "(.*)"\]$', tags, re.M)), re.sub(r"\{[^}]*\}", "", " ".join(parts)).split()
-
-
-class Stockfish:
-    def __init__(self):
-        self.process = subprocess.Popen(["/usr/games/stockfish"], stdin=subprocess.PIPE, stdout=subprocess.PIPE, text=True)
-        self.say("setoption name UCI_Chess960 value true")
-
-    def say(self, line):
-        self.process.stdin.write(line + "\n")
-        self.process.stdin.flush()
-
-    def final(self, fen, moves):
-        """The FEN in which these moves end. Stockfish stops at the first that is not legal."""
-        self.say(f"position fen {fen} moves {' '.join(moves)}\nd")
-        found = next(line for line in self.process.stdout if line.startswith("Fen: "))
-        next(line for line in self.process.stdout if line.startswith("Checkers:"))
-        return found[5:].strip()
-
-    def close(self):
-        self.process.communicate("quit\n")
-
-
-def assert_same(fen, other):
-    """Compares two FENs. Stockfish writes the square of a capture in passing only where a pawn stands ready for it."""
-    one, two = fen.split(" "), other.split(" ")
-    assert one[3] in ("-", two[3]) and one[:3] + one[4:] == two[:3] + two[4:], (fen, other)
 
 
 async def position_told(address, board, plies):
@@ -128,8 +103,8 @@ def compare(file, round_played, stockfish, seen):
     """Compares what others read in a round's file with what was played."""
     moved = list(games_of(extract(file, "-Wuci")))
     written = list(games_of(extract(file)))
-    assert len(moved) == len(written) == len(round_played), (len(moved), len(round_played))
-    for (game, final), (tags, moves), (_, words) in zip(round_played, moved, written):
+    alone = games_in(file.read_text(encoding="utf-8"))
+    for (game, final), (tags, moves), (_, words), text in zip(round_played, moved, written, alone, strict=True):
         score = SCORES.get(game.outcome, DRAW)
         assert (tags["BoardName"], tags["Variant"], tags["SetUp"], tags["Round"]) == (game.board, "Chess960", "1", "3"), tags
         assert tags["Event"] == 'The \\"Open\\"' and tags["Result"] == moves[-1] == score, (tags, game.outcome)
@@ -137,21 +112,23 @@ def compare(file, round_played, stockfish, seen):
         assert [it.lower() for it in moves[:-1]] == game.moves, (game.start, game.moves, moves)
         head = json.loads((file.parent / f"{game.board}.record").read_text().splitlines()[0])
         assert (head.get("white"), head.get("black")) == (("Müller, A", "O'Neil") if game.board == "b0" else (None, None)), head
-        assert_same(stockfish.final(tags["FEN"], [it.lower() for it in moves[:-1]]), final)
+        found = stockfish.final(tags["FEN"], [it.lower() for it in moves[:-1]])
+        assert is_same(found, final), (tags, found, final)
+        assert read_by_pychess(text) == (len(game.moves), final.split(" ")[:2]), text
         seen.update(seen_in(game, [it for it in words if not it.endswith(".")]))
 
 
 async def main(count):
     chance = random.Random(960)
     kinds = (plays.KINDS * count)[:count]
-    stockfish, seen, compared = Stockfish(), collections.Counter(), 0
-    for first in range(0, count, BOARDS):
-        with tempfile.TemporaryDirectory() as name:
-            folder = pathlib.Path(name)
-            played = await play_round(folder, chance, kinds[first:first + BOARDS])
-            compare(folder / "round.pgn", played, stockfish, seen)
-            compared += len(played)
-    stockfish.close()
+    seen, compared = collections.Counter(), 0
+    with Stockfish() as stockfish:
+        for first in range(0, count, BOARDS):
+            with tempfile.TemporaryDirectory() as name:
+                folder = pathlib.Path(name)
+                played = await play_round(folder, chance, kinds[first:first + BOARDS])
+                compare(folder / "round.pgn", played, stockfish, seen)
+                compared += len(played)
     print(", ".join(f"{name}: {times}" for name, times in sorted(seen.items())))
     missed = WANTED - set(seen) if count >= 200 else set()
     print(f"{compared} of {count} games are read by others as they were played" + (f"; never came: {sorted(missed)}" if missed else ""))

@@ -315,8 +315,8 @@ async def opened(relay, board, start, moves, outcome=None):
 
 
 async def try_all(folder):
-    """All boards, some there before and some opened later, each in its file, and in one PGN. One that is started again begins new files with
-    the whole games."""
+    """All boards, some there before and some opened later, each in its file, and in one PGN. A game that goes on under its next name has the
+    players of the first. A recorder that is started again begins new files with the whole games."""
     relay = await Relay(watch=True).start()
     first = await opened(relay, "a1", 518, MOVES[:2])
     await opened(relay, "a2", 0, [], "agreed")
@@ -329,6 +329,13 @@ async def try_all(folder):
             break
         await asyncio.sleep(0.05)
     await third.end("a3")
+    heir = await opened(relay, "a3_2", 518, [], "agreed")
+    for _ in range(20 * PATIENCE):
+        if len(recorder.had("a3_2.record")) == 3:
+            break
+        await asyncio.sleep(0.05)
+    assert recorder.had("a3_2.record")[0] == {"black": "Baker", "board": "a3_2", "record": 1, "start": 518, "white": "Adams"}, recorder.had("a3_2.record")
+    await heir.close()
     await first.submit("a1", *MOVES[2:])
     await recorder.has("a1.record", "a1", 518, MOVES)
     for _ in range(20 * PATIENCE):
@@ -339,9 +346,10 @@ async def try_all(folder):
     assert head == {"black": "Baker", "board": "a3", "record": 1, "start": 518, "white": "Adams"}, head
     assert texts[1:] == [{"move": MOVES[0], "place": 0, "reply": "move"}, {"outcome": "agreed", "reply": "over"}], texts
     await recorder.end()
-    names = [line[12:-2] for line in (recorder.folder / "all.pgn").read_text().splitlines() if line.startswith("[BoardName")]
-    assert names == ["a1", "a2", "a3"], names
-    assert recorder.files() == {"a1.record", "a2.record", "a3.record", "all.pgn"}, recorder.files()
+    lines = (recorder.folder / "all.pgn").read_text().splitlines()
+    names, whites = ([line.split('"')[1] for line in lines if line.startswith(f"[{tag} ")] for tag in ("BoardName", "White"))
+    assert names == ["a1", "a2", "a3", "a3_2"] and whites == ["?", "?", "Adams", "Adams"], (names, whites)
+    assert recorder.files() == {"a1.record", "a2.record", "a3.record", "a3_2.record", "all.pgn"}, recorder.files()
     recorder = await All.start(folder, relay)
     await recorder.has("a1.2.record", "a1", 518, MOVES)
     await first.end("a1")

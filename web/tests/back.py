@@ -246,7 +246,7 @@ async def try_grace_over(browser):
     await asyncio.sleep(2.5)
     await wire.mend()
     await table.until('document.querySelector("#state").textContent === "The relay no longer has the game of b1_2"')
-    assert await table.run('document.querySelector("#new-name").value') == "b1_3" and await table.run('document.querySelector("#go-on").hidden')
+    assert await table.run('document.querySelector("#new-name").value') == "b1_3" and await table.run('document.querySelector("#going-on").hidden')
     await table.click("#anew button[type=submit]")
     await goes_on(table, relay, "b1_3", [*MOVES, "a7a6"])
     await close(table, wire)

@@ -1,4 +1,5 @@
 """The tests of what the pages know of chess, without a browser; test.sh starts them. rules.js is compared with Stockfish, san.js with PyChess."""
+import collections
 import json
 import random
 import re
@@ -6,15 +7,14 @@ import shutil
 import subprocess
 import sys
 import time
-from io import StringIO
 
-from pychess.Savers import pgn
 from pychess.Utils.const import CASTLE_KR, FISCHERRANDOMCHESS
 from pychess.Utils.lutils import lmove
 from pychess.Utils.lutils.LBoard import LBoard
 from pychess.Utils.lutils.lmovegen import genAllMoves
 
 from relay_client.program import PROGRAM, Player, start_fen
+from relay_client.readers import Stockfish, games_in, is_same, read_by_pychess
 from scripts import Scripts
 
 SEED = 960
@@ -38,7 +38,10 @@ const draws = (texts) => {
   texts.forEach((it) => record.take(it));
   return Draws.of(record);
 };
-const castles = (fen, move) => Position.effect(Position.read(fen), move).castling !== null;
+const rare = (fen) => {
+  const position = Position.read(fen);
+  return Rules.legal(position).filter((it) => it.length === 5 || Position.effect(position, it).castling !== null);
+};
 const checked = (fen) => Position.inCheck(Position.read(fen));
 const next = (fen, move) => Position.write(Position.after(Position.read(fen), move));
 """
@@ -52,47 +55,6 @@ def chess():
 
 
 # Stockfish.
-
-class Stockfish:
-    """Stockfish as it counts: the moves of a position, each with the number of lines of so many plies that it begins."""
-
-    def __init__(self):
-        path = shutil.which("stockfish") or "/usr/games/stockfish"
-        self.process = subprocess.Popen([path], stdin=subprocess.PIPE, stdout=subprocess.PIPE, text=True)
-        self.say("setoption name UCI_Chess960 value true")
-
-    def say(self, line):
-        self.process.stdin.write(f"{line}\n")
-        self.process.stdin.flush()
-
-    def counts(self, fen, depth):
-        self.say(f"position fen {fen}")
-        self.say(f"go perft {depth}")
-        found = {}
-        for line in self.process.stdout:
-            if line.startswith("Nodes searched"):
-                return found
-            move, _, count = line.strip().partition(": ")
-            if count.isdigit():
-                found[move] = int(count)
-        raise RuntimeError("Stockfish ended")
-
-    def final(self, fen, moves):
-        """The FEN in which these moves end. Stockfish stops at the first that is not legal."""
-        self.say(f"position fen {fen} moves {' '.join(moves)}\nd")
-        found = next(line for line in self.process.stdout if line.startswith("Fen: "))
-        next(line for line in self.process.stdout if line.startswith("Checkers:"))
-        return found[5:].strip()
-
-    def __enter__(self):
-        return self
-
-    def __exit__(self, *_):
-        self.say("quit")
-        self.process.wait()
-        self.process.stdin.close()
-        self.process.stdout.close()
-
 
 # Castling, pins, captures en passant and promotions of many kinds; then castling where it is hard to tell whether it is legal: the rook
 # shields the king and leaves, king and rook change places, the king stays, the rook passes an attacked square.
@@ -294,22 +256,15 @@ def extracted(file):
         yield dict(re.findall(r'^\[(\w+) "(.*)"\]$', tags, re.M)), re.sub(r"\{[^}]*\}", "", words).lower().split()
 
 
-def same(fen, other):
-    """Compares two FENs. Stockfish writes the square of a capture in passing only where a pawn stands ready for it."""
-    one, two = fen.split(" "), other.split(" ")
-    return one[3] in ("-", two[3]) and one[:3] + one[4:] == two[:3] + two[4:]
-
-
 def game_told(pages, chance, outcome):
     """The texts of a game by chance, whole or from a later place on, its moves, its end and its last position."""
     positions, moves = [start_fen(chance.randrange(960))], []
     begin = chance.choice((0, 0, 5, 20))
     for _ in range(chance.randrange(begin, 120)):
         legal = list(pages.call("counts", positions[-1], 1))
-        castlings = [it for it in legal if pages.call("castles", positions[-1], it)]
         if not legal:
             break
-        moves.append(chance.choice(castlings or legal))
+        moves.append(chance.choice(pages.call("rare", positions[-1]) or legal))
         positions.append(pages.call("next", positions[-1], moves[-1]))
     begin, fen = min(begin, len(moves)), positions[-1]
     by_itself = "stalemate" if not pages.call("counts", fen, 1) else None
@@ -319,10 +274,41 @@ def game_told(pages, chance, outcome):
     return following(positions[begin], moves[begin:], begin) + ([{"reply": "over", "outcome": end}] if end else []), moves[begin:], end, fen
 
 
-def read_by_pychess(text):
-    """How many moves PyChess reads in a game's PGN, and the men and the side to move behind them. It raises an error at one that it cannot play."""
-    model = pgn.load(StringIO(text)).loadToModel(None)
-    return len(model.moves), model.boards[-1].asFen().split(" ")[:2]
+# Games whose ends hardly come by chance: Sam Loyd's stalemate, and the shortest mate.
+STALEMATE = ("e2e3 a7a5 d1h5 a8a6 h5a5 h7h5 h2h4 a6h6 a5c7 f7f6 c7d7 e8f7 d7b7 d8d3 b7b8 d3h7 b8c8 f7g6 c8e6").split()
+
+
+MATE = "f2f3 e7e5 g2g4 d8h4".split()
+
+
+def known(pages, moves, outcome):
+    """The texts of a game from the ordinary start, its moves, its end and its last position."""
+    fen = START
+    for move in moves:
+        fen = pages.call("next", fen, move)
+    return [*following(START, moves), {"reply": "over", "outcome": outcome}], moves, outcome, fen
+
+
+RARE = {f"{side} {wing}" for side in ("white", "black") for wing in ("O-O", "O-O-O")} | {f"={it}" for it in "QRBN"}
+RARE |= {"N by file", "N by rank", "R by file", "R by rank"}
+
+
+def rare_in(text):
+    """The castlings, promotions and moves of two like men that a game's PGN has."""
+    side = "white"
+    for word in re.sub(r"\{[^}]*\}", "", text.split("\n\n")[1]).split():
+        if word.endswith("."):
+            side = "black" if word.endswith("...") else "white"
+            continue
+        if word.startswith("O-O"):
+            yield f"{side} {word.rstrip('+#')}"
+        elif "=" in word:
+            yield word[word.index("="):][:2]
+        elif re.match("[NR][a-h]x?[a-h]", word):
+            yield f"{word[0]} by file"
+        elif re.match("[NR][1-8]", word):
+            yield f"{word[0]} by rank"
+        side = "black"
 
 
 def try_pgn():
@@ -331,21 +317,24 @@ def try_pgn():
     ends = [None, *SCORES, "agreed", "threefold", "fifty moves", "fivefold", "seventy-five moves"]
     ends = [it for it in ends if it not in ("white mates", "black mates")]
     with chess() as pages:
-        games = [game_told(pages, chance, ends[number % len(ends)]) for number in range(200)]
+        games = [game_told(pages, chance, ends[number % len(ends)]) for number in range(198)]
+        games += [known(pages, STALEMATE, "stalemate"), known(pages, MATE, "black mates")]
         file = pages.call(ROUND, [(f"b{number}", {"white": 'A "B"', "black": ""}, texts) for number, (texts, *_) in enumerate(games)])
-    alone = [f"[Event {it}" for it in f"\n{file}".split("\n[Event ")[1:]]
     with Stockfish() as stockfish:
-        for number, ((texts, moves, end, final), text, (tags, words)) in enumerate(zip(games, alone, extracted(file), strict=True)):
+        for number, ((texts, moves, end, final), text, (tags, words)) in enumerate(zip(games, games_in(file), extracted(file), strict=True)):
             score = SCORES.get(end, "1/2-1/2")
             assert words == [*moves, score] and tags["Result"] == score, (texts, words)
             assert (tags["White"], tags["Black"], tags["Variant"], tags["SetUp"]) == ('A \\"B\\"', "?", "Chess960", "1"), tags
             assert tags["BoardName"] == f"b{number}" and tags["FEN"].split(" ")[0] == texts[0]["fen"].split(" ")[0], tags
-            assert same(stockfish.final(tags["FEN"], words[:-1]), final), (tags, words, final)
+            assert is_same(stockfish.final(tags["FEN"], words[:-1]), final), (tags, words, final)
             # PyChess mistakes the rook of a right to castle where its rank has vacant squares in the FEN: docs/PAGES.md has an example.
             assert texts[0]["joined"] > 0 or read_by_pychess(text) == (len(moves), final.split(" ")[:2]), text
-    castled, late, whole = file.count(" O-O"), sum(" b " in texts[0]["fen"] for texts, *_ in games), sum(not texts[0]["joined"] for texts, *_ in games)
-    print(f"    {len(games)} games of {sum(len(moves) for _, moves, *_ in games)} moves, {castled} castlings, {whole} games whole, {late} from a move of Black on")
-    assert castled > 50 and late > 25 and whole > 50
+    rare = collections.Counter(it for text in games_in(file) for it in rare_in(text))
+    late, whole = sum(" b " in texts[0]["fen"] for texts, *_ in games), sum(not texts[0]["joined"] for texts, *_ in games)
+    print(f"    {len(games)} games of {sum(len(moves) for _, moves, *_ in games)} moves, {whole} games whole, {late} from a move of Black on")
+    print(f"    {', '.join(f'{name}: {times}' for name, times in sorted(rare.items()))}")
+    assert late > 25 and whole > 50 and set(rare) == RARE, RARE - set(rare)
+    assert {end for *_, end, _ in games} == {*ends, "stalemate", "white mates", "black mates"}, {end for *_, end, _ in games}
 
 
 # A file with two games, as the PGN standard and pgn-extract's own export want it.

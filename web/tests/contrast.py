@@ -79,11 +79,17 @@ SCRIPT = """(() => {
 IN_FRAME = f'document.querySelector(".shown iframe").contentWindow.eval({json.dumps(SCRIPT)})'
 
 
+class Count:
+    texts = edges = 0
+
+
 async def looked_at(page, what, script=SCRIPT):
     for scheme in ("light", "dark"):
         await page.scheme(scheme)
         had = await page.run(script)
         assert had["texts"] > 10 and had["edges"] > 0, (what, had)
+        Count.texts += had["texts"]
+        Count.edges += had["edges"]
         assert not had["faults"], f"{what}, {scheme}: {json.dumps(had['faults'], ensure_ascii=False, indent=1)}"
 
 
@@ -117,6 +123,7 @@ async def try_contrast(browser):
     await round_page.run('document.querySelector("#settings").open = true')
     await looked_at(round_page, "round")
     await look_at_tabs(browser, relay)
+    print(f"    {Count.texts} texts and {Count.edges} edges")
     for style, fault in (("--soft: #999", "text "), ("--field: #ccc", "edge "), ("--last-edge: #8a8", "last move "), ("--dark: #445", "man ")):
         await seer.scheme("light")
         await seer.run(f'document.documentElement.style = "{style}"')
@@ -222,6 +229,16 @@ async def tabbed(page):
         stops.append(stop)
 
 
+async def focus_faults(page):
+    """What the Tab key misses, goes to out of order, or goes to without a ring, and how many stops it makes."""
+    stops = await tabbed(page)
+    places, wanted = [it["place"] for it in stops], await page.run(CONTROLS)
+    faults = [f"no ring on {it['name']}" for it in stops if not it["isRinged"]]
+    if places != wanted:
+        faults.append(f"the Tab key goes to {[it['name'] for it in stops]}, by their places {places} and not {wanted}")
+    return faults, len(stops)
+
+
 async def try_focus(browser):
     """The Tab key goes to each control in sight, in the order in which they stand, and each shows that it has the focus."""
     relay = await Relay().start()
@@ -236,9 +253,49 @@ async def try_focus(browser):
     tables = await browser.open(url("tables.html", server=relay.address))
     with site() as address:
         tabs = await open_tabs(browser, address, relay)
-        for page, least in ((table, 15), (seer, 9), (idle, 15), (round_page, 4), (tables, 4), (tabs, 18)):
-            stops = await tabbed(page)
-            assert [it["place"] for it in stops] == await page.run(CONTROLS), (await text(page, "h1"), stops)
-            assert len(stops) >= least and all(it["isRinged"] for it in stops), (await text(page, "h1"), len(stops), [it for it in stops if not it["isRinged"]])
+        pages = ((table, 15), (seer, 9), (idle, 15), (round_page, 4), (tables, 4), (tabs, 18))
+        counts = []
+        for page, least in pages:
+            faults, count = await focus_faults(page)
+            assert not faults and count >= least, (await text(page, "h1"), count, faults)
+            counts.append(count)
+        print(f"    {', '.join(map(str, counts))} stops of the Tab key")
+        for page, _ in pages:  # A table that is closed ends its game, which the others would show.
             assert not page.faults, page.faults
             await page.close()
+
+
+# A fault that the checks must notice: what it does to a page, and what is said of it.
+PLANTED_NAMES = [
+    ('document.querySelector("#sounds").closest("label").replaceWith(document.querySelector("#sounds"))', "checkbox"),
+    ('document.querySelector("#flip").replaceChildren(); document.querySelector("#flip").removeAttribute("title")', "button"),
+    ('document.querySelector("[data-square=e4]").removeAttribute("aria-label"); document.querySelector("[data-square=e4]").replaceChildren()', "cell"),
+]
+PLANTED_FOCUS = [
+    ('document.querySelector("#sounds").tabIndex = 1', "the Tab key goes to "),
+    ('document.querySelector("#long").parentNode.style = "display: flex"; document.querySelector("#long").tabIndex = 2', "the Tab key goes to "),
+    ('document.querySelector("#save-pgn").style.outline = "none"', "no ring on BUTTON save-pgn"),
+]
+
+
+async def try_planted(browser):
+    """A control without a name, one that the Tab key reaches out of turn, and one whose focus cannot be seen are each noticed."""
+    relay = await Relay().start()
+    client = await Client.to(relay.address)
+    await client.open("b1")
+    await client.submit("b1", "e2e4")
+    for script, role in PLANTED_NAMES:
+        seer = await watch(browser, relay, "b1")
+        await until_moves(seer, 1)
+        assert all(name for _, name in await names(seer))
+        await seer.run(f"{script}; 0")
+        assert [it for it in await names(seer) if not it[1]] == [(role, "")], (script, await names(seer))
+        await seer.close()
+    for script, said in PLANTED_FOCUS:
+        seer = await watch(browser, relay, "b1")
+        await until_moves(seer, 1)
+        await seer.run(f"{script}; 0")
+        faults, _ = await focus_faults(seer)
+        assert len(faults) == 1 and faults[0].startswith(said), (script, faults)
+        await seer.close()
+    await client.close()

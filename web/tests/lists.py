@@ -73,7 +73,8 @@ async def try_listed(browser):
     await client.end("r1-2")
     await page.front()
     tiles = await until_tiles(page, lambda them: them[2]["stand"] == "½–½")
-    assert tiles[2]["label"] == "r1-2, start 0, last move 1. f4, Draw by agreement" and tiles[2]["parts"] == ["½", "½"], tiles[2]
+    label = tiles[2]["label"].removesuffix(f", {tiles[2]['fresh']}")  # On a slow machine what is new is marked by then.
+    assert label == "r1-2, start 0, last move 1. f4, Draw by agreement" and tiles[2]["parts"] == ["½", "½"], tiles[2]
     assert len(wire.writers) == 4, "each page has one connection, which the wire has twice"
     await page.click(".tile:nth-child(1) .inner")
     await page.until('location.pathname.endsWith("watch.html") && document.readyState === "complete"')

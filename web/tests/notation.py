@@ -107,8 +107,9 @@ async def try_kept_pgn(browser):
         assert await again.run('document.querySelector("#kept-pgn").hidden')
         kept = await again.run('[...document.querySelector("#kept").options].find((it) => it.textContent.startsWith("pgn, Adams–O\'Neil, start 0, 1 moves")).value')
         for day, act in ((await today(again), lambda: again.choose("#kept", kept)), ("????.??.??", lambda: again.give_file("#file", file))):
+            await again.run('document.querySelector("#anew-said").textContent = ""')
             await act()
-            await again.until('!document.querySelector("#kept-pgn").hidden')
+            await again.until('document.querySelector("#anew-said").textContent !== "" && !document.querySelector("#kept-pgn").hidden')  # A file is read in its own time.
             await again.until(f'document.querySelector("#kept").value === {json.dumps(kept if day[0] != "?" else "")}')
             await again.click("#kept-pgn")
             words = pgn("pgn", 0, "1. g3 {Draw agreed.} 1/2-1/2", day, ("Adams", "O'Neil"), "normal")

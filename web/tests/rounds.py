@@ -22,6 +22,7 @@ from told import Channels
 START = 387
 MOVES = ["d1e3", "e8d6", "f1g1", "f8g8", "f2f4", "c7c5"]
 MATE = ["f2f3", "e7e5", "g2g4", "d8h4"]
+OTHER_HOST = "site.test"  # A name of this machine's that does not say so; pages.py gives it to the browser.
 LOOKED = 8  # Seconds for which a tile is in sight until it counts as seen.
 
 TILES = """[...document.querySelectorAll(".tile")].map((it) => {
@@ -261,6 +262,8 @@ async def try_room(browser):
         address = url("round.html", server=relay.address, boards=",".join(names[:count]), players=";".join(["Vachier-Lagrave, Maxime–So"] * count))
         page = await browser.open(address)
         await until_settled(page, count)
+        if count == 6:
+            await page.media(prefers_color_scheme="dark", prefers_reduced_motion="reduce")
         for size in ((390, 800), (844, 390), (768, 1024), (1280, 900), (1366, 768), (1920, 1080)):
             had = await sizes(page, size)
             assert had["over"] <= 0 and not had["meeting"] and had["square"] and not had["cut"] and had["width"] >= 136, (count, size, had)
@@ -425,9 +428,20 @@ async def smooth_for(browser, relay, names, address):
     await client.close()
 
 
+def tls():
+    """What a server behind TLS is given, with a new certificate."""
+    with tempfile.TemporaryDirectory() as folder:
+        key, certificate = pathlib.Path(folder, "key.pem"), pathlib.Path(folder, "certificate.pem")
+        subprocess.run(["openssl", "req", "-x509", "-newkey", "ec", "-pkeyopt", "ec_paramgen_curve:prime256v1", "-nodes", "-days", "2", "-subj",
+                        "/CN=localhost", "-keyout", str(key), "-out", str(certificate)], check=True, capture_output=True)
+        context = ssl.SSLContext(ssl.PROTOCOL_TLS_SERVER)
+        context.load_cert_chain(certificate, key)
+        return context
+
+
 @contextlib.asynccontextmanager
-async def secure_site(channels):
-    """A site behind TLS, with the pages under /pages/ and the channels under /sub/."""
+async def site(channels, context):
+    """A site, behind TLS where a context is given, with the pages under /pages/ and the channels under /sub/; answers its port."""
     async def serve_page(path, _):
         if path.startswith("/sub/"):
             return None
@@ -436,41 +450,56 @@ async def secure_site(channels):
         policy = "default-src 'self'; img-src 'self' data:"
         return http.HTTPStatus.OK, {"Content-Type": kind, "Content-Security-Policy": policy}, file.read_bytes()
 
-    with tempfile.TemporaryDirectory() as folder:
-        key, certificate = pathlib.Path(folder, "key.pem"), pathlib.Path(folder, "certificate.pem")
-        subprocess.run(["openssl", "req", "-x509", "-newkey", "ec", "-pkeyopt", "ec_paramgen_curve:prime256v1", "-nodes", "-days", "2", "-subj",
-                        "/CN=localhost", "-keyout", str(key), "-out", str(certificate)], check=True, capture_output=True)
-        tls = ssl.SSLContext(ssl.PROTOCOL_TLS_SERVER)
-        tls.load_cert_chain(certificate, key)
-    async with websockets.serve(channels.read, "127.0.0.1", 0, ssl=tls, compression=None, ping_interval=None, process_request=serve_page) as server:
-        yield f"127.0.0.1:{server.sockets[0].getsockname()[1]}"
+    async with websockets.serve(channels.read, "127.0.0.1", 0, ssl=context, compression=None, ping_interval=None, process_request=serve_page) as server:
+        yield server.sockets[0].getsockname()[1]
+
+
+SETTINGS = '[document.querySelector("#server").value, document.querySelector("#kind").value, document.querySelector("#settings").open]'
 
 
 async def try_front(browser):
-    """A site's front: behind TLS both pages take the channels of their own host, and fold the form away where the address says what to watch."""
-    async with Channels() as channels, secure_site(channels) as host:
-        for board in ("w1", "w2"):
-            await channels.says(board, following(), beat(), *moved(["d2d4"]))
-        page = await browser.open(f"https://{host}/pages/round.html?boards=w1,w2")
-        tiles = await until_tiles(page, lambda them: [it["state"] for it in them] == ["live", "live"])
-        assert [it["move"] for it in tiles] == ["1. d4"] * 2 and tiles[0]["href"] == "watch.html?board=w1", tiles
-        assert not await page.run('document.querySelector("#settings").open')
-        await page.click(".tile:nth-child(2) .inner")
-        await page.until('location.pathname.endsWith("watch.html") && document.readyState === "complete"')
-        await until_moves(page, 1)
-        await until_state(page, "live")
-        assert not await page.run('document.querySelector("#settings").open') and await text(page, "#watched") == "w2"
+    """A site's front, behind TLS and without: both pages take the channels of their own host, and fold the form away where the address says what to watch."""
+    for scheme, host in (("https", "127.0.0.1"), ("http", OTHER_HOST)):
+        async with Channels() as channels, site(channels, tls() if scheme == "https" else None) as port:
+            await look_at_front(browser, channels, scheme, f"{host}:{port}")
+
+
+async def look_at_front(browser, channels, scheme, host):
+    wire = scheme.replace("http", "ws")
+    for board in ("w1", "w2"):
+        await channels.says(board, following(), beat(), *moved(["d2d4"]))
+    page = await browser.open(f"{scheme}://{host}/pages/round.html?boards=w1,w2")
+    tiles = await until_tiles(page, lambda them: [it["state"] for it in them] == ["live", "live"])
+    assert [it["move"] for it in tiles] == ["1. d4"] * 2 and tiles[0]["href"] == "watch.html?board=w1", tiles
+    assert not await page.run('document.querySelector("#settings").open')
+    await page.click(".tile:nth-child(2) .inner")
+    await page.until('location.pathname.endsWith("watch.html") && document.readyState === "complete"')
+    await until_moves(page, 1)
+    await until_state(page, "live")
+    assert not await page.run('document.querySelector("#settings").open') and await text(page, "#watched") == "w2"
+    for name, is_open in (("round.html", False), ("watch.html", True)):  # Without the name of a board there is none to watch.
+        front = await browser.open(f"{scheme}://{host}/pages/{name}")
+        assert await front.run(SETTINGS) == [f"{wire}://{host}/sub", "channel", is_open], await front.run(SETTINGS)
+        await front.close()
+    elsewhere = await browser.open(f"{scheme}://{host}/pages/watch.html?server={wire}://{host}/relay")
+    assert (await elsewhere.run(SETTINGS))[:2] == [f"{wire}://{host}/relay", "relay"], await elsewhere.run(SETTINGS)
+    tables = await browser.open(f"{scheme}://{host}/pages/tables.html?boards=a")
+    assert await tables.run('document.querySelector("#watch").hidden'), "a site's spectators have its channels"
+    for it in (page, elsewhere, tables):
+        assert not it.faults, it.faults
+        await it.close()
+
+
+async def try_own_machine(browser):
+    """A page that its own machine serves takes the machine's relay, as one from disk does."""
+    async with Channels() as channels, site(channels, None) as port:
         for name in ("round.html", "watch.html"):
-            front = await browser.open(f"https://{host}/pages/{name}")
-            had = await front.run('[document.querySelector("#server").value, document.querySelector("#kind").value, document.querySelector("#settings").open]')
-            assert had == [f"wss://{host}/sub", "channel", True], had
-            await front.close()
-        elsewhere = await browser.open(f"https://{host}/pages/watch.html?server=wss://{host}/relay")
-        had = await elsewhere.run('[document.querySelector("#server").value, document.querySelector("#kind").value]')
-        assert had == [f"wss://{host}/relay", "relay"], had
-        for it in (page, elsewhere):
-            assert not it.faults, it.faults
-            await it.close()
+            page = await browser.open(f"http://127.0.0.1:{port}/pages/{name}")
+            assert await page.run(SETTINGS) == ["ws://127.0.0.1:9601", "watch", True], await page.run(SETTINGS)
+            await page.close()
+        tables = await browser.open(f"http://127.0.0.1:{port}/pages/tables.html?boards=a")
+        assert not await tables.run('document.querySelector("#watch").hidden')
+        await tables.close()
 
 
 async def try_numbers(browser):
