@@ -267,7 +267,8 @@ def main():
         reader = f"{room}/spectators"
         subprocess.run(["cc", "-O2", "-Wall", "-o", reader, str(HERE / "spectators.c")], check=True)
         options = "--forever", "--boards", "256", "--plies", "16384", "--watch-threads", given.threads
-        with Server(*options, watch=True) as server:
+        # Of its spectators, who come and go, each 20,000 go to another address of loopback.
+        with Server(*options, watch=True, watch_at="0.0.0.0") as server:
             soak(server, given, room, reader)
             if server.process.poll() is not None:
                 raise SystemExit("the server has ended")

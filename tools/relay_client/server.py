@@ -20,17 +20,18 @@ class NotListening(Exception):
 
 class Server:
     """A server that listens on a free port, or on the port that is said, until the block that it is made for ends; and with `watch` on another
-    free one, or on the one that it says, for those who only watch. Words before the program's name run it by another program."""
+    free one, or on the one that it says, for those who only watch, at the address `watch_at`. Words before the program's name run it by another
+    program."""
 
-    def __init__(self, *words, port=None, watch=False, before=(), **options):
+    def __init__(self, *words, port=None, watch=False, watch_at="127.0.0.1", before=(), **options):
         for _ in range(5):
             self.port = port or free_port()
             given = [*before, PROGRAM, "serve", "--port", str(self.port), *words]
             lines = [f"listening {self.port}\n"]
             if watch:
                 self.watch_port = free_port() if watch is True else watch
-                given += ["--watch", f"127.0.0.1:{self.watch_port}"]
-                lines.append(f"watching 127.0.0.1:{self.watch_port}\n")
+                given += ["--watch", f"{watch_at}:{self.watch_port}"]
+                lines.append(f"watching {watch_at}:{self.watch_port}\n")
             self.process = subprocess.Popen(given, bufsize=0, stdout=subprocess.PIPE, stderr=subprocess.PIPE, **options)
             if all(first_line(self.process) == line.encode() for line in lines):
                 return
