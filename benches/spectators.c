@@ -272,8 +272,8 @@ static void slow_ones_read(void) {
     for (struct spectator *s = spectators; s < spectators + count; s++) {
         if (s->kind != SLOW || s->fd <= 0 || s->stage == IS_DONE) continue;
         reads(s, SLOW_BYTES);
-        // It has nearly all that was played by then, so it begins anew.
-        if (s->stage == WATCHES && s->next > 200 && !had_first[s->board * MOST_PLIES + s->next + 20]) {
+        // It has nearly all that was played by then, so it begins anew, until the games have ended.
+        if (!done && s->stage == WATCHES && s->next > 200 && !had_first[s->board * MOST_PLIES + s->next + 20]) {
             goes(s);
             comes(s, 0);
         }
