@@ -1,3 +1,4 @@
 pub mod Pushes
+pub mod Turns
 pub mod Stops
 pub mod Abandons

@@ -1,5 +1,5 @@
 -- What is taken of a source, and what an outlet is sent of it.
-use Rattle.std.specs.Prelude.{◌≡◌, ℕ, List, [], ◌∷◌, ◌++◌, Option, ⊤}
+use Rattle.std.specs.Prelude.{◌≡◌, ℕ, List, [], ◌∷◌, ◌++◌, Option, None, Some, ⊤}
 use Rattle.relay_core.specs.declared.reply.Taken.{Taken}
 use Rattle.relay_core.specs.declared.reply.Taken.TheVariants as takes
 use Rattle.relay_core.specs.declared.reply.Reply.TheVariants.{Took}
@@ -7,6 +7,8 @@ use Rattle.relay_messages.specs.declared.answer.Answer.TheVariants.{Reply}
 use Rattle.relay_messages.specs.Answers.{answer_text}
 use Rattle.relay_pushing.specs.declared.pushing.PushEnd.{PushEnd}
 use Rattle.relay_pushing.specs.declared.pushing.PushEnd.TheVariants.{Over, Cut, Failed}
+use Rattle.relay_pushing.specs.declared.pushing.Turn.{Turn}
+use Rattle.relay_pushing.specs.declared.pushing.Turn.TheVariants.{Waits, IsFull, Ended}
 use Rattle.relay_pushing.specs.Sending.{GainsAll, IsCounted}
 
 -- takes with these answers, one after another, lead from s to t
@@ -50,8 +52,35 @@ Pushed gives s t old new (Over outcome) =
 Pushed gives s t old new Cut = (before : List Taken) × Went gives s t old new before takes.Cut (before ++ takes.Cut ∷ [])
 Pushed gives s t old new (Failed fault) = (before : List Taken) × (last : Taken) × Went gives s t old new before last before
 
+-- Takes with answers that go on lead from s to t, and the texts of all of them came to the outlet.
+pub record Going {S : Type 0} (gives : S → Taken → S → Type 0) (s t : S) (old new : Option (List (List ℕ))) : Type 0 where
+  pub before : List Taken
+  pub go_on : AllGoOn before
+  pub taken : Takes gives s before t
+  pub gained : GainsAll old new (texts_of before)
+
+-- A turn went on, so that nothing was taken that was not sent; or it ended pushing. It waits only where the last answer was Nothing.
+abbrev pub Turned : {S : Type 0} → (S → Taken → S → Type 0) → S → S → Option (List (List ℕ)) → Option (List (List ℕ)) → Turn → Type 0
+Turned {S} gives s t old new Waits = (m : S) × Going gives s m old new × gives m takes.Nothing t
+Turned gives s t old new IsFull = Going gives s t old new
+Turned gives s t old new (Ended end) = Pushed gives s t old new end
+
+-- one take more: where there may be more, it went on
+abbrev pub HasPushed : {S : Type 0} → (S → Taken → S → Type 0) → S → S → Option (List (List ℕ)) → Option (List (List ℕ)) → Option Turn → Type 0
+HasPushed gives s t old new None = Going gives s t old new
+HasPushed gives s t old new (Some turn) = Turned gives s t old new turn
+
 -- a device's fault is answered only where the count of failures rose or is full
 abbrev pub IsDeviceFaultCounted : ℕ → ℕ → PushEnd → Type 0
 IsDeviceFaultCounted old new (Over outcome) = ⊤
 IsDeviceFaultCounted old new Cut = ⊤
 IsDeviceFaultCounted old new (Failed fault) = IsCounted old new fault
+
+abbrev pub IsTurnCounted : ℕ → ℕ → Turn → Type 0
+IsTurnCounted old new Waits = ⊤
+IsTurnCounted old new IsFull = ⊤
+IsTurnCounted old new (Ended end) = IsDeviceFaultCounted old new end
+
+abbrev pub IsNextCounted : ℕ → ℕ → Option Turn → Type 0
+IsNextCounted old new None = ⊤
+IsNextCounted old new (Some turn) = IsTurnCounted old new turn

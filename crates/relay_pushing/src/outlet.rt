@@ -32,6 +32,12 @@ pub trait Outlet {
     /// How often its device failed.
     ghost failures: { Self → ℕ };
 
+    /// Whether it has room for a text more. Who pushes by turns asks this before each take, and goes on later where there is none. An outlet whose
+    /// `send` may wait until there is room needs no other body than this one.
+    fn has_room(&self) -> bool {
+        true
+    }
+
     /// Accepts a text. It is on its way at the latest after the next `flush` or `close`.
     ///
     /// # Errors

@@ -1,7 +1,7 @@
 //! Pushing: what a source gives is sent to an outlet.
 
-ghost use Rattle.std.specs.Prelude.{◌≡◌, OnOk, OnErr};
-ghost use Rattle.relay_pushing.specs.Pushing.{IsDeviceFaultCounted, Pushed, text_of};
+ghost use Rattle.std.specs.Prelude.{◌≡◌, ◌≤◌, OnOk, OnErr};
+ghost use Rattle.relay_pushing.specs.Pushing.{HasPushed, IsDeviceFaultCounted, IsNextCounted, IsTurnCounted, Pushed, Turned, text_of};
 ghost use Rattle.relay_pushing.specs.Sending.{Counts, Gains};
 
 use crate::bell::Bell;
@@ -24,6 +24,17 @@ pub enum PushEnd {
     Failed(SendFault),
 }
 
+/// How a turn of pushing ended.
+#[derive(Clone, Copy, PartialEq, Eq, Debug)]
+pub enum Turn {
+    /// Nothing is there to be taken yet.
+    Waits,
+    /// The outlet has no more room. There may be more to be taken.
+    IsFull,
+    /// Pushing is over.
+    Ended(PushEnd),
+}
+
 /// Sends the text of a take's answer.
 fn send_taken<O: Outlet>(alloc: Global, outlet: &mut O, taken: Taken) -> Result<(), SendFault>
     ensures ok { OnOk result (Gains (O.sent outlet.old) (O.sent outlet.new) (text_of taken)) }
@@ -34,6 +45,49 @@ fn send_taken<O: Outlet>(alloc: Global, outlet: &mut O, taken: Taken) -> Result<
         Ok(text) => outlet.send(text.as_str()),
         Err(_) => Err(SendFault::OutOfMemory),
     }
+}
+
+/// Takes what is next and sends it: None where a move was sent, so that there may be more.
+fn push_next<O: Outlet, S: Source>(alloc: Global, outlet: &mut O, source: &mut S) -> Option<Turn>
+    ensures pushed { HasPushed S.gives source.old source.new (O.sent outlet.old) (O.sent outlet.new) result }
+    ensures kept { O.failures outlet.old ≤ O.failures outlet.new }
+    ensures device { IsNextCounted (O.failures outlet.old) (O.failures outlet.new) result }
+{
+    let taken = source.take();
+    match taken {
+        Taken::Nothing => Some(Turn::Waits),
+        Taken::Move(_, _) => match send_taken(alloc, outlet, taken) {
+            Ok(()) => None,
+            Err(fault) => Some(Turn::Ended(PushEnd::Failed(fault))),
+        },
+        Taken::Over(outcome) => match send_taken(alloc, outlet, taken) {
+            Ok(()) => Some(Turn::Ended(PushEnd::Over(outcome))),
+            Err(fault) => Some(Turn::Ended(PushEnd::Failed(fault))),
+        },
+        Taken::Cut => match send_taken(alloc, outlet, taken) {
+            Ok(()) => Some(Turn::Ended(PushEnd::Cut)),
+            Err(fault) => Some(Turn::Ended(PushEnd::Failed(fault))),
+        },
+    }
+}
+
+/// Sends what the source gives as long as the outlet has room: a turn, after which pushing may go on by another one. What was taken was sent,
+/// unless the turn ended pushing: the outlet is asked for room before each take. It neither flushes nor waits. Turns of which the last one ended
+/// pushing are together what one call of `push_all` is (`laws::pushed_on`).
+pub fn push_some<O: Outlet, S: Source>(alloc: Global, outlet: &mut O, source: &mut S) -> Turn
+    ensures turned { Turned S.gives source.old source.new (O.sent outlet.old) (O.sent outlet.new) result }
+    ensures kept { O.failures outlet.old ≤ O.failures outlet.new }
+    ensures device { IsTurnCounted (O.failures outlet.old) (O.failures outlet.new) result }
+{
+    for _ in 0..u64::MAX {
+        if !outlet.has_room() {
+            return Turn::IsFull;
+        }
+        if let Some(turn) = push_next(alloc, outlet, source) {
+            return turn;
+        }
+    }
+    Turn::IsFull
 }
 
 /// Sends what the source gives, each answer once and in order, `Nothing` left out. Where there is nothing more yet, it flushes
@@ -51,24 +105,14 @@ pub fn push_all<R: Wait, O: Outlet, S: Source, B: Bell>(
 {
     let mut heard = bell.count();
     for _ in rt.forever() {
-        let taken = source.take();
-        match taken {
-            Taken::Nothing => match outlet.flush() {
+        match push_next(alloc, outlet, source) {
+            None => {}
+            Some(Turn::Waits) => match outlet.flush() {
                 Ok(()) => heard = bell.wait(heard),
                 Err(fault) => return PushEnd::Failed(fault),
             },
-            Taken::Move(_, _) => match send_taken(alloc, outlet, taken) {
-                Ok(()) => {}
-                Err(fault) => return PushEnd::Failed(fault),
-            },
-            Taken::Over(outcome) => match send_taken(alloc, outlet, taken) {
-                Ok(()) => return PushEnd::Over(outcome),
-                Err(fault) => return PushEnd::Failed(fault),
-            },
-            Taken::Cut => match send_taken(alloc, outlet, taken) {
-                Ok(()) => return PushEnd::Cut,
-                Err(fault) => return PushEnd::Failed(fault),
-            },
+            Some(Turn::IsFull) => {}
+            Some(Turn::Ended(end)) => return end,
         }
     }
     unreachable!()
