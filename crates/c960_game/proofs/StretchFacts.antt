@@ -1,5 +1,5 @@
 -- Stretches of a log, which are replayed from the position before them.
-use Rattle.std.proofs.Common.{◌≡◌, ℕ, ◌+◌, ◌-◌, ◌≤◌, List, ◌++◌, length, take, drop, sym, ap, ◌∙◌, subst, append_assoc, arith}
+use Rattle.std.proofs.Common.{◌≡◌, ℕ, ◌+◌, ◌-◌, ◌*◌, ◌/◌, ◌≤◌, List, ◌++◌, length, take, drop, sym, ap, ◌∙◌, subst, append_assoc, arith}
 use Rattle.std.proofs.Math.Seq.{take-add}
 use Rattle.std.proofs.lemmas.List.{take-append-drop, length-take, length-drop}
 use Rattle.c960_board.specs.Moves.{Triple}
@@ -15,6 +15,10 @@ parts_of : (l : List Triple) (a k : ℕ) → (take a l ++ take k (drop a l)) ++ 
 parts_of l a k =
     append_assoc (take a l) (take k (drop a l)) (drop k (drop a l))
     ∙ ap (λ rest. take a l ++ rest) (take-append-drop k (drop a l)) ∙ take-append-drop a l
+
+-- a stretch from the last sixty-fourth place on has fewer moves than lie between two of them
+pub few_in_stretch : (l : List Triple) (place : ℕ) → length (take (place - place / 64 * 64) (drop (place / 64 * 64) l)) ≤ 64
+few_in_stretch l place = omega (arith, length-take (place - place / 64 * 64) (drop (place / 64 * 64) l))
 
 -- the moves of the stretch can be made one after another
 pub legal_stretch : (n : ℕ) (l : List Triple) (a k : ℕ) → Game960 n l

@@ -13,3 +13,4 @@ pub mod Ground
 pub mod Record
 pub mod Kept
 pub mod Replay
+pub mod Replaying

@@ -17,7 +17,7 @@ use crate::ending::Ending;
 use crate::kept::{MILE, RECENT, add_milestone, add_recent, count_same, row_of};
 use crate::outcome::Outcome;
 use crate::refusal::Refusal;
-use crate::replay::replay;
+use crate::replay::Replaying;
 use crate::same::same_colour;
 use c960_board::{Colour, Move, Position};
 use c960_rules::{Lawful, State, play, state};
@@ -160,23 +160,44 @@ impl Game {
     }
 
     /// The position after that many moves: None exactly where fewer were made.
-    #[tactic(auto, unfolding(crate::specs::Positions::position_at))]
     pub fn position_at(&self, place: u16) -> Option<Position>
+        ensures { result ≡ position_at self.now.start self.now.log place }
+    {
+        match self.replay_at(place) {
+            Some(replaying) => Some(replaying.position()),
+            None => None,
+        }
+    }
+
+    /// The position after that many moves, to be worked out without the game: None exactly where fewer were made. Of the present one nothing
+    /// is left to be worked out.
+    #[tactic(auto, unfolding(crate::specs::Positions::position_at))]
+    pub fn replay_at(&self, place: u16) -> Option<Replaying>
         ensures { result ≡ position_at self.now.start self.now.log place }
     {
         if self.len() < place {
             return None;
         }
-        Some(self.replayed(place).position())
+        if self.len() == place {
+            return Some(self.present());
+        }
+        Some(self.earlier(place))
     }
 
-    /// The position after that many moves, of which so many were made. It replays those since the last one that is kept.
-    fn replayed(&self, place: u16) -> Lawful
+    /// The present position.
+    fn present(&self) -> Replaying
+        ensures { result ≡ last_position self.now.start self.now.log }
+    {
+        Replaying::new(&self.position, &[])
+    }
+
+    /// The position after that many moves, of which so many were made. It is worked out from the last one before it that is kept.
+    fn earlier(&self, place: u16) -> Replaying
         requires { place ≤ length self.now.log }
         ensures { result ≡ last_position self.now.start (take place self.now.log) }
     {
         let mile = usize::from(place) / MILE;
-        replay(
+        Replaying::new(
             &self.milestones[mile],
             &self.moves[mile * MILE..usize::from(place)],
         )

@@ -16,3 +16,4 @@ pub use game::Game;
 pub use limits::{Limits, MOST_BOARDS, MOST_CAPACITY, MOST_FOLLOWERS, MOST_PLIES};
 pub use outcome::Outcome;
 pub use refusal::Refusal;
+pub use replay::Replaying;
