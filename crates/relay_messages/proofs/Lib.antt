@@ -3,4 +3,10 @@ pub mod Names
 pub mod Decoding
 pub mod PlainFacts
 pub mod PlainReading
+pub mod Converted
+pub mod FirstValues
+pub mod Turns
+pub mod InOrder
+pub mod KeptFacts
+pub mod Whole
 pub mod Ports

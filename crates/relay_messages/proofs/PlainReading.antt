@@ -16,7 +16,7 @@ found : {A B : Type 0} (a : A) (r s : List Token) (x : Option B) (b : B) → opt
 found a r s None b e = absurd (cc)
 found a r s (Some y) b e = let same = ap (either (y, r)) e in (ap (λ p. p.1) same, ap (λ p. Some p.0) same)
 
-read_first : {A B : Type 0} (f : A → Option B) (o : Option (A × List Token)) (b : B) (r : List Token) → converted f o ≡ Some (b, r)
+pub read_first : {A B : Type 0} (f : A → Option B) (o : Option (A × List Token)) (b : B) (r : List Token) → converted f o ≡ Some (b, r)
     → (a : A) × (o ≡ Some (a, r)) × (f a ≡ Some b)
 read_first f None b r e = absurd (cc)
 read_first f (Some p) b r e = let both = found p.0 p.1 r (f p.0) b e in (p.0, ap (λ s. Some (p.0, s)) both.0, both.1)

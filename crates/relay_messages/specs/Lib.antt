@@ -1,8 +1,13 @@
 pub mod Faults
 pub mod Fields
+pub mod Kept
+pub mod Passing
 pub mod Members
 pub mod Plain
+pub mod Beginnings
+pub mod Any
 pub mod Tokens
 pub mod Commands
+pub mod Others
 pub mod Decoding
 pub mod Answers

@@ -1,13 +1,14 @@
--- The members of a plain object, and the values that they have.
+-- The members of an object, and the values that they have.
 use Rattle.std.specs.Prelude.{List, [], ◌∷◌}
-use Rattle.serde_json.specs.Data.{Data, number, string, unsigned, Members, no_members, put}
+use Rattle.serde_json.specs.Data.{Data, null, number, string, unsigned, Members, no_members, put}
 use Rattle.relay_messages.specs.declared.member.Field.{Field}
-use Rattle.relay_messages.specs.declared.member.Field.TheVariants.{Text, Number}
+use Rattle.relay_messages.specs.declared.member.Field.TheVariants.{Text, Number, Other}
 use Rattle.relay_messages.specs.declared.member.Member.{Member}
 
 abbrev pub field_data : Field → Data
 field_data (Text text) = string text.now
 field_data (Number n) = number (unsigned n)
+field_data Other = null
 
 -- The members go in one after another.
 abbrev pub with_all : Members → List Member → Members

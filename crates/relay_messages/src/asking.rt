@@ -12,7 +12,10 @@ use relay_core::Step;
 
 /// What is asked on a port.
 pub trait Asked: Sized {
+    ghost use Rattle.std.specs.Prelude.{None, Err};
+    ghost use Rattle.serde_json.specs.Find.{as_object};
     ghost use Rattle.relay_messages.specs.declared.fault.MessageFault.{MessageFault};
+    ghost use Rattle.relay_messages.specs.declared.fault.MessageFault.TheVariants.{NotObject};
 
     /// What a JSON value asks there, or its fault.
     ghost says: { Data → Result Self MessageFault };
@@ -24,12 +27,18 @@ pub trait Asked: Sized {
     /// `NotObject`, `UnknownCommand` and `BadField`.
     fn of<O: Object>(object: &O) -> Result<Self, MessageFault>
         ensures { result ≡ says (O.said object.now) };
+
+    /// A value that is no object asks nothing.
+    ghost others: { (d : Data) → as_object d ≡ None → says d ≡ Err NotObject };
 }
 
 impl Asked for Step {
     ghost use Rattle.relay_messages.specs.Commands.{command_in};
+    ghost use Rattle.relay_messages.specs.Others.{command_in-other};
 
     ghost says = { command_in };
+
+    ghost others = { command_in-other };
 
     fn of<O: Object>(object: &O) -> Result<Step, MessageFault> {
         command_of(object)
@@ -38,8 +47,11 @@ impl Asked for Step {
 
 impl Asked for WatchCommand {
     ghost use Rattle.relay_messages.specs.Commands.{watch_command_in};
+    ghost use Rattle.relay_messages.specs.Others.{watch_command_in-other};
 
     ghost says = { watch_command_in };
+
+    ghost others = { watch_command_in-other };
 
     fn of<O: Object>(object: &O) -> Result<WatchCommand, MessageFault> {
         watch_command_of(object)

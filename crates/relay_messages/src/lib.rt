@@ -3,6 +3,7 @@
 
 mod answer;
 mod answers;
+mod any;
 mod asking;
 mod board_summary;
 mod commands;
@@ -12,8 +13,10 @@ mod fields;
 pub mod laws;
 mod member;
 mod object;
+mod passing;
 mod plain;
 mod reading;
+mod unread;
 mod watch_command;
 
 pub use answer::Answer;

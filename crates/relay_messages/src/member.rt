@@ -1,4 +1,4 @@
-//! A member of a plain object.
+//! A member of an object.
 
 /// What a member has.
 #[derive(Clone, Copy, Drop)]
@@ -7,6 +7,8 @@ pub enum Field<'a> {
     Text(&'a str),
     /// An unsigned whole number.
     Number(u64),
+    /// Another value, of which nothing is kept. A plain object has none.
+    Other,
 }
 
 impl<'a> Default for Field<'a> {

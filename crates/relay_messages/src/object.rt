@@ -5,9 +5,9 @@ ghost use Rattle.serde_json.specs.Data.{Data};
 ghost use Rattle.serde_json.specs.Find.{as_object, get};
 ghost use Rattle.relay_messages.specs.Fields.{member_count, number_at, text_at};
 
+use crate::any::AnyObject;
 use crate::member::Field;
 use crate::plain::PlainObject;
-use serde_json::Value;
 
 /// A JSON value in which members are looked up. One that is no object has none.
 pub trait Object {
@@ -33,35 +33,6 @@ pub trait Object {
     /// Whether there is a member of that key, of any form.
     fn has(&self, key: &str) -> bool
         ensures { result ≡ is_some (get key.now (said self.now)) };
-}
-
-impl Object for Value {
-    ghost use Rattle.serde_json.specs.View.{view};
-
-    ghost said = { λ value. view value };
-
-    fn is_object(&self) -> bool {
-        Value::is_object(self)
-    }
-
-    fn count(&self) -> usize {
-        match self.as_object() {
-            Some(members) => members.len(),
-            None => 0,
-        }
-    }
-
-    fn text<'a>(&'a self, key: &str) -> Option<&'a str> {
-        self.get(key).and_then(Value::as_str)
-    }
-
-    fn number(&self, key: &str) -> Option<u64> {
-        self.get(key).and_then(Value::as_u64)
-    }
-
-    fn has(&self, key: &str) -> bool {
-        self.get(key).is_some()
-    }
 }
 
 impl<'t> Object for PlainObject<'t> {
@@ -93,5 +64,31 @@ impl<'t> Object for PlainObject<'t> {
 
     fn has(&self, key: &str) -> bool {
         self.get(key).is_some()
+    }
+}
+
+impl<'t> Object for AnyObject<'t> {
+    ghost use Rattle.relay_messages.specs.Any.{any_data};
+
+    ghost said = { λ object. any_data object };
+
+    fn is_object(&self) -> bool {
+        true
+    }
+
+    fn count(&self) -> usize {
+        self.members().len()
+    }
+
+    fn text<'a>(&'a self, key: &str) -> Option<&'a str> {
+        self.members().text(key)
+    }
+
+    fn number(&self, key: &str) -> Option<u64> {
+        self.members().number(key)
+    }
+
+    fn has(&self, key: &str) -> bool {
+        self.members().get(key).is_some()
     }
 }

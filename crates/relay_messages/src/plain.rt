@@ -68,7 +68,7 @@ impl<'a> PlainObject<'a> {
 }
 
 /// What the last of the members of that key has.
-fn find<'a>(members: &[Member<'a>], key: &str) -> Option<Field<'a>>
+pub fn find<'a>(members: &[Member<'a>], key: &str) -> Option<Field<'a>>
     ensures { option_map field_data result ≡ get_member key.now (members_in members.now) }
 {
     let mut found = None;
@@ -81,7 +81,7 @@ fn find<'a>(members: &[Member<'a>], key: &str) -> Option<Field<'a>>
 }
 
 /// Whether a number's text has a minus sign.
-fn has_minus(digits: &[u8]) -> bool
+pub fn has_minus(digits: &[u8]) -> bool
     ensures value { result ≡ (slice_index digits.now 0 == 45) }
 {
     !digits.is_empty() && digits[0] == b'-'

@@ -1,14 +1,21 @@
 //! A text to its command.
 
+ghost use Rattle.std.specs.Prelude.{◌≡◌, ◌∷◌, Err, IfOk, None};
+ghost use Rattle.json.specs.Json.{value};
+ghost use Rattle.serde_json.specs.Read.{converted, of_json, read};
+ghost use Rattle.relay_messages.specs.Any.{IsFound, IsNext};
+ghost use Rattle.relay_messages.specs.Beginnings.{opening};
 ghost use Rattle.relay_messages.specs.Decoding.{IsDecoding, IsReading, IsSaid, IsWatchDecoding, text_says};
 
+use crate::any::{AnyObject, KeptMembers, read_members};
 use crate::asking::Asked;
 use crate::fault::MessageFault;
+use crate::passing::{Beginning, Nest, pass_rest, take_beginning};
 use crate::plain::read_plain;
+use crate::unread::Unread;
 use crate::watch_command::WatchCommand;
-use json::Scratch;
+use json::{Reader, Scratch};
 use relay_core::Step;
-use serde_json::Value;
 use std::alloc::Global;
 use std::str;
 
@@ -18,14 +25,71 @@ pub type Command = Step;
 /// How many bytes a text may have.
 const MOST_BYTES: usize = 1024;
 
+/// What is kept of an object that was opened, or none where an array was.
+fn read_opened<'a>(
+    alloc: Global,
+    reader: &mut Reader<'a>,
+    nest: Nest,
+) -> Result<Option<KeptMembers<'a>>, Unread>
+    ensures ok { IfOk result (λ found. IsNext found (opening nest ∷ reader.old) reader.new) }
+    ensures err { result ≡ Err Unread.NotJson → converted of_json (value 127 (opening nest ∷ reader.old)) ≡ None }
+{
+    match nest {
+        Nest::Object => {
+            let members = read_members(alloc, reader)?;
+            Ok(Some(members))
+        }
+        Nest::Array => {
+            pass_rest(reader, Nest::Array, 126)?;
+            Ok(None)
+        }
+    }
+}
+
+/// What is kept of the object that comes next, or none where another value does.
+fn read_next<'a>(alloc: Global, reader: &mut Reader<'a>) -> Result<Option<KeptMembers<'a>>, Unread>
+    ensures ok { IfOk result (λ found. IsNext found reader.old reader.new) }
+    ensures err { result ≡ Err Unread.NotJson → converted of_json (value 127 reader.old) ≡ None }
+{
+    let beginning = take_beginning(reader)?;
+    match beginning {
+        Beginning::Opens(nest) => read_opened(alloc, reader, nest),
+        Beginning::Text(_) => Ok(None),
+        Beginning::Whole(_) => Ok(None),
+        Beginning::Other => Ok(None),
+    }
+}
+
+/// The object that a text is, or none where it is another value.
+fn read_object<'a>(
+    alloc: Global,
+    text: &'a str,
+    scratch: &'a mut Scratch,
+) -> Result<Option<AnyObject<'a>>, Unread>
+    ensures ok { IfOk result (λ found. IsFound found (read text.now)) }
+    ensures err { result ≡ Err Unread.NotJson → read text.now ≡ None }
+{
+    let mut reader = Reader::new(text, scratch)?;
+    let found = read_next(alloc, &mut reader)?;
+    match reader.next() {
+        None => {}
+        Some(_) => return Err(Unread::NotJson),
+    }
+    match found {
+        Some(members) => Ok(Some(AnyObject::new(text, members))),
+        None => Ok(None),
+    }
+}
+
 /// What a text asks that is no plain object, or any other.
-fn read_any<A: Asked>(alloc: Global, text: &str) -> Result<A, MessageFault>
+fn read_any<A: Asked>(alloc: Global, scratch: &mut Scratch, text: &str) -> Result<A, MessageFault>
     ensures { IsReading A.says text.now result }
 {
-    match Value::from_str(alloc, text) {
-        Ok(value) => A::of(&value),
-        Err(error) if error.is_memory() => Err(MessageFault::OutOfMemory),
-        Err(_) => Err(MessageFault::NotJson),
+    match read_object(alloc, text, scratch) {
+        Ok(Some(object)) => A::of(&object),
+        Ok(None) => Err(MessageFault::NotObject),
+        Err(Unread::NotJson) => Err(MessageFault::NotJson),
+        Err(Unread::OutOfMemory) => Err(MessageFault::OutOfMemory),
     }
 }
 
@@ -34,10 +98,11 @@ fn read_text<A: Asked>(alloc: Global, scratch: &mut Scratch, text: &str) -> Resu
     ensures { IsReading A.says text.now result }
 {
     match read_plain(text, scratch) {
-        Ok(Some(object)) => A::of(&object),
-        Ok(None) => read_any(alloc, text),
-        Err(_) => Err(MessageFault::OutOfMemory),
+        Ok(Some(object)) => return A::of(&object),
+        Ok(None) => {}
+        Err(_) => return Err(MessageFault::OutOfMemory),
     }
+    read_any(alloc, scratch, text)
 }
 
 /// What decodes texts one after another. It keeps the memory that reading needs from text to text.

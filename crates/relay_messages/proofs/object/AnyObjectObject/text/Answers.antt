@@ -1,0 +1,12 @@
+use Rattle.std.proofs.Common.{option_and_then, ap, ◌∙◌}
+use Rattle.std.specs.Coded.{Coded-set, coded_list, coded_option, coded_ℕ}
+use Rattle.std.proofs.Math.Logic.{∥∥₁_elim}
+use Rattle.serde_json.specs.Find.{as_str, get_member}
+use Rattle.relay_messages.specs.Members.{members_in}
+use Rattle.relay_messages.proofs.KeptFacts.{text_read}
+use Rattle.relay_messages.proofs.object.AnyObjectObject.text.Goals as goal
+
+pub returns : goal.returns
+returns c =
+    c.text.ensures ∙ ap (λ m. option_and_then as_str (get_member c.args.key.now (members_in m.members.items))) c.members.ensures
+    ∙ ∥∥₁_elim c.args.self.now.read (Coded-set (coded_option (coded_list coded_ℕ)) _ _) (λ e. text_read _ _ e c.args.key.now)

@@ -1,5 +1,0 @@
-use Rattle.serde_json.proofs.Views.{members_len-members_view}
-use Rattle.relay_messages.proofs.object.ValueObject.count.Goals as goal
-
-pub returns-in-Some : goal.returns-in-Some
-returns-in-Some c = rw (← c.in-Some.ensures, members_len-members_view) c.len.ensures.len

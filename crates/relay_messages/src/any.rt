@@ -1,0 +1,150 @@
+//! Objects of any form. Of their members the texts and the unsigned whole numbers are kept, since no command asks for another value; the
+//! others are passed over.
+
+ghost use Rattle.std.specs.Prelude.{◌≡◌, ◌≤◌, ◌<◌, Err, IfOk, OnOk, OnErr, None, Some, length, option_and_then, option_map};
+ghost use Rattle.json.specs.Json.{members, value};
+ghost use Rattle.serde_json.specs.Data.{Data, Members, no_members, put};
+ghost use Rattle.serde_json.specs.Events.{members_len};
+ghost use Rattle.serde_json.specs.Find.{as_number, as_str, as_u64, get_member};
+ghost use Rattle.serde_json.specs.Read.{converted, of_json, of_members, read as read_text};
+ghost use Rattle.relay_messages.specs.Kept.{kept, kept_members, kept_object};
+ghost use Rattle.relay_messages.specs.Members.{field_data, members_in};
+
+use crate::member::{Field, Member};
+use crate::passing::{Beginning, pass_rest, take_beginning};
+use crate::plain::find;
+use crate::unread::Unread;
+use json::{Invalid, Reader};
+use std::alloc::{AllocError, Global};
+
+/// What is kept of the members of an object.
+#[derive(Drop)]
+pub struct KeptMembers<'a> {
+    members: Vec<Member<'a>>,
+    /// How many keys they have: one may come again.
+    count: usize,
+    ghost counted: { members_len (members_in members.items) ≡ count },
+    ghost within: { count ≤ length members.items },
+}
+
+impl<'a> KeptMembers<'a> {
+    /// No members.
+    fn new(alloc: Global) -> KeptMembers<'a>
+        ensures { members_in result.members.items ≡ no_members }
+    {
+        KeptMembers {
+            members: Vec::new(alloc),
+            count: 0,
+        }
+    }
+
+    /// How many members there are.
+    pub fn len(&self) -> usize
+        ensures { result ≡ members_len (members_in self.now.members.items) }
+    {
+        self.count
+    }
+
+    /// What the member of that key has.
+    pub fn get(&self, key: &str) -> Option<Field<'a>>
+        ensures { option_map field_data result ≡ get_member key.now (members_in self.now.members.items) }
+    {
+        find(self.members.as_slice(), key)
+    }
+
+    /// The text of a member.
+    pub fn text(&self, key: &str) -> Option<&'a str>
+        ensures { option_map (λ text. text.now) result ≡ option_and_then as_str (get_member key.now (members_in self.now.members.items)) }
+    {
+        match self.get(key) {
+            Some(Field::Text(text)) => Some(text),
+            _ => None,
+        }
+    }
+
+    /// The unsigned whole number of a member.
+    pub fn number(&self, key: &str) -> Option<u64>
+        ensures { result ≡ option_and_then as_u64 (option_and_then as_number (get_member key.now (members_in self.now.members.items))) }
+    {
+        match self.get(key) {
+            Some(Field::Number(number)) => Some(number),
+            _ => None,
+        }
+    }
+
+    /// Adds a member, in place of the one of that key if there is one.
+    ///
+    /// # Errors
+    ///
+    /// There was no memory.
+    fn add(&mut self, key: &'a str, field: Field<'a>) -> Result<(), AllocError>
+        ensures { OnOk result (members_in self.new.members.items
+            ≡ put key.now (field_data field.entry) (members_in self.old.members.items)) }
+    {
+        let is_known = self.get(key).is_some();
+        self.members.push(Member { key, field })?;
+        if is_known {
+            return Ok(());
+        }
+        self.count += 1;
+        Ok(())
+    }
+}
+
+/// An object of any form, with its text.
+#[derive(Drop)]
+pub struct AnyObject<'a> {
+    text: &'a str,
+    members: KeptMembers<'a>,
+    ghost read: { ∥ kept_object (read_text text.now) ≡ Some (members_in members.members.items) ∥₁ },
+}
+
+impl<'a> AnyObject<'a> {
+    /// The object that this text is, with these members.
+    pub fn new(text: &'a str, members: KeptMembers<'a>) -> AnyObject<'a>
+        requires { kept_object (read_text text.now) ≡ Some (members_in members.members.items) }
+        ensures { result.text.now ≡ text.now }
+    {
+        AnyObject { text, members }
+    }
+
+    /// What is kept of its members.
+    pub fn members(&self) -> &KeptMembers<'a>
+        ensures { result.now ≡ self.now.members }
+    {
+        &self.members
+    }
+}
+
+/// The value of a member, which comes next.
+fn read_field<'a>(reader: &mut Reader<'a>) -> Result<Field<'a>, Invalid>
+    ensures ok { IfOk result (λ field. (d : Data) × (converted of_json (value 126 reader.old) ≡ Some (d, reader.new)) × (field_data field ≡ kept d)) }
+    ensures shorter { OnOk result (length reader.new < length reader.old) }
+    ensures err { OnErr result (converted of_json (value 126 reader.old) ≡ None) }
+{
+    let beginning = take_beginning(reader)?;
+    match beginning {
+        Beginning::Text(text) => Ok(Field::Text(text)),
+        Beginning::Whole(number) => Ok(Field::Number(number)),
+        Beginning::Other => Ok(Field::Other),
+        Beginning::Opens(nest) => {
+            pass_rest(reader, nest, 125)?;
+            Ok(Field::Other)
+        }
+    }
+}
+
+/// The members behind an opening brace, with the brace that closes them.
+pub fn read_members<'a>(alloc: Global, reader: &mut Reader<'a>) -> Result<KeptMembers<'a>, Unread>
+    ensures ok { IfOk result (λ found. (ms : Members) × (converted (λ ms. of_members ms no_members)
+        (members (value 126) (length reader.old) reader.old) ≡ Some (ms, reader.new)) × (members_in found.members.items ≡ kept_members ms)) }
+    ensures err { result ≡ Err Unread.NotJson → converted (λ ms. of_members ms no_members)
+        (members (value 126) (length reader.old) reader.old) ≡ None }
+{
+    let mut found = KeptMembers::new(alloc);
+    'members: while let Some(key) = reader.next_key()? {
+        let field = read_field(reader)?;
+        found.add(key, field)?;
+    }
+    Ok(found)
+}
