@@ -11,7 +11,7 @@ use Rattle.atomic_table.proofs.Lists.{at_map}
 use Rattle.c960_board.specs.Moves.{Triple}
 use Rattle.relay_core.specs.declared.reply.Taken.{Taken}
 use Rattle.relay_core.specs.declared.reply.Taken.TheVariants.{Move, Cut}
-use Rattle.live_machine.specs.Board.{move_at}
+use Rattle.live_steps.specs.Board.{move_at}
 use Rattle.live_steps.specs.declared.setup.BoardSetup.{BoardSetup}
 use Rattle.live_steps.specs.declared.note.Note.{Note}
 use Rattle.live_steps.specs.declared.note.Note.TheVariants.{Vacant, Open, Closed}

@@ -4,7 +4,7 @@ use Rattle.c960_board.specs.Moves.{Triple}
 use Rattle.c960_game.specs.Record.{IsOutcome}
 use Rattle.relay_core.specs.declared.reply.Taken.{Taken}
 use Rattle.relay_core.specs.declared.reply.Taken.TheVariants.{Move, Nothing, Over, Cut}
-use Rattle.live_machine.specs.Board.{move_at}
+use Rattle.live_steps.specs.Board.{move_at}
 use Rattle.live_steps.specs.declared.view.Part.{Part}
 use Rattle.live_steps.specs.Views.{next_of}
 use Rattle.live_steps.specs.Sound.{BearsOut}

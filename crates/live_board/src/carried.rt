@@ -4,7 +4,7 @@
 ghost use Rattle.std.specs.Prelude.{◌≡◌, ℕ, ◌+◌, ◌<◌, ◌≤◌, true, length, Some};
 ghost use mathlib.Core.Option.{some};
 ghost use lib.ListN.{get_elem?};
-ghost use Rattle.live_machine.specs.Board.{move_at};
+ghost use Rattle.live_steps.specs.Board.{move_at};
 ghost use Rattle.live_steps.specs.declared.note.Note.TheVariants.{Vacant};
 ghost use Rattle.live_steps.specs.declared.view.Part.{Part};
 ghost use Rattle.live_steps.specs.Sound.{IsSound};

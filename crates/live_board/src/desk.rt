@@ -9,7 +9,7 @@ ghost use Rattle.c960_game.specs.Ending.{named_outcome};
 ghost use Rattle.c960_game.specs.Ends.{own_outcome};
 ghost use Rattle.c960_game.specs.Ground.{Ground};
 ghost use Rattle.c960_game.specs.Positions.{last_position};
-ghost use Rattle.live_machine.specs.Limits.{AreBoardLimits};
+ghost use Rattle.live_steps.specs.Limits.{AreBoardLimits};
 ghost use Rattle.live_steps.specs.declared.note.Note.TheVariants.{Open, Vacant};
 ghost use Rattle.live_steps.specs.Sound.{IsSound, IsSoundPart};
 ghost use Rattle.live_steps.specs.Views.{finished, followed, kept_part, newcomer, published, starting, storing};

@@ -6,10 +6,10 @@ use mathlib.Core.Logic.{dite}
 use mathlib.Core.Option.{some, some-injective, some-ne-none}
 use native.Mathlib.Decide.{ℕ_discrete}
 use lib.ListN.{get_elem?}
-use Rattle.live_machine.specs.Board.{Follower, SharedBoard, next, with_follower}
-use Rattle.live_machine.specs.Events.{Cut, Goes, changed, closed_at}
-use Rattle.live_machine.proofs.Followers.{with_here}
-use Rattle.live_machine.proofs.Kept.{goes}
+use Rattle.live_steps.specs.Board.{Follower, SharedBoard, next, with_follower}
+use Rattle.live_steps.specs.Events.{Cut, Goes, changed, closed_at}
+use Rattle.live_steps.proofs.Followers.{with_here}
+use Rattle.live_steps.proofs.Kept.{goes}
 use Rattle.live_steps.specs.declared.setup.BoardSetup.{BoardSetup}
 use Rattle.live_steps.specs.declared.note.Note.{Note}
 use Rattle.live_steps.specs.declared.note.Note.TheVariants.{Vacant, Open, Closed}

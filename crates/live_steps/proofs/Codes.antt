@@ -8,7 +8,7 @@ use Rattle.c960_board.specs.Moves.{Triple, IsMove, is_promotion, promotion_code,
 use Rattle.c960_game.specs.declared.outcome.Outcome.{Outcome}
 use Rattle.c960_game.specs.declared.outcome.Outcome.TheVariants.{Checkmate, Stalemate, Resigned, Agreed, Abandoned, Threefold, Fifty, Fivefold, SeventyFive}
 use Rattle.c960_game.specs.Game960.{Game960}
-use Rattle.live_machine.specs.Board.{no_move, move_at}
+use Rattle.live_steps.specs.Board.{no_move, move_at}
 use Rattle.live_steps.specs.Words.{outcome_number, outcome_numbered}
 
 abbrev promotion_in : ℕ → Option Kind

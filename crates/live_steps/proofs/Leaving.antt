@@ -1,8 +1,8 @@
 -- 11. A follower swaps its cursor for a vacant one.
 use Rattle.std.proofs.Common.{◌≡◌, ℕ, ◌+◌, ◌-◌, get_or, set, None, sym, refl, ap, subst, arith, length-set}
-use Rattle.live_machine.specs.Board.{with_follower}
-use Rattle.live_machine.specs.Events.{Leave, Goes, changed}
-use Rattle.live_machine.proofs.Kept.{goes}
+use Rattle.live_steps.specs.Board.{with_follower}
+use Rattle.live_steps.specs.Events.{Leave, Goes, changed}
+use Rattle.live_steps.proofs.Kept.{goes}
 use Rattle.live_steps.specs.declared.note.Note.TheVariants.{Vacant}
 use Rattle.live_steps.specs.declared.view.View.{View}
 use Rattle.live_steps.specs.Views.{left_at}

@@ -1,3 +1,6 @@
+pub mod Followers
+pub mod Kept
+pub mod Stretches
 pub mod Totals
 pub mod Codes
 pub mod Notes

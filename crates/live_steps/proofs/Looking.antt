@@ -6,7 +6,7 @@ use mathlib.Core.Option.{some}
 use lib.ListN.{get_elem?}
 use Rattle.atomic_table.specs.Table.{keeps, stepped}
 use Rattle.c960_board.specs.Moves.{Triple}
-use Rattle.live_machine.specs.Board.{SharedBoard, move_at}
+use Rattle.live_steps.specs.Board.{SharedBoard, move_at}
 use Rattle.live_steps.specs.declared.setup.BoardSetup.{BoardSetup}
 use Rattle.live_steps.specs.declared.view.Part.{Part}
 use Rattle.live_steps.specs.Words.{length_in, outcome_number, outcome_numbered, outcome_in}

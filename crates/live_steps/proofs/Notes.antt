@@ -5,8 +5,8 @@ use mathlib.Core.Option.{some}
 use lib.ListN.{get_elem?}
 use Rattle.atomic_table.proofs.Lists.{at_set}
 use Rattle.c960_board.specs.Moves.{Triple}
-use Rattle.live_machine.specs.Board.{Follower, next, with_follower}
-use Rattle.live_machine.proofs.Followers.{with_here, with_there, with_cases}
+use Rattle.live_steps.specs.Board.{Follower, next, with_follower}
+use Rattle.live_steps.proofs.Followers.{with_here, with_there, with_cases}
 use Rattle.live_steps.specs.declared.note.Note.{Note}
 use Rattle.live_steps.specs.declared.note.Note.TheVariants.{Vacant, Open, Closed}
 use Rattle.live_steps.specs.Words.{mark, cursor_of, cursor_word, closing_in, joined_noted, note_after}

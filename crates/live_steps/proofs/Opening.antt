@@ -4,8 +4,8 @@ use Rattle.std.proofs.lemmas.List.{get_or-replicate, length-replicate}
 use mathlib.Core.Option.{some, some-injective, some-ne-none}
 use lib.ListN.{get_elem?}
 use Rattle.atomic_table.specs.Table.{opening}
-use Rattle.live_machine.specs.Events.{opened}
-use Rattle.live_machine.proofs.Kept.{opens}
+use Rattle.live_steps.specs.Events.{opened}
+use Rattle.live_steps.proofs.Kept.{opens}
 use Rattle.live_steps.specs.declared.note.Note.{Note}
 use Rattle.live_steps.specs.declared.note.Note.TheVariants.{Vacant}
 use Rattle.live_steps.specs.declared.view.Part.{Part}

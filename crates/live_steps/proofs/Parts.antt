@@ -4,9 +4,9 @@ use mathlib.Core.Logic.{dite}
 use mathlib.Core.Option.{some, some-injective, some-ne-none}
 use native.Mathlib.Decide.{ℕ_discrete}
 use lib.ListN.{get_elem?}
-use Rattle.live_machine.specs.Board.{Follower, SharedBoard}
-use Rattle.live_machine.specs.Events.{changed}
-use Rattle.live_machine.proofs.Followers.{with_there}
+use Rattle.live_steps.specs.Board.{Follower, SharedBoard}
+use Rattle.live_steps.specs.Events.{changed}
+use Rattle.live_steps.proofs.Followers.{with_there}
 use Rattle.live_steps.specs.declared.setup.BoardSetup.{BoardSetup}
 use Rattle.live_steps.specs.declared.view.Part.{Part}
 use Rattle.live_steps.specs.declared.view.View.{View}

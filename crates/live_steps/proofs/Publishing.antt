@@ -16,10 +16,10 @@ use Rattle.c960_game.specs.Ending.{named_outcome}
 use Rattle.c960_game.specs.Ends.{own_outcome}
 use Rattle.c960_game.specs.Ground.{Ground}
 use Rattle.c960_game.specs.Positions.{last_position}
-use Rattle.live_machine.specs.Board.{Follower, SharedBoard, no_move, move_at}
-use Rattle.live_machine.specs.Events.{Follow, Submit, End, Goes, IsFull, NobodyFull, changed, joining, with_move, ended_by}
-use Rattle.live_machine.proofs.Followers.{with_here}
-use Rattle.live_machine.proofs.Kept.{goes}
+use Rattle.live_steps.specs.Board.{Follower, SharedBoard, no_move, move_at}
+use Rattle.live_steps.specs.Events.{Follow, Submit, End, Goes, IsFull, NobodyFull, changed, joining, with_move, ended_by}
+use Rattle.live_steps.proofs.Followers.{with_here}
+use Rattle.live_steps.proofs.Kept.{goes}
 use Rattle.live_steps.specs.declared.setup.BoardSetup.{BoardSetup}
 use Rattle.live_steps.specs.declared.note.Note.{Note}
 use Rattle.live_steps.specs.declared.note.Note.TheVariants.{Vacant, Open, Closed}

@@ -8,9 +8,9 @@ use Rattle.atomic_table.specs.Table.{keeps, stepped}
 use Rattle.c960_board.specs.Moves.{Triple, IsMove}
 use Rattle.c960_game.specs.Game960.{Game960}
 use Rattle.c960_game.specs.Record.{IsOutcome}
-use Rattle.live_machine.specs.Limits.{AreBoardLimits}
-use Rattle.live_machine.specs.Board.{Follower, SharedBoard, move_at, stretch}
-use Rattle.live_machine.proofs.Stretches.{is_stretch}
+use Rattle.live_steps.specs.Limits.{AreBoardLimits}
+use Rattle.live_steps.specs.Board.{Follower, SharedBoard, move_at, stretch}
+use Rattle.live_steps.proofs.Stretches.{is_stretch}
 use Rattle.live_steps.specs.declared.setup.BoardSetup.{BoardSetup}
 use Rattle.live_steps.specs.declared.note.Note.{Note}
 use Rattle.live_steps.specs.declared.note.Note.TheVariants.{Vacant, Open, Closed}

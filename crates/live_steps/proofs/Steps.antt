@@ -10,10 +10,10 @@ use lib.Seq.{set-get_or}
 use Rattle.atomic_table.specs.Table.{keeps, stepped}
 use Rattle.atomic_table.proofs.Lists.{at_set}
 use Rattle.c960_board.specs.Moves.{move_code}
-use Rattle.live_machine.specs.Board.{Follower, SharedBoard, move_at, with_follower}
-use Rattle.live_machine.specs.Events.{changed}
-use Rattle.live_machine.specs.Laws.{IsShared}
-use Rattle.live_machine.proofs.Followers.{with_cases}
+use Rattle.live_steps.specs.Board.{Follower, SharedBoard, move_at, with_follower}
+use Rattle.live_steps.specs.Events.{changed}
+use Rattle.live_steps.specs.Laws.{IsShared}
+use Rattle.live_steps.proofs.Followers.{with_cases}
 use Rattle.live_steps.specs.declared.setup.BoardSetup.{BoardSetup}
 use Rattle.live_steps.specs.declared.view.Part.{Part}
 use Rattle.live_steps.specs.declared.view.View.{View}

@@ -6,10 +6,10 @@ use Rattle.std.proofs.lemmas.Option.{same_Some, none-some}
 use mathlib.Core.Option.{some, some-injective}
 use lib.ListN.{get_elem?}
 use Rattle.c960_board.specs.Moves.{Triple}
-use Rattle.live_machine.specs.Board.{SharedBoard, Follower, next, move_at, with_follower}
-use Rattle.live_machine.specs.Events.{Take, Goes, HasNext, changed}
-use Rattle.live_machine.proofs.Followers.{with_here}
-use Rattle.live_machine.proofs.Kept.{goes}
+use Rattle.live_steps.specs.Board.{SharedBoard, Follower, next, move_at, with_follower}
+use Rattle.live_steps.specs.Events.{Take, Goes, HasNext, changed}
+use Rattle.live_steps.proofs.Followers.{with_here}
+use Rattle.live_steps.proofs.Kept.{goes}
 use Rattle.live_steps.specs.declared.setup.BoardSetup.{BoardSetup}
 use Rattle.live_steps.specs.declared.view.Part.{Part}
 use Rattle.live_steps.specs.declared.view.View.{View}

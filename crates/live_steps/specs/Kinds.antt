@@ -12,9 +12,9 @@ use Rattle.c960_game.specs.Ending.{named_outcome}
 use Rattle.c960_game.specs.Ends.{own_outcome}
 use Rattle.c960_game.specs.Ground.{Ground}
 use Rattle.c960_game.specs.Positions.{last_position}
-use Rattle.live_machine.specs.Limits.{AreBoardLimits}
-use Rattle.live_machine.specs.Board.{SharedBoard, move_at}
-use Rattle.live_machine.specs.Events.{Open, Follow, Cut, Submit, End, Take, Leave, Does, opened}
+use Rattle.live_steps.specs.Limits.{AreBoardLimits}
+use Rattle.live_steps.specs.Board.{SharedBoard, move_at}
+use Rattle.live_steps.specs.Events.{Open, Follow, Cut, Submit, End, Take, Leave, Does, opened}
 use Rattle.live_steps.specs.declared.setup.BoardSetup.{BoardSetup}
 use Rattle.live_steps.specs.declared.note.Note.TheVariants.{Vacant, Open as OpenNote}
 use Rattle.live_steps.specs.declared.view.Part.{Part}

@@ -1,3 +1,7 @@
+pub mod Limits
+pub mod Board
+pub mod Events
+pub mod Laws
 pub mod Words
 pub mod Views
 pub mod Shows

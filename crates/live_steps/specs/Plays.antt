@@ -6,7 +6,7 @@ use lib.ListN.{get_elem?}
 use Rattle.atomic_table.specs.Table.{Me, Step}
 use Rattle.c960_board.specs.Moves.{Triple, IsMove, move_code}
 use Rattle.c960_game.specs.declared.outcome.Outcome.{Outcome}
-use Rattle.live_machine.specs.Board.{move_at}
+use Rattle.live_steps.specs.Board.{move_at}
 use Rattle.live_steps.specs.declared.note.Note.{Note}
 use Rattle.live_steps.specs.declared.note.Note.TheVariants.{Open}
 use Rattle.live_steps.specs.declared.view.Part.{Part}

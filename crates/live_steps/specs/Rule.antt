@@ -1,7 +1,7 @@
 -- The rule of a live board's table, and what a step is to it.
 use Rattle.std.specs.Prelude.{List, Some, None}
-use Rattle.live_machine.specs.Board.{SharedBoard}
-use Rattle.live_machine.specs.Events.{Event, Goes, Runs}
+use Rattle.live_steps.specs.Board.{SharedBoard}
+use Rattle.live_steps.specs.Events.{Event, Goes, Runs}
 use Rattle.live_steps.specs.declared.setup.BoardSetup.{BoardSetup}
 use Rattle.live_steps.specs.Shows.{Table, Shows}
 

@@ -5,9 +5,9 @@ use lib.ListN.{get_elem?}
 use Rattle.atomic_table.specs.Table.{State}
 use Rattle.c960_board.specs.Moves.{move_code}
 use Rattle.c960_game.specs.declared.outcome.Outcome.{Outcome}
-use Rattle.live_machine.specs.Limits.{AreBoardLimits}
-use Rattle.live_machine.specs.Board.{Follower, SharedBoard, next, move_at}
-use Rattle.live_machine.specs.Laws.{IsShared}
+use Rattle.live_steps.specs.Limits.{AreBoardLimits}
+use Rattle.live_steps.specs.Board.{Follower, SharedBoard, next, move_at}
+use Rattle.live_steps.specs.Laws.{IsShared}
 use Rattle.live_steps.specs.declared.setup.BoardSetup.{BoardSetup}
 use Rattle.live_steps.specs.declared.note.Note.{Note}
 use Rattle.live_steps.specs.declared.note.Note.TheVariants.{Vacant, Open, Closed}

@@ -6,8 +6,8 @@ use Rattle.c960_board.specs.Moves.{Triple, IsMove}
 use Rattle.c960_game.specs.declared.outcome.Outcome.{Outcome}
 use Rattle.c960_game.specs.Game960.{Game960}
 use Rattle.c960_game.specs.Record.{IsOutcome}
-use Rattle.live_machine.specs.Limits.{AreBoardLimits}
-use Rattle.live_machine.specs.Board.{move_at, stretch}
+use Rattle.live_steps.specs.Limits.{AreBoardLimits}
+use Rattle.live_steps.specs.Board.{move_at, stretch}
 use Rattle.live_steps.specs.declared.note.Note.{Note}
 use Rattle.live_steps.specs.declared.note.Note.TheVariants.{Vacant, Open, Closed}
 use Rattle.live_steps.specs.declared.view.Part.{Part}

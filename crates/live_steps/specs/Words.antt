@@ -4,8 +4,8 @@ use Rattle.c960_board.specs.declared.piece.Colour.TheVariants.{White, Black}
 use Rattle.c960_game.specs.declared.outcome.Outcome.{Outcome}
 use Rattle.c960_game.specs.declared.outcome.Outcome.TheVariants.{Checkmate, Stalemate, Resigned, Agreed, Abandoned, Threefold, Fifty, Fivefold, SeventyFive}
 use Rattle.c960_game.specs.Outcome.{outcome_code}
-use Rattle.live_machine.specs.declared.limits.BoardLimits.{BoardLimits}
-use Rattle.live_machine.specs.Board.{Follower, next}
+use Rattle.live_steps.specs.declared.limits.BoardLimits.{BoardLimits}
+use Rattle.live_steps.specs.Board.{Follower, next}
 use Rattle.live_steps.specs.declared.note.Note.{Note}
 use Rattle.live_steps.specs.declared.note.Note.TheVariants.{Vacant, Open, Closed}
 

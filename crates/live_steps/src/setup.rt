@@ -1,6 +1,6 @@
 //! What a board is opened with.
 
-use live_machine::BoardLimits;
+use crate::BoardLimits;
 
 /// The number of a board's start and its limits. The rule of its table is told them once, and each view has them.
 #[derive(Clone, Copy, PartialEq, Eq, Debug)]

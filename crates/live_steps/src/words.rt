@@ -3,8 +3,8 @@
 ghost use Rattle.std.specs.Prelude.{◌≡◌, ◌<◌, ◌/◌, ◌==◌, Some, None};
 ghost use Rattle.live_steps.specs.Words.{closing_in, cursor_at, cursor_of, header_word, length_in, move_word_at, outcome_in, place_in, status_word, word_count};
 
+use crate::BoardLimits;
 use c960_game::Outcome;
-use live_machine::BoardLimits;
 
 /// The number of the status word. The header is word 0.
 pub const STATUS: usize = 1;

@@ -8,7 +8,7 @@ use Rattle.c960_game.specs.declared.outcome.Outcome.{Outcome}
 use Rattle.c960_game.specs.Record.{GameRecord}
 use Rattle.relay_core.specs.declared.reply.Taken.TheVariants.{Move, Nothing, Over, Cut}
 use Rattle.relay_core.specs.Replies.{taken_of}
-use Rattle.live_machine.specs.Board.{move_at}
+use Rattle.live_steps.specs.Board.{move_at}
 use Rattle.live_steps.specs.declared.view.View.{View}
 use Rattle.live_steps.specs.Views.{sees}
 use Rattle.live_steps.specs.Sound.{IsSoundBoard}

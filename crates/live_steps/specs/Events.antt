@@ -8,8 +8,8 @@ use Rattle.c960_game.specs.Ending.{named_outcome}
 use Rattle.c960_game.specs.Ends.{own_outcome}
 use Rattle.c960_game.specs.Ground.{Ground}
 use Rattle.c960_game.specs.Positions.{last_position}
-use Rattle.live_machine.specs.declared.limits.BoardLimits.{BoardLimits}
-use Rattle.live_machine.specs.Board.{Follower, SharedBoard, next, move_at, with_follower}
+use Rattle.live_steps.specs.declared.limits.BoardLimits.{BoardLimits}
+use Rattle.live_steps.specs.Board.{Follower, SharedBoard, next, move_at, with_follower}
 
 -- Where an event names a place, it is a cursor place; a follow names the place of the log from which it takes, too.
 pub data Event : Type 0 where

@@ -1,7 +1,7 @@
 //! Laws of shared boards.
 
 ghost use Rattle.std.specs.Prelude.{List};
-ghost use Rattle.live_machine.specs.Laws.{Always, AlwaysOfEach, Numbered, IsLegalGame, HasItsOutcome, HasStretch, IsNear, IsWithinClosing, EndStays};
+ghost use Rattle.live_steps.specs.Laws.{Always, AlwaysOfEach, Numbered, IsLegalGame, HasItsOutcome, HasStretch, IsNear, IsWithinClosing, EndStays};
 
 /// What is true of a shared board after any list of events, whatever the interleaving of its threads was.
 pub fn shared_laws()

@@ -2,7 +2,7 @@
 use Rattle.std.proofs.Common.{◌≡◌, ◌≢◌, ℕ, Option, sym, refl, ap, subst, cond, eq-eqb, ne_eqb}
 use mathlib.Core.Logic.{dite}
 use native.Mathlib.Decide.{ℕ_discrete}
-use Rattle.live_machine.specs.Board.{Follower, with_follower}
+use Rattle.live_steps.specs.Board.{Follower, with_follower}
 
 pub with_here : (fs : ℕ → Option Follower) (k : ℕ) (o : Option Follower) → with_follower fs k o k ≡ o
 with_here fs k o = ap (λ b. cond b o (fs k)) (eq-eqb k k refl)

@@ -1,7 +1,7 @@
 //! What of a relay's limits a board needs.
 
 ghost use Rattle.std.specs.Prelude.{◌≡◌};
-ghost use Rattle.live_machine.specs.Limits.{AreBoardLimits};
+ghost use Rattle.live_steps.specs.Limits.{AreBoardLimits};
 
 use c960_game::Limits;
 

@@ -11,12 +11,12 @@ use Rattle.c960_game.specs.Ends.{own_outcome}
 use Rattle.c960_game.specs.Record.{IsOutcome}
 use Rattle.c960_game.proofs.LogFacts.{no_move as no_move_yet, one_move_more}
 use Rattle.c960_game.proofs.GameFacts.{start_goes_on}
-use Rattle.live_machine.specs.declared.limits.BoardLimits.{BoardLimits}
-use Rattle.live_machine.specs.Board.{Follower, SharedBoard, next, no_move, move_at}
-use Rattle.live_machine.specs.Events.{Event, Open, Follow, Cut, Submit, End, Take, Leave, opened, IsFull, HasNext, changed, joining, closed_at, with_taken, with_move, ended_by, Goes, Does, Runs}
-use Rattle.live_machine.specs.Laws.{Always, AlwaysOfEach, HasStretch, EndStays, IsFollower, IsShared}
-use Rattle.live_machine.proofs.Followers.{with_cases}
-use Rattle.live_machine.proofs.Stretches.{is_stretch}
+use Rattle.live_steps.specs.declared.limits.BoardLimits.{BoardLimits}
+use Rattle.live_steps.specs.Board.{Follower, SharedBoard, next, no_move, move_at}
+use Rattle.live_steps.specs.Events.{Event, Open, Follow, Cut, Submit, End, Take, Leave, opened, IsFull, HasNext, changed, joining, closed_at, with_taken, with_move, ended_by, Goes, Does, Runs}
+use Rattle.live_steps.specs.Laws.{Always, AlwaysOfEach, HasStretch, EndStays, IsFollower, IsShared}
+use Rattle.live_steps.proofs.Followers.{with_cases}
+use Rattle.live_steps.proofs.Stretches.{is_stretch}
 
 -- ---- One follower changes.
 

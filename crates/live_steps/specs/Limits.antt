@@ -1,6 +1,6 @@
 -- The ranges of a board's limits.
 use Rattle.std.specs.Prelude.{◌≤◌}
-use Rattle.live_machine.specs.declared.limits.BoardLimits.{BoardLimits}
+use Rattle.live_steps.specs.declared.limits.BoardLimits.{BoardLimits}
 
 pub record AreBoardLimits (limits : BoardLimits) : Type 0 where
   pub some_follower : 1 ≤ limits.followers

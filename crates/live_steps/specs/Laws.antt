@@ -3,9 +3,9 @@ use Rattle.std.specs.Prelude.{ℕ, ◌≡◌, ◌<◌, ◌≤◌, ◌+◌, List,
 use Rattle.c960_game.specs.declared.outcome.Outcome.{Outcome}
 use Rattle.c960_game.specs.Game960.{Game960}
 use Rattle.c960_game.specs.Record.{IsOutcome}
-use Rattle.live_machine.specs.declared.limits.BoardLimits.{BoardLimits}
-use Rattle.live_machine.specs.Board.{Follower, SharedBoard, next, stretch, move_at}
-use Rattle.live_machine.specs.Events.{Event, Runs}
+use Rattle.live_steps.specs.declared.limits.BoardLimits.{BoardLimits}
+use Rattle.live_steps.specs.Board.{Follower, SharedBoard, next, stretch, move_at}
+use Rattle.live_steps.specs.Events.{Event, Runs}
 
 -- true of every board to which a list of events leads
 abbrev pub Always : (BoardLimits → SharedBoard → Type 0) → Type 0

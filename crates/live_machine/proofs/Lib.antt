@@ -1,3 +1,0 @@
-pub mod Followers
-pub mod Kept
-pub mod Stretches

@@ -1,4 +1,0 @@
-pub mod Limits
-pub mod Board
-pub mod Events
-pub mod Laws
