@@ -1,5 +1,5 @@
 use Rattle.live_steps.proofs.Kept.{shared, has_stretch, end_stays}
-use Rattle.live_steps.proofs.laws.shared_laws.Goals as goal
+use Rattle.live_steps.proofs.laws.shared.shared_laws.Goals as goal
 
 pub returns-clause-start : goal.returns-clause-start
 returns-clause-start c limits events now runs = (shared limits events now runs).game.numbered
