@@ -1,5 +1,6 @@
 pub mod Heads
 pub mod Hearings
+pub mod Moves
 pub mod Rules
 pub mod Steps
 pub mod Texts

@@ -3,6 +3,7 @@ pub mod Codes
 pub mod Events
 pub mod Frames
 pub mod Hearing
+pub mod Holding
 pub mod Reading
 pub mod Requests
 pub mod Writing

@@ -1,73 +1,82 @@
 //! A message that comes in fragments.
 
-ghost use Rattle.std.specs.Prelude.{◌≡◌, ◌+◌, ◌<◌, ◌++◌, OnOk, OnErr};
+ghost use Rattle.std.specs.Prelude.{◌≡◌, ◌+◌, ◌<◌};
 ghost use Rattle.relay_frames.specs.Events.{told};
-ghost use Rattle.relay_frames.specs.Reading.{fragment_breach, size_breach, told_of_message};
+ghost use Rattle.relay_frames.specs.Holding.{message_of};
+ghost use Rattle.relay_frames.specs.Reading.{fragment_breach, kind_of, size_breach, told_of_message};
 
 use crate::breach::Breach;
 use crate::event::Event;
 use crate::peer::{MOST_BYTES, MOST_FRAGMENTS};
-use std::alloc::AllocError;
 use std::marker::Model;
 use websocket::protocol::MessageType;
+use websocket::protocol::frame::coding::Data;
 
-/// A message whose last fragment is still to come (RFC 6455, section 5.4).
+/// What is known beside its bytes of a message whose last fragment is still to come (RFC 6455, section 5.4).
 #[derive(Drop)]
 pub(crate) struct Begun {
     kind: MessageType,
-    bytes: Vec<u8>,
     fragments: u32,
 }
 
 impl Model for Begun {
-    ghost use Rattle.relay_frames.specs.Reading.{Message};
+    ghost use Rattle.relay_frames.specs.Holding.{Beginning};
 
-    ghost Value = { Message };
+    ghost Value = { Beginning };
 
-    ghost view = { λ b. record { kind = b.kind; bytes = b.bytes.items; fragments = b.fragments } };
+    ghost view = { λ b. record { kind = b.kind; fragments = b.fragments } };
 }
 
 impl Begun {
     /// A message with its first fragment.
-    pub(crate) fn new(kind: MessageType, bytes: Vec<u8>) -> Begun
-        ensures { result ≡ record { kind = kind; bytes = bytes.items; fragments = 1 } }
+    pub(crate) fn new(kind: Data) -> Begun
+        ensures { result ≡ record { kind = kind_of kind; fragments = 1 } }
     {
         Begun {
-            kind,
-            bytes,
+            kind: kind_of(kind),
             fragments: 1,
         }
     }
 
-    /// One fragment more.
-    pub(crate) fn extend(&mut self, payload: &[u8]) -> Result<(), AllocError>
-        requires { self.old.fragments < 1024 }
-        ensures ok { OnOk result (self.new ≡ record self.old { bytes = self.old.bytes ++ payload.now; fragments = self.old.fragments + 1 }) }
-        ensures err { OnErr result (self.new ≡ self.old) }
+    /// The message with one fragment more.
+    pub(crate) fn and_one_more(&self) -> Begun
+        requires { self.now.fragments < 1024 }
+        ensures { result ≡ record self.now { fragments = self.now.fragments + 1 } }
     {
-        self.bytes.extend_from_slice(payload)?;
-        self.fragments += 1;
-        Ok(())
+        Begun {
+            kind: self.kind,
+            fragments: self.fragments + 1,
+        }
     }
 
-    /// The rule that a fragment of so many bytes more would break.
-    pub(crate) fn breach(&self, length: u64) -> Option<Breach>
-        ensures { result ≡ fragment_breach self.now length }
+    /// The rule that a fragment of so many bytes more would break, behind these of the message.
+    pub(crate) fn breach(&self, bytes: &[u8], length: u64) -> Option<Breach>
+        ensures { result ≡ fragment_breach (message_of bytes.now self.now) length }
     {
         if self.fragments >= MOST_FRAGMENTS {
             return Some(Breach::TooManyFragments);
         }
-        size_breach(self.bytes.len(), length)
+        size_breach(bytes.len(), length)
     }
 
-    /// The message is whole.
-    pub(crate) fn into_event(self) -> Event
-        ensures { told result ≡ told_of_message self.kind self.bytes }
+    /// The message is whole, and has these bytes.
+    pub(crate) fn into_event(self, bytes: Vec<u8>) -> Event
+        ensures { told result ≡ told_of_message self.kind bytes.items }
     {
         match self.kind {
-            MessageType::Binary => Event::Binary(self.bytes),
-            MessageType::Text => text_event(self.bytes),
+            MessageType::Binary => Event::Binary(bytes),
+            MessageType::Text => text_event(bytes),
         }
+    }
+}
+
+/// The kind of a message that begins so.
+fn kind_of(kind: Data) -> MessageType
+    ensures { result ≡ kind_of kind }
+{
+    match kind {
+        Data::Binary => MessageType::Binary,
+        _ => MessageType::Text,
     }
 }
 

@@ -4,6 +4,7 @@
 
 mod begun;
 mod breach;
+mod buffer;
 mod code;
 mod event;
 pub mod laws;
@@ -12,7 +13,6 @@ mod payload;
 mod peer;
 mod refusal;
 mod request;
-mod unread;
 
 pub use breach::Breach;
 pub use code::Code;

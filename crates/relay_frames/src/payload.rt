@@ -1,6 +1,6 @@
 //! What the payloads of frames say.
 
-ghost use Rattle.std.specs.Prelude.{◌≡◌, IfOk};
+ghost use Rattle.std.specs.Prelude.{◌≡◌, ◌+◌, ◌≤◌, ◌++◌, length, take, drop, vec_len, IfOk};
 ghost use Rattle.std.specs.Str.{is_utf8};
 ghost use Rattle.websocket.specs.Mask.{apply_mask_if};
 ghost use Rattle.relay_frames.specs.Events.{told};
@@ -27,6 +27,37 @@ pub(crate) fn unmasked(
         apply_mask(payload.as_mut_slice(), key);
     }
     Ok(payload)
+}
+
+/// Takes the mask off a payload where it lies.
+fn unmask(bytes: &mut [u8], start: usize, size: usize, mask: Option<[u8; 4]>)
+    requires { start + size ≤ length bytes.old }
+    ensures len { length bytes.new ≡ length bytes.old }
+    ensures before { take start bytes.new ≡ take start bytes.old }
+    ensures payload { take size (drop start bytes.new) ≡ apply_mask_if mask (take size (drop start bytes.old)) }
+    ensures behind { drop (start + size) bytes.new ≡ drop (start + size) bytes.old }
+{
+    if let Some(key) = mask {
+        apply_mask(&mut bytes[start..start + size], key);
+    }
+}
+
+/// Takes the mask off a payload where it lies, and moves it down to another place.
+pub(crate) fn move_down(
+    bytes: &mut Vec<u8>,
+    start: usize,
+    size: usize,
+    mask: Option<[u8; 4]>,
+    to: usize,
+)
+    requires inside { start + size ≤ vec_len bytes.old }
+    requires down { to ≤ start }
+    ensures len { vec_len bytes.new ≡ vec_len bytes.old }
+    ensures moved { take (to + size) bytes.new.items ≡ take to bytes.old.items ++ apply_mask_if mask (take size (drop start bytes.old.items)) }
+    ensures behind { drop (start + size) bytes.new.items ≡ drop (start + size) bytes.old.items }
+{
+    unmask(bytes.as_mut_slice(), start, size, mask);
+    bytes.copy_within(start..start + size, to);
 }
 
 /// What a control frame with this payload says (RFC 6455, section 5.5).

@@ -4,16 +4,16 @@ ghost use Rattle.std.specs.Prelude.{◌≡◌, ◌+◌, ◌≤◌, false, length
 ghost use Rattle.websocket.specs.FrameHeader.{header_len};
 ghost use Rattle.websocket.specs.declared.protocol.frame.coding.OpCode.TheVariants as OpCode;
 ghost use Rattle.relay_frames.specs.Events.{broken, told};
-ghost use Rattle.relay_frames.specs.Reading.{HasRoom, IsEffect, IsStep, control_breach, data_breach, fed, frame_effect, goes_on, head_breach, is_midway, kind_of, message_effect, most_bytes, next_step, opened, over, payload_at, read_checked, read_frame, with_payload};
+ghost use Rattle.relay_frames.specs.Holding.{continued};
+ghost use Rattle.relay_frames.specs.Reading.{HasRoom, IsEffect, IsStep, control_breach, data_breach, fed, frame_effect, goes_on, head_breach, is_midway, message_effect, most_bytes, next_step, opened, over, payload_at, read_checked, read_frame, with_payload};
 
 use crate::begun::{Begun, size_breach};
 use crate::breach::Breach;
+use crate::buffer::Buffer;
 use crate::event::Event;
-use crate::payload::{control_event, unmasked};
-use crate::unread::Unread;
+use crate::payload::control_event;
 use std::alloc::{AllocError, Global};
 use std::marker::Model;
-use websocket::protocol::MessageType;
 use websocket::protocol::frame::FrameHeader;
 use websocket::protocol::frame::coding::{Data, OpCode};
 
@@ -32,18 +32,20 @@ const MOST_CONTROL_BYTES: u64 = 125;
 /// so far. What is told depends on the bytes alone, and not on how they were cut into pieces.
 #[derive(Drop)]
 pub struct Peer {
-    alloc: Global,
-    unread: Unread,
+    buffer: Buffer,
     begun: Option<Begun>,
     is_over: bool,
 }
 
 impl Model for Peer {
+    ghost use Rattle.relay_frames.specs.Holding.{HasNoStray, begun_of};
     ghost use Rattle.relay_frames.specs.Reading.{Reading};
 
     ghost Value = { Reading };
 
-    ghost view = { λ p. record { unread = p.unread; begun = p.begun; is_over = p.is_over } };
+    ghost view = { λ p. record { unread = p.buffer.unread; begun = begun_of p.buffer.message p.begun; is_over = p.is_over } };
+
+    ghost invariant = { λ p. HasNoStray p.buffer.message p.begun };
 }
 
 impl Peer {
@@ -52,8 +54,7 @@ impl Peer {
         ensures { result ≡ opened }
     {
         Peer {
-            alloc,
-            unread: Unread::new(alloc),
+            buffer: Buffer::new(alloc),
             begun: None,
             is_over: false,
         }
@@ -70,7 +71,7 @@ impl Peer {
     pub fn is_midway(&self) -> bool
         ensures { result ≡ is_midway self.now }
     {
-        !self.unread.as_slice().is_empty() || self.begun.is_some()
+        !self.buffer.unread().is_empty() || self.begun.is_some()
     }
 
     /// These bytes came. Once a close or a breach was told they are let go.
@@ -85,7 +86,7 @@ impl Peer {
         if self.is_over {
             return Ok(());
         }
-        self.unread.push(bytes)
+        self.buffer.push(bytes)
     }
 
     /// What the bytes say next: `None` where more have to come, and always once a close or a breach was told. A breach is told as
@@ -103,7 +104,7 @@ impl Peer {
         if self.is_over {
             return Ok(None);
         }
-        match FrameHeader::parse(self.unread.as_slice()) {
+        match FrameHeader::parse(self.buffer.unread()) {
             Ok(None) => Ok(None),
             Ok(Some((header, length))) => self.next_checked(&header, length),
             Err(_) => Ok(Some(self.break_off(Breach::NoHead))),
@@ -138,8 +139,8 @@ impl Peer {
         ensures unchanged { OnErr result (self.new ≡ self.old) }
     {
         let total = header.len(size as u64) + size;
-        if self.unread.as_slice().len() < total {
-            self.unread.expect(total)?;
+        if self.buffer.unread().len() < total {
+            self.buffer.expect(total)?;
             return Ok(None);
         }
         Ok(Some(self.next_frame(header, size)?))
@@ -168,7 +169,7 @@ impl Peer {
         match (&self.begun, kind) {
             (None, Data::Continue) => Some(Breach::NothingToContinue),
             (None, _) => size_breach(0, length),
-            (Some(begun), Data::Continue) => begun.breach(length),
+            (Some(begun), Data::Continue) => begun.breach(self.buffer.message(), length),
             (Some(_), _) => Some(Breach::MessageWithinMessage),
         }
     }
@@ -182,22 +183,53 @@ impl Peer {
         ensures frame { IfOk result (λ event. IsStep (told event) self.new (goes_on (drop (header_len header.now size + size) self.old.unread) (frame_effect self.old.begun header.now.opcode header.now.is_final (payload_at self.old.unread header.now size)))) }
         ensures unchanged { OnErr result (self.new ≡ self.old) }
     {
-        let start = header.len(size as u64);
-        let payload = unmasked(
-            self.alloc,
-            &self.unread.as_slice()[start..][..size],
-            header.mask,
-        )?;
         let event = match header.opcode {
-            OpCode::Control(control) => control_event(control, payload),
-            OpCode::Data(kind) => data_event(&mut self.begun, kind, header.is_final, payload)?,
+            OpCode::Control(control) => {
+                control_event(control, self.buffer.read_apart(header, size)?)
+            }
+            OpCode::Data(kind) => self.next_data(kind, header, size)?,
         };
         if event.is_last() {
             self.end();
-        } else {
-            self.unread.skip(start + size);
         }
         Ok(event)
+    }
+
+    /// What a whole data frame says, with the message that it begins or goes on with.
+    fn next_data(
+        &mut self,
+        kind: Data,
+        header: &FrameHeader,
+        size: usize,
+    ) -> Result<Event, AllocError>
+        requires whole { header_len header.now size + size ≤ length self.old.unread }
+        requires small { size ≤ most_bytes }
+        requires room { HasRoom self.old.begun (OpCode.Data kind) }
+        ensures effect { IfOk result (λ event. IsEffect (told event) self.new.begun (message_effect (with_payload self.old.begun kind (payload_at self.old.unread header.now size)) header.now.is_final)) }
+        ensures rest { OnOk result (self.new.unread ≡ drop (header_len header.now size + size) self.old.unread) }
+        ensures goes_on { OnOk result (self.new.is_over ≡ self.old.is_over) }
+        ensures unchanged { OnErr result (self.new ≡ self.old) }
+    {
+        let begun = self.continued(kind);
+        if !header.is_final {
+            self.buffer.read_on(header, size);
+            self.begun = Some(begun);
+            return Ok(Event::Fragment);
+        }
+        let bytes = self.buffer.read_last(header, size)?;
+        self.begun = None;
+        Ok(begun.into_event(bytes))
+    }
+
+    /// The message with one fragment more, which begins it where none has begun.
+    fn continued(&self, kind: Data) -> Begun
+        requires { HasRoom self.now.begun (OpCode.Data kind) }
+        ensures { result ≡ continued self.now.begun kind }
+    {
+        match &self.begun {
+            Some(begun) => begun.and_one_more(),
+            None => Begun::new(kind),
+        }
     }
 
     /// The peer broke the protocol.
@@ -213,7 +245,7 @@ impl Peer {
     fn end(&mut self)
         ensures { self.new ≡ over }
     {
-        self.unread.clear();
+        self.buffer.clear();
         self.begun = None;
         self.is_over = true;
     }
@@ -230,38 +262,4 @@ fn control_breach(is_final: bool, length: u64) -> Option<Breach>
         return Some(Breach::LongControl);
     }
     None
-}
-
-/// What a data frame says, with the message that it begins or goes on with.
-fn data_event(
-    begun: &mut Option<Begun>,
-    kind: Data,
-    is_final: bool,
-    payload: Vec<u8>,
-) -> Result<Event, AllocError>
-    requires { HasRoom begun.old (OpCode.Data kind) }
-    ensures effect { IfOk result (λ event. IsEffect (told event) begun.new (message_effect (with_payload begun.old kind payload.items) is_final)) }
-    ensures unchanged { OnErr result (begun.new ≡ begun.old) }
-{
-    match begun {
-        Some(message) => message.extend(payload.as_slice())?,
-        None => *begun = Some(Begun::new(kind_of(kind), payload)),
-    }
-    if !is_final {
-        return Ok(Event::Fragment);
-    }
-    match begun.take() {
-        Some(message) => Ok(message.into_event()),
-        None => Ok(Event::Fragment),
-    }
-}
-
-/// The kind of a message that begins so.
-fn kind_of(kind: Data) -> MessageType
-    ensures { result ≡ kind_of kind }
-{
-    match kind {
-        Data::Binary => MessageType::Binary,
-        _ => MessageType::Text,
-    }
 }

@@ -1,0 +1,187 @@
+//! The bytes that are held of a peer.
+
+ghost use Rattle.std.specs.Prelude.{◌≡◌, ◌+◌, ◌≤◌, [], ◌++◌, length, drop, IfOk, OnOk, OnErr};
+ghost use Rattle.websocket.specs.FrameHeader.{header_len};
+ghost use Rattle.relay_frames.specs.Reading.{most_bytes, payload_at};
+
+use crate::payload::{move_down, unmasked};
+use std::alloc::{AllocError, Global};
+use std::marker::Model;
+use std::mem;
+use websocket::protocol::frame::FrameHeader;
+
+/// Of a message in fragments the bytes so far, without their mask, and behind them the bytes that were not read.
+///
+/// They stand in one vector, so that a payload needs no second one: it is unmasked where it came and moved down over its frame's
+/// head. Room is added for what has come or was announced and for no more: a vector that grows by itself doubles. No room is held
+/// where there are no bytes.
+#[derive(Drop)]
+pub(crate) struct Buffer {
+    alloc: Global,
+    bytes: Vec<u8>,
+    /// Where the message so far ends.
+    message: usize,
+    /// Where the bytes begin that were not read. What lies in front of them behind the message goes when more are added, so that
+    /// reading many small frames moves no bytes.
+    read: usize,
+}
+
+impl Model for Buffer {
+    ghost use Rattle.std.specs.Prelude.{◌≤◌, take, drop, vec_len};
+    ghost use Rattle.relay_frames.specs.Holding.{Held};
+
+    ghost Value = { Held };
+
+    ghost view = { λ b. record { message = take b.message b.bytes.items; unread = drop b.read b.bytes.items } };
+
+    ghost invariant = { λ b. (b.message ≤ b.read) × (b.read ≤ vec_len b.bytes) };
+}
+
+impl Buffer {
+    /// No bytes.
+    pub(crate) fn new(alloc: Global) -> Buffer
+        ensures { result ≡ record { message = []; unread = [] } }
+    {
+        Buffer {
+            alloc,
+            bytes: Vec::new(alloc),
+            message: 0,
+            read: 0,
+        }
+    }
+
+    /// The bytes of the message so far.
+    pub(crate) fn message(&self) -> &[u8]
+        ensures { result.now ≡ self.now.message }
+    {
+        &self.bytes[..self.message]
+    }
+
+    /// The bytes that were not read.
+    pub(crate) fn unread(&self) -> &[u8]
+        ensures { result.now ≡ self.now.unread }
+    {
+        &self.bytes[self.read..]
+    }
+
+    /// Adds bytes.
+    ///
+    /// # Errors
+    ///
+    /// There was no memory. Then nothing has changed.
+    pub(crate) fn push(&mut self, bytes: &[u8]) -> Result<(), AllocError>
+        ensures ok { OnOk result (self.new ≡ record self.old { unread = self.old.unread ++ bytes.now }) }
+        ensures err { OnErr result (self.new ≡ self.old) }
+    {
+        self.close_up();
+        self.bytes.reserve_exact(bytes.len())?;
+        self.bytes.extend_from_slice(bytes)
+    }
+
+    /// Sees to it that there is room until so many bytes were not read, and for no more.
+    ///
+    /// # Errors
+    ///
+    /// There was no memory. Then nothing has changed.
+    pub(crate) fn expect(&mut self, total: usize) -> Result<(), AllocError>
+        ensures { self.new ≡ self.old }
+    {
+        self.close_up();
+        let missing = total.saturating_sub(self.unread().len());
+        self.bytes.reserve_exact(missing)
+    }
+
+    /// Reads a frame that belongs to no message in fragments, and hands its payload out.
+    ///
+    /// # Errors
+    ///
+    /// There was no memory. Then nothing has changed.
+    pub(crate) fn read_apart(
+        &mut self,
+        header: &FrameHeader,
+        size: usize,
+    ) -> Result<Vec<u8>, AllocError>
+        requires whole { header_len header.now size + size ≤ length self.old.unread }
+        requires small { size ≤ most_bytes }
+        ensures payload { IfOk result (λ payload. payload.items ≡ payload_at self.old.unread header.now size) }
+        ensures read { OnOk result (self.new ≡ record self.old { unread = drop (header_len header.now size + size) self.old.unread }) }
+        ensures unchanged { OnErr result (self.new ≡ self.old) }
+    {
+        let start = header.len(size as u64);
+        let payload = unmasked(self.alloc, &self.unread()[start..][..size], header.mask)?;
+        self.read += start + size;
+        self.give_back();
+        Ok(payload)
+    }
+
+    /// Reads a frame of the message that has begun, and puts its payload behind the message so far.
+    pub(crate) fn read_on(&mut self, header: &FrameHeader, size: usize)
+        requires whole { header_len header.now size + size ≤ length self.old.unread }
+        requires small { size ≤ most_bytes }
+        ensures { self.new ≡ record { message = self.old.message ++ payload_at self.old.unread header.now size; unread = drop (header_len header.now size + size) self.old.unread } }
+    {
+        let start = self.read + header.len(size as u64);
+        move_down(&mut self.bytes, start, size, header.mask, self.message);
+        self.message += size;
+        self.read = start + size;
+        self.give_back();
+    }
+
+    /// Reads the last frame of a message, and hands the message out.
+    ///
+    /// The vector itself becomes the message, and what lies behind the frame gets one of its own. Only where that is the longer, as
+    /// with many small messages in one piece, the message does.
+    ///
+    /// # Errors
+    ///
+    /// There was no memory. Then nothing has changed.
+    pub(crate) fn read_last(
+        &mut self,
+        header: &FrameHeader,
+        size: usize,
+    ) -> Result<Vec<u8>, AllocError>
+        requires whole { header_len header.now size + size ≤ length self.old.unread }
+        requires small { size ≤ most_bytes }
+        ensures message { IfOk result (λ bytes. bytes.items ≡ self.old.message ++ payload_at self.old.unread header.now size) }
+        ensures read { OnOk result (self.new ≡ record { message = []; unread = drop (header_len header.now size + size) self.old.unread }) }
+        ensures unchanged { OnErr result (self.new ≡ self.old) }
+    {
+        let start = self.read + header.len(size as u64);
+        let end = start + size;
+        if self.message == 0 && size < self.bytes.len() - end {
+            return self.read_apart(header, size);
+        }
+        let rest = self.bytes.split_off(end)?;
+        move_down(&mut self.bytes, start, size, header.mask, self.message);
+        self.bytes.truncate(self.message + size);
+        self.message = 0;
+        self.read = 0;
+        Ok(mem::replace(&mut self.bytes, rest))
+    }
+
+    /// Lets all bytes go.
+    pub(crate) fn clear(&mut self)
+        ensures { self.new ≡ record { message = []; unread = [] } }
+    {
+        self.bytes = Vec::new(self.alloc);
+        self.message = 0;
+        self.read = 0;
+    }
+
+    /// Puts what was not read right behind the message.
+    fn close_up(&mut self)
+        ensures { self.new ≡ self.old }
+    {
+        self.bytes.drain(self.message..self.read);
+        self.read = self.message;
+    }
+
+    /// Gives the room back where there are no bytes.
+    fn give_back(&mut self)
+        ensures { self.new ≡ self.old }
+    {
+        if self.message == 0 && self.read == self.bytes.len() {
+            self.clear();
+        }
+    }
+}
