@@ -106,17 +106,19 @@ async def try_on_its_way(browser):
 
 
 async def try_pulled(browser):
-    """A cable that is pulled tells nothing: a move without an answer for 10 s counts as lost on its way, and the page comes back. Before, a page
-    waited for the answer for as long as the browser took the connection for alive."""
+    """A cable that is pulled tells nothing, whether it is pulled before a move is sent or before it is answered. A move without an answer for 10 s
+    counts as lost on its way, and the page comes back. Before, a page waited for the answer for as long as the browser took the connection for
+    alive."""
     relay = await Relay(grace=GRACE).start()
-    table, wire = await table_of(browser, relay)
-    wire.lose(UP, DOWN)
-    await enter(table, "b8c6", "type")
-    await until_state(table, "lost")
-    assert await log_of(relay, "b1") == (MOVES, None)
-    wire.losses = {}
-    await goes_on(table, relay, "b1", [*MOVES, "b8c6"])
-    await close(table, wire)
+    for board, ways in (("sent", [UP, DOWN]), ("answered", [DOWN])):
+        table, wire = await table_of(browser, relay, board)
+        wire.lose(*ways)
+        await enter(table, "b8c6", "type")
+        await until_state(table, "lost")
+        assert await log_of(relay, board) == (MOVES if UP in ways else [*MOVES, "b8c6"], None)
+        wire.losses = {}
+        await goes_on(table, relay, board, [*MOVES, "b8c6"])
+        await close(table, wire)
 
 
 async def try_delayed(browser):

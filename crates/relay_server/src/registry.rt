@@ -1,8 +1,10 @@
 //! The boards of a server, which all connections share.
 
-ghost use Rattle.std.specs.Prelude.{◌≡◌, ◌≤◌, ◌⊎◌, ◌/◌, [], max, true, Err, IfErr, IfOk, IfSome, Some};
+ghost use Rattle.std.specs.Prelude.{◌≡◌, ◌≤◌, ◌⊎◌, ◌/◌, [], max, true, Err, IfErr, IfOk, IfSome, None, Some};
 ghost use Rattle.std.specs.Arc.{arc_value};
 ghost use Rattle.relay_core.specs.Name.{same_name};
+ghost use Rattle.relay_server.specs.Holders.{presence_of};
+ghost use Rattle.relay_server.specs.Keys.{is_owner};
 ghost use Rattle.relay_server.specs.Opening.{done, IsOpening, IsTold, IsToldOwned, IsToldOwner};
 
 use crate::board_map::BoardMap;
@@ -340,9 +342,23 @@ impl Registry {
         for at in 0..forsaken.count {
             let hall = self.hall.lock(rt);
             if let Some(broadcast) = hall.forsaken_at(at, &forsaken.key) {
-                self.abandon(rt, broadcast);
+                self.abandon_own(rt, &hall, &forsaken.key, broadcast);
             }
         }
+    }
+
+    /// Ends a board of this key as abandoned, while the registry's lock is held and no connection with the key is there.
+    fn abandon_own<R: Wait>(
+        &self,
+        rt: &R,
+        hall: &Hall,
+        key: &Key,
+        broadcast: &Arc<Broadcast, Global>,
+    )
+        requires gone { presence_of key.now hall.now.holders.rows.items ≡ None }
+        requires owned { is_owner (Some key.now) (arc_value broadcast.now).owner ≡ true }
+    {
+        self.abandon(rt, broadcast);
     }
 
     /// Ends all boards as abandoned. A game that has ended stays as it ended. A board that is opened meanwhile is ended with its connection.

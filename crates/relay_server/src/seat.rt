@@ -66,6 +66,13 @@ impl<'a, R: Wait> Seat<'a, R> {
         self.registry
     }
 
+    /// Whether the connection has a key.
+    pub(crate) fn has_key(&self) -> bool
+        ensures { result ≡ is_some self.now.key }
+    {
+        self.key.is_some()
+    }
+
     /// Whether the connection follows a board.
     pub(crate) fn follows(&self) -> bool
         ensures { result ≡ is_some self.now.follower }

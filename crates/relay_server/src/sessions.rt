@@ -1,8 +1,9 @@
 //! Sessions: one connection from its handshake to its end.
 
-ghost use Rattle.std.specs.Prelude.{◌≡◌, ◌↔◌, if◌then◌else◌, None, Some, is_some, true};
+ghost use Rattle.std.specs.Prelude.{◌≡◌, ◌↔◌, if◌then◌else◌, [], None, Some, is_some, true};
 ghost use Rattle.relay_pushing.specs.Connections.{Ends};
 ghost use Rattle.relay_server.specs.Memory.{LacksMemory};
+ghost use Rattle.relay_server.specs.Seating.{Replies};
 ghost use Rattle.relay_server.specs.Spectating.{Conversed, Followed, Pushed};
 
 use crate::chronicle::What;
@@ -17,7 +18,7 @@ use crate::seat::Seat;
 use crate::spectating::Spectating;
 use crate::stream::Stream;
 use crate::talk::{Stop, Talk, TalkEnd};
-use relay_pushing::{Conn, Gate, Keeper, Outlet, PushEnd};
+use relay_pushing::{Conn, Gate, Outlet, PushEnd};
 use std::alloc::Global;
 use std::sync::Wait;
 use std::time::{Clock, Duration};
@@ -128,7 +129,7 @@ pub(crate) fn attend<'a, R: Wait + Clock, S: Stream + Drop, G: Gate>(
         ..
     } = talk;
     outlet.give_up();
-    end_own(conn, &key, &mut seat);
+    end_own(conn, &mut seat);
     seat.leave();
     if let Some(key) = &key {
         registry.leave(rt, key);
@@ -139,16 +140,16 @@ pub(crate) fn attend<'a, R: Wait + Clock, S: Stream + Drop, G: Gate>(
     end
 }
 
-/// Ends the boards that a connection opened as abandoned, where it has no key. With one no step is made: its boards may outlive it.
-fn end_own<K: Keeper>(conn: Conn, key: &Option<Key>, keeper: &mut K)
-    ensures unkeyed { key.now ≡ None → Ends K.makes keeper.old conn keeper.new }
-    ensures keyed { is_some key.now ≡ true → keeper.new ≡ keeper.old }
+/// Ends the boards that a connection opened as abandoned, where its seat has no key. With one no step is made: its boards may outlive it.
+fn end_own<R: Wait>(conn: Conn, seat: &mut Seat<'_, R>)
+    ensures unkeyed { seat.old.key ≡ None → Ends Replies seat.old conn seat.new }
+    ensures keyed { is_some seat.old.key ≡ true → seat.new ≡ seat.old }
+    ensures nothing { conn ≡ [] → seat.new ≡ seat.old }
 {
-    match key {
-        None => conn.finish(keeper),
-        Some(_) => {
-            let _ = conn.part();
-        }
+    if seat.has_key() {
+        let _ = conn.part();
+    } else {
+        conn.finish(seat);
     }
 }
 
