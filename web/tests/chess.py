@@ -311,8 +311,20 @@ def rare_in(text):
         side = "black"
 
 
+def is_mistaken(fen):
+    """Whether PyChess 1.0 takes another square for the rook of a right to castle: it looks for that of K and Q in the rank as it is written,
+    with vacant squares as one digit. docs/PAGES.md has an example. A start has no vacant squares there."""
+    placement, _, rights, *_ = fen.split(" ")
+    rows = placement.split("/")
+    for right, row, rook in (("K", rows[7], "R"), ("Q", rows[7], "R"), ("k", rows[0], "r"), ("q", rows[0], "r")):
+        found = row.rfind(rook) if right in "Kk" else row.find(rook)
+        if right in rights and found != sum(int(it) if it.isdigit() else 1 for it in row[:found]):
+            return True
+    return False
+
+
 def try_pgn():
-    """Others read a round of 200 games by chance: pgn-extract finds their moves and results, Stockfish their last positions, PyChess those of whole games."""
+    """Others read a round of 200 games by chance: pgn-extract finds their moves and results, Stockfish their last positions, and PyChess those whose FEN it does not mistake."""
     chance = random.Random(SEED + 3)
     ends = [None, *SCORES, "agreed", "threefold", "fifty moves", "fivefold", "seventy-five moves"]
     ends = [it for it in ends if it not in ("white mates", "black mates")]
@@ -320,6 +332,7 @@ def try_pgn():
         games = [game_told(pages, chance, ends[number % len(ends)]) for number in range(198)]
         games += [known(pages, STALEMATE, "stalemate"), known(pages, MATE, "black mates")]
         file = pages.call(ROUND, [(f"b{number}", {"white": 'A "B"', "black": ""}, texts) for number, (texts, *_) in enumerate(games)])
+    mistaken = 0
     with Stockfish() as stockfish:
         for number, ((texts, moves, end, final), text, (tags, words)) in enumerate(zip(games, games_in(file), extracted(file), strict=True)):
             score = SCORES.get(end, "1/2-1/2")
@@ -327,13 +340,14 @@ def try_pgn():
             assert (tags["White"], tags["Black"], tags["Variant"], tags["SetUp"]) == ('A \\"B\\"', "?", "Chess960", "1"), tags
             assert tags["BoardName"] == f"b{number}" and tags["FEN"].split(" ")[0] == texts[0]["fen"].split(" ")[0], tags
             assert is_same(stockfish.final(tags["FEN"], words[:-1]), final), (tags, words, final)
-            # PyChess mistakes the rook of a right to castle where its rank has vacant squares in the FEN: docs/PAGES.md has an example.
-            assert texts[0]["joined"] > 0 or read_by_pychess(text) == (len(moves), final.split(" ")[:2]), text
+            mistaken += is_mistaken(tags["FEN"])
+            assert is_mistaken(tags["FEN"]) or read_by_pychess(text) == (len(moves), final.split(" ")[:2]), text
     rare = collections.Counter(it for text in games_in(file) for it in rare_in(text))
     late, whole = sum(" b " in texts[0]["fen"] for texts, *_ in games), sum(not texts[0]["joined"] for texts, *_ in games)
-    print(f"    {len(games)} games of {sum(len(moves) for _, moves, *_ in games)} moves, {whole} games whole, {late} from a move of Black on")
+    print(f"    {len(games)} games of {sum(len(moves) for _, moves, *_ in games)} moves, {whole} games whole, {late} from a move of Black on, "
+          f"{mistaken} with a rook that PyChess mistakes")
     print(f"    {', '.join(f'{name}: {times}' for name, times in sorted(rare.items()))}")
-    assert late > 25 and whole > 50 and set(rare) == RARE, RARE - set(rare)
+    assert late > 25 and whole > 50 and mistaken < 20 and set(rare) == RARE, RARE - set(rare)
     assert {end for *_, end, _ in games} == {*ends, "stalemate", "white mates", "black mates"}, {end for *_, end, _ in games}
 
 
