@@ -10,7 +10,7 @@ use std::marker::Model;
 use std::mem;
 use websocket::protocol::frame::FrameHeader;
 
-/// Of a message in fragments the bytes so far, without their mask, and behind them the bytes that were not read.
+/// Of a message in fragments the bytes so far, without their mask, and after them those that were not read.
 ///
 /// They stand in one vector, so that a payload needs no second one: it is unmasked where it came and moved down over its frame's
 /// head. Room is added for what has come or was announced and for no more: a vector that grows by itself doubles. No room is held
@@ -21,8 +21,8 @@ pub(crate) struct Buffer {
     bytes: Vec<u8>,
     /// Where the message so far ends.
     message: usize,
-    /// Where the bytes begin that were not read. What lies in front of them behind the message goes when more are added, so that
-    /// reading many small frames moves no bytes.
+    /// Where the bytes begin that were not read. What lies between goes when more are added, so that reading many
+    /// small frames moves no bytes.
     read: usize,
 }
 
@@ -119,7 +119,7 @@ impl Buffer {
         Ok(payload)
     }
 
-    /// Reads a frame of the message that has begun, and puts its payload behind the message so far.
+    /// Reads a frame of the message that has begun, and puts its payload after the message so far.
     pub(crate) fn read_on(&mut self, header: &FrameHeader, size: usize)
         requires whole { header_len header.now size + size ≤ length self.old.unread }
         requires small { size ≤ most_bytes }
@@ -137,7 +137,7 @@ impl Buffer {
 
     /// Reads the last frame of a message, and hands the message out.
     ///
-    /// The vector itself becomes the message, and what lies behind the frame gets one of its own. Only where that is the longer, as
+    /// The vector itself becomes the message, and what follows the frame gets one of its own. Only where that is the longer, as
     /// with many small messages in one piece, the message does.
     ///
     /// # Errors
@@ -176,7 +176,7 @@ impl Buffer {
         self.read = 0;
     }
 
-    /// Puts what was not read right behind the message.
+    /// Puts what was not read right after the message.
     fn close_up(&mut self)
         ensures { self.new ≡ self.old }
     {
