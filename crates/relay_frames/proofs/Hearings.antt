@@ -1,11 +1,11 @@
 -- What is told of a peer does not depend on how its bytes are cut into pieces, and ends with the last event.
-use Rattle.std.proofs.Common.{◌≡◌, ℕ, zero, suc, ◌<◌, Bool, true, false, List, [], ◌∷◌, ◌++◌, length, fold, Option, refl, sym, ◌∙◌, ap, arith, append-nil, append_assoc}
+use Rattle.std.proofs.Common.{◌≡◌, ℕ, zero, suc, ◌<◌, Bool, true, false, cond, List, [], ◌∷◌, ◌++◌, length, fold, Option, None, Some, refl, sym, ◌∙◌, ap, arith, append-nil, append_assoc}
 use Rattle.std.specs.List.{concat}
 use Rattle.websocket.specs.FrameHeader.{decode_header}
-use Rattle.relay_frames.specs.Events.{Told}
+use Rattle.relay_frames.specs.Events.{Told, is_last}
 use Rattle.relay_frames.specs.Reading.{Message, Reading, opened, over, fed, waits, next_step}
-use Rattle.relay_frames.specs.Hearing.{silence, behind, hear_times, hear_all, hear_piece, hear_pieces, EndsWithTheLast, IsSmall}
-use Rattle.relay_frames.proofs.Steps.{Fits, Follows, waited, told, tells, steps}
+use Rattle.relay_frames.specs.Hearing.{Heard, silence, behind, hear_times, hear_all, hear_piece, hear_pieces, EndsWithTheLast, IsSmall}
+use Rattle.relay_frames.proofs.Steps.{Fits, Steps, Follows, waited, told, tells, steps}
 
 -- one time more: the first step, and what comes from there on
 hear_told : (n : ℕ) (r : Reading) (t : Told) (next : Reading) → next_step r ≡ tells t next → hear_times (suc n) r ≡ behind (t ∷ []) (hear_times n next)

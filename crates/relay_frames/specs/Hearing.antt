@@ -1,7 +1,7 @@
 -- All that is told of a peer, over any bytes in any pieces.
 use Rattle.std.specs.Prelude.{◌≡◌, ℕ, zero, suc, ◌+◌, ◌≤◌, true, List, [], ◌∷◌, ◌++◌, length, fold, ⊤, Option, None, Some}
 use Rattle.relay_frames.specs.Events.{Told, is_last}
-use Rattle.relay_frames.specs.Reading.{Message, Reading, opened, fed, next_step, most_bytes, most_fragments}
+use Rattle.relay_frames.specs.Reading.{Message, Reading, Step, opened, fed, next_step, most_bytes, most_fragments}
 
 -- what was told, in order, and what is known then
 pub record Heard : Type 0 where

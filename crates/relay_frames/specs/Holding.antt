@@ -30,3 +30,7 @@ HasNoStray bytes (Some b) = ⊤
 abbrev pub continued : Option Message → Data → Beginning
 continued None kind = record { kind = kind_of kind; fragments = 1 }
 continued (Some m) kind = record { kind = m.kind; fragments = m.fragments + 1 }
+
+-- of a message's end, the end of what was read, and the length and the room of the vector: no room is kept where no bytes are held
+abbrev pub HasNoIdleRoom : ℕ → ℕ → ℕ → ℕ → Type 0
+HasNoIdleRoom message read len room = message ≡ 0 → read ≡ len → room ≡ 0

@@ -49,7 +49,7 @@ impl Begun {
         }
     }
 
-    /// The rule that a fragment of so many bytes more would break, behind these of the message.
+    /// The rule that a fragment of so many bytes more would break, after these of the message.
     pub(crate) fn breach(&self, bytes: &[u8], length: u64) -> Option<Breach>
         ensures { result ≡ fragment_breach (message_of bytes.now self.now) length }
     {

@@ -1,6 +1,6 @@
 //! The bytes that are held of a peer.
 
-ghost use Rattle.std.specs.Prelude.{◌≡◌, ◌+◌, ◌≤◌, [], ◌++◌, length, drop, IfOk, OnOk, OnErr};
+ghost use Rattle.std.specs.Prelude.{◌≡◌, ◌+◌, ◌≤◌, [], ◌++◌, length, take, drop, vec_capacity, vec_len, IfOk, OnOk, OnErr};
 ghost use Rattle.websocket.specs.FrameHeader.{header_len};
 ghost use Rattle.relay_frames.specs.Reading.{most_bytes, payload_at};
 
@@ -10,7 +10,7 @@ use std::marker::Model;
 use std::mem;
 use websocket::protocol::frame::FrameHeader;
 
-/// Of a message in fragments the bytes so far, without their mask, and behind them the bytes that were not read.
+/// Of a message in fragments the bytes so far, without their mask, and after them those that were not read.
 ///
 /// They stand in one vector, so that a payload needs no second one: it is unmasked where it came and moved down over its frame's
 /// head. Room is added for what has come or was announced and for no more: a vector that grows by itself doubles. No room is held
@@ -21,20 +21,20 @@ pub(crate) struct Buffer {
     bytes: Vec<u8>,
     /// Where the message so far ends.
     message: usize,
-    /// Where the bytes begin that were not read. What lies in front of them behind the message goes when more are added, so that
-    /// reading many small frames moves no bytes.
+    /// Where the bytes begin that were not read. What lies between goes when more are added, so that reading many
+    /// small frames moves no bytes.
     read: usize,
 }
 
 impl Model for Buffer {
-    ghost use Rattle.std.specs.Prelude.{◌≤◌, take, drop, vec_len};
-    ghost use Rattle.relay_frames.specs.Holding.{Held};
+    ghost use Rattle.std.specs.Prelude.{◌≤◌, take, drop, vec_capacity, vec_len};
+    ghost use Rattle.relay_frames.specs.Holding.{HasNoIdleRoom, Held};
 
     ghost Value = { Held };
 
     ghost view = { λ b. record { message = take b.message b.bytes.items; unread = drop b.read b.bytes.items } };
 
-    ghost invariant = { λ b. (b.message ≤ b.read) × (b.read ≤ vec_len b.bytes) };
+    ghost invariant = { λ b. (b.message ≤ b.read) × ((b.read ≤ vec_len b.bytes) × HasNoIdleRoom b.message b.read (vec_len b.bytes) (vec_capacity b.bytes)) };
 }
 
 impl Buffer {
@@ -73,12 +73,15 @@ impl Buffer {
         ensures ok { OnOk result (self.new ≡ record self.old { unread = self.old.unread ++ bytes.now }) }
         ensures err { OnErr result (self.new ≡ self.old) }
     {
+        if bytes.is_empty() {
+            return Ok(());
+        }
         self.close_up();
         self.bytes.reserve_exact(bytes.len())?;
         self.bytes.extend_from_slice(bytes)
     }
 
-    /// Sees to it that there is room until so many bytes were not read, and for no more.
+    /// Sees to it that, where some were not read, there is room until so many were not read, and for no more.
     ///
     /// # Errors
     ///
@@ -86,9 +89,12 @@ impl Buffer {
     pub(crate) fn expect(&mut self, total: usize) -> Result<(), AllocError>
         ensures { self.new ≡ self.old }
     {
+        let came = self.unread().len();
+        if came == 0 {
+            return Ok(());
+        }
         self.close_up();
-        let missing = total.saturating_sub(self.unread().len());
-        self.bytes.reserve_exact(missing)
+        self.bytes.reserve_exact(total.saturating_sub(came))
     }
 
     /// Reads a frame that belongs to no message in fragments, and hands its payload out.
@@ -109,12 +115,11 @@ impl Buffer {
     {
         let start = header.len(size as u64);
         let payload = unmasked(self.alloc, &self.unread()[start..][..size], header.mask)?;
-        self.read += start + size;
-        self.give_back();
+        self.skip(start + size);
         Ok(payload)
     }
 
-    /// Reads a frame of the message that has begun, and puts its payload behind the message so far.
+    /// Reads a frame of the message that has begun, and puts its payload after the message so far.
     pub(crate) fn read_on(&mut self, header: &FrameHeader, size: usize)
         requires whole { header_len header.now size + size ≤ length self.old.unread }
         requires small { size ≤ most_bytes }
@@ -124,12 +129,15 @@ impl Buffer {
         move_down(&mut self.bytes, start, size, header.mask, self.message);
         self.message += size;
         self.read = start + size;
-        self.give_back();
+        if self.message == 0 && self.read == self.bytes.len() {
+            self.bytes = Vec::new(self.alloc);
+            self.read = 0;
+        }
     }
 
     /// Reads the last frame of a message, and hands the message out.
     ///
-    /// The vector itself becomes the message, and what lies behind the frame gets one of its own. Only where that is the longer, as
+    /// The vector itself becomes the message, and what follows the frame gets one of its own. Only where that is the longer, as
     /// with many small messages in one piece, the message does.
     ///
     /// # Errors
@@ -151,7 +159,7 @@ impl Buffer {
         if self.message == 0 && size < self.bytes.len() - end {
             return self.read_apart(header, size);
         }
-        let rest = self.bytes.split_off(end)?;
+        let rest = cut(self.alloc, &mut self.bytes, end)?;
         move_down(&mut self.bytes, start, size, header.mask, self.message);
         self.bytes.truncate(self.message + size);
         self.message = 0;
@@ -168,7 +176,7 @@ impl Buffer {
         self.read = 0;
     }
 
-    /// Puts what was not read right behind the message.
+    /// Puts what was not read right after the message.
     fn close_up(&mut self)
         ensures { self.new ≡ self.old }
     {
@@ -176,12 +184,29 @@ impl Buffer {
         self.read = self.message;
     }
 
-    /// Gives the room back where there are no bytes.
-    fn give_back(&mut self)
-        ensures { self.new ≡ self.old }
+    /// These were read.
+    fn skip(&mut self, count: usize)
+        requires { count ≤ length self.old.unread }
+        ensures { self.new ≡ record self.old { unread = drop count self.old.unread } }
     {
+        self.read += count;
         if self.message == 0 && self.read == self.bytes.len() {
-            self.clear();
+            self.bytes = Vec::new(self.alloc);
+            self.read = 0;
         }
     }
+}
+
+/// Cuts the bytes from here on off. Where there are none, no room is taken for them.
+fn cut(alloc: Global, bytes: &mut Vec<u8>, at: usize) -> Result<Vec<u8>, AllocError>
+    requires { at ≤ vec_len bytes.old }
+    ensures kept { OnOk result (bytes.new.items ≡ take at bytes.old.items) }
+    ensures rest { IfOk result (λ rest. rest.items ≡ drop at bytes.old.items) }
+    ensures no_room { IfOk result (λ rest. vec_len rest ≡ 0 → vec_capacity rest ≡ 0) }
+    ensures unchanged { OnErr result (bytes.new ≡ bytes.old) }
+{
+    if at == bytes.len() {
+        return Ok(Vec::new(alloc));
+    }
+    bytes.split_off(at)
 }

@@ -35,7 +35,7 @@ fn unmask(bytes: &mut [u8], start: usize, size: usize, mask: Option<[u8; 4]>)
     ensures len { length bytes.new ≡ length bytes.old }
     ensures before { take start bytes.new ≡ take start bytes.old }
     ensures payload { take size (drop start bytes.new) ≡ apply_mask_if mask (take size (drop start bytes.old)) }
-    ensures behind { drop (start + size) bytes.new ≡ drop (start + size) bytes.old }
+    ensures after { drop (start + size) bytes.new ≡ drop (start + size) bytes.old }
 {
     if let Some(key) = mask {
         apply_mask(&mut bytes[start..start + size], key);
@@ -54,7 +54,7 @@ pub(crate) fn move_down(
     requires down { to ≤ start }
     ensures len { vec_len bytes.new ≡ vec_len bytes.old }
     ensures moved { take (to + size) bytes.new.items ≡ take to bytes.old.items ++ apply_mask_if mask (take size (drop start bytes.old.items)) }
-    ensures behind { drop (start + size) bytes.new.items ≡ drop (start + size) bytes.old.items }
+    ensures after { drop (start + size) bytes.new.items ≡ drop (start + size) bytes.old.items }
 {
     unmask(bytes.as_mut_slice(), start, size, mask);
     bytes.copy_within(start..start + size, to);
