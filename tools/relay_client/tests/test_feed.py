@@ -95,6 +95,11 @@ class Channels(http.server.ThreadingHTTPServer):
         self.shutdown()
         self.server_close()
 
+    def handle_error(self, *who):
+        """A feed that is ended takes no answer any more."""
+        if not isinstance(sys.exc_info()[1], ConnectionError):
+            super().handle_error(*who)
+
     def told(self, name):
         """The texts of a channel, the beats left out."""
         return [it for it in self.texts.get(name, []) if "beat" not in it]

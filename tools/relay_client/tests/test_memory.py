@@ -43,6 +43,7 @@ def pinned(text, answer):
 
 class Memory(unittest.TestCase):
     def test_a_text_that_nests_deep_takes_no_more_of_the_stack_than_a_short_one(self):
+        """Before, a peer that had sent 127 nested arrays pinned 173 KiB, and a silent one 46."""
         short = pinned(SHORT, NOT_OBJECT)
         for deep, answer in ((DEEP_ARRAYS, NOT_OBJECT), (DEEP_OBJECTS, UNKNOWN_COMMAND)):
             self.assertLess(pinned(deep, answer), short + MOST, deep[:6])
