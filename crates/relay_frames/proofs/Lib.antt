@@ -1,3 +1,4 @@
+pub mod Accepted
 pub mod Heads
 pub mod Hearings
 pub mod Moves

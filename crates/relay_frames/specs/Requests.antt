@@ -1,13 +1,13 @@
 -- Which requests are answered by a WebSocket, and how the others are refused: RFC 9112, sections 2 to 5; RFC 6455, sections 4.2.1 and 4.4;
 -- RFC 9110, section 15; RFC 6585, section 5.
-use Rattle.std.specs.Prelude.{◌≡◌, ◌⊎◌, ◌≤◌, ℕ, true, false, ◌==◌, List, length, map, codes, Option, None, Some, Result, Ok, Err}
+use Rattle.std.specs.Prelude.{◌≡◌, ◌⊎◌, ◌≤◌, ℕ, true, false, ◌==◌, List, [], length, map, codes, Option, None, Some, Result, Ok, Err}
 use Rattle.std.specs.List.{count_by}
 use Rattle.httparse.specs.Grammar.{RequestHead, HasNoRequest, ReadsRequest}
 use Rattle.httparse.specs.Spans.{RequestExceeds, name_and_value}
 use Rattle.websocket.specs.declared.handshake.failure.HandshakeError.{HandshakeError}
 use Rattle.websocket.specs.declared.handshake.failure.HandshakeError.TheVariants.{WrongHttpMethod, MissingSecWebSocketVersionHeader}
 use Rattle.websocket.specs.Headers.{Fields, eq_ignore_case}
-use Rattle.websocket.specs.Handshake.{Answers, requested_key}
+use Rattle.websocket.specs.Handshake.{Answers, accept_key_of, requested_key, response_bytes}
 use Rattle.relay_frames.specs.declared.refusal.Refusal.{Refusal}
 use Rattle.relay_frames.specs.declared.refusal.Refusal.TheVariants.{BadRequest, MethodNotAllowed, UpgradeRequired, HeadTooLarge}
 
@@ -50,6 +50,20 @@ IsAnswered bytes answer =
     IsNoHead bytes answer
     ⊎ ((h : RequestHead) × (rest : List ℕ) × ReadsRequest bytes h rest × (length h.fields ≤ most_fields)
     × IsJudged h.method h.minor (map name_and_value h.fields) answer)
+
+-- the value of `Sec-WebSocket-Accept` that accepts a request of this method, minor version and fields is that of its key
+abbrev pub IsAcceptance : List ℕ → ℕ → Fields → List ℕ → Type 0
+IsAcceptance method version fields value =
+    (key : List ℕ) × (requested_key method version fields ≡ Ok key) × (value ≡ accept_key_of key)
+
+-- the value that accepts the request with which these bytes begin
+abbrev pub Accepts : List ℕ → List ℕ → Type 0
+Accepts bytes value =
+    (h : RequestHead) × (rest : List ℕ) × ReadsRequest bytes h rest × IsAcceptance h.method h.minor (map name_and_value h.fields) value
+
+-- the bytes that answer a request which is accepted by this value
+abbrev pub acceptance_text : List ℕ → List ℕ
+acceptance_text value = response_bytes value []
 
 -- the status of a refusal
 abbrev pub status_of : Refusal → ℕ

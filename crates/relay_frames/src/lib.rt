@@ -2,6 +2,7 @@
 //! waits, looks at a clock or knows of a socket, so a thread for each peer and a loop for all of them read peers alike.
 #![tactic(auto)]
 
+mod acceptance;
 mod begun;
 mod breach;
 mod buffer;
@@ -14,9 +15,10 @@ mod peer;
 mod refusal;
 mod request;
 
+pub use acceptance::Acceptance;
 pub use breach::Breach;
 pub use code::Code;
 pub use event::Event;
 pub use peer::{MOST_BYTES, MOST_FRAGMENTS, Peer};
 pub use refusal::Refusal;
-pub use request::{MOST_FIELDS, refusal_of};
+pub use request::{MOST_FIELDS, acceptance_of, refusal_of};

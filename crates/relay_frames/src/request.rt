@@ -1,10 +1,11 @@
 //! Whether a request is answered by a WebSocket (RFC 9112, sections 2 to 5; RFC 6455, section 4.2.1).
 
-ghost use Rattle.std.specs.Prelude.{◌≡◌, ◌==◌, length, codes, take, All};
+ghost use Rattle.std.specs.Prelude.{◌≡◌, ◌==◌, length, codes, take, None, Some, All, IfOk, IfErr};
 ghost use Rattle.httparse.specs.Spans.{IsHeaderWithin, IsRequestWithin, span_bytes};
 ghost use Rattle.websocket.specs.Headers.{eq_ignore_case, fields_of};
-ghost use Rattle.relay_frames.specs.Requests.{IsAnswered, IsJudged, count_of_hosts};
+ghost use Rattle.relay_frames.specs.Requests.{Accepts, IsAcceptance, IsAnswered, IsJudged, count_of_hosts};
 
+use crate::acceptance::Acceptance;
 use crate::refusal::Refusal;
 use httparse::spans::{EMPTY_HEADER_SPAN, HeaderSpan, RequestSpans, parse_request};
 use httparse::{Error, Status};
@@ -14,32 +15,50 @@ use websocket::handshake::server::check_request;
 /// How many fields a head may have: a browser behind two proxies sends some 25.
 pub const MOST_FIELDS: usize = 64;
 
-/// How the request with this head is refused, if it is. The bytes end where the head does.
-pub fn refusal_of(head: &[u8]) -> Option<Refusal>
-    ensures { IsAnswered head.now result }
+/// How the request with this head is accepted. The bytes end where the head does.
+///
+/// # Errors
+///
+/// The request is refused.
+pub fn acceptance_of(head: &[u8]) -> Result<Acceptance, Refusal>
+    ensures let_in { IfOk result (λ _. IsAnswered head.now None) }
+    ensures accepted { IfOk result (λ acceptance. Accepts head.now acceptance.value) }
+    ensures refused { IfErr result (λ refusal. IsAnswered head.now (Some refusal)) }
 {
     let mut spans = [EMPTY_HEADER_SPAN; MOST_FIELDS];
     match parse_request(head, &mut spans) {
         Ok(Status::Complete(found)) => judged(head, &found, &spans),
-        Ok(Status::Partial) => Some(Refusal::BadRequest),
-        Err(Error::TooManyHeaders) => Some(Refusal::HeadTooLarge),
-        Err(_) => Some(Refusal::BadRequest),
+        Ok(Status::Partial) => Err(Refusal::BadRequest),
+        Err(Error::TooManyHeaders) => Err(Refusal::HeadTooLarge),
+        Err(_) => Err(Refusal::BadRequest),
     }
 }
 
-/// How a request of these parts is refused, if it is.
-fn judged(head: &[u8], found: &RequestSpans, spans: &[HeaderSpan]) -> Option<Refusal>
+/// How the request with this head is refused, if it is. The bytes end where the head does.
+pub fn refusal_of(head: &[u8]) -> Option<Refusal>
+    ensures { IsAnswered head.now result }
+{
+    match acceptance_of(head) {
+        Ok(_) => None,
+        Err(refusal) => Some(refusal),
+    }
+}
+
+/// How a request of these parts is accepted, or how it is refused.
+fn judged(head: &[u8], found: &RequestSpans, spans: &[HeaderSpan]) -> Result<Acceptance, Refusal>
     requires { IsRequestWithin head.now spans.now found.now }
-    ensures { IsJudged (span_bytes head.now found.now.method) found.now.version (fields_of head.now (take found.now.headers spans.now)) result }
+    ensures let_in { IfOk result (λ _. IsJudged (span_bytes head.now found.now.method) found.now.version (fields_of head.now (take found.now.headers spans.now)) None) }
+    ensures accepted { IfOk result (λ acceptance. IsAcceptance (span_bytes head.now found.now.method) found.now.version (fields_of head.now (take found.now.headers spans.now)) acceptance.value) }
+    ensures refused { IfErr result (λ refusal. IsJudged (span_bytes head.now found.now.method) found.now.version (fields_of head.now (take found.now.headers spans.now)) (Some refusal)) }
 {
     if !has_one_host(head, &spans[..found.headers]) {
-        return Some(Refusal::BadRequest);
+        return Err(Refusal::BadRequest);
     }
     match check_request(head, found, spans) {
-        Ok(_) => None,
-        Err(HandshakeError::WrongHttpMethod) => Some(Refusal::MethodNotAllowed),
-        Err(HandshakeError::MissingSecWebSocketVersionHeader) => Some(Refusal::UpgradeRequired),
-        Err(_) => Some(Refusal::BadRequest),
+        Ok(value) => Ok(Acceptance { value }),
+        Err(HandshakeError::WrongHttpMethod) => Err(Refusal::MethodNotAllowed),
+        Err(HandshakeError::MissingSecWebSocketVersionHeader) => Err(Refusal::UpgradeRequired),
+        Err(_) => Err(Refusal::BadRequest),
     }
 }
 

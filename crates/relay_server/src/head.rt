@@ -36,15 +36,14 @@ impl From<io::Error> for HeadFault {
     }
 }
 
-/// A request's head, and what came behind it in the same pieces. It gives them in two parts, so that who reads the head reads
-/// nothing else.
+/// A request's head, and what came behind it in the same pieces. It gives the latter: the head itself is read in place.
 #[derive(Drop)]
 pub(crate) struct Head {
     alloc: Global,
     bytes: Vec<u8>,
     /// Where the head ends.
     end: usize,
-    /// How many bytes were given.
+    /// How many bytes were read in place or given.
     given: usize,
 }
 
@@ -60,7 +59,7 @@ impl Head {
         stream: &mut S,
     ) -> Result<Head, HeadFault>
         ensures bound { IfOk result (λ head. head.end ≤ 8192) }
-        ensures none_given { IfOk result (λ head. head.given ≡ 0) }
+        ensures unread { IfOk result (λ head. head.given ≡ head.end) }
     {
         let deadline = Deadline::after(clock, Duration::from_secs(MOST_HEAD_SECONDS))?;
         let mut bytes = Vec::new(alloc);
@@ -80,7 +79,7 @@ impl Head {
                     alloc,
                     bytes,
                     end,
-                    given: 0,
+                    given: end,
                 });
             }
             if bytes.len() >= MOST_BYTES {
@@ -103,24 +102,18 @@ impl Head {
         key_of(self.request())
     }
 
-    /// Gives bytes of the head, or where that was given of what came behind it. It gives none once all were given.
+    /// Gives bytes of what came behind the head, and none once all were given.
     pub(crate) fn give(&mut self, buf: &mut [u8]) -> usize
         ensures bound { result ≤ length buf.new }
         ensures next { left self.old ≡ take result buf.new ++ left self.new }
         ensures all { result ≡ 0 → 0 < length buf.old → left self.old ≡ [] }
-        ensures apart { self.old.given < self.old.end → self.new.given ≤ self.old.end }
         ensures same { (self.new.bytes ≡ self.old.bytes) × (self.new.end ≡ self.old.end) }
     {
         let all = self.bytes.as_slice();
-        let end = if self.given < self.end {
-            self.end.min(all.len())
-        } else {
-            all.len()
-        };
-        if self.given >= end {
+        if self.given >= all.len() {
             return 0;
         }
-        let rest = &all[self.given..end];
+        let rest = &all[self.given..];
         let n = rest.len().min(buf.len());
         buf[..n].copy_from_slice(&rest[..n]);
         self.given += n;

@@ -3,6 +3,7 @@
 ghost use Rattle.std.specs.Prelude.{◌≡◌, ◌≤◌, true, [], None, length, take, drop, vec_capacity, vec_len, IfOk, OnOk, OnErr, IsErr};
 ghost use Rattle.std.specs.Io.{ReadsAtMost, WritesAtMost};
 ghost use Rattle.std.specs.Io.KnownBytes.{Appends, Keeps, ReadConsumes, WriteAppends};
+ghost use Rattle.relay_server.specs.Heads.{left};
 ghost use Rattle.relay_server.specs.Lines.{IsSilent, ReadsLast, Sends, written};
 
 use crate::broadcast::Broadcast;
@@ -16,7 +17,7 @@ use std::sync::Arc;
 use std::time::Duration;
 
 /// How many bytes of output are kept back at most, beside the last piece written.
-const MOST_OUTPUT: usize = 65536;
+const MOST_OUTPUT: usize = 16384;
 
 /// How many bytes of room stay for output where nothing is kept back.
 const MOST_ROOM: usize = 4096;
@@ -38,13 +39,22 @@ pub(crate) struct Line<S> {
 }
 
 impl<S: Read + Write> Line<S> {
-    /// The stream behind this head.
-    pub(crate) fn new(alloc: Global, stream: S, head: Head, most_wakes: u16) -> Line<S> {
+    /// The stream behind this head, where that is answered by these bytes. They are the first that the line was written.
+    pub(crate) fn new(
+        alloc: Global,
+        stream: S,
+        head: Head,
+        answer: Vec<u8>,
+        most_wakes: u16,
+    ) -> Line<S>
+        ensures answered { Appends (S.contents stream) (written S.contents result) answer.items }
+        ensures behind { left result.head ≡ left head }
+    {
         Line {
             alloc,
             stream,
             head,
-            output: Vec::new(alloc),
+            output: answer,
             has_failed: false,
             wakes: Wakes::new(most_wakes),
         }

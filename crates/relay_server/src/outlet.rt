@@ -58,6 +58,7 @@ impl<S: Read + Write + Drop> SocketOutlet<S> {
     pub(crate) fn new(alloc: Global, line: Line<S>) -> SocketOutlet<S>
         ensures texts { result.texts.items ≡ [] }
         ensures failures { result.failures ≡ 0 }
+        ensures line { result.line ≡ line }
     {
         SocketOutlet {
             alloc,

@@ -1,31 +1,40 @@
 //! The request that begins a connection, and the answer to one that is refused.
 
-ghost use Rattle.std.specs.Prelude.{◌≤◌, None, length, take, IfOk, OnOk};
+ghost use Rattle.std.specs.Prelude.{◌≡◌, ◌≤◌, None, length, take, IfOk, OnOk};
 ghost use Rattle.std.specs.Io.KnownBytes.{Appends};
-ghost use Rattle.relay_frames.specs.Requests.{IsAnswered, answer_text};
+ghost use Rattle.relay_frames.specs.Requests.{Accepts, IsAnswered, answer_text};
 
 use crate::drain::end_and_drain;
 use crate::head::{Head, HeadFault};
 use crate::line::write_out;
 use crate::sessions::{SessionEnd, end_unshaken};
 use crate::stream::Stream;
-use relay_frames::{Refusal, refusal_of};
+use relay_frames::{Acceptance, Refusal, acceptance_of};
 use std::alloc::Global;
 use std::io;
 use std::io::Write;
 use std::time::Clock;
 use tungstenite::Error;
 
-/// Reads a request's head, of a request that is not refused. One that is refused is answered, and the connection ends behind that.
+/// A request that is accepted.
+#[derive(Drop)]
+pub(crate) struct Request {
+    pub(crate) head: Head,
+    pub(crate) acceptance: Acceptance,
+}
+
+/// Reads a request that is accepted. One that is refused is answered, and the connection ends behind that.
 pub(crate) fn receive<C: Clock, S: Stream>(
     clock: &C,
     alloc: Global,
     stream: &mut S,
-) -> Result<Head, SessionEnd>
-    ensures { IfOk result (λ head. IsAnswered (take head.end head.bytes.items) None) }
+) -> Result<Request, SessionEnd>
+    ensures let_in { IfOk result (λ request. IsAnswered (take request.head.end request.head.bytes.items) None) }
+    ensures accepted { IfOk result (λ request. Accepts (take request.head.end request.head.bytes.items) request.acceptance.value) }
+    ensures unread { IfOk result (λ request. request.head.given ≡ request.head.end) }
 {
     match read_request(clock, alloc, stream) {
-        Ok(head) => Ok(head),
+        Ok(request) => Ok(request),
         Err(HeadFault::Stream(error)) => Err(end_unshaken(&Error::Io(error))),
         Err(HeadFault::Refused(refusal)) => {
             let _ = refuse(clock, stream, refusal);
@@ -34,18 +43,20 @@ pub(crate) fn receive<C: Clock, S: Stream>(
     }
 }
 
-/// Reads a request's head, and looks whether the request is refused.
+/// Reads a request's head, and looks whether the request is accepted.
 fn read_request<C: Clock, S: Stream>(
     clock: &C,
     alloc: Global,
     stream: &mut S,
-) -> Result<Head, HeadFault>
-    ensures { IfOk result (λ head. IsAnswered (take head.end head.bytes.items) None) }
+) -> Result<Request, HeadFault>
+    ensures let_in { IfOk result (λ request. IsAnswered (take request.head.end request.head.bytes.items) None) }
+    ensures accepted { IfOk result (λ request. Accepts (take request.head.end request.head.bytes.items) request.acceptance.value) }
+    ensures unread { IfOk result (λ request. request.head.given ≡ request.head.end) }
 {
     let head = Head::read(clock, alloc, stream)?;
-    match refusal_of(head.request()) {
-        None => Ok(head),
-        Some(refusal) => Err(HeadFault::Refused(refusal)),
+    match acceptance_of(head.request()) {
+        Ok(acceptance) => Ok(Request { head, acceptance }),
+        Err(refusal) => Err(HeadFault::Refused(refusal)),
     }
 }
 

@@ -1,28 +1,35 @@
 //! Sessions: one connection from its handshake to its end.
 
-ghost use Rattle.std.specs.Prelude.{◌≡◌, ◌↔◌, if◌then◌else◌, [], None, Some, is_some, true};
+ghost use Rattle.std.specs.Prelude.{◌≡◌, ◌↔◌, if◌then◌else◌, [], None, Some, is_some, true, IfOk};
+ghost use Rattle.std.specs.Io.KnownBytes.{Appends};
+ghost use Rattle.relay_frames.specs.Requests.{acceptance_text};
 ghost use Rattle.relay_pushing.specs.Connections.{Ends};
+ghost use Rattle.relay_server.specs.Heads.{left};
+ghost use Rattle.relay_server.specs.Lines.{written as line_written};
 ghost use Rattle.relay_server.specs.Memory.{LacksMemory};
 ghost use Rattle.relay_server.specs.Seating.{Replies};
 ghost use Rattle.relay_server.specs.Spectating.{Conversed, Followed, Pushed};
 
 use crate::chronicle::What;
+use crate::head::Head;
 use crate::key::Key;
 use crate::line::Line;
 use crate::memory::is_want_of_memory;
 use crate::outlet::{MOST_SILENT_SECONDS, SocketOutlet};
 use crate::patience::Patience;
 use crate::registry::Registry;
-use crate::request::receive;
+use crate::request::{Request, receive};
 use crate::seat::Seat;
 use crate::spectating::Spectating;
 use crate::stream::Stream;
 use crate::talk::{Stop, Talk, TalkEnd};
+use relay_frames::Acceptance;
 use relay_pushing::{Conn, Gate, Outlet, PushEnd};
-use std::alloc::Global;
+use std::alloc::{AllocError, Global};
+use std::io::{Read, Write};
 use std::sync::Wait;
 use std::time::{Clock, Duration};
-use tungstenite::{Error, HandshakeError};
+use tungstenite::Error;
 
 /// How a session ended.
 #[derive(Clone, Copy, PartialEq, Eq, Debug)]
@@ -160,7 +167,7 @@ fn shake_hands<C: Clock, S: Stream + Drop>(
     registry: &Registry,
     mut stream: S,
 ) -> Result<Arrival<S>, SessionEnd> {
-    let head = receive(clock, alloc, &mut stream)?;
+    let Request { head, acceptance } = receive(clock, alloc, &mut stream)?;
     if let Err(error) = stream.bound_reads(Some(Duration::from_secs(MOST_SILENT_SECONDS))) {
         return Err(end_unshaken(&Error::Io(error)));
     }
@@ -169,15 +176,28 @@ fn shake_hands<C: Clock, S: Stream + Drop>(
     } else {
         None
     };
-    let line = Line::new(alloc, stream, head, registry.most_wakes());
-    match tungstenite::accept(alloc, line) {
-        Ok(socket) => Ok(Arrival {
-            outlet: SocketOutlet::new(alloc, socket.into_inner()),
-            key,
-        }),
-        Err(HandshakeError::Failure(error)) => Err(end_unshaken(&error)),
-        Err(HandshakeError::Interrupted(_)) => Err(SessionEnd::NoHandshake),
+    match welcome(alloc, stream, head, acceptance, registry.most_wakes()) {
+        Ok(outlet) => Ok(Arrival { outlet, key }),
+        Err(_) => Err(SessionEnd::Failed),
     }
+}
+
+/// Answers a request that is accepted. The answer comes first in all that the peer is sent, and what came behind the head is still read.
+fn welcome<S: Read + Write + Drop>(
+    alloc: Global,
+    stream: S,
+    head: Head,
+    acceptance: Acceptance,
+    most_wakes: u16,
+) -> Result<SocketOutlet<S>, AllocError>
+    ensures answered { IfOk result (λ outlet. Appends (S.contents stream) (line_written S.contents outlet.line) (acceptance_text acceptance.value)) }
+    ensures behind { IfOk result (λ outlet. left outlet.line.head ≡ left head) }
+    ensures texts { IfOk result (λ outlet. outlet.texts.items ≡ []) }
+{
+    let mut answer = Vec::new(alloc);
+    acceptance.write(&mut answer)?;
+    let line = Line::new(alloc, stream, head, answer, most_wakes);
+    Ok(SocketOutlet::new(alloc, line))
 }
 
 /// How a session ends whose handshake failed: for want of memory, or because there was no handshake.

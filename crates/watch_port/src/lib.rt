@@ -10,7 +10,6 @@ mod boards;
 mod crowd;
 mod entrance;
 mod event_loop;
-mod exchange;
 mod guest;
 mod patience;
 mod port;

@@ -1,8 +1,7 @@
 //! A visitor's request, as it comes, and its answer.
 
-use crate::exchange::answer_to;
 use crate::visitor::{Doing, Visitor};
-use relay_frames::Refusal;
+use relay_frames::{Refusal, acceptance_of};
 use std::alloc::{AllocError, Global};
 use std::mem;
 
@@ -44,9 +43,9 @@ pub(crate) fn take_request(
             Ok(bytes.len())
         }
         Head::Whole(head, used) => {
-            match answer_to(alloc, head)? {
-                Ok(answer) => {
-                    visitor.output().extend_from_slice(answer.as_slice())?;
+            match acceptance_of(head.as_slice()) {
+                Ok(acceptance) => {
+                    acceptance.write(visitor.output())?;
                     visitor.doing = Doing::Asks;
                 }
                 Err(refusal) => refuse(visitor, refusal)?,

@@ -2,9 +2,12 @@
 
 import pathlib
 import re
+import socket
 import unittest
 
 from relay_client.connection import Connection
+from relay_client.frames import REQUEST
+from relay_client.program import PATIENCE
 from relay_client.server import Server
 from relay_client.texts import NOT_OBJECT, UNKNOWN_COMMAND
 
@@ -12,7 +15,8 @@ PEERS, FIRST = 60, 5
 SHORT = "[]"
 DEEP_ARRAYS = "[" * 127 + "]" * 127
 DEEP_OBJECTS = '{"a":' * 127 + "0" + "}" * 127
-MOST = 8  # Kibibytes that a deep text may pin beside what a short one does.
+FIELDS_64 = REQUEST[:-2] + b"A: b\r\n" * 59 + b"\r\n"
+MOST = 8  # Kibibytes that a deep text or a long head may pin beside what a short one does.
 
 
 def resident(server):
@@ -29,12 +33,24 @@ def asked(server, text, answer, count):
     return peers
 
 
-def pinned(text, answer):
-    """Kibibytes that a peer pins which has sent the text. The first peers come before, so that what all share is there."""
+def shaken(server, request, count):
+    """So many peers, each of which was let in with this request and is silent since."""
+    peers = []
+    for _ in range(count):
+        peer = socket.create_connection(("127.0.0.1", server.port), timeout=PATIENCE)
+        peer.sendall(request)
+        if not peer.recv(4096).startswith(b"HTTP/1.1 101 "):
+            raise AssertionError("not let in")
+        peers.append(peer)
+    return peers
+
+
+def pinned(joined, *how):
+    """Kibibytes that a peer of this kind pins. The first peers come before, so that what all share is there."""
     with Server() as server:
-        peers = asked(server, text, answer, FIRST)
+        peers = joined(server, *how, FIRST)
         before = resident(server)
-        peers += asked(server, text, answer, PEERS)
+        peers += joined(server, *how, PEERS)
         taken = (resident(server) - before) / PEERS
         for peer in peers:
             peer.close()
@@ -44,6 +60,10 @@ def pinned(text, answer):
 class Memory(unittest.TestCase):
     def test_a_text_that_nests_deep_takes_no_more_of_the_stack_than_a_short_one(self):
         """Before, a peer that had sent 127 nested arrays pinned 173 KiB, and a silent one 46."""
-        short = pinned(SHORT, NOT_OBJECT)
+        short = pinned(asked, SHORT, NOT_OBJECT)
         for deep, answer in ((DEEP_ARRAYS, NOT_OBJECT), (DEEP_OBJECTS, UNKNOWN_COMMAND)):
-            self.assertLess(pinned(deep, answer), short + MOST, deep[:6])
+            self.assertLess(pinned(asked, deep, answer), short + MOST, deep[:6])
+
+    def test_a_request_of_64_header_fields_takes_no_more_of_the_stack_than_one_of_5(self):
+        """Before, each field more took 1 KiB more."""
+        self.assertLess(pinned(shaken, FIELDS_64), pinned(shaken, REQUEST) + MOST)

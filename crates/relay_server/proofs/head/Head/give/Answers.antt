@@ -1,11 +1,11 @@
-use Rattle.std.proofs.Common.{◌-◌, take, drop, ap, ◌∙◌, arith, length-take}
+use Rattle.std.proofs.Common.{◌-◌, length, take, drop, ap, ◌∙◌, arith, length-take}
 use Rattle.relay_server.proofs.Given.{given_next}
 use Rattle.relay_server.proofs.head.Head.give.Goals as goal
 
 pub returns-clause-next : goal.returns-clause-next
 returns-clause-next c =
     let head = c.args.self.now in
-    let end = c.if-self.end in
+    let end = length c.as_slice-all.result.now in
     let n = c.min-n.result in
     let piece = c.copy_from_slice.new.self in
     let is = c.copy_from_slice.ensures.after ∙ ap (λ l. take n (take (end - head.given) (drop head.given l))) c.as_slice-all.ensures.value in
