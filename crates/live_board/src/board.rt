@@ -22,7 +22,7 @@ ghost use Rattle.live_board.specs.Order.{SubmittedInOrder};
 use crate::desk::Desk;
 use crate::follower::Follower;
 use c960_board::{Move, Position};
-use c960_game::{Ending, Game, Limits, Outcome, Refusal};
+use c960_game::{Ending, Game, Limits, Outcome, Refusal, Replaying};
 use live_steps::{BoardLimits, BoardSetup};
 use relay_core::{Account, Taken};
 use std::alloc::Global;
@@ -86,6 +86,14 @@ impl Board {
         self.game.len()
     }
 
+    /// How many moves the queue of a follower holds.
+    pub fn capacity(&self) -> u16
+        ensures value { result ≡ self.now.knows.setup.limits.capacity }
+        ensures valid { IsLegalGame self.now.knows }
+    {
+        self.desk.capacity() as u16
+    }
+
     /// The move at a place of the log, counted from 0: None exactly from the log's length on.
     pub fn move_at(&self, place: u16) -> Option<Move>
         ensures value { result ≡ slice_get self.now.knows.log place }
@@ -108,6 +116,14 @@ impl Board {
         ensures valid { IsLegalGame self.now.knows }
     {
         self.game.position_at(place)
+    }
+
+    /// The position after that many moves, to be worked out without the board: None exactly where fewer were made.
+    pub fn replay_at(&self, place: u16) -> Option<Replaying>
+        ensures value { result ≡ position_at self.now.knows.setup.start self.now.knows.log place }
+        ensures valid { IsLegalGame self.now.knows }
+    {
+        self.game.replay_at(place)
     }
 
     /// The outcome, once the game is over.

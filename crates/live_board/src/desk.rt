@@ -273,7 +273,8 @@ impl Desk {
 impl Desk {
     /// How many moves a follower's queue holds.
     pub fn capacity(&self) -> u64
-        ensures { result ≡ self.now.knows.setup.limits.capacity }
+        ensures value { result ≡ self.now.knows.setup.limits.capacity }
+        ensures most { result ≤ 1024 }
     {
         self.setup.limits.capacity
     }

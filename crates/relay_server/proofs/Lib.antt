@@ -4,3 +4,5 @@ pub mod Standing
 pub mod Stretches
 pub mod Told
 pub mod Owned
+pub mod Refusals
+pub mod Sendings

@@ -14,8 +14,9 @@ ghost use Rattle.relay_server.specs.Broadcasting.{JoinAnswer, IsEndingAnswer, Is
 use crate::chime::{BoardBell, Chime};
 use crate::key::Key;
 use crate::lookout::Lookout;
+use crate::places::Places;
 use c960_board::{Move, Position};
-use c960_game::{Ending, Limits, Outcome, Refusal};
+use c960_game::{Ending, Limits, Outcome, Refusal, Replaying};
 use live_board::{Board, Follower};
 use relay_core::BoardName;
 use relay_messages::BoardSummary;
@@ -33,6 +34,8 @@ pub(crate) struct Broadcast {
     owner: Option<Key>,
     /// Those who look at it beside its followers.
     lookouts: Arc<Vec<Arc<Lookout, Global>>, Global>,
+    /// The places of its followers: who comes to a full board is refused without the search for a place behind the lock.
+    places: Places,
     board: Mutex<Board>,
 }
 
@@ -61,6 +64,7 @@ impl Broadcast {
             chime: Chime::new(),
             owner,
             lookouts,
+            places: Places::new(limits.followers()),
             board: Mutex::new(board),
         })
     }
@@ -102,7 +106,7 @@ impl Broadcast {
         finish(&mut self.board.lock(rt), &self.bell(rt), ending)
     }
 
-    /// A follower from a place of the log, or from its present length; and the position there.
+    /// A follower from a place of the log, or from its present length; and the position there, which is worked out without the lock.
     ///
     /// # Errors
     ///
@@ -114,7 +118,29 @@ impl Broadcast {
     ) -> Result<(Follower, Position), Refusal>
         ensures { IsJoinAnswer from result }
     {
-        join(&mut self.board.lock(rt), from)
+        if self.places.are_taken() {
+            return Err(self.refusal_where_full(rt, from));
+        }
+        let (follower, replaying) = join(&mut self.board.lock(rt), from)?;
+        self.places.take();
+        Ok((follower, replaying.position()))
+    }
+
+    /// A follower is about to leave the board.
+    pub(crate) fn give_back_place(&self) {
+        self.places.give_back();
+    }
+
+    /// Why one may not follow who finds all places taken. What the log says of the place from which it asks to follow comes first; where it names
+    /// none, the board need not be asked.
+    #[tactic(auto, using(crate::proofs::Refusals::refused_at_once))]
+    fn refusal_where_full<R: Wait>(&self, rt: &R, from: Option<u16>) -> Refusal
+        ensures { IsJoinAnswer from (Err result) }
+    {
+        match from {
+            Some(place) => refusal_at(&self.board.lock(rt), place),
+            None => Refusal::TooManyFollowers,
+        }
     }
 
     /// Puts the moves of the log from a place on behind `moves`, and tells the outcome of the game.
@@ -150,6 +176,11 @@ impl Broadcast {
         ensures { IsPositionAt place result }
     {
         self.board.lock(rt).position_at(place)
+    }
+
+    /// Whether anybody may have to be woken where it is rung for.
+    pub(crate) fn has_sleepers(&self) -> bool {
+        self.chime.has_sleepers() || !self.lookouts.is_empty()
     }
 
     /// Wakes all who sleep until it is rung for, and all who look at it.
@@ -208,12 +239,28 @@ fn finish<B: Bell>(board: &mut Board, bell: &B, ending: Ending) -> Result<Outcom
     Ok(outcome)
 }
 
-/// A follower joins a board: it, and the position from which it takes on.
+/// Why one may not follow a full board from this place of its log.
+#[tactic(auto, using(crate::proofs::Refusals::refused_early, crate::proofs::Refusals::refused_late, crate::proofs::Refusals::refused_full))]
+fn refusal_at(board: &Board, place: u16) -> Refusal
+    ensures answer { JoinAnswer board.now.knows (Some place) (Err result) }
+    ensures legal { IsLegalGame board.now.knows }
+{
+    let len = board.len();
+    if len < place {
+        Refusal::NotYet
+    } else if len - place > board.capacity() {
+        Refusal::TooFarBack
+    } else {
+        Refusal::TooManyFollowers
+    }
+}
+
+/// A follower joins a board: it, and the position from which it takes on, which is yet to be worked out.
 ///
 /// # Errors
 ///
 /// As `Board::follow`.
-fn join(board: &mut Board, from: Option<u16>) -> Result<(Follower, Position), Refusal>
+fn join(board: &mut Board, from: Option<u16>) -> Result<(Follower, Replaying), Refusal>
     ensures answer { JoinAnswer board.old.knows from result }
     ensures table { (board.new.table ≡ board.old.table) × IfOk result (λ r. r.0.table ≡ board.old.table) }
     ensures log { board.new.knows.log ≡ board.old.knows.log }
@@ -223,10 +270,10 @@ fn join(board: &mut Board, from: Option<u16>) -> Result<(Follower, Position), Re
 {
     let _ = board.start();
     let follower = board.follow(from)?;
-    let Some(position) = board.position_at(follower.joined()) else {
+    let Some(replaying) = board.replay_at(follower.joined()) else {
         unreachable!();
     };
-    Ok((follower, position))
+    Ok((follower, replaying))
 }
 
 /// Puts the moves of a board's log from a place on behind `moves`, and tells the outcome of its game.

@@ -34,10 +34,15 @@ impl Chime {
         self.rings.fetch_add(1, Ordering::SeqCst);
     }
 
+    /// Whether anybody sleeps on it.
+    pub(crate) fn has_sleepers(&self) -> bool {
+        self.sleepers.load(Ordering::SeqCst) != 0
+    }
+
     /// Wakes all who sleep on it. A sleeper counts itself before the system compares the count of rings and puts it to sleep;
     /// whoever rings does so before it looks for sleepers here. So nobody sleeps through a ring and the wake after it.
     pub(crate) fn wake(&self) {
-        if self.sleepers.load(Ordering::SeqCst) != 0 {
+        if self.has_sleepers() {
             self.rings.wake_all();
         }
     }

@@ -22,6 +22,7 @@ mod lookout;
 mod memory;
 mod outlet;
 mod patience;
+mod places;
 mod presence;
 mod registry;
 mod request;

@@ -1,6 +1,6 @@
 //! A stream that puts off what need not be done before its peer is waited for.
 
-ghost use Rattle.std.specs.Prelude.{◌≡◌, ◌≤◌, true, [], None, length, take, drop, vec_capacity, vec_len, IfOk, OnOk, OnErr, IsErr};
+ghost use Rattle.std.specs.Prelude.{◌≡◌, ◌+◌, ◌≤◌, ◌<◌, ◌⊎◌, true, false, [], None, Some, is_some, length, take, drop, vec_capacity, vec_len, IfOk, OnOk, OnErr, IsErr};
 ghost use Rattle.std.specs.Io.{ReadsAtMost, WritesAtMost};
 ghost use Rattle.std.specs.Io.KnownBytes.{Appends, Keeps, ReadConsumes, WriteAppends};
 ghost use Rattle.relay_server.specs.Heads.{left};
@@ -35,6 +35,8 @@ pub(crate) struct Line<S> {
     output: Vec<u8>,
     /// Whether the stream failed. Nothing is sent any more.
     has_failed: bool,
+    /// Whether the stream took less than it was offered last.
+    is_stuck: bool,
     wakes: Wakes,
 }
 
@@ -56,31 +58,105 @@ impl<S: Read + Write> Line<S> {
             head,
             output: answer,
             has_failed: false,
+            is_stuck: false,
             wakes: Wakes::new(most_wakes),
         }
     }
 
-    /// Wakes the followers of a board later.
-    pub(crate) fn wake_later(&mut self, rung: Arc<Broadcast, Global>) {
+    /// Wakes the followers of a board later. They are woken now where as many wakes were put off as may be, and others before where they
+    /// sleep on another board. What was kept back is sent then, too, and first.
+    pub(crate) fn wake_later(&mut self, rung: Arc<Broadcast, Global>)
+        ensures bytes { Keeps (written S.contents self.old) (written S.contents self.new) }
+        ensures kept { is_some self.new.wakes.rung ≡ true → (self.new.wakes.rung ≡ Some rung) × (self.new.wakes.put_off < self.old.wakes.most) }
+        ensures woken { is_some self.new.wakes.rung ≡ false → (self.old.wakes.most ≤ self.old.wakes.put_off + 1) ⊎ (self.old.wakes.most ≤ 1) }
+    {
+        if self.wakes.is_due_before(&rung) {
+            let _ = self.send_now();
+        }
         self.wakes.put_off(rung);
+        if self.wakes.is_full() {
+            let _ = self.send_now();
+        }
     }
 
-    /// Wakes whom it was put off to wake, and sends what was kept back. Once that has failed, nothing is sent any more.
+    /// Sends what was kept back, and wakes whom it was put off to wake as soon as the stream was offered it: who plays is answered before the
+    /// crowd wakes, and does not hold it up by reading no answers. Once sending has failed, nothing is sent any more.
     ///
     /// # Errors
     ///
     /// The stream failed, now or before. What it did not take is still kept back.
+    #[tactic(auto, using(crate::proofs::Sendings::sends_on))]
     pub(crate) fn send_now(&mut self) -> io::Result<()>
         ensures bytes { Keeps (written S.contents self.old) (written S.contents self.new) }
         ensures sent { OnOk result (self.new.output.items ≡ []) }
         ensures failed { OnErr result (self.new.has_failed ≡ true) }
         ensures silent { self.old.has_failed ≡ true → IsErr result × IsSilent self.old self.new }
         ensures front { Sends S.contents self.old self.new.stream self.new.output.items }
+        ensures woken { (is_some self.new.wakes.rung ≡ false) × (self.new.wakes.put_off ≡ 0) }
+        ensures most { self.new.wakes.most ≡ self.old.wakes.most }
     {
-        self.wakes.wake();
+        let offered = self.offer();
+        self.wake();
+        offered?;
+        self.send_rest()
+    }
+
+    /// Offers the stream what is kept back, unless it has failed.
+    fn offer(&mut self) -> io::Result<()>
+        ensures bytes { Keeps (written S.contents self.old) (written S.contents self.new) }
+        ensures failed { OnErr result (self.new.has_failed ≡ true) }
+        ensures silent { self.old.has_failed ≡ true → IsErr result × IsSilent self.old self.new }
+        ensures front { Sends S.contents self.old self.new.stream self.new.output.items }
+        ensures offered { OnOk result ((self.new.output.items ≡ []) ⊎ (self.new.is_stuck ≡ true)) }
+        ensures wakes { self.new.wakes ≡ self.old.wakes }
+    {
         if self.has_failed {
             return Err(io::Error::from(ErrorKind::BrokenPipe));
         }
+        let done = self.write_once();
+        self.has_failed = done.is_err();
+        done
+    }
+
+    /// Writes what is kept back by one write, which a socket lets wait for a moment at most.
+    fn write_once(&mut self) -> io::Result<()>
+        ensures bytes { Keeps (written S.contents self.old) (written S.contents self.new) }
+        ensures front { Sends S.contents self.old self.new.stream self.new.output.items }
+        ensures offered { OnOk result ((self.new.output.items ≡ []) ⊎ (self.new.is_stuck ≡ true)) }
+        ensures wakes { self.new.wakes ≡ self.old.wakes }
+    {
+        if self.output.is_empty() {
+            return Ok(());
+        }
+        let taken = write_first(self.output.as_slice(), &mut self.stream)?;
+        remove_front(&mut self.output, taken);
+        self.is_stuck = !self.output.is_empty();
+        if self.is_stuck {
+            return Ok(());
+        }
+        self.stream.flush()
+    }
+
+    /// Wakes whom it was put off to wake. Who plays was answered before, as far as the stream took the answer.
+    fn wake(&mut self)
+        requires answered { (self.old.output.items ≡ []) ⊎ (self.old.has_failed ≡ true) ⊎ (self.old.is_stuck ≡ true) }
+        ensures stream { self.new.stream ≡ self.old.stream }
+        ensures output { self.new.output ≡ self.old.output }
+        ensures failed { self.new.has_failed ≡ self.old.has_failed }
+        ensures woken { (is_some self.new.wakes.rung ≡ false) × (self.new.wakes.put_off ≡ 0) }
+        ensures most { self.new.wakes.most ≡ self.old.wakes.most }
+    {
+        self.wakes.wake();
+    }
+
+    /// Sends what is still kept back, for as long as the stream takes some.
+    fn send_rest(&mut self) -> io::Result<()>
+        ensures bytes { Keeps (written S.contents self.old) (written S.contents self.new) }
+        ensures sent { OnOk result (self.new.output.items ≡ []) }
+        ensures failed { OnErr result (self.new.has_failed ≡ true) }
+        ensures front { Sends S.contents self.old self.new.stream self.new.output.items }
+        ensures wakes { self.new.wakes ≡ self.old.wakes }
+    {
         let done = self.send_output();
         self.has_failed = done.is_err();
         done
@@ -92,6 +168,7 @@ impl<S: Read + Write> Line<S> {
         ensures sent { OnOk result (self.new.output.items ≡ []) }
         ensures freed { OnOk result (vec_capacity self.new.output ≤ 4096) }
         ensures front { Sends S.contents self.old self.new.stream self.new.output.items }
+        ensures wakes { self.new.wakes ≡ self.old.wakes }
     {
         if !self.output.is_empty() {
             let (taken, done) = write_out(self.output.as_slice(), &mut self.stream);
@@ -109,6 +186,7 @@ impl<S: Read + Write> Line<S> {
         ensures empty { self.new.output.items ≡ [] }
         ensures freed { vec_capacity self.new.output ≤ 4096 }
         ensures stream { self.new.stream ≡ self.old.stream }
+        ensures wakes { self.new.wakes ≡ self.old.wakes }
     {
         if self.output.capacity() > MOST_ROOM {
             self.output = Vec::new(self.alloc);
@@ -169,6 +247,17 @@ pub(crate) fn write_out<S: Write>(bytes: &[u8], stream: &mut S) -> (usize, io::R
         }
     }
     (written, Ok(()))
+}
+
+/// Writes once: how many bytes were taken, none where that was interrupted.
+fn write_first<S: Write>(bytes: &[u8], stream: &mut S) -> io::Result<usize>
+    ensures bound { WritesAtMost result bytes.now }
+    ensures bytes { WriteAppends (S.contents stream.old) (S.contents stream.new) result bytes.now }
+{
+    match stream.write(bytes) {
+        Err(error) if error.kind() == ErrorKind::Interrupted => Ok(0),
+        done => done,
+    }
 }
 
 /// Writes once, and again as often as that was interrupted.

@@ -6,24 +6,28 @@ ghost use Rattle.std.specs.Io.KnownBytes.{ReadConsumes, WriteAppends};
 ghost use Rattle.relay_server.specs.Dues.{IsStillDue};
 
 use crate::deadline::Deadline;
+use crate::outlet::is_silence;
 use crate::stream::Stream;
 use std::io;
-use std::io::{Read, Write};
+use std::io::{ErrorKind, Read, Write};
 use std::net::{Shutdown, TcpStream};
 use std::time::{Clock, Duration};
 
 /// How many seconds a peer may take over what it is sent.
 const MOST_SECONDS: u64 = 30;
 
+/// How many milliseconds the first write of something waits. Who writes may have others to wake, and looks after them before it waits longer.
+const MOMENT_MILLIS: u64 = 10;
+
 /// A socket whose peer has one deadline for what it is sent, from the first write to the flush behind the last one, however often it takes
-/// some of it.
+/// some of it. The first write waits for a moment only: where the peer takes nothing then, it is told as interrupted, so that it is tried again.
 #[derive(Drop)]
 pub(crate) struct Socket<'a, C> {
     clock: &'a C,
     stream: TcpStream,
     /// By when what was begun to be sent is to be taken.
     due: Option<Deadline>,
-    /// Whether the next write waits no longer than until then.
+    /// Whether the next write waits until then, and not for a moment alone.
     is_bounded: bool,
 }
 
@@ -42,7 +46,7 @@ impl<'a, C: Clock> Socket<'a, C> {
             due: None,
             is_bounded: false,
         };
-        socket.bound_write(Duration::from_secs(MOST_SECONDS))?;
+        socket.bound_write(Duration::from_millis(MOMENT_MILLIS))?;
         Ok(socket)
     }
 
@@ -51,7 +55,8 @@ impl<'a, C: Clock> Socket<'a, C> {
         self.stream.set_write_timeout(Some(most))
     }
 
-    /// Sees to it that the next write waits no longer than the peer may take over what it is sent. What was begun to be sent keeps its time.
+    /// Sees to it that the next write waits no longer than the peer may take over what it is sent, the first one for a moment. What was begun
+    /// to be sent keeps its time.
     ///
     /// # Errors
     ///
@@ -79,7 +84,7 @@ impl<'a, C: Clock> Socket<'a, C> {
     {
         self.due = None;
         if self.is_bounded {
-            self.bound_write(Duration::from_secs(MOST_SECONDS))?;
+            self.bound_write(Duration::from_millis(MOMENT_MILLIS))?;
         }
         self.is_bounded = false;
         Ok(())
@@ -102,7 +107,11 @@ impl<C: Clock> Write for Socket<'_, C> {
         ensures due { IsStillDue self.old.due self.new.due }
     {
         self.begin_write()?;
-        self.stream.write(buf)
+        let done = self.stream.write(buf);
+        if !self.is_bounded && is_silence(&done) {
+            return Err(io::Error::from(ErrorKind::Interrupted));
+        }
+        done
     }
 
     fn flush(&mut self) -> io::Result<()>

@@ -76,8 +76,9 @@ impl Spectating {
         push_all(rt, alloc, outlet, &mut self.source, &bell)
     }
 
-    /// The follower leaves.
+    /// The follower leaves, and its place on the board is free.
     pub(crate) fn leave(self) {
+        self.broadcast.give_back_place();
         let _ = self.source.follower.leave();
     }
 }

@@ -1,6 +1,6 @@
 //! Wakes that are put off.
 
-ghost use Rattle.std.specs.Prelude.{◌≡◌, ◌+◌, ◌<◌, ◌≤◌, ◌⊎◌, Some, true, false, is_some};
+ghost use Rattle.std.specs.Prelude.{◌≡◌, ◌+◌, ◌<◌, ◌≤◌, Some, true, false, is_some};
 
 use crate::broadcast::Broadcast;
 use std::alloc::Global;
@@ -29,23 +29,30 @@ impl Wakes {
         }
     }
 
-    /// Puts a wake off, or wakes at once where as many were put off as may be. Another board's sleepers are woken first.
+    /// Whether others are to be woken before a wake of this board is put off: those who sleep on another one.
+    pub(crate) fn is_due_before(&self, rung: &Broadcast) -> bool {
+        match &self.rung {
+            Some(earlier) => earlier.name != rung.name && earlier.has_sleepers(),
+            None => false,
+        }
+    }
+
+    /// Whether as many wakes were put off as may be.
+    pub(crate) fn is_full(&self) -> bool
+        ensures full { result ≡ true → self.now.most ≤ self.now.put_off }
+        ensures few { result ≡ false → self.now.put_off < self.now.most }
+    {
+        self.put_off >= self.most
+    }
+
+    /// Puts a wake off. Another board, on which nobody slept behind its last ring, is forgotten: whoever goes to sleep there later has heard of it.
     pub(crate) fn put_off(&mut self, rung: Arc<Broadcast, Global>)
-        ensures kept { is_some self.new.rung ≡ true → (self.new.rung ≡ Some rung) × (self.new.put_off < self.old.most) }
-        ensures woken { is_some self.new.rung ≡ false → (self.old.most ≤ self.old.put_off + 1) ⊎ (self.old.most ≤ 1) }
+        ensures kept { self.new.rung ≡ Some rung }
+        ensures count { self.new.put_off ≤ self.old.put_off + 1 }
         ensures most { self.new.most ≡ self.old.most }
     {
-        if let Some(earlier) = &self.rung {
-            if earlier.name != rung.name {
-                self.wake();
-            }
-        }
         self.put_off = self.put_off.saturating_add(1);
-        let is_full = self.put_off >= self.most;
         self.rung = Some(rung);
-        if is_full {
-            self.wake();
-        }
     }
 
     /// Wakes whom it was put off to wake.

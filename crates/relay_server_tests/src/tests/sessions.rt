@@ -1,11 +1,13 @@
 //! Worked cases of sessions and of serving.
 
 mod abrupt;
+mod answered;
 mod between;
 mod client;
 mod drips;
 mod failing;
 mod frames;
+mod full;
 mod gates;
 mod held;
 mod journal;

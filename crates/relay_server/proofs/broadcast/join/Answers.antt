@@ -26,7 +26,7 @@ unreachable-requires c =
     let board = c.follow.new.self.knows in
     let told = c.in_ok-follower.ensures in
     let f = c.in_ok-follower.follower in
-    let early = past board.setup.start board.log c.joined.result (sym c.position_at.ensures.value ∙ c.in_default.is) in
+    let early = past board.setup.start board.log c.joined.result (sym c.replay_at.ensures.value ∙ c.in_default.is) in
     let from : f.part.joined ≡ from_place c.args.board.now.knows c.args.from = ap (λ (p : Part). p.joined) told.follower.1 in
     not_refused f NotYet (sym c.in_ok-follower.was ∙ c.follow.ensures.not_yet.1 (omega (arith, early, c.joined.ensures, from, ap length c.follow.ensures.log)))
 
@@ -51,7 +51,7 @@ returns-clause-answer c =
       part = told.follower.1;
       position =
           (λ i. position_at (sym setup i).start (sym c.follow.ensures.log i) (sym c.joined.ensures i))
-          ∙ sym c.position_at.ensures.value
+          ∙ sym c.replay_at.ensures.value
           ∙ c.in-Some.is;
       sound = told.sound_part;
     }
@@ -61,6 +61,6 @@ returns-clause-before c =
     let board = c.follow.new.self.knows in
     let part = c.in_ok-follower.ensures.follower.1 in
     let joined = c.joined.ensures ∙ ap (λ (p : Part). p.joined) part in
-    made_here board.setup.start board.log c.joined.result c.in-Some.position (sym c.position_at.ensures.value ∙ c.in-Some.is)
+    made_here board.setup.start board.log c.joined.result c.in-Some.replaying (sym c.replay_at.ensures.value ∙ c.in-Some.is)
     ∙ (λ i. last_position board.setup.start (take (joined i) (c.follow.ensures.log i)))
     ∙ sym (ap (λ (p : Part). last_position board.setup.start p.before) part)

@@ -28,20 +28,25 @@ const HEARD: u64 = 4;
 
 /// How far the game and its follower have come.
 #[derive(Drop)]
-struct Progress {
-    step: AtomicU64,
+pub struct Progress {
+    pub step: AtomicU64,
 }
 
 impl Progress {
     /// Notes that this has happened.
-    fn note(&self, step: u64) {
+    pub fn note(&self, step: u64) {
         self.step.store(step, Ordering::SeqCst);
     }
 
+    /// Whether this has happened.
+    pub fn has_come_to(&self, step: u64) -> bool {
+        self.step.load(Ordering::SeqCst) >= step
+    }
+
     /// Waits until this has happened, and tells whether it has.
-    fn wait_for<C: Clock>(&self, clock: &C, step: u64) -> bool {
+    pub fn wait_for<C: Clock>(&self, clock: &C, step: u64) -> bool {
         for _ in 0..MOST_MILLIS {
-            if self.step.load(Ordering::SeqCst) >= step {
+            if self.has_come_to(step) {
                 return true;
             }
             thread::sleep(clock, Duration::from_millis(1));
@@ -96,9 +101,9 @@ impl Write for Sink {
 
 /// The follower's side: its request and its command.
 #[derive(Drop)]
-struct Asked {
-    bytes: Vec<u8>,
-    given: usize,
+pub struct Asked {
+    pub bytes: Vec<u8>,
+    pub given: usize,
 }
 
 impl Read for Asked {
@@ -133,7 +138,7 @@ impl<C: Clock> Write for HeldUp<C> {
 }
 
 /// A request and these commands.
-fn bytes_of(alloc: Global, commands: &[&str]) -> Result<Vec<u8>, AllocError> {
+pub fn bytes_of(alloc: Global, commands: &[&str]) -> Result<Vec<u8>, AllocError> {
     let mut bytes = Vec::new(alloc);
     bytes.extend_from_slice(REQUEST)?;
     for command in commands {

@@ -1,0 +1,80 @@
+"""When the followers of a board are woken: after its operator is answered, and also where the operator reads no answers."""
+
+import json
+import socket
+import time
+import unittest
+
+from relay_client.connection import Connection
+from relay_client.frames import frame
+from relay_client.server import Server
+from relay_client.tests.sessions import guest_of, moves_without_a_draw, owner_of
+from relay_client.texts import follows, moved, played, submits
+
+SO_TIMESTAMPNS = 35  # Linux, asm-generic/socket.h: what is received comes with the time at which the system had it.
+FOLLOWERS = 256
+MOVES = 20
+
+
+def noted(connection):
+    """The connection, with the times of what it receives."""
+    connection.stream.setsockopt(socket.SOL_SOCKET, SO_TIMESTAMPNS, 1)
+    return connection
+
+
+def came_at(connection):
+    """The seconds and nanoseconds at which the system had the next text, which is read later."""
+    _, notes, _, _ = connection.stream.recvmsg(1, 64, socket.MSG_PEEK)
+    seconds, nanoseconds = (int.from_bytes(notes[0][2][at : at + 8], "little") for at in (0, 8))
+    return seconds, nanoseconds
+
+
+def is_stuck(owner, move):
+    """Whether the server takes no more of a move with many faulty texts after it, whose answers are not read."""
+    try:
+        owner.stream.sendall(frame(submits("b1", move)) + frame("[") * 300)
+    except TimeoutError:
+        return True
+    return False
+
+
+class Wakes(unittest.TestCase):
+    def is_early(self, owner, guests, place, move):
+        """Plays a move while all sleep, and says whether the system had a follower's text before the operator's answer."""
+        time.sleep(0.05)
+        owner.send(submits("b1", move))
+        answered, told = came_at(owner), min(map(came_at, guests))
+        owner.hears(played(place))
+        for guest in guests:
+            guest.hears(moved(move, place))
+        return told < answered
+
+    def test_an_operator_is_answered_before_its_followers_wake(self):
+        """Before, the followers were woken first, and with 256 of them the answer came late nearly always. A follower that does not sleep
+        yet may have its move at once: so a few may come early."""
+        count = FOLLOWERS + 1
+        with Server("--connections", str(count), "--followers", str(FOLLOWERS)) as server:
+            owner = noted(owner_of(server))
+            guests = [noted(guest_of(server)) for _ in range(FOLLOWERS)]
+            moves = list(moves_without_a_draw())[:MOVES]
+            early = sum(self.is_early(owner, guests, place, move) for place, move in enumerate(moves))
+            self.assertLessEqual(early, MOVES // 4)
+            for connection in owner, *guests:
+                connection.close()
+            server.has_served(count)
+
+    def test_an_operator_that_reads_no_answers_does_not_hold_up_its_followers(self):
+        """Each of them has all moves within ten seconds, while the server tries for thirty to write the answers."""
+        with Server("--connections", "3", "--capacity", "1024") as server:
+            owner, guest = owner_of(server, room=4096, segment=536), guest_of(server)
+            owner.stream.settimeout(2)
+            moves = list(moves_without_a_draw())
+            self.assertTrue(any(is_stuck(owner, move) for move in moves))
+            late = Connection(server.port)
+            late.send(follows("b1"))
+            joined = json.loads(late.receive())["joined"]
+            guest.stream.settimeout(10)
+            guest.hears(*(moved(move, place) for place, move in enumerate(moves[:joined])))
+            for connection in owner, guest, late:
+                connection.close()
+            server.has_served(3)
