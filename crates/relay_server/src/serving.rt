@@ -31,8 +31,8 @@ pub struct ServeEnd {
     pub failed: u32,
 }
 
-/// How many bytes the stack of a session's thread has. JSON of the greatest nesting, 127, takes some 144 KiB of it, and a request of 64
-/// header fields less: both fit three times. What a session does not touch takes no memory.
+/// How many bytes the stack of a session's thread has. Sessions were seen to touch some 100 KiB of it at most (`benches/pinned.py`). What a
+/// session does not touch takes no memory.
 const STACK_BYTES: usize = 512 * 1024;
 
 /// How many connections are accepted from one look for threads that have ended to the next. Joining one whose last act is still
