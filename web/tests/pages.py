@@ -967,7 +967,11 @@ async def main():
     tries = {name[4:]: it for module in (globals(), *map(vars, modules)) for name, it in module.items() if name.startswith("try_")}
     # A test's site makes its own certificate, and has a name of its own.
     hosts = f"--host-resolver-rules=MAP {rounds.OTHER_HOST} 127.0.0.1, MAP * ~NOTFOUND, EXCLUDE 127.0.0.1, EXCLUDE localhost"
-    browser = await (other().start() if other else Browser().start("--ignore-certificate-errors", hosts))
+
+    async def begin():
+        return await (other().start() if other else Browser().start("--ignore-certificate-errors", hosts))
+
+    browser = await begin()
     failed = []
     began = time.monotonic()
     try:
@@ -978,12 +982,15 @@ async def main():
         for name in words or tries:
             try:
                 await asyncio.wait_for(tries[name](browser), 900)
+                await browser.close_all()
                 print(f"ok      {name}: {tries[name].__doc__}", flush=True)
             except Exception as fault:
                 failed.append(name)
                 print(f"failed  {name}: {type(fault).__name__} {fault}", flush=True)
+                # A browser that did not answer in time may not answer the next test either.
+                await browser.stop()
+                browser = await begin()
             finally:
-                await browser.close_all()
                 await Relay.stop_all()
     finally:
         await browser.stop()
