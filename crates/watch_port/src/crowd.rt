@@ -730,6 +730,7 @@ impl<'a, H: Boards> Crowd<'a, H> {
         match guest.patience.verdict(now, stage, most_idle) {
             Verdict::Stays => {}
             Verdict::Ping => self.ping(key),
+            Verdict::Tries => self.send(key),
             Verdict::Idle => self.close(key, AWAY),
             Verdict::Stuck => {
                 self.close(key, POLICY);

@@ -9,6 +9,10 @@ const MOST_HALF_SECONDS: u64 = 10;
 /// How many seconds a connection may take nothing of what is due.
 const MOST_WAIT_SECONDS: u64 = 30;
 
+/// After how many seconds it is tried whether a connection takes something. The system tells of it only where a good part of what it keeps was
+/// taken, so a guest that takes a few bytes now and then would go as one that takes nothing.
+const TRIED_AFTER_SECONDS: u64 = 5;
+
 /// How many seconds a guest is silent until it is sent a ping, and then another one. Guests are looked at once a second, so that 30 would notice one
 /// that vanished after more than 90.
 const MOST_SILENT_SECONDS: u64 = 29;
@@ -26,6 +30,8 @@ pub(crate) enum Verdict {
     Stays,
     /// It is sent a ping.
     Ping,
+    /// It is tried whether its connection takes something.
+    Tries,
     /// It goes, since it asked for nothing for too long.
     Idle,
     /// It goes, since it takes nothing.
@@ -43,6 +49,8 @@ pub(crate) struct Patience {
     pings: u64,
     /// Since when it takes nothing of what is due.
     waits_since: Option<u64>,
+    /// How often it was to be tried since then.
+    tries: u64,
     /// Since when it is in the middle of a message.
     midway_since: Option<u64>,
 }
@@ -68,6 +76,7 @@ impl Patience {
             heard_at: now,
             pings: 0,
             waits_since: None,
+            tries: 0,
             midway_since: None,
         }
     }
@@ -107,6 +116,7 @@ impl Patience {
     /// It took something, or nothing is due.
     pub(crate) fn is_served(&mut self) {
         self.waits_since = None;
+        self.tries = 0;
     }
 
     /// It takes nothing of what is due.
@@ -136,11 +146,25 @@ impl Patience {
                 return Verdict::Idle;
             }
         }
+        if self.is_to_be_tried(now) {
+            return Verdict::Tries;
+        }
         self.ping_if_due(now)
     }
 
+    /// Whether it is tried now whether a guest takes something of what is due. Each time comes once.
+    fn is_to_be_tried(&mut self, now: u64) -> bool {
+        let Some(since) = self.waits_since else {
+            return false;
+        };
+        let tries = now.saturating_sub(since) / TRIED_AFTER_SECONDS;
+        let is_due = tries > self.tries;
+        self.tries = tries;
+        is_due
+    }
+
     /// Whether a guest that was not heard of is sent a ping, or is gone. One that takes nothing of what is due is sent none: a ping stands behind
-    /// that, and an attempt to write it might fill what room the system has left, as if the guest had taken something.
+    /// that.
     fn ping_if_due(&mut self, now: u64) -> Verdict {
         let silent = now.saturating_sub(self.heard_at) / MOST_SILENT_SECONDS;
         if silent <= self.pings {

@@ -29,6 +29,7 @@ MOST_BOARDS = 256
 BURST = 400  # A loop accepts 64 in a turn.
 PAYLOAD = bytes(range(125))
 ONE_PING, ONE_PONG = masked(PING, PAYLOAD), b"\x8a\x7d" + PAYLOAD
+NO_WORDS_PING = b"\x89\x00"  # As the server sends one.
 # One whose connection takes some 40,000 bytes while it reads nothing.
 SLOW = {"room": 1024, "segment": 536}
 LONG = 1400  # Moves, of which such a connection does not take all.
@@ -473,6 +474,23 @@ class Full(unittest.TestCase):
             for place in LONG, LONG + 1:
                 owner.asks(submits("b1", moves[place]), played(place))
                 slow.hears(moved(moves[place], place))
+            close_all(owner, slow)
+
+    def test_one_that_takes_a_few_bytes_now_and_then_stays(self):
+        """Far fewer than what the system would tell the loop of."""
+        with Server("--forever", "--watch-threads", "1", "--plies", "8192", watch=True) as server:
+            owner = owner_of(server)
+            slow, texts = self.full(server, owner)
+            wanted, received = b"".join(b"\x81" + bytes([len(text)]) + text.encode() for text in texts), b""
+            for _ in range(45):
+                time.sleep(1)
+                received += slow.stream.recv(60)
+            slow.stream.settimeout(BEFORE_A_PING)
+            while len(received) < len(wanted):
+                piece = slow.stream.recv(65536)
+                self.assertTrue(piece, f"{len(received)} of {len(wanted)} bytes came")
+                received = (received + piece).replace(NO_WORDS_PING, b"")
+            self.assertEqual(received, wanted)
             close_all(owner, slow)
 
     def test_one_that_takes_nothing_is_given_up_however_often_it_sends_a_ping(self):
