@@ -4,61 +4,31 @@
 A few peers of the kind come first, so that what all share is there. The program is the built one, or that of the environment's RELAY960.
 """
 import pathlib
-import re
-import socket
 import sys
-import time
 
 sys.path.insert(0, str(pathlib.Path(__file__).resolve().parent.parent / "tools"))
 
-from relay_client.frames import MASK, REQUEST, TEXT, frame, head
+from relay_client.frames import REQUEST, frame
+from relay_client.pinning import DEEP_ARRAYS, EVERYTHING, FIELDS_64, HALF_A_FRAME, HALF_A_MESSAGE, SHORT_TEXTS, resident, senders
 from relay_client.server import Server
 
 PEERS, FIRST = 200, 5
-SECONDS = 3
-FIRST_PART, LAST_PART = 0x01, 0x80
-MANY_FIELDS = REQUEST[:-2] + b"A: b\r\n" * 59 + b"\r\n"
-SHORT_TEXTS = frame("[]") * 600
-NESTED = frame("[" * 127 + "]" * 127)
-
-
-def spaces(first, size, missing=0):
-    """The frame of so many spaces, of which some at the end are missing."""
-    return head(first, size) + bytes(32 ^ MASK[at % 4] for at in range(size - missing))
-
-
-HALF_A_MESSAGE = spaces(FIRST_PART, 60_000) + spaces(LAST_PART, 5_000, missing=1)
 KINDS = {
     "shaken hands and silent": REQUEST,
-    "one text of 127 nested arrays": REQUEST + NESTED,
-    "64 header fields and 600 short texts in one piece": MANY_FIELDS + SHORT_TEXTS,
+    "one text of 127 nested arrays": REQUEST + frame(DEEP_ARRAYS),
+    "64 header fields and 600 short texts in one piece": FIELDS_64 + SHORT_TEXTS,
     "a message of 65,000 bytes but for its last one, in two fragments": REQUEST + HALF_A_MESSAGE,
-    "a frame of 65,000 bytes but for its last one": REQUEST + spaces(TEXT, 65_000, missing=1),
-    "all but the last": MANY_FIELDS + SHORT_TEXTS + NESTED + HALF_A_MESSAGE,
+    "a frame of 65,000 bytes but for its last one": HALF_A_FRAME,
+    "all but the last": EVERYTHING,
 }
-
-
-def resident(server):
-    """Kibibytes."""
-    status = pathlib.Path(f"/proc/{server.process.pid}/status").read_text()
-    return int(re.search(r"^VmRSS:\s+(\d+) kB$", status, re.M)[1])
-
-
-def joined(server, sent, count):
-    """So many peers, each of which has sent this, and what the server makes of it done."""
-    peers = [socket.create_connection(("127.0.0.1", server.port)) for _ in range(count)]
-    for peer in peers:
-        peer.sendall(sent)
-    time.sleep(SECONDS)
-    return peers
 
 
 def main(count):
     for kind, sent in KINDS.items():
         with Server() as server:
-            peers = joined(server, sent, FIRST)
+            peers = senders(server, sent, FIRST)
             before = resident(server)
-            peers += joined(server, sent, count)
+            peers += senders(server, sent, count)
             print(f"{kind}: {(resident(server) - before) / count:.0f} KiB a peer", flush=True)
             for peer in peers:
                 peer.close()

@@ -1,28 +1,20 @@
 """How much of the server's memory a peer pins."""
 
-import pathlib
-import re
 import socket
 import unittest
 
 from relay_client.connection import Connection
 from relay_client.frames import REQUEST
+from relay_client.pinning import DEEP_ARRAYS, EVERYTHING, FIELDS_64, resident, senders
 from relay_client.program import PATIENCE
 from relay_client.server import Server
 from relay_client.texts import NOT_OBJECT, UNKNOWN_COMMAND
 
-PEERS, FIRST = 60, 5
+PEERS, FIRST, MANY = 60, 5, 200
 SHORT = "[]"
-DEEP_ARRAYS = "[" * 127 + "]" * 127
 DEEP_OBJECTS = '{"a":' * 127 + "0" + "}" * 127
-FIELDS_64 = REQUEST[:-2] + b"A: b\r\n" * 59 + b"\r\n"
 MOST = 8  # Kibibytes that a deep text or a long head may pin beside what a short one does.
-
-
-def resident(server):
-    """What the server has in memory, in kibibytes."""
-    rollup = pathlib.Path(f"/proc/{server.process.pid}/smaps_rollup").read_text()
-    return int(re.search(r"^Rss:\s+(\d+) kB$", rollup, re.M)[1])
+MOST_IN_ALL = 128  # Kibibytes that a peer may pin.
 
 
 def asked(server, text, answer, count):
@@ -45,13 +37,13 @@ def shaken(server, request, count):
     return peers
 
 
-def pinned(joined, *how):
+def pinned(joined, *how, count=PEERS):
     """Kibibytes that a peer of this kind pins. The first peers come before, so that what all share is there."""
     with Server() as server:
         peers = joined(server, *how, FIRST)
         before = resident(server)
-        peers += joined(server, *how, PEERS)
-        taken = (resident(server) - before) / PEERS
+        peers += joined(server, *how, count)
+        taken = (resident(server) - before) / count
         for peer in peers:
             peer.close()
         return taken
@@ -67,3 +59,7 @@ class Memory(unittest.TestCase):
     def test_a_request_of_64_header_fields_takes_no_more_of_the_stack_than_one_of_5(self):
         """Before, each field more took 1 KiB more."""
         self.assertLess(pinned(shaken, FIELDS_64), pinned(shaken, REQUEST) + MOST)
+
+    def test_a_peer_that_uses_all_that_is_kept_for_it_pins_128_kibibytes_at_most(self):
+        """Before, 332 KiB."""
+        self.assertLess(pinned(senders, EVERYTHING, count=MANY), MOST_IN_ALL)
