@@ -251,7 +251,8 @@ class Lengths(unittest.TestCase):
 
 
     def test_most_sentences_have_at_most_25_words(self):
-        for name in ("README.md", "CONTRIBUTING.md", "docs/TERMS.md", "docs/PROTOCOL.md", "docs/SCRIPTS.md", "docs/DEPLOYMENT.md"):
+        for name in ("README.md", "CONTRIBUTING.md", "docs/TERMS.md", "docs/PROTOCOL.md", "docs/SCRIPTS.md", "docs/DEPLOYMENT.md", "docs/HEADLINE.md",
+                     "docs/LIVE.md", "docs/TRUST.md"):
             lengths = [len(it.split()) for it in sentences(DOCUMENTS[name])]
             long = sum(it > 25 for it in lengths)
             self.assertLessEqual(long, 0.03 * len(lengths), f"{name}: {long} of {len(lengths)} sentences have more than 25 words")
