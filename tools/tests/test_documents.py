@@ -17,7 +17,7 @@ ENDINGS = "rt|antt|py|sh|js|mjs|html|css|conf|service|md|edit|txt|c|rs|svg|png"
 FOLDERS = r"(?:crates|web|tools|docs|examples|benches|\.ci)"
 # Documents in which nearly all sentences are short.
 PLAIN = ("README.md", "CONTRIBUTING.md", "CHANGELOG.md", "docs/TERMS.md", "docs/PROTOCOL.md", "docs/SCRIPTS.md", "docs/DEPLOYMENT.md", "docs/DECISIONS.md",
-         "docs/HEADLINE.md", "docs/LIVE.md", "docs/TRUST.md")
+         "docs/HEADLINE.md", "docs/LIVE.md", "docs/PROVED.md", "docs/TRUST.md")
 
 
 def files():
