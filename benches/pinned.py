@@ -23,7 +23,7 @@ NESTED = frame("[" * 127 + "]" * 127)
 
 
 def spaces(first, size, missing=0):
-    """The frame of so many spaces, of which some at the end are missing."""
+    """The frame of this many spaces, some of which are missing at the end."""
     return head(first, size) + bytes(32 ^ MASK[at % 4] for at in range(size - missing))
 
 
@@ -45,7 +45,7 @@ def resident(server):
 
 
 def joined(server, sent, count):
-    """So many peers, each of which has sent this, and what the server makes of it done."""
+    """This many peers, each of which has sent this; the server has finished with it."""
     peers = [socket.create_connection(("127.0.0.1", server.port)) for _ in range(count)]
     for peer in peers:
         peer.sendall(sent)
