@@ -1,7 +1,7 @@
 #!/bin/sh
 # Makes a Debian package: ./package.sh, or ./package.sh FOLDER for another folder than this one. It has the program that was built (or the
 # one that RELAY960 names), its manual page and units, the pages, the feed, the recorder, and the includes for nginx. The package has the
-# version that the program tells. The last line is the package's name. It runs no script when it is installed: docs/DEPLOYMENT.md has the
+# version that the program reports. The last line is the package's name. It runs no script when it is installed: docs/DEPLOYMENT.md has the
 # commands that begin the services.
 set -eu
 umask 022

@@ -1,5 +1,5 @@
 #!/bin/sh
-# Measures what docs/BENCHMARKS.md tells of the rules, of games and of scripts, programs beside one another in each round.
+# Measures what docs/BENCHMARKS.md says of the rules, games and scripts, with the programs in turn in each round.
 #   NEW=.. BENCH=.. [OLD=..] [OLD_BENCH=..] [ROUNDS=3] benches/all.sh FOLDER
 # NEW and OLD are programs relay960, BENCH and OLD_BENCH programs bench960. FOLDER holds the games and the lines, which are made at the first run.
 # It needs Debian's package stockfish. Each line printed is: what, which program, wall seconds, processor seconds, memory.

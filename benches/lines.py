@@ -1,8 +1,8 @@
 #!/usr/bin/env python3
 """Writes 990,000 lines of commands for `relay960 script --boards 256 --followers 64 --plies 16384`: lines.py FOLLOWERS.
 
-Games of 3,876 plies, one after another on boards of their own, each move taken by so many followers. Between two pawns' moves stand 148 moves
-of pieces in a circle of 40 positions, so that no game ends by itself.
+Games of 3,876 plies, one after another on boards of their own, each move taken by this many followers. Between two pawns' moves there are 148 moves
+of pieces in a circle of 40 positions, so no game ends by itself.
 """
 import itertools
 import sys

@@ -2,9 +2,9 @@
 """Times live boards beside tokio's `broadcast` and crossbeam's `bounded`: live.py [--boards 100] [--rounds 5] [--program ..].
 
 Builds live_peers.rs with rustc from the sources of Debian's packages librust-tokio-dev and librust-crossbeam-channel-dev, and fetches nothing.
-Then all programs run in turn, in rounds: each plays games of 1,000 moves, one board after the other, and tells what that took. The peers
+Then all programs run in turn, in rounds: each plays games of 1,000 moves, one board after the other, and reports what that took. The peers
 know no rules of chess: they send at once, and again at the pace at which a live board without followers was played in that round. The figures
-are the medians, with the least and the greatest. Memory is the most that a process had resident in runs that only open boards.
+are the medians, with the least and the greatest. Memory is the most that a process had resident, in runs that only open boards.
 """
 import argparse
 import statistics
@@ -23,7 +23,7 @@ LIBRARIES = [
     ("crossbeam_utils", "crossbeam-utils-0*", ["std"], ["cfg_if"]),
     ("crossbeam_channel", "crossbeam-channel-0*", ["std", "crossbeam-utils"], ["cfg_if", "crossbeam_utils"]),
 ]
-# How many boards are opened to see what memory they need, of so many followers and plies.
+# How many boards are opened to see what memory they need, with this many followers and plies.
 OPENED = {"live_board": 64, "tokio": 64, "crossbeam": 8}
 KINDS = [(0, 1024), (0, 16384), (1024, 1024)]
 

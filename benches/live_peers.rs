@@ -1,7 +1,7 @@
-//! What others reach at the work of `bench960 live`, in the same lines: one sender, and followers of which each takes each item once, none lost.
+//! What others reach at the work of `bench960 live`, in the same lines: one sender, and followers each of which takes each item once, none lost.
 //! By the word `broadcast` tokio's `broadcast`, one queue for all; by `bounded` crossbeam's `bounded`, a queue for each follower, and the
 //! sender sends to all. The second word is the number of senders, the third the nanoseconds between two items at the pace of a game. Where
-//! a fourth word comes, it does no more than open so many senders, each with as many followers as the third says.
+//! a fourth word comes, it only opens that many senders, each with as many followers as the third says.
 
 use crossbeam_channel::{Receiver as BoundedReceiver, Sender as BoundedSender, bounded};
 use std::time::{Duration, Instant};
@@ -72,7 +72,7 @@ impl Sink for Vec<BoundedSender<u64>> {
     }
 }
 
-/// So many senders, and for each follower its sources.
+/// This many senders, and for each follower its sources.
 fn open<S: Sink>(senders: usize, followers: usize) -> (Vec<S>, Vec<Vec<S::Source>>) {
     let mut lists: Vec<Vec<S::Source>> = (0..followers).map(|_| Vec::new()).collect();
     let mut all = Vec::new();
@@ -139,7 +139,7 @@ fn processor_time() -> i64 {
     time[0] * 1_000_000_000 + time[1]
 }
 
-/// Tells on the error stream how much was done, in how many nanoseconds, and how many the processors worked at it.
+/// Reports on the error stream how much was done, in how many nanoseconds, and how many the processors worked on it.
 fn time(what: &str, followers: usize, work: impl FnOnce() -> u64) {
     let (start, before) = (Instant::now(), processor_time());
     let count = work();

@@ -4,11 +4,11 @@
 //   reader burst KIND PORT FOLLOWERS MOVES PIDS   moves sent at once; prints deliveries, seconds, processor time, context switches, memory
 //   reader turns KIND PORT FOLLOWERS MOVES PIDS   each move is sent when all followers had the one before
 //   reader connects KIND PORT CONNECTIONS PIDS    connections opened and closed, 64 at a time; prints how many a second, processor time
-//   reader rush KIND PORT JOININGS MOVES PIDS     the same of followers that come to a board of so many moves, and go once they are greeted
+//   reader rush KIND PORT JOININGS MOVES PIDS     the same of followers that come to a board of this many moves, and go once they are greeted
 //   reader idle KIND PORT FOLLOWERS PIDS          followers that wait; prints the server's resident kilobytes before and with them
 //
 // KIND is relay, nchan or mosquitto. Of a relay PORT may be MAIN/WATCH: then followers watch at the second one. PIDS are the server's processes,
-// parted by commas.
+// separated by commas.
 #define _GNU_SOURCE
 #include <arpa/inet.h>
 #include <errno.h>
@@ -273,7 +273,7 @@ static void set_nonblocking(int fd) { fcntl(fd, F_SETFL, fcntl(fd, F_GETFL) | O_
 
 static unsigned char chunk[1 << 16];
 
-// Reads what came; tells whether the peer has this many texts now and had fewer before.
+// Reads what came; returns whether the peer has this many texts now and had fewer before.
 static int hears(struct peer *p, long texts) {
     long before = p->texts;
     ssize_t n = read(p->fd, chunk, sizeof chunk);
@@ -349,7 +349,7 @@ static void moves(int followers, int count, int at_once) {
            joining * 1e6 / followers, empty, full, (full - empty) * 1024. / followers);
 }
 
-// What one asks for who connects, and joins where that is said; the bytes in all.
+// What a newcomer asks for: to connect, and to join if that is said; the bytes in all.
 static size_t asking(char *ask, size_t room, int joins) {
     char text[100];
     snprintf(text, sizeof text, kind == NCHAN ? "/sub/%s" : "/", name);
@@ -412,7 +412,7 @@ static void connects(int count, int joins) {
            (spent_in_all() - before) * 1e6 / count, resident());
 }
 
-// Followers that come at once to a board on which so many moves were made.
+// Followers that come at once to a board with this many moves.
 static void rush(int joinings, int count) {
     unsigned char frame[160];
     struct peer board = publisher();

@@ -3,15 +3,15 @@
 
     benches/refusals.py [MOST]        those of its jobs, until a run meets no refusal; then 1 to MOST (600) of the server, its start included
     benches/refusals.py --watching    those of the loop of a watch port, until nothing is refused any more
-    benches/refusals.py --tests       those of each test that is to hold then too, until a run meets no refusal
+    benches/refusals.py --tests       those of each test that must hold then too, until a run meets no refusal
 
-The gate does all of these. What a job may do then is told in refused_jobs.py, and what a loop may do in refused_watching.py.
+The gate does all of these. refused_jobs.py says what a job may do then, and refused_watching.py what a loop may do.
 
 The server has room for one board and one follower. In each run an owner opens the board, plays a move and closes; then three guests, one
-after another, follow from the first place. Where the owner was answered in full, at least two guests get the move, the end as abandoned and
-the close 1000; else all three find the same: the board with the move, the board alone, or none. A server that cannot start says `fault 12
-OutOfMemory` and ends with status 4; every other run ends with all four connections accounted for, and nobody is told that what it asks for
-was done before. The last line counts what met the refusal, and the status is 1 where a run was otherwise; one that does not end is the
+after another, follow from the first place. If the owner was answered in full, at least two guests get the move, the end as abandoned and
+the close 1000. Otherwise all three find the same: the board with the move, the board alone, or none. A server that cannot start says `fault 12
+OutOfMemory` and ends with status 4; every other run ends with all four connections accounted for, and nobody hears that what it asks for
+was done before. The last line counts what met the refusal. The status is 1 if a run was otherwise; one that does not end is the
 last. The tests are those that `rt test` built.
 """
 import collections
@@ -74,14 +74,14 @@ END = [b'{"outcome":"abandoned","reply":"over"}', b"close 1000"]
 FOLLOWED = [FOLLOWING, b'{"move":"e2e4","place":0,"reply":"move"}', *END]
 NO_MEMORY = b'{"code":12,"name":"OutOfMemory","reply":"refused"}'
 NO_BOARD = [b'{"code":1,"name":"NoSuchBoard","reply":"refused"}', b"close 1000"]
-# Of a connection for which there was no memory to start its session, standard error is told.
+# Standard error says so if there was no memory to start a connection's session.
 TURNED_AWAY = b"no descriptor or thread for a connection: turned away\n"
 # None says that what was asked for had been done already, as a command that is made a second time would.
 ANSWERS = {*OWNED, *FOLLOWED, *NO_BOARD, NO_MEMORY}
 
 
 def talk(port, texts):
-    """What a connection is told that sends these texts and a close."""
+    """What a connection receives that sends these texts and a close."""
     told, data = [], b""
     with socket.create_connection(("127.0.0.1", port), timeout=PATIENCE) as peer:
         try:
@@ -122,7 +122,7 @@ def met(refused, allocator):
 
 
 def refuse_in_tests(allocator, mark):
-    """Runs each test with each allocation refused; tells how many it asks for, and how many runs failed."""
+    """Runs each test with each allocation refused; returns how many it asks for, and how many runs failed."""
     failed = 0
     for crate, names in TESTS.items():
         for name in names:

@@ -1,5 +1,5 @@
 // An allocator for benches/refusals.py, by LD_PRELOAD: the allocation of the number REFUSED is refused once, all others are the C library's.
-// Where it comes to that, the file MARK is made.
+// If that happens, the file MARK is made.
 //
 // Where SHEET names a file, the numbers in it say which one is refused, and only the allocations of the watch port's loop count. So one server
 // may be refused one after another. The loop's thread is the one that has waited for epoll.

@@ -1,8 +1,8 @@
-"""What a job of the built program may do where one allocation is refused, for refusals.py.
+"""What a job of the built program may do when one allocation is refused, for refusals.py.
 
 It does what it does with memory; or it answers the line that asked for the allocation with 12, and every other line as a relay does that
-never had that line; or it ends with status 4 and `fault 12 OutOfMemory`, behind the answers to all lines before that line and to no other.
-Which line asks for an allocation is known: runs over the first lines alone tell how many allocations these ask for.
+never had that line; or it ends with status 4 and `fault 12 OutOfMemory`, after the answers to all lines before that line and to no other.
+Which line asks for an allocation is known: runs over only the first lines show how many allocations these ask for.
 """
 
 import bisect
@@ -19,7 +19,7 @@ from runs import lines
 
 CRATE = TOP / "crates/relay960"
 
-# The stored script of fourteen lines: an Open, a Follow, a Submit, two Takes, three Submits, four Takes, a Submit behind the end, a Leave.
+# The stored script of fourteen lines: an Open, a Follow, a Submit, two Takes, three Submits, four Takes, a Submit after the end, a Leave.
 STORED = (CRATE / "stdin").read_text().splitlines()
 STORED_ANSWERS = (CRATE / "stdout").read_text().splitlines()
 WITHOUT_THE_BOARD = [NO_MEMORY, NO_BOARD, NO_BOARD, *[NO_FOLLOWER] * 2, *[NO_BOARD] * 3, *[NO_FOLLOWER] * 4, NO_BOARD, NO_FOLLOWER]
@@ -32,14 +32,14 @@ WITHOUT_THE_FOLLOWER = [
 @dataclass(frozen=True)
 class Job:
     words: tuple
-    # The lines that it reads, and what it prints for each; for none, where it reads nothing.
+    # The lines that it reads, and what it prints for each; none, if it reads nothing.
     reads: list
     prints: list
-    # What it prints where it answers the line of this number with 12. Each of these is to come.
+    # What it prints if it answers the line of this number with 12. Each of these must occur.
     with_12: dict = field(default_factory=dict)
 
     def met(self, ended, line):
-        """What met the refusal, for which this line asked, or none where it is 0: the job as a whole, that line, or nothing; None where
+        """What met the refusal that this line asked for, or no line if it is 0: the whole job, that line, or nothing; None if
         something is wrong."""
         if ended.returncode == 4 and ended.stderr.endswith(b"fault 12 OutOfMemory\n"):
             before = max(line - 1, 0)
@@ -60,7 +60,7 @@ JOBS = [
 
 
 def run_refused(number, words, allocator, mark, reads=b""):
-    """How a run ended of which the allocation of this number was refused; the mark tells whether it came to that."""
+    """How a run ended in which the allocation of this number was refused; the mark says whether that happened."""
     mark.unlink(missing_ok=True)
     env = {**os.environ, "LD_PRELOAD": allocator, "REFUSED": str(number), "MARK": str(mark)}
     try:
@@ -83,7 +83,7 @@ def allocations(job, allocator, mark):
 
 
 def refuse_in_job(job, allocator, mark):
-    """Runs the job with each allocation refused, until none is; tells what met the refusals, and whether a run was wrong."""
+    """Runs the job with each allocation refused, until none is; returns what met the refusals, and whether a run was wrong."""
     met, printed, counts = [], set(), allocations(job, allocator, mark)
     for number in itertools.count(1):
         ended = run_refused(number, [PROGRAM, *job.words], allocator, mark, lines(job.reads))
@@ -101,5 +101,5 @@ def refuse_in_job(job, allocator, mark):
 
 
 def refuse_in_jobs(allocator, mark):
-    """Refuses each allocation of each job; tells whether a run was wrong."""
+    """Refuses each allocation of each job; returns whether a run was wrong."""
     return any([refuse_in_job(job, allocator, mark) for job in JOBS])

@@ -1,10 +1,10 @@
-"""Refuses each allocation of the loop of a watch port in turn, for refusals.py: who is not concerned feels nothing.
+"""Refuses each allocation of the loop of a watch port in turn, for refusals.py: those not concerned notice nothing.
 
-Before anything is refused one spectator follows the board b1, and another one watches all boards. Then somebody acts, and meanwhile the loop's
-allocation of one number is refused. Who acts is told what it would be told anyway, or 12 in its place, or its connection ends. All others get all
-that they are due, and the operator's answers are as ever. Then a move is made, and who acts comes again and is served.
+Before anything is refused one spectator follows the board b1, and another one watches all boards. Then somebody acts, and meanwhile one
+allocation of the loop is refused. The actor gets its usual answer, or 12 instead, or its connection ends. All others get all
+that they are due, and the operator's answers are as always. Then a move is made, and the actor comes again and is served.
 
-A move or a board for which there was no memory is told at the next news or a second later. Who watches all boards may be lost where there was no
+A move or a board for which there was no memory is reported at the next news or a second later. Someone who watches all boards may be lost if there was no
 memory for its own text.
 """
 import collections
@@ -72,7 +72,7 @@ class Sheet:
         self.memory[:16] = struct.pack("qq", number, 0)
 
     def ends(self):
-        """Nothing is refused any more. Whether something was is told."""
+        """Refuses nothing any more. Returns whether something was refused."""
         self.settles()
         number, asked, _ = self.numbers()
         self.memory[:16] = bytes(16)
@@ -80,7 +80,7 @@ class Sheet:
 
 
 def received(connection):
-    """The next text or close; None where the connection has ended."""
+    """The next text or close; None if the connection has ended."""
     connection.stream.settimeout(SOON)
     try:
         return connection.receive()
@@ -93,7 +93,7 @@ def received(connection):
 
 
 def told(connection, wanted):
-    """How one was told these texts, each of which may be one of a set: SERVED, TOLD_12 where that came in place of one, or LOST where the connection
+    """How one received these texts, each of which may be one of a set: SERVED, TOLD_12 if that came instead of one, or LOST if the connection
     ended before."""
     for text in wanted:
         heard = received(connection)
@@ -107,7 +107,7 @@ def told(connection, wanted):
 
 
 class Observer:
-    """One who watches all boards. Each text is right, and tells more than the one before: of each board it is kept how much was told, its plies
+    """One who watches all boards. Each text is right, and says more than the one before. For each board it keeps how much was reported, its plies
     and its end."""
 
     def __init__(self, house):
@@ -117,7 +117,7 @@ class Observer:
         self.connection.send(BOARDS)
 
     def takes(self):
-        """Takes the next text; False where the connection has ended."""
+        """Takes the next text; False if the connection has ended."""
         text = received(self.connection)
         if text is None:
             return False
@@ -130,7 +130,7 @@ class Observer:
         return True
 
     def is_told(self, board, much=0):
-        """Takes texts until it knows so much of a board; False where the connection ended before."""
+        """Takes texts until it knows this much of a board; False if the connection ended before."""
         while self.known.get(board, -1) < much:
             if not self.takes():
                 return False
@@ -150,7 +150,7 @@ def positions():
 
 
 class House:
-    """A server with one loop, an operator, one who follows b1, and one who watches all boards where that is said."""
+    """A server with one loop, an operator, one who follows b1, and, if asked for, one who watches all boards."""
 
     def __init__(self, sheet, allocator, observed=False):
         words = "--forever", "--watch-threads", "1", "--boards", "256"
@@ -177,14 +177,14 @@ class House:
         return positions()[plies - 1] if plies else START_518
 
     def stands(self, board, plies, outcome=None):
-        """The text of a board after so many plies."""
+        """The text of a board after this many plies."""
         return stands(board, fen=self.fen(plies), last=MOVES[plies - 1] if plies else None, plies=plies, outcome=outcome)
 
     def opens(self, board):
         self.owner.asks(opens(board), OPENED)
 
     def plays(self):
-        """Makes a move on b1 and tells its text."""
+        """Makes a move on b1 and returns its text."""
         move, place = MOVES[self.made], self.made
         self.owner.asks(submits("b1", move), played(place))
         self.made += 1
@@ -195,7 +195,7 @@ class House:
             raise Wrong("who follows b1 was lost")
 
     def is_observed(self, board):
-        """Who watches all boards is told of this one: SERVED. Where it was LOST it comes again."""
+        """The one who watches all boards hears of this one: SERVED. If it was LOST it comes again."""
         if self.observer and self.observer.is_told(board):
             return SERVED
         self.observer = Observer(self)
@@ -212,7 +212,7 @@ class House:
         return [following(), *(moved(move, place) for place, move in enumerate(MOVES[:self.made]))]
 
     def all_boards(self):
-        """What one gets that watches all boards, b1 and b2. The last moves of b1 are perhaps not told yet."""
+        """What one who watches all boards gets, b1 and b2. The last moves of b1 may not be reported yet."""
         return [{self.stands("b1", plies) for plies in range(self.made + 1)}, self.stands("b2", 0)]
 
 
@@ -222,7 +222,7 @@ class House:
 @dataclass(frozen=True)
 class Act:
     name: str
-    # By the house: what it sends, and the texts that it is told then.
+    # By the house: what it sends, and the texts that it gets then.
     sends: object
     wanted: object
     # Whether its request is part of it, and whether it follows b1 then.
@@ -235,7 +235,7 @@ def always(it):
 
 
 def asks(name, line, *answers):
-    """An act that sends one line and is always told the same."""
+    """An act that sends one line and always gets the same answer."""
     return Act(name, always(frame(line)), always(answers))
 
 
@@ -270,7 +270,7 @@ def acts(house, act, connection):
 
 
 def has_what_is_due(house, act, how, connection):
-    """After the act a move is made. One that follows has it, or has lost its connection; and one that was told 12 may ask again."""
+    """After the act a move is made. One that follows has it, or has lost its connection. One that got 12 may ask again."""
     move = house.plays()
     house.follower_hears(move)
     house.observer.takes_all()
@@ -323,7 +323,7 @@ def ends_a_game(house, number):
 
 
 def opens_a_board(house, number):
-    """Another board is opened, which is told at once to who watches all boards. It may be lost, since the memory is for its own text."""
+    """Another board is opened. Those who watch all boards hear of it at once. One may be lost, since the memory is for its own text."""
     house.sheet.refuses(number)
     house.opens(f"n{number}")
     how = house.is_observed(f"n{number}")
@@ -359,7 +359,7 @@ def crowd_comes(sheet, allocator, number):
 
 
 def runs_its_loops(server):
-    """Waits until the loops of a server run that has said where it is watched; whether it came to that."""
+    """Waits until the loops run of a server that has said where it is watched; returns whether they did."""
     until = time.monotonic() + SOON
     while server.process.poll() is None and time.monotonic() < until:
         with contextlib.suppress(FileNotFoundError):
@@ -370,7 +370,7 @@ def runs_its_loops(server):
 
 
 def start_is_refused(allocator, mark, number):
-    """How a start came out of which this allocation was refused: SERVED, or LOST where it says that there is no memory, and nothing before."""
+    """How a start turned out in which this allocation was refused: SERVED, or LOST if it says only that there is no memory."""
     mark.unlink(missing_ok=True)
     env = {**os.environ, "LD_PRELOAD": allocator, "REFUSED": str(number), "MARK": str(mark)}
     words = "--forever", "--boards", "1", "--followers", "1", "--watch-threads", str(LOOPS)
@@ -390,7 +390,7 @@ def start_is_refused(allocator, mark, number):
 
 
 def until_nothing_is_refused(name, refuse):
-    """Refuses each allocation, until there is none of the number, or too much was wrong. Whether something was wrong is told, or nothing was refused."""
+    """Refuses each allocation, until there is none of the number, or too much was wrong. Returns whether something was wrong, or nothing was refused."""
     counts = collections.Counter()
     for number in itertools.count(1):
         try:
@@ -409,7 +409,7 @@ def until_nothing_is_refused(name, refuse):
 
 
 def refuse_in_watching(allocator, mark):
-    """Refuses each allocation of the loop; tells whether something was wrong."""
+    """Refuses each allocation of the loop; returns whether something was wrong."""
     sheet = Sheet(mark.with_name("sheet"))
     wrong = until_nothing_is_refused("the start with a watch port", lambda number: start_is_refused(allocator, mark, number))
     for act in ACTS:

@@ -1,14 +1,14 @@
 #!/usr/bin/env python3
 """Measures the server beside nginx with nchan and mosquitto (Debian's nginx-light, libnginx-mod-nchan, mosquitto), with the same texts and
-the same reading client (reader.c, built by cc). Prints a table's rows: the medians of the rounds, least and greatest beside them.
+the same reading client (reader.c, built by cc). Prints a table's rows: the medians of the rounds, with the least and greatest.
 
     benches/serving.py                        all servers, 100 followers, 1,000 moves, 7 rounds
     benches/serving.py --followers 1000 --only relay --rounds 5
     benches/serving.py --what turns|connects|rush|idle
     benches/serving.py --only relay-watch-2 --rounds 1 --under "strace -c -f -o calls"
 
-A relay-watch-N is the relay's watch port with N loops. A connection is a descriptor of the server and one of the reading client. Where the hard limit
-on them is too low for the followers asked for, nothing is measured.
+A relay-watch-N is the relay's watch port with N loops. A connection takes a descriptor of the server and one of the reading client. If the hard limit
+on descriptors is too low for the followers asked for, nothing is measured.
 """
 import argparse
 import json
@@ -61,7 +61,7 @@ def children(pid):
 
 
 def raised_limit(followers):
-    """Raises the limit on descriptors, which servers and the reading client inherit, and tells it."""
+    """Raises the limit on descriptors, which servers and the reading client inherit, and returns it."""
     _, most = resource.getrlimit(resource.RLIMIT_NOFILE)
     if most < followers + 100:
         raise SystemExit(f"a process may have {most} descriptors here: raise the hard limit first (ulimit -Hn)")

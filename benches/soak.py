@@ -4,11 +4,11 @@
     benches/soak.py                                   ten minutes, 2,000 spectators of 20 boards
     benches/soak.py --seconds 120 --spectators 300
 
-The spectators are those of spectators.c (built by cc), which compare all texts. One more watches all boards. Beside them come, all the time:
-pings without end of peers that read and of peers that do not, halves of frames and of requests, peers that come and go or reset, and bytes by
-chance. The operator of each board plays the same game, and the longest that one waited for an answer is told.
-At the end the server has to have as few descriptors as before, and its memory is told on the way. The program is the built one, or that of the
-environment's RELAY960. The status is 1 where anything was not as it should be.
+The spectators are those of spectators.c (built by cc), which compare all texts. One more watches all boards. Beside them there are, all the time:
+endless pings of peers that read and of peers that do not, halves of frames and of requests, peers that come and go or reset, and random
+bytes. The operator of each board plays the same game. It reports the longest that one waited for an answer.
+At the end the server must have as few descriptors as before. Its memory is reported on the way. The program is the built one, or that of the
+environment's RELAY960. The status is 1 if anything was not as it should be.
 """
 import argparse
 import concurrent.futures
@@ -44,7 +44,7 @@ def names(count):
     return [f"s{number}" for number in range(count)]
 
 
-# ---- Floods. Each runs in a process of its own until it is ended, and takes it that the server ends its connections.
+# ---- Floods. Each runs in its own process until it is ended, and puts up with the server ending its connections.
 
 
 def again_and_again(act, *words):
@@ -100,7 +100,7 @@ def deaf_ones(port, board):
 
 
 def chance(port, _):
-    """Bytes by chance, with a request before them and without."""
+    """Random bytes, with a request before them and without."""
     with socket.create_connection(("127.0.0.1", port)) as peer:
         peer.settimeout(0.05)
         peer.sendall(random.choice([b"", REQUEST]) + random.randbytes(random.randrange(1, 5000)))
@@ -137,7 +137,7 @@ def end_floods(started):
 
 
 def observe(port, boards, positions):
-    """Hears of all boards until all have ended; how many texts came. Each is right, and tells more than the one before of its board."""
+    """Hears of all boards until all have ended; how many texts came. Each is right, and says more than the one before about its board."""
     observer, known, over, count = Connection(port), {}, set(), 0
     observer.send(BOARDS)
     while over != set(boards):
@@ -179,7 +179,7 @@ def play(owners, at):
 
 
 def play_all(server, owners, spectators, given):
-    """Plays on, so many moves a second, for so many seconds; how many moves were made in all, and the longest that an operator waited."""
+    """Plays on, this many moves a second, for this many seconds; how many moves were made in all, and the longest that an operator waited."""
     began, longest, shown = time.monotonic(), 0, 0
     for at in range(FIRST, len(MOVES)):
         time.sleep(max(0, began + (at - FIRST) / given.pace - time.monotonic()))

@@ -3,14 +3,14 @@
 //   spectators PORT BOARDS COUNT GAME
 //
 // The boards s0, s1 .. play the same game. GAME is a file with a line for each place: the position before its move as a FEN, a tab, and the move;
-// the last line has no move. Before the games end, as agreed, their length is told on standard input. Of ten spectators of a board
+// the last line has no move. Before the games end, as agreed, their length comes on standard input. Of ten spectators of a board
 //
-//   seven read what comes as it comes, some of them from the first place on, the others from now on;
+//   seven read everything as it comes, some of them from the first place on, the others from now on;
 //   one has a small buffer, reads slowly from the first place on, and comes again from there once it has nearly all;
 //   two end their connections after a while, or reset them, and come again from the place that they wait for.
 //
 // Says `there` once all have joined. Once all have had the end it says in JSON what was compared and how late the moves came to those who read as
-// they come, after the first of them had each. A text that is not the next one of its board, or a connection that ends otherwise, is told on standard
+// they come, after the first of them had each. A text that is not the next one of its board, or a connection that ends otherwise, is reported on standard
 // error, and the status is 1.
 #define _GNU_SOURCE
 #include <arpa/inet.h>
@@ -88,7 +88,7 @@ static void read_game(const char *path) {
     fclose(file);
 }
 
-// The length of the games, which was told before the first of them ended.
+// The length of the games, which came before the first of them ended.
 static int length_told(void) {
     static int length = -1;
     if (length < 0 && scanf("%d", &length) != 1) die("the length of the games");
@@ -204,7 +204,7 @@ static void is_closed(struct spectator *s, const unsigned char *payload, int len
     done++;
 }
 
-// Takes the frame at the front of what came; tells how many bytes it has, and 0 where it is not whole.
+// Takes the frame at the front of what came; returns how many bytes it has, or 0 if it is not whole.
 static int take_frame(struct spectator *s, const unsigned char *bytes, int n) {
     char text[300];
     if (n < 2) return 0;
@@ -252,7 +252,7 @@ static void take_all(struct spectator *s) {
     s->have -= at;
 }
 
-// Reads once; tells whether something came.
+// Reads once; returns whether something came.
 static int reads(struct spectator *s, int most) {
     int room = (int)sizeof s->bytes - s->have;
     ssize_t n = read(s->fd, s->bytes + s->have, most < room ? most : room);
@@ -272,7 +272,7 @@ static void slow_ones_read(void) {
     for (struct spectator *s = spectators; s < spectators + count; s++) {
         if (s->kind != SLOW || s->fd <= 0 || s->stage == IS_DONE) continue;
         reads(s, SLOW_BYTES);
-        // It has nearly all that was played by then, so it begins anew, until the games have ended.
+        // It has nearly all that was played by then, so it begins again, until the games have ended.
         if (!done && s->stage == WATCHES && s->next > 200 && !had_first[s->board * MOST_PLIES + s->next + 20]) {
             goes(s);
             comes(s, 0);

@@ -1,5 +1,5 @@
 #!/usr/bin/env -S python3 -B
-"""How long it takes until an operator that vanished is noticed: a follower is told the end of its board. The peer's system drops all that comes
+"""How long it takes until an operator that vanished is noticed: a follower gets the end of its board. The peer's system drops everything that comes
 for it, and acknowledges nothing. The program is the built one, or that of the environment's RELAY960.
 """
 import concurrent.futures
@@ -19,7 +19,7 @@ KINDS = "quiet", "behind a move", "with a move whose answer it never gets", f"wi
 
 
 def vanished(server, number, kind):
-    """Loses an operator of this kind, and tells when, and a follower of its board."""
+    """Loses an operator of this kind; returns when, and a follower of its board."""
     board = f"b{number}"
     owner, guest = owner_of(server, board, key=new_key() if "key" in kind else None), guest_of(server, board)
     if "behind" in kind:

@@ -1,10 +1,10 @@
 #!/usr/bin/env -S python3 -B
-"""Proves and builds the program and each crate below it, those that do not stand on one another side by side.
+"""Proves and builds the program and each crate below it, those that do not depend on one another side by side.
 
-Each crate is proved in a workplace of its own, and its new `out/` is put in the old one's place.
+Each crate is proved in its own workplace, and its new `out/` is put in the old one's place.
 
-All that is printed goes to standard error, and the status is 0 where all is proved. Of a crate that is proved, `out/proved` keeps a sum
-of all that it was made from and one of what was made. Where both still hold, `rt` is not called for it.
+All output goes to standard error, and the status is 0 if everything is proved. For a crate that is proved, `out/proved` keeps a sum
+of everything that it was made from and one of what was made. If both still hold, `rt` is not called for it.
 """
 import functools
 import hashlib
@@ -27,7 +27,7 @@ def say(text):
 
 
 class Records:
-    """Of which crates it is known that they are proved as they stand."""
+    """Which crates are known to be proved as they are."""
 
     def __init__(self, crates):
         self.crates = crates
@@ -52,7 +52,7 @@ class Records:
         return said.digest()
 
     def record(self, name, sources):
-        """What `out/proved` has to say: of a library rt's own stamp stands for what was made."""
+        """What `out/proved` has to say: for a library, rt's own stamp stands for what was made."""
         made = self.crates.folder(name) / "out" / (name if self.crates.is_program(name) else "rlib/stamp")
         return f"{sources}\n{sum_of_file(made)}\n" if made.is_file() else None
 
@@ -87,7 +87,7 @@ class Plan:
             self.weights[name] = seconds[name] + max(above, default=0)
 
     def ready(self, done, running):
-        """The crates that can begin, the one with the longest way behind it first."""
+        """The crates that can begin, the one with the longest way above it first."""
         found = [it for it in self.below if it not in done and it not in running and all(b in done for b in self.below[it])]
         return sorted(found, key=lambda it: -self.weights[it])
 

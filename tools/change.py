@@ -1,10 +1,10 @@
 #!/usr/bin/env -S python3 -B
 """What a change of one crate needs: change.py CRATE [--above] [--planted]
 
-It says first what it will do and about how long that takes, then proves the crate, proves and runs its tests, and, where it is asked,
+First it says what it will do and about how long that takes. Then it proves the crate, proves and runs its tests, and, if asked,
 proves the crates above (`--above`) and tries the crate's wrong bodies (`--planted`). The last line is the verdict.
 
-The tests are run by `rt test`, at the speed of the proved program. By `rt try --test` those that go through thousands of positions take
+`rt test` runs the tests at the speed of the proved program. With `rt try --test` those that go through thousands of positions take
 more than its minute for each.
 """
 import subprocess
@@ -40,14 +40,14 @@ def is_built(crates, name):
 
 
 def proof(crates, name):
-    """The proof of a crate: what has changed since the last one, or all where there was none."""
+    """The proof of a crate: what has changed since the last one, or everything if there was none."""
     most = measured().get(name, SECONDS_UNKNOWN)
     least = min(SECONDS_AT_LEAST, most) if (crates.folder(name) / "out").is_dir() else most
     return Step(f"the proof of {name} (rt check)", crates.folder(name), ["rt", "check"], least, most)
 
 
 def tests(crates, name, unbuilt=()):
-    """The tests in a crate; `rt` proves what stands below them and is not built."""
+    """The tests in a crate; `rt` proves what is below them and is not built."""
     most = measured().get(f"{name}:tests", SECONDS_OF_TESTS) + sum(measured().get(it, SECONDS_UNKNOWN) for it in unbuilt)
     what = f"the tests in {name} (rt test)" + (f", behind the proofs of {', '.join(unbuilt)}" if unbuilt else "")
     return Step(what, crates.folder(name), ["rt", "test"], most, most)

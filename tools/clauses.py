@@ -2,11 +2,11 @@
 """The public clauses of the crates: clauses.py [REV] lists them, and clauses.py --compare REV says what has changed since a revision.
 
 A public clause is a `requires` or an `ensures` of a `pub fn` or of a method of a trait. The `ghost` members of traits and of their
-implementations are listed too, since such clauses cite them. REV is any name of a commit; without it the files as they stand are read.
+implementations are listed too, since such clauses cite them. REV is any name of a commit; without it the files are read as they are.
 Tests are left out, and what went from one crate of tests to another counts as unmoved. Clauses cite definitions of specs/, and these
 are not compared.
 
-The status of `--compare` is 1 where a function or a clause came, went or changed, and 0 where at most something moved.
+The status of `--compare` is 1 if a function or a clause came, went or changed, and 0 if at most something moved.
 """
 import collections
 import io
@@ -38,7 +38,7 @@ class Source:
         return " ".join(self.plain[start:end].split())
 
     def close(self, start):
-        """Behind the bracket that closes the one at the place."""
+        """The place after the bracket that closes the one at the place."""
         opens = self.bare[start]
         closes, depth = {"(": ")", "[": "]", "{": "}"}[opens], 0
         for found in re.compile(f"[{re.escape(opens + closes)}]").finditer(self.bare, start):
@@ -48,7 +48,7 @@ class Source:
         raise ValueError(f"a bracket is open: {self.words(start, start + 80)}")
 
     def past(self, start, marks):
-        """The place of the first of the marks that stands in no bracket."""
+        """The place of the first of the marks that is in no bracket."""
         at = start
         while self.bare[at] not in marks:
             at = self.close(at) if self.bare[at] in "([{" else at + 1
@@ -75,7 +75,7 @@ class Reader:
         return self.found
 
     def items(self, start, end, owner, is_trait):
-        """The items between two places, which stand in the owner: a type, a trait, or none."""
+        """The items between two places, which are in the owner: a type, a trait, or none."""
         at, is_tested = start, False
         while at < end:
             if self.source.bare[at].isspace() or self.source.bare[at] == "}":
@@ -88,7 +88,7 @@ class Reader:
                 is_tested = False
 
     def item(self, at, owner, is_trait, is_tested):
-        """One item; gives the place behind it."""
+        """One item; returns the place after it."""
         head = HEAD.match(self.source.bare, at)
         what = head and head["what"]
         if what == "fn":
@@ -120,7 +120,7 @@ class Reader:
             self.found.append(Function(self.crate, owner, named[1], "ghost " + tidy(self.source.words(start, end)), ()))
 
     def function(self, at, owner, is_public):
-        """A function; gives the place behind it."""
+        """A function; returns the place after it."""
         source, clauses = self.source, []
         begun, signed = at, None
         at = source.bare.index("(", at)

@@ -1,4 +1,4 @@
-"""The crates of crates.txt: what each stands on, where its tests are, and how long its proof takes."""
+"""The crates of crates.txt: what each depends on, where its tests are, and how long its proof takes."""
 import pathlib
 
 ROOT = pathlib.Path(__file__).resolve().parent.parent
@@ -37,7 +37,7 @@ class Crates:
         return self.root / "crates" / name
 
     def below(self, name):
-        """The crates of the repository on which this one stands, each before those that stand on it."""
+        """The crates of the repository that this one depends on, each before those that depend on it."""
         found = {}
         for used in self.uses[name]:
             if used in self.lines:
@@ -45,7 +45,7 @@ class Crates:
         return list(found)
 
     def above(self, name):
-        """The crates that stand on this one, each behind those that it stands on."""
+        """The crates that depend on this one, each after those that it depends on."""
         found = [other for other in self if name in self.below(other)]
         return sorted(found, key=lambda other: len(self.below(other)))
 
@@ -54,7 +54,7 @@ class Crates:
 
     def tests_of(self, name):
         """Where a crate's tests are: in itself, and in the crates of tests that name it in crates.txt; of these the one that has the
-        longest part of its name, as c960_tests for c960_rules, or where none has, all."""
+        longest part of its name, as c960_tests for c960_rules, or, if none has, all."""
         own = [name] if has_tests(self.folder(name)) else []
         apart = [other for other in self if other.endswith(TESTS) and name in self.uses[other]]
         named = [other for other in apart if f"{name}_".startswith(other.removesuffix(TESTS) + "_")]

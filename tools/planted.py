@@ -1,11 +1,11 @@
 #!/usr/bin/env -S python3 -B
 """Tries the wrong bodies of crates/NAME/planted/: planted.py [NAME..], or planted.py --rotate [MINUTES] for those that fit the time.
 
-Each is a small edit of the code that the prover has to refuse, and is tried on a copy by `rt must-fail`, crates side by side. The last line
-counts them, and the status is 1 where one is proved or cannot be applied.
+Each is a small edit of the code that the prover must refuse, and is tried on a copy by `rt must-fail`, crates side by side. The last line
+counts them, and the status is 1 if one is proved or cannot be applied.
 
-`--rotate` begins with what was tried longest ago. When each was tried stands in `out/planted` at the repository's top, a line each, which
-git does not track, since it tells of one machine's runs. Without that file the rotation begins anew.
+`--rotate` begins with what was tried longest ago. `out/planted` at the top of the repository has when each was tried, one per line, which
+git does not track, since it is about one machine's runs. Without that file the rotation starts over.
 """
 import datetime
 import os
@@ -22,10 +22,10 @@ from workplace import Workplace, scratch_folder, width_of_machine
 
 KEPT = ROOT / "out/planted"
 MINUTES = 10
-# Each crate that begins with the time tries at least this part of its edits, even where that takes longer: of some crates the first edit
+# Each crate that begins with the time tries at least this part of its edits, even if that takes longer: for some crates the first edit
 # alone takes as long. So four at a time, ten minutes a day, try all within a fortnight.
 PARTS = 10
-# The first edit of a crate takes a proof of it from nothing by one job, where the table's seconds are those of up to four. Each further
+# The first edit of a crate takes a proof of it from scratch by one job; the table's seconds are those of up to four. Each further
 # one takes what it changes, and what it takes to read all that stands below, which the table has where it is much (NAME:edit).
 JOBS = 2
 SECONDS_OF_AN_EDIT = 12
@@ -69,7 +69,7 @@ def key_of(edit):
 
 
 def seconds_of(name, count):
-    """About how long so many edits of a crate take."""
+    """About how long this many edits of a crate take."""
     return JOBS * measured().get(name, SECONDS_UNKNOWN) + count * seconds_of_edit(name)
 
 
@@ -116,7 +116,7 @@ class Trial:
 
 
 def least_of(count):
-    """How many of so many edits a crate tries at least."""
+    """How many of this many edits a crate tries at least."""
     return min(max(2, -(-count // PARTS)), count)
 
 

@@ -1,7 +1,7 @@
 #!/usr/bin/env -S python3 -B
 """What a change needs, cheap things first: quick.py [BASE]
 
-It says first what it will do and about how long that takes. Then come the linters and the tests of the tools; the proofs of the program, and
+First it says what it will do and about how long that takes. Then come the linters and the tests of the tools; the proofs of the program, and
 the replays on it; the proofs of the other crates that differ from BASE and of all above them; and the tests of these crates. BASE is a
 commit, by default where this branch left main, or else the commit before the last.
 """
@@ -23,7 +23,7 @@ SECONDS_OF_REPLAYS = (10, 40)
 
 
 def git(*words):
-    """What git prints, or nothing where it fails."""
+    """What git prints, or nothing if it fails."""
     run = subprocess.run(["git", *words], cwd=ROOT, capture_output=True, text=True, check=False)
     return run.stdout if run.returncode == 0 else ""
 
@@ -46,7 +46,7 @@ def changed(crates, base):
 
 
 def steps_of(crates, names):
-    """All that a change of these crates needs, in the order of its cost but that a proof comes before what stands on it."""
+    """All that a change of these crates needs, in the order of its cost, except that a proof comes before what depends on it."""
     python = [sys.executable, "-B"]
     steps = [Step("the linters", ROOT, [*python, lint.__file__], *SECONDS_OF_LINTERS),
              Step("the tests of the tools", ROOT, [*python, "-m", "unittest", "discover", "-s", "tools/tests"], *SECONDS_OF_TOOLS)]

@@ -1,5 +1,5 @@
 #!/usr/bin/env -S python3 -B
-"""Runs the program as it stands, without its proof: try_program.py [--seconds N] WORDS..
+"""Runs the program as it is, without its proof: try_program.py [--seconds N] WORDS..
 
 `rt try` compiles the sources with checks and runs what comes out. It keeps what the program prints until it has ended, so of a
 server this waits for the port and says when it listens. `--seconds` is how long the program may run.
@@ -14,7 +14,7 @@ from crates import ROOT
 
 PROGRAM = ROOT / "crates/relay960"
 PORT = 9600
-# A day for a server, which is ended by Ctrl-C, and `rt`'s own minute for all else.
+# A day for a server, which is ended by Ctrl-C, and `rt`'s own minute for everything else.
 SECONDS_OF_A_SERVER = 86400
 SECONDS = 60
 LISTENS = "0A"
@@ -34,7 +34,7 @@ def split(words):
 
 
 def port_of(words):
-    """The port that the words ask for; the program itself tells what is wrong with them."""
+    """The port that the arguments ask for; the program itself says what is wrong with them."""
     for at, word in enumerate(words):
         given = word[len("--port="):] if word.startswith("--port=") else words[at + 1] if word == "--port" and at + 1 < len(words) else ""
         if given.isdigit():

@@ -1,7 +1,7 @@
 """Folders in which single crates are proved, side by side.
 
-`rt` locks each crate below the one that it proves, so in one tree two proofs that share a crate go one after the other. A workplace has
-copies of a crate's sources and of the libraries below it, and so locks nothing that another one needs.
+`rt` locks each crate below the one that it proves, so in one tree two proofs that share a crate run one after the other. A workplace has
+copies of a crate's sources and of the libraries below it, and so locks nothing that another proof needs.
 """
 import contextlib
 import fcntl
@@ -37,7 +37,7 @@ class Workplace:
             shutil.move(self.kept, self.own / "out")
 
     def put_back(self):
-        """Puts the crate's `out/` in its place, also where the proof failed, since the next one goes on from it. From another file
+        """Puts the crate's `out/` in its place, even if the proof failed, since the next one goes on from it. From another file
         system it is copied, so it gets its name last."""
         new = self.kept.with_name("out.new")
         if (self.own / "out").is_dir():

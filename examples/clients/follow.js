@@ -1,9 +1,9 @@
-// Follows a board and prints its texts: node follow.js ws://127.0.0.1:9600 b1 (node 20 wants --experimental-websocket before follow.js).
+// Follows a board and prints its texts: node follow.js ws://127.0.0.1:9600 b1 (node 20 needs --experimental-websocket before follow.js).
 "use strict";
 const [server, board] = process.argv.slice(2);
 let men = null, place = { from: 0 };  // The position, and the place of the next move; without one: from now on.
 
-function menOf(fen) {  // As 64 letters from a8 to h1. A digit stands for so many vacant squares.
+function menOf(fen) {  // As 64 letters from a8 to h1. A digit stands for that many vacant squares.
   return [...fen.split(" ")[0].replace(/\d/g, (run) => ".".repeat(run)).replace(/\//g, "")];
 }
 

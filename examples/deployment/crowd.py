@@ -1,11 +1,11 @@
 #!/usr/bin/python3
-"""Tries which limits of the system a crowd of spectators meets: starts the built program on loopback, and nginx before it where that is asked
-for, and connects so many spectators to the watch port. It does so in a network of its own, so it needs root and leaves the machine as it is.
+"""Tries which limits of the system a crowd of spectators meets: starts the built program on loopback, and nginx before it if that is asked
+for, and connects this many spectators to the watch port. It does so in its own network, so it needs root and leaves the machine as it is.
 
     ./crowd.py 10000                                     straight to the watch port
-    ./crowd.py 10000 --nginx --tls                       through nginx (Debian: apt-get install nginx-light), there behind TLS
+    ./crowd.py 10000 --nginx --tls                       through nginx (Debian: apt-get install nginx-light), there with TLS
     ./crowd.py 1000 --descriptors 1024 --most 1000       with other limits than those of the unit
-    ./crowd.py 4000 --ports 3000 --nginx --from 4        with so many local ports, and nginx coming from four addresses
+    ./crowd.py 4000 --ports 3000 --nginx --from 4        with this many local ports, and nginx coming from four addresses
 
 Its last lines say what became of the spectators, what it took, and what the system and nginx complained of. RELAY960 names another
 program than the built one.
@@ -36,8 +36,8 @@ from relay_client.program import PROGRAM  # noqa: E402
 from relay_client.texts import OPENED, follows, opens, played, submits  # noqa: E402
 
 OWN, WATCH, SITE = 9600, 9601, 9443
-IP_BIND_ADDRESS_NO_PORT = 24  # Linux, in.h: the port is chosen when it is known where the connection goes.
-EACH_ADDRESS = 2500  # So many spectators have an address of loopback in common.
+IP_BIND_ADDRESS_NO_PORT = 24  # Linux, in.h: the port is chosen once the connection's destination is known.
+EACH_ADDRESS = 2500  # This many spectators share an address of loopback.
 MOVES = ["e2e4", "e7e5", "g1f3", "b8c6", "f1b5"]
 WATCHES = "watches"
 PATIENCE = 60  # Seconds.
@@ -63,7 +63,7 @@ http {{
 
 
 class Spectator:
-    """One that connects, shakes hands, follows the board, and counts its moves. `fate` is what became of it, once that is known."""
+    """One that connects, completes the handshake, follows the board, and counts its moves. `fate` is what became of it, once known."""
 
     def __init__(self, at, given):
         self.at, self.given = at, given
@@ -146,7 +146,7 @@ class Spectator:
 
 
 class Crowd:
-    """All spectators, of whom so many connect at a time, and the board's owner, whose pings are answered meanwhile."""
+    """All spectators, this many of whom connect at a time, and the board's owner, whose pings are answered meanwhile."""
 
     def __init__(self, given, owner):
         self.given = given
@@ -187,7 +187,7 @@ class Crowd:
         return [one for one in self.all if one.fate == WATCHES]
 
     def have(self, moves):
-        """How long it took until everybody who watches had so many moves, in seconds; none where that did not happen."""
+        """How long it took until everybody who watches had this many moves, in seconds; none if that did not happen."""
         began = time.monotonic()
         while time.monotonic() < began + PATIENCE:
             if all(one.moves >= moves for one in self.watching()):

@@ -1,12 +1,12 @@
 #!/usr/bin/python3
-"""Measures what boards and followers take of the machine: starts the built program on loopback and reads /proc.
+"""Measures what boards and followers cost the machine: starts the built program on loopback and reads /proc.
 
     ./measure.py        (Debian: apt-get install python3-websockets; RELAY960 names another program than the built one)
 
 Each line is one run, as a row of a table: the boards, the followers of each, `--capacity` and `--plies`; the memory that is resident when
 nothing is connected, when all are, and when a hundred moves were played on every board; threads and descriptors when all are connected;
-and how long it took until a move that was sent on every board at once had reached every follower, in the middle and at the most. The
-next move is sent when the one before has come everywhere, so nobody is cut. Words are passed on: `./measure.py 64x64` does this run alone.
+and how long it took until a move that was sent on every board at once had reached every follower, the median and the maximum. The
+next move is sent when the one before has arrived everywhere, so nobody is cut. Arguments choose runs: `./measure.py 64x64` does only that one.
 """
 import asyncio
 import json

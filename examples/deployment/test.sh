@@ -40,7 +40,7 @@ else
     dpkg-deb -x "$package" "$root"
 fi
 [ "$("$root/usr/bin/relay960" start 518)" = "rnbqkbnr/pppppppp/8/8/8/8/PPPPPPPP/RNBQKBNR w HAha - 0 1" ]
-# Its files name each other by where they stand on a site.
+# Its files name each other by where they are on a site.
 sed -i "s|/usr/share/relay960|$root&|g; s|/etc/relay960|$root&|g; s|/usr/lib/relay960|$root&|g; s|/usr/bin/relay960|$root&|g
 s|/var/log/nginx/|$run/|g" \
     "$root"/etc/relay960/nginx/*.conf "$root"/usr/lib/systemd/system/*.service

@@ -87,7 +87,7 @@ async def try_origins():
 
 
 async def texts_of(spectator, count):
-    """The next so many texts of a channel, the beats left out."""
+    """The next texts of a channel, as many as asked for, the beats left out."""
     texts = []
     while len(texts) < count:
         text = json.loads(await asyncio.wait_for(spectator.recv(), 20))
@@ -169,7 +169,7 @@ async def try_watch():
 
 
 async def try_watch_requests():
-    """The watch port is there for the pages of all sites and for programs, by WebSocket alone; its arguments say nothing."""
+    """The watch port is there for the pages of all sites and for programs, only by WebSocket; its arguments mean nothing."""
     for origin in (None, SITE, "https://elsewhere.example", "http://localhost:9443", "null"):
         assert await answered("/watch", origin=origin) == 101, origin
     assert await answered("/watch?board=hall") == 101
@@ -245,7 +245,7 @@ async def try_end():
 
 
 async def try_all():
-    """Where no names are given, the feed feeds each board that is opened."""
+    """Without names, the feed feeds each board that is opened."""
     write_names()
     await asyncio.to_thread(subprocess.run, ["systemctl", "restart", "relay960-feed"], check=True)
     operator = await connected()
@@ -385,8 +385,8 @@ async def try_restart():
 
 
 async def try_key():
-    """A key in the target of an operator's request stands in no log, neither where the relay answers nor where the request is refused for its
-    password or its page, nor where there is no relay. Before, nginx logged the whole request."""
+    """A key in the target of an operator's request is in no log, neither if the relay answers nor if the request is refused for its
+    password or its page, nor if there is no relay. Before, nginx logged the whole request."""
     key = new_key()
 
     async def comes(expected, **more):

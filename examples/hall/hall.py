@@ -4,7 +4,7 @@
     relay960 serve --forever --boards 64 --capacity 1024 --grace 120 --watch 127.0.0.1:9601
     hall.py [ROUND]                                                  (Debian: apt-get install nginx-light qrencode)
 
-All boards of the relay are shown, as they are opened. ROUND is a file that names the players, one board a line, as the forms of the pages
+All boards of the relay are shown as they are opened. ROUND is a file that names the players, one board per line, as the forms of the pages
 take them: its name, perhaps its start number, and its players. A board that it names is shown before it is open, too:
 
     r3-1 518 Carlsen – Caruana
@@ -32,7 +32,7 @@ import urllib.parse
 
 HERE = pathlib.Path(__file__).resolve().parent
 TOP = HERE.parent.parent
-# Where it is installed, the package stands beside it.
+# When installed, the package is beside it.
 sys.path.append(str(TOP / "tools"))
 
 from relay_client.frames import REQUEST, frame, read_frame  # noqa: E402
@@ -45,7 +45,7 @@ FRONT = '<!doctype html><meta charset="utf-8"><meta name="viewport" content="wid
 
 
 class Wrong(Exception):
-    """What keeps it from serving, in words for whoever started it."""
+    """What keeps it from serving, in words for the person who started it."""
 
 
 def first_there(paths):
@@ -91,7 +91,7 @@ def read_round(file):
 
 
 def page_of(boards, host):
-    """The address of the round's page, behind its host."""
+    """The address of the round's page, after its host."""
     said = {"watch": f"ws://{host}/watch"}
     if boards:
         said["players"] = ";".join(f"{name} {players}".strip() for name, players in boards)
@@ -102,14 +102,14 @@ def page_of(boards, host):
 
 
 def own_addresses():
-    """The addresses of this machine that are not for itself alone."""
+    """The addresses of this machine that others can reach."""
     words = ["ip", "-4", "-json", "address", "show", "up", "scope", "global"]
     told = json.loads(subprocess.run(words, capture_output=True, check=True).stdout or "[]")
     return [it["local"] for link in told for it in link.get("addr_info", []) if "local" in it]
 
 
 def outward():
-    """The address with which this machine goes to others behind a router, or None where it has no way there. Nothing is sent."""
+    """The address with which this machine goes to others behind a router, or None if it has no route. Nothing is sent."""
     with socket.socket(socket.AF_INET, socket.SOCK_DGRAM) as probe:
         try:
             probe.connect(("192.0.2.1", 9))
@@ -145,14 +145,14 @@ def try_port(address, port):
 
 
 def answers_as_watch_port(address):
-    """Whether a relay's watch port answers there; None where nothing answers. A main port does not know the command."""
+    """Whether a relay's watch port answers there; None if nothing answers. A main port does not know the command."""
     host, port = address.rsplit(":", 1)
     try:
         with socket.create_connection((host, int(port)), timeout=5) as stream, stream.makefile("rb") as said:
             stream.sendall(REQUEST)
             while said.readline() not in (b"\r\n", b""):
                 pass
-            stream.sendall(2 * frame('{"cmd":"boards"}'))  # The second is refused, where there are no boards.
+            stream.sendall(2 * frame('{"cmd":"boards"}'))  # The second is refused if there are no boards.
             return "UnknownCommand" not in read_frame(said.read)
     except OSError:
         return None
@@ -210,7 +210,7 @@ class Serving:
 
     def start(self):
         with open(self.folder / "nginx.log", "wb") as log:
-            # Ctrl-C reaches this program alone, which ends the other.
+            # Ctrl-C reaches only this program, which ends the other.
             self.nginx = subprocess.Popen(["nginx", "-p", self.folder, "-c", self.folder / "hall.conf", "-e", "stderr"], stdout=log, stderr=log,
                                           stdin=subprocess.DEVNULL, start_new_session=True)
         until = time.monotonic() + 30

@@ -73,7 +73,7 @@ async def try_wires(address):
 
 
 async def try_words(wire, *others):
-    """Each of these is refused, and so is all else that a board's operator or a script may say."""
+    """Each of these is refused, and so is everything else that a board's operator or a script may say."""
     async with websockets.connect(wire, compression=None) as phone:
         for word in (*others, ends("r3-1", "agreed"), takes(0), leaves(0)):
             await phone.send(word)

@@ -1,6 +1,6 @@
 #!/bin/sh
 # Tries a hall beside the built program (or the one that RELAY960 names): a laptop and a phone in network namespaces of their own, with a
-# cable between them, where there may be any (as root), and else over two addresses of loopback. It takes some 20 seconds. Its last line
+# cable between them, if that is allowed (as root), or else over two addresses of loopback. It takes some 20 seconds. Its last line
 # says what came.
 set -eu
 cd "$(dirname "$0")"

@@ -20,7 +20,7 @@ PYTHON = "/usr/bin/python3"
 
 
 class Phone:
-    """Programs in the phone's network: one of its own, or the laptop's where there can be but one."""
+    """Programs in the phone's network: one of its own, or the laptop's if there can be only one."""
 
     def __init__(self, has_own):
         self.before, self.keeper = [], None
@@ -62,7 +62,7 @@ class Phone:
 
 
 class Hall:
-    """hall.py as an arbiter starts it; it finds the laptop's address by itself where that has but one."""
+    """hall.py as an arbiter starts it; it finds the laptop's address by itself if there is only one."""
 
     def __init__(self, phone, relay, folder):
         self.words = [PYTHON, HERE / "hall.py", "--watch", f"127.0.0.1:{relay.watch_port}", *([] if phone.keeper else ["--address", phone.laptop])]
@@ -125,8 +125,8 @@ def try_wrong_words(folder, taken):
 
 
 async def try_watching(phone, hall, relay, address):
-    """The phone has each text of a game as it is played. What it sent before opened no board. Where the hall's part is ended in the middle
-    and started again, the game goes on, and a page that is open comes back. A round without a file is the boards that there are."""
+    """The phone has each text of a game as it is played. What it sent before opened no board. If the hall's part is ended in the middle
+    and started again, the game goes on, and a page that is open comes back. A round without a file shows the boards that exist."""
     key = new_key()
     operator = await Client.to(relay.address, key)
     await operator.open("r3-1")

@@ -19,7 +19,7 @@ def written(text):
 
 
 class Channel:
-    """A channel by its name. What its texts tell is kept by the two kinds of it, which have `forget()` and
+    """A channel by its name. Its two kinds keep what its texts say, and have `forget()` and
     `note(text, seconds)` with the time of its publication."""
 
     def __init__(self, server, name, beat):
@@ -57,7 +57,7 @@ class Channel:
             await self.read_all()
 
     async def read_all(self):
-        """Reads up to the last text by its number, since nginx may hand out more texts than it tells to have."""
+        """Reads up to the last text by its number, since nginx may hand out more texts than it says it has."""
         self.forget()
         status, answer = await asyncio.to_thread(self.request, "GET")
         if status not in (200, 404):
@@ -84,7 +84,7 @@ class Channel:
         await self.publish(written({"reply": "beat", "time": int(time.time())}))
 
     async def beats(self):
-        """Publishes a beat after so many seconds without another text, for ever."""
+        """Publishes a beat after this many seconds without another text, for ever."""
         while True:
             await asyncio.sleep(max(0, self.published + self.beat - time.monotonic()))
             try:
@@ -92,11 +92,11 @@ class Channel:
                     if time.monotonic() >= self.published + self.beat:
                         await self.publish_beat()
             except FAULTS:
-                await asyncio.sleep(self.beat)  # The next text of the relay tells of it.
+                await asyncio.sleep(self.beat)  # The relay's next text reports it.
 
 
 class BoardChannel(Channel):
-    """A board's channel, and the game that its texts tell. A board may be one of the feed's names and a next name of another, so two may
+    """A board's channel, and the game in its texts. A board may be one of the feed's names and a next name of another, so two may
     use its channel."""
 
     def forget(self):
@@ -114,7 +114,7 @@ class BoardChannel(Channel):
         return self.origin is not None and self.outcome is None
 
     async def hear(self, message, text):
-        """Publishes a text of the board, where the channel lacks it."""
+        """Publishes a text of the board, if the channel lacks it."""
         async with self.turn:
             await self.read_once()
             if not self.has(text):
@@ -123,7 +123,7 @@ class BoardChannel(Channel):
                 await self.publish_beat()
 
     async def gone(self):
-        """The relay has not the game that the channel tells: ends it there. What comes next is another game."""
+        """The relay does not have the game in the channel: ends it there. What comes next is another game."""
         async with self.turn:
             if self.is_going_on():
                 await self.publish(written({"outcome": ABANDONED, "reply": "over"}))
@@ -132,7 +132,7 @@ class BoardChannel(Channel):
             self.outcome, self.heir = outcome, heir
 
     async def tell_next(self, board):
-        """Tells under which name the game goes on, where that was not told and no game goes on here."""
+        """Publishes under which name the game goes on, if that was not published and no game goes on here."""
         async with self.turn:
             await self.read_once()
             if self.heir is None and not self.is_going_on():
@@ -153,7 +153,7 @@ class BoardChannel(Channel):
             self.heir = text["board"]
 
     def fits(self, text):
-        """Whether a board that tells this position has, as far as it shows, the game that the channel tells."""
+        """Whether a board with this position has, as far as it shows, the game in the channel."""
         if text["joined"] == self.first:
             return text["fen"] == self.origin
         return men_of(text["fen"]) == men_after(self.origin, self.moves[:text["joined"] - self.first])

@@ -1,4 +1,4 @@
-"""The feed of all boards, as the relay's watch port tells them."""
+"""The feed of all boards that the relay's watch port reports."""
 import asyncio
 import sys
 import weakref
@@ -11,7 +11,7 @@ from relay_client.names import first_name, next_names
 
 
 class Teller:
-    """Tells on standard error what a board or the list waits for, once and when it changes."""
+    """Says on standard error what a board or the list waits for, once and when it changes."""
 
     def __init__(self, name):
         self.name, self.told = name, None
@@ -27,13 +27,13 @@ def named(fault):
 
 
 class Told(Follower):
-    """A board of which the relay told, until its game is over or the relay no longer has it."""
+    """A board that the relay reported, until its game is over or the relay no longer has it."""
 
     def __init__(self, every, board):
         super().__init__(every.given.watch)
         self.every = every
         self.channel = every.channel(board)
-        self.again = True  # It was told on a new connection since the last following began.
+        self.again = True  # It was reported on a new connection since the last following began.
         self.teller = Teller(board)
 
     async def begin(self, channel):
@@ -46,7 +46,7 @@ class Told(Follower):
                 self.again = False
                 await self.follow_to_end()
         finally:
-            del self.every.fed[self.channel.name]  # Nothing is awaited between the last test and this, so no telling is missed.
+            del self.every.fed[self.channel.name]  # Nothing is awaited between the last test and this, so no report is missed.
             await self.line.close()
 
     async def follow_to_end(self):
@@ -61,7 +61,7 @@ class Told(Follower):
                     return
             except FAULTS as fault:
                 self.teller.say(named(fault))
-            self.channel.is_read = False  # The relay or the channels may have been started anew.
+            self.channel.is_read = False  # The relay or the channels may have been restarted.
             await asyncio.sleep(self.every.given.wait)
 
     async def follow(self):
@@ -81,7 +81,7 @@ class Told(Follower):
 
     async def compare_ends(self, known):
         """A board that goes on under the name of a game that is over has another game, though it may have the same moves. What the relay
-        told may have been told before the end."""
+        reported may have been reported before the end."""
         await self.channel.read()
         has_ended = self.channel.origin is not None and self.channel.outcome is not None
         if has_ended and known is not None and known["outcome"] is None:
@@ -158,8 +158,8 @@ class Every:
         await self.list.hear(message, text)
 
     async def watch_over(self):
-        """Once the relay has had time to tell its boards: asks for those that go on as the channel has it and of which it did not tell, so
-        that they are ended where they are gone. Then it publishes beats."""
+        """Once the relay has had time to report its boards: asks for those that go on as the channel has it and that it did not report, so
+        that they are ended if they are gone. Then it publishes beats."""
         await asyncio.sleep(self.given.wait)
         for board in self.list.unheard():
             self.follow_board(board)
@@ -174,7 +174,7 @@ class Every:
             self.fed[board] = told, self.tasks.create_task(told.feed())
 
     async def tell_names_before(self, board):
-        """The game of a board that is there may be one that was lost or abandoned: tells the channels of the names before."""
+        """The game of a board that is there may be one that was lost or abandoned: publishes this on the channels of the names before."""
         known = {*self.list.told, *self.list.stands}
         for name in {first_name(board), *(it for it in known if board in next_names(it, HEIRS))} - {board}:
             channel = self.channel(name)
@@ -183,7 +183,7 @@ class Every:
                 await channel.tell_next(board)
 
     async def tell_heir(self, channel):
-        """The game of a channel was lost or abandoned: tells it under which name it goes on, where that board is there already."""
+        """The game of a channel was lost or abandoned: publishes there under which name it goes on, if that board exists already."""
         heir = next((it for it in next_names(channel.name, HEIRS) if it in self.list.told), None)
         if heir is not None:
             await channel.tell_next(heir)

@@ -2,26 +2,26 @@
 """Fills channels of nchan from boards of the relay, so that any number of spectators can watch them.
 
     feed.py --relay ws://127.0.0.1:9600 --channels 127.0.0.1:9110 b1 b2        (Debian: apt-get install python3-websockets)
-    feed.py --names FILE                                                       the names stand in a file, parted by white space
+    feed.py --names FILE                                                       the names are in a file, separated by white space
     feed.py --all --watch ws://127.0.0.1:9601                                  all boards that are there or are opened later
 
 It follows each board from its first move and publishes the relay's texts, as they are, to the channel of the board's name: one after
 another for each board, each answered before the next, so their places come in order. It begins by reading what the channel has
-had and publishes only what is missing there, so it can be killed and started anew at any moment. It adds three texts of its own:
+had and publishes only what is missing there, so it can be killed and restarted at any moment. It adds three texts of its own:
 
     {"reply":"beat","time":SECONDS}                  the board is followed at this time (since 1970); every --beat seconds without another text
-    {"outcome":"abandoned","reply":"over"}           also where the relay no longer has a board that had a game: it was started anew
+    {"outcome":"abandoned","reply":"over"}           also if the relay no longer has a board that had a game: it was restarted
     {"board":"b1_2","reply":"next"}                  the game that was lost or abandoned goes on under this name
 
-It follows b1_2, b1_3 and so on by itself, where b1 is one of its names and its game was lost or abandoned. It waits for boards that are
-not open yet, without bound, and asks for each again on the same connection: the relay accepts only so many (--connections). It ends when
-the games of all its boards have ended otherwise than as abandoned. With --names it does not end: at SIGHUP it reads the file again, begins
+It follows b1_2, b1_3 and so on by itself, if b1 is one of its names and its game was lost or abandoned. It waits for boards that are
+not open yet, without limit, and asks for each again on the same connection, since the relay accepts a limited number (--connections). It ends when
+the games of all its boards have ended other than as abandoned. With --names it does not end: on SIGHUP it reads the file again, begins
 with the names that are new there or whose games have ended, leaves those that are gone, and disturbs no other. A board that the relay
 refuses for good, as for its name, and one for which --tries tries in a row brought nothing, is given up with a line on standard error;
-the others go on, and the status is 1. What a board waits for is told there too, once and when it changes.
+the others go on, and the status is 1. What a board waits for is reported there too, once and when it changes.
 
-With --all it asks the relay's watch port, follows each board that this tells, and does not end. It publishes the texts of the list on a
-channel of its own, _boards, where a board that is gone ends as abandoned too. That channel keeps texts for minutes alone, so the last text of
+With --all it asks the relay's watch port, follows each board that this reports, and does not end. It publishes the texts of the list on a
+channel of its own, _boards, where a board that is gone ends as abandoned too. That channel keeps texts only for minutes, so the last text of
 a board is published again every --repeat seconds.
 """
 import argparse
@@ -30,7 +30,7 @@ import pathlib
 import signal
 import sys
 
-# Where it is installed, the package stands beside it.
+# When installed, the package is beside it.
 sys.path.append(str(pathlib.Path(__file__).resolve().parent.parent.parent / "tools"))
 
 from channel import ABANDONED, FAULTS, BoardChannel  # noqa: E402
@@ -39,7 +39,7 @@ from follower import HEIRS, Follower  # noqa: E402
 from relay_client.line import Refused  # noqa: E402
 from relay_client.names import next_name  # noqa: E402
 
-SELDOM = 10  # At each so many tries next names are looked for, where the name had no game so far.
+SELDOM = 10  # Once in this many tries it looks for next names, if the name has had no game so far.
 
 
 class Name(Follower):
@@ -74,7 +74,7 @@ class Name(Follower):
             board = channel.heir if channel.heir in names[names.index(board) + 1:] else None
 
     def forget(self):
-        """The connection to the relay or to the channels was lost: either may have been started anew."""
+        """The connection to the relay or to the channels was lost: either may have been restarted."""
         self.over.clear()
         for channel in self.channels.values():
             channel.is_read = False
@@ -109,7 +109,7 @@ class Name(Follower):
         return outcome
 
     async def begin(self, channel):
-        """Tells the channels of the names before where the game goes on, where it does not go on there."""
+        """Publishes on the channels of the names before where the game goes on, if it does not go on there."""
         self.had_game = True
         for board in self.boards()[:self.boards().index(channel.name)]:
             await self.channels.setdefault(board, self.channel(board)).tell_next(channel.name)

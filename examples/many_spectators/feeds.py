@@ -64,7 +64,7 @@ class Reader:
                 (self.beats if text["reply"] == "beat" else self.texts).append(text)
 
     async def has(self, *texts):
-        """Waits until the channel has told this, beats apart, and nothing else."""
+        """Waits until the channel has had this, apart from beats, and nothing else."""
         with contextlib.suppress(AssertionError):
             await until(lambda: self.texts == list(texts), 20)
         assert self.texts == list(texts), (self.board, self.texts)

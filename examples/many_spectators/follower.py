@@ -34,7 +34,7 @@ class Follower:
         return channel.outcome
 
     async def follow_from_first(self, board, hear):
-        """Follows a board until its connection ends, and answers whether the game has. Where the relay no longer gives the first moves, it
+        """Follows a board until its connection ends, and answers whether the game has. If the relay no longer gives the first moves, it
         begins at the first place that is still given."""
         place = 0
         while True:
@@ -46,7 +46,7 @@ class Follower:
                 place += 1
 
     async def compare(self, channel):
-        """Ends the channel's game where the relay has another under its name: one of fewer moves, or one with another position now."""
+        """Ends the channel's game if the relay has another under its name: one of fewer moves, or one with another position now."""
         await channel.read()
         if not channel.moves:
             return

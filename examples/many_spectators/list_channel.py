@@ -9,17 +9,17 @@ KEPT = 6 * 3600  # Seconds that the last known list outlasts the relay, as the g
 
 
 class ListChannel(Channel):
-    """What the relay told of its boards, each text published once, and again after so many seconds without another one of its board. The
+    """What the relay reported of its boards, each text published once, and again after --repeat seconds without another one of its board. The
     channel keeps texts for some minutes (publish.conf). So a reader of these has the list, however long a board is silent."""
 
     def __init__(self, server, beat, repeat):
         self.repeat = repeat
-        self.told = {}  # What the relay told last of each board, on the present connection.
+        self.told = {}  # What the relay reported last of each board, on the present connection.
         self.lost_at = time.time()  # When the relay was lost; None while it is there.
         super().__init__(server, NAME, beat)
 
     def begin(self):
-        """The relay tells its boards from the first on. The channels may have been started anew too."""
+        """The relay reports its boards from the first on. The channels may have been restarted too."""
         self.told.clear()
         self.lost_at = None
         self.is_read = False
@@ -40,11 +40,11 @@ class ListChannel(Channel):
         return self.stands.get(board, (0, None))[1]
 
     def unheard(self):
-        """The boards that go on as the channel has it, and of which the relay has not told."""
+        """The boards that go on according to the channel, and that the relay has not reported."""
         return [board for board, (_, text) in self.stands.items() if text["outcome"] is None and board not in self.told]
 
     async def hear(self, message, text):
-        """Publishes how a board stands, where the channel lacks it."""
+        """Publishes how a board stands, if the channel lacks it."""
         self.told[text["board"]] = text
         async with self.turn:
             await self.read_once()
@@ -52,8 +52,8 @@ class ListChannel(Channel):
                 await self.publish(message)
 
     async def gone(self, board, known):
-        """The relay has not the board, of which it had told `known`, or None: publishes its end. Answers False, and does nothing, where the
-        relay has told otherwise since."""
+        """The relay does not have the board, of which it had reported `known`, or None: publishes its end. Returns False, and does nothing, if the
+        relay has reported something else since."""
         async with self.turn:
             if self.told.get(board) is not known:
                 return False
@@ -73,10 +73,10 @@ class ListChannel(Channel):
                     for board in self.due():
                         await self.publish(written(self.stand(board)))
                 except FAULTS:
-                    pass  # The next text of the relay tells of it.
+                    pass  # The relay's next text reports it.
 
     def due(self):
-        """The boards whose last text has to be published again. One that the relay no longer has may leave the channel."""
+        """The boards whose last text must be published again. One that the relay no longer has may leave the channel."""
         if not self.is_read or self.lost_at is not None and time.time() > self.lost_at + KEPT:
             return []
         return [board for board, (seconds, _) in self.stands.items()

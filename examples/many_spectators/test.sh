@@ -1,6 +1,6 @@
 #!/bin/sh
 # Tries the whole set beside the built program (or the one that RELAY960 names): 1,000 subscribers of four boards with whole games, and the
-# feed killed and started anew in between; then relays that are started anew, games that go on under another name, and beats; then the feed
+# feed killed and restarted in between; then relays that are restarted, games that go on under another name, and beats; then the feed
 # of all boards, and their list. It takes some two minutes. Its last line says what came.
 set -eu
 cd "$(dirname "$0")"

@@ -14,7 +14,7 @@ from relay_client.program import fens, game_by_chance, start_fen
 from relay_client.texts import BOARDS
 
 LIST = "_boards"
-SILENCE = 1  # Seconds without a text, after which a list or a channel has told what it had.
+SILENCE = 1  # Seconds without a text, after which a list or a channel has sent what it had.
 
 
 def every(relay, *words, **options):
@@ -28,7 +28,7 @@ def stand(board, moves=(), outcome=None, start=518):
 
 
 async def handed_out(address, *commands, silence=SILENCE):
-    """What a connection is told until it is silent."""
+    """What a connection receives until it is silent."""
     texts = []
     async with websockets.connect(address, ping_interval=None, compression=None) as socket:
         for command in commands:
@@ -96,7 +96,7 @@ def whole(start, moves, outcome="agreed"):
 
 
 async def try_opened(relay):
-    """Boards that are there before the feed, and such as are opened later: their channels tell each game, and the list what the watch
+    """Boards that are there before the feed, and boards opened later: their channels have each game, and the list what the watch
     port says."""
     first = await game(relay, "all-e1", FIRST)
     await game(relay, "all-e2")
@@ -118,7 +118,7 @@ async def try_opened(relay):
 
 async def try_games(relay):
     """Eight whole games, some opened before the feed, some while it is there, some while there is none; the feed is killed three times.
-    Each channel has each place once and in order, and the list never tells a board's moves backwards."""
+    Each channel has each place once and in order, and in the list a board's moves never go backwards."""
     chance = random.Random(961)
     names = [f"all-g{index}" for index in range(8)]
     starts = {name: chance.randrange(960) for name in names}
@@ -156,8 +156,8 @@ async def try_games(relay):
 
 
 async def try_restarted(relay):
-    """The relay is started anew beside the feed: of its boards one has another game, one had ended, and one is gone, whose end the list and
-    its channel tell."""
+    """The relay is restarted beside the feed: one of its boards has another game, one had ended, and one is gone, whose end is in the list and
+    its channel."""
     await game(relay, "all-r1", FIRST)
     await game(relay, "all-r2", FIRST)
     ended = await game(relay, "all-r3", OTHER)
@@ -183,7 +183,7 @@ async def try_restarted(relay):
 
 
 async def try_both_anew(relay):
-    """The relay is started anew while there is no feed. The next feed ends what is gone, in its channel and in the list, once."""
+    """The relay is restarted while there is no feed. The next feed ends what is gone, in its channel and in the list, once."""
     await game(relay, "all-n1", FIRST)
     await game(relay, "all-n2", FIRST)
     async with ListReader(["all-n1", "all-n2"]) as heard, Reader("all-n1") as one, Reader("all-n2") as two:
@@ -248,8 +248,8 @@ async def try_next(relay):
 
 
 async def try_repeats(relay):
-    """The last text of a silent board is published again and again, as it was, also while the relay is away. A feed that is started anew
-    does so no earlier. A board that is gone is told no more after its end."""
+    """The last text of a silent board is published again and again, as it was, even while the relay is away. A feed that is restarted
+    does so no earlier. A board that is gone is not published again after its end."""
     client = await game(relay, "all-s1", FIRST)
     await game(relay, "all-s2")
     repeats = ("--repeat", "2")
@@ -279,7 +279,7 @@ async def try_repeats(relay):
 
 
 async def try_list_beats(relay):
-    """The list has beats as long as the relay is there, also where it has no board, and none once it is gone."""
+    """The list has beats as long as the relay is there, even if it has no board, and none once it is gone."""
     async with every(relay, "--beat", "0.3"), ListReader([]) as heard:
         await until(lambda: len(heard.beats) >= 4)
         await relay.kill()
@@ -292,7 +292,7 @@ async def try_list_beats(relay):
 
 
 async def try_list_name(relay):
-    """A board that has the name of the list is told on standard error and has no channel; others are fed."""
+    """A board that has the name of the list is reported on standard error and has no channel; others are fed."""
     await game(relay, LIST, FIRST)
     await game(relay, "all-q1", FIRST)
     async with every(relay, stderr=subprocess.PIPE) as process, ListReader([LIST, "all-q1"]) as heard, Reader("all-q1") as reader:

@@ -86,7 +86,7 @@ async def subscribe_all(subscribers):
 
 
 async def disturb(run, subscribers, half):
-    """Kills the feed while the games go on, goes on with the games without it, starts it anew, and kills it as it publishes."""
+    """Kills the feed while the games go on, goes on with the games without it, starts it again, and kills it as it publishes."""
     def had():
         return sum(len(it.places) for it in subscribers)
     await until(lambda: had() > 10 * len(subscribers))
@@ -101,14 +101,14 @@ async def disturb(run, subscribers, half):
 
 
 async def refuses_one_board():
-    """Whether a name that the relay refuses ends no feed but its own, and is told."""
+    """Whether a name that the relay refuses ends only its own feed, and is reported."""
     async with feed("no/name", BOARDS[0], stdout=subprocess.PIPE, stderr=subprocess.PIPE) as process:
         printed, said = await asyncio.wait_for(process.communicate(), 120)
     return process.returncode == 1 and printed.startswith(b"t1: over") and said == b"no/name: refused 24 BadField\n"
 
 
 async def gives_up_one_board():
-    """Whether a board that is not opened within so many tries ends no feed but its own, and is told."""
+    """Whether a board that is not opened within this many tries ends only its own feed, and is reported."""
     words = ("--tries", "3", "--wait", "0.05")
     async with feed("nobody", BOARDS[0], *words, stdout=subprocess.PIPE, stderr=subprocess.PIPE) as process:
         printed, said = await asyncio.wait_for(process.communicate(), 120)

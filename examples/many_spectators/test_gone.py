@@ -1,4 +1,4 @@
-"""What a channel tells where its board is gone, goes on under another name, or has another game, and what it tells in silence. Each test
+"""What a channel has when its board is gone, goes on under another name, or has another game, and what it has in silence. Each test
 is an async function whose name begins with try_; test_channels.py runs them, beside the nginx and the Redis that it has started."""
 import asyncio
 import os
@@ -15,8 +15,8 @@ from relay_client.relay import Relay
 
 
 async def try_vanished(relay):
-    """A relay that was started anew: the channel tells the end of the game, then the name under which it goes on, which is fed too. Before, it
-    told nothing more, and its readers had a game that was gone."""
+    """A relay that was restarted: the channel has the end of the game, then the name under which it goes on, which is fed too. Before, it
+    had nothing more, and its readers had a game that was gone."""
     await game(relay, "v1", FIRST)
     async with feed("v1", *QUICK, relay=relay.address, **QUIET), Reader("v1") as first, Reader("v1_2") as second:
         await first.has(following(), *moved(FIRST))
@@ -29,7 +29,7 @@ async def try_vanished(relay):
 
 
 async def try_abandoned(relay):
-    """A lost connection of the operator: the next names are fed in turn, also by a feed that was started anew in between. Before, a feed knew no
+    """A lost connection of the operator: the next names are fed in turn, also by a feed that was restarted in between. Before, a feed knew no
     name but those that it was given."""
     client = await game(relay, "a1", FIRST)
     async with Reader("a1") as first, Reader("a1_2") as second, Reader("a1_3") as third:
@@ -51,7 +51,7 @@ async def try_abandoned(relay):
 
 
 async def try_late(relay):
-    """A name that the relay never had in this run, since its game went on under another: the channel tells that one. Before, it told nothing."""
+    """A name that the relay never had in this run, since its game went on under another: the channel names that one. Before, it had nothing."""
     await game(relay, "l1_2", OTHER)
     async with feed("l1", *QUICK, relay=relay.address, **QUIET), Reader("l1") as first, Reader("l1_2") as second:
         await first.has(follow_on("l1_2"))
@@ -59,8 +59,8 @@ async def try_late(relay):
 
 
 async def try_another(relay):
-    """Another game of the name, opened before the feed is back: a shorter one of the same moves, and one of other moves. The channel tells the
-    end of the first, and the other from its start. Before, the feed joined both into one where the other had more moves, and told nothing where
+    """Another game of the name, opened before the feed is back: a shorter one of the same moves, and one of other moves. The channel has the
+    end of the first, and the other from its start. Before, the feed joined both into one if the other had more moves, and published nothing if
     it had not."""
     for board, other in (("o1", FIRST[:1]), ("o2", OTHER), ("o3", [])):
         await game(relay, board, FIRST)
@@ -76,8 +76,8 @@ async def try_another(relay):
 
 
 async def try_middle(relay):
-    """Another game of which the relay no longer gives the first moves: its position is compared, and it begins where it is given. Before, its
-    moves were told behind those of the first game."""
+    """Another game of which the relay no longer gives the first moves: its position is compared, and it begins at the first place given. Before, its
+    moves were published after those of the first game."""
     small = await Relay(capacity=2).start()
     moves = [*OTHER, "g1f3"]
     await game(small, "m1", FIRST)
@@ -91,7 +91,7 @@ async def try_middle(relay):
 
 
 async def try_beats(relay):
-    """While a board is followed, its channel has a beat as often as is said, with the time; it has none once the relay or the game is gone.
+    """While a board is followed, its channel has a beat as often as asked for, with the time; it has none once the relay or the game is gone.
     Before, there were none, so that a game in which nobody moved looked like one that is gone."""
     client = await game(relay, "p1", FIRST)
     async with feed("p1", *QUICK, "--beat", "0.3", relay=relay.address, **QUIET), Reader("p1") as reader:
@@ -119,7 +119,7 @@ async def try_beats(relay):
 
 async def try_names(relay):
     """At SIGHUP the names are read again: a new one is fed, one that is gone is left, and another is not disturbed. Before, a feed had to be
-    started anew for each name."""
+    restarted for each name."""
     stays, goes = await game(relay, "n1", FIRST), await game(relay, "n2", FIRST)
     with tempfile.TemporaryDirectory() as folder:
         file = pathlib.Path(folder, "names")
@@ -144,7 +144,7 @@ async def try_names(relay):
 
 
 async def try_listed(relay):
-    """A next name that is given to the feed beside the first: its channel has each text once all the same."""
+    """A next name that is given to the feed beside the first: its channel still has each text once."""
     client = await game(relay, "d1", FIRST)
     async with feed("d1", "d1_2", *QUICK, relay=relay.address, **QUIET), Reader("d1") as first, Reader("d1_2") as second:
         await first.has(following(), *moved(FIRST))
@@ -159,7 +159,7 @@ async def try_listed(relay):
 
 
 async def try_key(_):
-    """An operator that loses its connection and comes back with its key: the channel tells nothing of it."""
+    """An operator that loses its connection and comes back with its key: the channel shows nothing of it."""
     relay = await Relay(grace=60).start()
     client = await Client.to(relay.address, key=new_key())
     await client.open("k1")

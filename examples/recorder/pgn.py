@@ -1,4 +1,4 @@
-"""A round's games as PGN, which other chess programs read: one file, written anew at each text of the relay."""
+"""A round's games as PGN, which other chess programs read: one file, rewritten at each text of the relay."""
 
 import os
 import pathlib
@@ -9,7 +9,7 @@ import time
 from position import Position
 from san import san
 
-# The score, what a reader is told of the end, and the word of the PGN standard (9.8.1) for it.
+# The score, what a reader learns of the end, and the word of the PGN standard (9.8.1) for it.
 ENDS = {
     "white mates": ("1-0", "White mates.", "normal"),
     "black mates": ("0-1", "Black mates.", "normal"),
@@ -63,7 +63,7 @@ class Game:
         self.end = ENDS[text["outcome"]]
 
     def tags(self):
-        """The seven tags that each game has, in their order, and behind them the others by their names."""
+        """The seven tags that each game has, in their order, and after them the others by their names."""
         score, _, termination = self.end
         given = {"Result": score, "Termination": termination, "Date": self.began, **self.labels}
         first = ("Event", "Site", "Date", "Round", "White", "Black", "Result")
@@ -97,7 +97,7 @@ class Round:
         return take
 
     def write(self):
-        """Writes a new file and puts it in the old one's place, so that nobody reads half of it. A file that cannot be written is told of,
+        """Writes a new file and puts it in the old one's place, so that nobody reads half of it. A file that cannot be written is reported,
         and tried again at the next text: the record goes on."""
         new = self.path.with_name(f"{self.path.name}.new")
         try:

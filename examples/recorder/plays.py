@@ -1,4 +1,4 @@
-"""Games by chance for the tests, played on a board of the relay until they end as wanted. The relay says how each ended."""
+"""Random games for the tests, played on a board of the relay until they end as wanted. The relay says how each ended."""
 
 from position import Deed
 from rules import legal
@@ -38,14 +38,14 @@ class Play:
         return await self.end(how, side="white" if self.position.white else "black")
 
     def drawn(self):
-        """A move by chance, castlings and promotions before others, since they are rare; captures more often than they come."""
+        """A random move, castlings and promotions before others, since they are rare; captures more often than they come."""
         moves = list(legal(self.position))
         rare = [it for it in moves if it[4:] or Deed(self.position, it).castles]
         takes = [it for it in moves if Deed(self.position, it).takes]
         return self.chance.choice(rare or (takes if takes and self.chance.random() < 0.3 else moves))
 
     def last(self):
-        """A move after which there is none, or None where there is no such move."""
+        """A move after which there is none, or None if there is no such move."""
         for text in legal(self.position):
             after = self.position.after(text)
             few = sum(after.is_own(it) for it in after.squares) < 4
@@ -66,7 +66,7 @@ class Play:
                 yield text
 
     def there_and_back(self):
-        """Four moves after which the men stand where they stood, or none."""
+        """Four moves after which the men are where they were, or none."""
         ways = list(self.quiet())
         self.chance.shuffle(ways)
         for first in ways:
@@ -93,7 +93,7 @@ class Play:
 
 
 async def by_itself(play):
-    """Until mate or stalemate, which are taken where they offer themselves."""
+    """Until mate or stalemate, which are taken when they are possible."""
     while play.outcome is None and len(play.moves) < ROOM:
         await play.move(play.last() or play.drawn())
 
@@ -146,7 +146,7 @@ async def fivefold(play):
 
 
 async def without_progress(play, claims):
-    """No capture and no pawn move where it can be, and no position too often, until the game ends by itself or a claim is accepted."""
+    """No capture and no pawn move if possible, and no position too often, until the game ends by itself or a claim is accepted."""
     seen = {}
     await play.plies(play.chance.randrange(4, 20))
     while play.outcome is None and len(play.moves) < ROOM:

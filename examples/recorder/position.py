@@ -18,7 +18,7 @@ def square_of(name):
 
 
 def away(square, right, up):
-    """The square so many files and ranks away, or None where the board ends before."""
+    """The square this many files and ranks away, or None if the board ends before it."""
     file, rank = square % 8 + right, square // 8 + up
     return file + 8 * rank if 0 <= file < 8 and 0 <= rank < 8 else None
 
@@ -75,14 +75,14 @@ class Position:
         return "/".join(rows)
 
     def is_outermost(self, rook):
-        """Whether no other rook of its side stands on the rank between it and the edge to which the king castles."""
+        """Whether no other rook of its side is on the rank between it and the edge to which the king castles."""
         row = range(rook - rook % 8, rook - rook % 8 + 8)
         king = self.king(rook < 8)
         beyond = [it for it in row if (it > rook if rook > king else it < rook)]
         return all(self.squares[it] != self.squares[rook] for it in beyond)
 
     def right(self, rook, shredder):
-        """The letter of a right to castle: the rook's file, or where other programs read it K or Q where its rook is the outermost."""
+        """The letter of a right to castle: the rook's file, or for other programs K or Q if its rook is the outermost."""
         wing = "K" if rook > self.king(rook < 8) else "Q"
         letter = FILES[rook % 8].upper() if shredder or not self.is_outermost(rook) else wing
         return letter if rook < 8 else letter.lower()
@@ -117,7 +117,7 @@ class Position:
                         0 if deed.kind == "p" or deed.takes else self.half_moves + 1, self.number + (not self.white))
 
     def first_seen(self, square, way, most):
-        """The first man that is seen from a square in one direction, at most so many steps away."""
+        """The first man that is seen from a square in one direction, at most this many steps away."""
         for _ in range(most):
             square = away(square, *way)
             if square is None:

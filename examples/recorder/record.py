@@ -3,20 +3,21 @@
 
     record.py ws://127.0.0.1:9600 b1 b1.record        (Debian: apt-get install python3-websockets)
     record.py ws://127.0.0.1:9600 b1 b1.record b2 b2.record --pgn round.pgn --event "Club final" --round 3 --players b1 Adams Baker
-    record.py ws://127.0.0.1:9601 --all FOLDER        over the relay's watch port, which tells what boards there are
+    record.py ws://127.0.0.1:9601 --all FOLDER        over the relay's watch port, which reports what boards there are
 
-With --pgn it also writes the games of all its boards to one file that other chess programs read, anew at each text.
+With --pgn it also writes the games of all its boards to one file that other chess programs read, again at each text.
 
-A record has one JSON text a line: first {"board":..,"record":1,"start":..}, with the players where they are given ("white", "black"), then
-the relay's texts. It is written through to the disk after each move, so it is whole up to the last move that came, and web/table.html opens
-the game anew from it. It waits for a board that is not open yet, and asks for it again on the same connection: the relay accepts only so many (--connections). After a lost
-connection it follows from the first move again and compares what it is told with what it has: where the relay was started anew, another
-game may have the board's name, and nothing of that is added. It ends with the game (status 0), where the relay no longer gives the first
-moves (1), where the file is there already (1), after so many tries in a row that brought nothing new (2), or where the board has another
-game than the record (3). Where nothing came, it leaves no file. With several boards it ends when all have ended, with the highest status.
+A record has one JSON text per line: first {"board":..,"record":1,"start":..}, with the players if they are given ("white", "black"), then
+the relay's texts. It is written through to the disk after each move, so it is whole up to the last move that came, and web/table.html
+resumes the game from it. It waits for a board that is not open yet, and asks for it again on the same connection: the relay accepts a
+limited number (--connections). After a lost connection it follows from the first move again and compares what it receives with what it has:
+if the relay was restarted, another game may have the board's name, and nothing of that is added. It ends with the game (status 0), if the
+relay no longer gives the first moves (1), if the file exists already (1), after --tries in a row that brought nothing new (2), or if the
+board has another game than the record (3). If nothing came, it leaves no file. With several boards it ends when all have ended, with the
+highest status.
 
-With --all it records each board that is there or is opened, to FOLDER/BOARD.record, until it is told to end. A name that is there already
-gets a number: b1.2.record. So does another game of a board. After so many tries in a row that told of no board it ends with status 2.
+With --all it records each board that is there or is opened, to FOLDER/BOARD.record, until it is stopped. A name that exists already
+gets a number: b1.2.record. So does another game of a board. After --tries in a row that reported no board it ends with status 2.
 """
 import argparse
 import asyncio
@@ -71,7 +72,7 @@ class Broken(Exception):
 
 
 class Record:
-    """A record's file, and how many of its moves the present connection has told. `kept` is called with each text that it has kept."""
+    """A record's file, and how many of its moves the present connection has sent. `kept` is called with each text that it has kept."""
 
     def __init__(self, path, board, players=None, kept=lambda text: None):
         self.file = open(path, "x", encoding="ascii")
@@ -103,7 +104,7 @@ class Record:
         return len(self.moves) + (self.first is not None)
 
     async def hear(self, _, text):
-        """Keeps a text that is new, and compares one that is told again with the record."""
+        """Keeps a text that is new, and compares one that comes again with the record."""
         {"following": self.following, "move": self.move, "over": self.over}[text["reply"]](text)
 
     def following(self, text):
@@ -145,8 +146,8 @@ class Record:
 
 
 async def keep(server, record, tries, wait, waits=True):
-    """Follows the board until its game is over, or so many tries in a row brought nothing new. Answers how it ended. Where it is not to wait
-    for the board, it ends where the relay has none."""
+    """Follows the board until its game is over, or this many tries in a row brought nothing new. Returns how it ended. If it is not to wait
+    for the board, it ends if the relay has none."""
     line = Line(server)
     failed = 0
     try:
@@ -176,19 +177,19 @@ async def keep(server, record, tries, wait, waits=True):
 
 
 class Every:
-    """The records of all boards that a watch port tells. `make(board, number)` makes the board's next record, from this number on, and
-    answers it with its own number."""
+    """The records of all boards that a watch port reports. `make(board, number)` makes the board's next record, from this number on, and
+    returns it with its own number."""
 
     def __init__(self, given, make):
         self.given, self.make = given, make
         self.records = {}  # The last record of each board, and its number.
-        self.told = set()  # The boards that were told on the present connection.
-        self.again = set()  # Those that were told on a new connection since they were followed last.
+        self.told = set()  # The boards that were reported on the present connection.
+        self.again = set()  # Those that were reported on a new connection since they were followed last.
         self.tasks = {}
         self.group = None
 
     async def for_ever(self):
-        """Answers the status to end with, where it has to."""
+        """Returns the status to end with, if it must end."""
         async with asyncio.TaskGroup() as self.group:
             status = await self.listen()
             for task in self.tasks.values():
@@ -224,8 +225,8 @@ class Every:
                 self.tasks[board] = self.group.create_task(self.keep(board))
 
     async def keep(self, board):
-        """Records a board until its game is over or the relay no longer has it. One that is told on a new connection is compared with its
-        record, and has another record where its game is another."""
+        """Records a board until its game is over or the relay no longer has it. One that is reported on a new connection is compared with its
+        record, and gets another record if its game is another."""
         while board in self.again:
             self.again.discard(board)
             if board not in self.records:
@@ -235,7 +236,7 @@ class Every:
             if status == ANOTHER:
                 self.records[board] = self.make(board, number + 1)
                 self.again.add(board)
-        del self.tasks[board]  # Nothing is awaited between the last test and this, so no telling is missed.
+        del self.tasks[board]  # Nothing is awaited between the last test and this, so no report is missed.
 
 
 def arguments():
@@ -266,13 +267,13 @@ def arguments():
 
 
 def players_of(given, board):
-    """The players of a board, where they are given: for it, or for the first game, which goes on under its name."""
+    """The players of a board, if they are given: for it, or for the first game, which goes on under its name."""
     told = {name: {"white": white, "black": black} for name, white, black in reversed(given.players)}
     return told.get(board, told.get(first_name(board), {}))
 
 
 def labels(given, board):
-    """What the PGN tells of a board's game that the relay does not know."""
+    """What the PGN says of a board's game that the relay does not know."""
     players = players_of(given, board)
     return {"Event": given.event, "Site": given.site, "Round": given.round, "White": players.get("white", "?"), "Black": players.get("black", "?")}
 

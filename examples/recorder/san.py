@@ -5,7 +5,7 @@ from rules import legal, legal_from
 
 
 def origin(position, deed):
-    """What tells a man from others of its kind that may go to the same square: its file, else its rank, else both."""
+    """What distinguishes a man from others of its kind that may go to the same square: its file, else its rank, else both."""
     alike = [it for it, man in enumerate(position.squares) if man == deed.man and it != deed.origin]
     others = [it for it in alike if any(square_of(text[2:]) == deed.goal for text in legal_from(position, it))]
     file, rank = name_of(deed.origin)

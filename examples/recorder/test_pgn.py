@@ -1,8 +1,8 @@
 """The PGN of the recorder, read by programs that are not ours: test_pgn.py [GAMES], 200 by default. test.sh starts it.
 
-Games by chance over all kinds of ends are played through the built relay, and recorded as rounds of several boards. Debian's pgn-extract
+Random games with all kinds of ends are played through the built relay, and recorded as rounds of several boards. Debian's pgn-extract
 reads each file without complaint, and finds the moves that were played. Debian's Stockfish plays them through and ends in the position
-that the relay tells, and so does Debian's PyChess, which reads each game of a file.
+that the relay reports, and so does Debian's PyChess, which reads each game of a file.
 """
 import asyncio
 import collections
@@ -30,7 +30,7 @@ ENDS = {*SCORES, "stalemate", "agreed", "threefold", "fifty moves", "fivefold", 
 
 
 def extract(file, *words):
-    """What pgn-extract makes of a file, of which it may not complain."""
+    """What pgn-extract makes of a file. It must not complain."""
     ran = subprocess.run(["/usr/games/pgn-extract", "-s", "-w100000", *words, str(file)], capture_output=True, text=True, check=True)
     assert ran.stderr == "", ran.stderr
     return ran.stdout
@@ -49,7 +49,7 @@ def games_of(text):
 
 
 async def position_told(address, board, plies):
-    """The position that the relay tells for a place."""
+    """The position that the relay gives for a place."""
     client = await Client.to(address)
     text = await client.ask(cmd="follow", board=board, spectator=0, **{"from": plies})
     await client.close()

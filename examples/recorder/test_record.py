@@ -28,7 +28,7 @@ class Recorder:
         return self
 
     async def until(self, moves):
-        """Waits until the record has so many moves."""
+        """Waits until the record has this many moves."""
         for _ in range(20 * PATIENCE):
             if self.file.exists() and len(self.file.read_text().splitlines()) == 2 + moves:
                 return
@@ -60,7 +60,7 @@ async def begun(folder, start, moves, *words, **options):
 
 
 async def anew(relay, start, moves, outcome=True):
-    """The relay is killed and started anew, and a game has the same name; it is ended as agreed, or goes on."""
+    """The relay is killed and restarted, and a game has the same name; it is ended as agreed, or goes on."""
     await relay.kill()
     await relay.start()
     client = await Client.to(relay.address)
@@ -101,7 +101,7 @@ async def try_wire(folder):
 
 
 async def try_tries(folder):
-    """So many tries in a row that bring nothing end it."""
+    """This many tries in a row that bring nothing end it."""
     relay, recorder = await begun(folder, 518, MOVES[:2], "--tries", "5")
     await relay.kill()
     said = await recorder.ended(2, 518, MOVES[:2])
@@ -125,7 +125,7 @@ async def try_connections(folder):
 
 
 async def try_waiting(folder):
-    """A board that is not opened is given up after so many tries, and that is said."""
+    """A board that is not opened is given up after this many tries, and that is reported."""
     relay = await Relay().start()
     recorder = await Recorder.start(folder, relay.address, "--tries", "3")
     _, said = await asyncio.wait_for(recorder.process.communicate(), PATIENCE)
@@ -192,7 +192,7 @@ async def try_capacity(folder):
 
 
 async def try_nothing(folder):
-    """A run that brought nothing, by itself or told to end, leaves no file, and the same command then does."""
+    """A run that brought nothing leaves no file, whether it ended by itself or was stopped. The same command then works."""
     relay = Relay()
     recorder = await Recorder.start(folder, relay.address)
     while not recorder.file.exists():
@@ -213,7 +213,7 @@ async def try_nothing(folder):
 
 
 async def try_file(folder):
-    """A file that is there already is left as it is."""
+    """A file that exists already is left as it is."""
     file = pathlib.Path(folder, "b1.record")
     file.write_text("kept\n")
     recorder = await Recorder.start(folder, "ws://127.0.0.1:1")
@@ -248,7 +248,7 @@ async def try_pgn(folder):
 
 
 async def try_pgn_there(folder):
-    """A PGN that is there already is left as it is, and no record is begun."""
+    """A PGN that exists already is left as it is, and no record is begun."""
     file = pathlib.Path(folder, "round.pgn")
     file.write_text("kept\n")
     recorder = await Recorder.start(folder, "ws://127.0.0.1:1", "--pgn", str(file))
@@ -258,7 +258,7 @@ async def try_pgn_there(folder):
 
 
 async def try_pgn_unwritten(folder):
-    """Where the PGN cannot be written, that is said, and the record is whole."""
+    """If the PGN cannot be written, that is reported, and the record is whole."""
     relay = await Relay().start()
     client = await Client.to(relay.address)
     await client.open("b1", 518)
@@ -359,8 +359,8 @@ async def try_all(folder):
 
 
 async def try_all_anew(folder):
-    """The relay is started anew: of its boards one has the same game again, one another after it had ended, one another that is going on, and
-    one is gone. What is another game has a file of its own, and nothing is written twice."""
+    """The relay is restarted: one of its boards has the same game again, one another after it had ended, one another that is going on, and
+    one is gone. Each other game has its own file, and nothing is written twice."""
     relay = await Relay(watch=True).start()
     await opened(relay, "same", 518, MOVES[:2])
     await opened(relay, "ended", 518, MOVES[:2], "agreed")
@@ -414,7 +414,7 @@ async def try_all_wire(folder):
 
 
 async def try_all_refused(folder):
-    """On the main port there is no list, and where there is no relay it is given up."""
+    """On the main port there is no list, and without a relay it gives up."""
     relay = await Relay(watch=True).start()
     watch_port, relay.watch_port = relay.watch_port, relay.port
     recorder = await All.start(folder, relay)

@@ -42,7 +42,7 @@ class Acts:
         await self.stroke([(x + part * (right - x), y + part * (down - y)) for part in (0, 0.3, 0.7, 1)])
 
     async def fill(self, selector, text):
-        """Types a text into a field in place of what stands there."""
+        """Types a text into a field in place of what is there."""
         await self.run(f"(() => {{ const it = document.querySelector({json.dumps(selector)}); it.focus(); it.select(); }})()")
         await self.type(text)
 

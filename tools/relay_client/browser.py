@@ -77,7 +77,7 @@ class Page(Acts):
         self.answers = {}
         self.loaded = asyncio.Event()
         self.faults = []
-        self.kept = {}  # Events that a test wants, by their method.
+        self.kept = {}  # Events that a test needs, by their method.
         self.reader = asyncio.create_task(self.read())
 
     async def read(self):
@@ -156,7 +156,7 @@ class Page(Acts):
         await self.call("Emulation.setDeviceMetricsOverride", width=width, height=height, deviceScaleFactor=scale, mobile=False)
 
     async def media(self, **features):
-        """What the page is told of its reader's wishes: prefers_color_scheme, prefers_reduced_motion, forced_colors."""
+        """What the page learns of its reader's preferences: prefers_color_scheme, prefers_reduced_motion, forced_colors."""
         given = [{"name": name.replace("_", "-"), "value": value} for name, value in features.items()]
         await self.call("Emulation.setEmulatedMedia", features=given)
 

@@ -11,7 +11,7 @@ from relay_client.keys import target_of
 class Client:
     @classmethod
     async def to(cls, address, key=None):
-        """Connects, with a key where one is given. The address ends with its host and port."""
+        """Connects, with a key if one is given. The address ends with its host and port."""
         self = cls()
         self.address = address + target_of(key)
         self.socket = None

@@ -1,4 +1,4 @@
-"""A WebSocket client by the standard library alone, which waits for each text that it is to receive."""
+"""A WebSocket client with only the standard library, which waits for each text that it expects."""
 
 import ctypes
 import socket
@@ -9,13 +9,13 @@ from relay_client.keys import target_of
 from relay_client.program import PATIENCE
 
 SO_ATTACH_FILTER = 26  # Linux, asm-generic/socket.h.
-TAKE_NOTHING = struct.pack("HBBI", 6, 0, 0, 0)  # A filter of sockets in one step: it returns that no byte is to be kept.
+TAKE_NOTHING = struct.pack("HBBI", 6, 0, 0, 0)  # A filter of sockets in one step: it says that no byte is kept.
 
 
 class Connection:
     def __init__(self, port, room=None, key=None, target=None, segment=None, host="127.0.0.1"):
-        """A connection; with little room for what it receives, with a key, with another target of its request, in segments of so many bytes, or to
-        another address, if that is said. Of small segments the system keeps far fewer bytes for a peer that reads nothing."""
+        """A connection; with little room for what it receives, with a key, with another target of its request, in segments of this many bytes, or to
+        another address, if given. With small segments the system keeps far fewer bytes for a peer that reads nothing."""
         self.stream = socket.socket(socket.AF_INET6 if ":" in host else socket.AF_INET)
         if segment:
             self.stream.setsockopt(socket.IPPROTO_TCP, socket.TCP_MAXSEG, segment)

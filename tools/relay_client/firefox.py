@@ -22,12 +22,12 @@ WISHES = {
 }
 
 
-# What it tells of a connection as of a fault, and is none of the page's.
+# What it reports of a connection as a fault, and is none of the page's.
 NO_FAULTS = "can’t establish a connection to the server|The connection to .* was interrupted"
 
 
 def value_of(it):
-    """The value that a script gave, out of the form in which it is told."""
+    """The value that a script gave, out of the form in which it is reported."""
     kind = it["type"]
     if kind == "array":
         return [value_of(one) for one in it["value"]]
@@ -132,7 +132,7 @@ class Page(Acts):
         await self.call("browsingContext.navigate", url=address, wait="complete")
 
     async def evaluate(self, script):
-        """What a script gave, in the form in which it is told."""
+        """What a script gave, in the form in which it is reported."""
         told = await self.browser.call("script.evaluate", expression=script, target={"context": self.context}, awaitPromise=True)
         if told["type"] == "exception":
             raise RuntimeError(told["exceptionDetails"]["text"])

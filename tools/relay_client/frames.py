@@ -32,7 +32,7 @@ def pong():
 
 
 def head(first, size):
-    """The head of a frame of so many bytes."""
+    """The head of a frame of this many bytes."""
     if size < 126:
         length = bytes([0x80 | size])
     else:
@@ -41,7 +41,7 @@ def head(first, size):
 
 
 def read_frame(read):
-    """The server's next text, `close CODE`, `ping` or `pong`. `read` gives so many bytes of the stream."""
+    """The server's next text, `close CODE`, `ping` or `pong`. `read` gives that many bytes of the stream."""
     first, length = read(2)
     if length == 126:
         length = struct.unpack(">H", read(2))[0]

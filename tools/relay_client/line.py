@@ -1,5 +1,5 @@
-"""A connection that follows boards, or hears how all stand. One on which a board was refused is kept and may be asked again, since the relay
-accepts only so many (--connections); any other is closed when the following has ended, and the next one is made anew."""
+"""A connection that follows boards, or hears how all boards stand. One on which a board was refused is kept and may be asked again, since the relay
+accepts a limited number (--connections); any other is closed when the following has ended, and a new one is made."""
 
 import asyncio
 import contextlib
@@ -12,7 +12,7 @@ LATER = ("NoSuchBoard", "TooManyFollowers", "OutOfMemory", "NotYet")
 
 
 class Refused(Exception):
-    """Why a board cannot be followed; `later` where it may be asked for again."""
+    """Why a board cannot be followed; `later` if it may be asked for again."""
 
     def __init__(self, code, name):
         super().__init__(f"refused {code} {name}")
@@ -31,7 +31,7 @@ class Line:
         return await self.keep_where_refused(self.listen(board, place, hear))
 
     async def position(self, board, place):
-        """The position that the relay tells for a place of the board, as a FEN. It takes the connection."""
+        """The position that the relay gives for a place of the board, as a FEN. It takes the connection."""
         return await self.keep_where_refused(self.look(board, place))
 
     async def boards(self, hear):
@@ -39,7 +39,7 @@ class Line:
         await self.keep_where_refused(self.listen_to_all(hear))
 
     async def stand(self, board):
-        """How a board that is there stands now, as a watch port tells it. It takes the connection."""
+        """How a board that is there stands now, as a watch port reports it. It takes the connection."""
         return await self.keep_where_refused(self.look_for(board))
 
     async def keep_where_refused(self, asking):
@@ -93,7 +93,7 @@ class Line:
             await hear(message, self.said(message))
 
     def said(self, message):
-        """What a message says, where it is no refusal."""
+        """What a message says, if it is no refusal."""
         text = json.loads(message)
         if text["reply"] == "refused":
             raise Refused(text["code"], text["name"])
@@ -105,6 +105,6 @@ class Line:
         if socket is not None:
             socket.transport.close()
             with contextlib.suppress(websockets.ConnectionClosed):
-                async for _ in socket:  # What has come already; the connection ends behind it.
+                async for _ in socket:  # What has come already; the connection ends after it.
                     pass
             await socket.wait_closed()

@@ -2,7 +2,7 @@
 
 
 def men_of(fen):
-    """The men of a FEN by square. A digit stands for so many vacant squares."""
+    """The men of a FEN by square. A digit stands for that many vacant squares."""
     rows = ["".join("." * int(it) if it.isdigit() else it for it in row) for row in fen.split(" ")[0].split("/")]
     return {"abcdefgh"[file] + str(8 - down): man for down, row in enumerate(rows) for file, man in enumerate(row) if man != "."}
 

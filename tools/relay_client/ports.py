@@ -1,7 +1,7 @@
 """Ports of loopback. For the shell scripts of examples/:
 
-    python3 -m relay_client.ports free PORT..       ends with status 1 where one is taken
-    python3 -m relay_client.ports wait PORT..       waits until all are listened on, for 30 seconds at the most
+    python3 -m relay_client.ports free PORT..       ends with status 1 if one is taken
+    python3 -m relay_client.ports wait PORT..       waits until all are listened on, for at most 30 seconds
 """
 
 import pathlib
@@ -12,8 +12,8 @@ import time
 
 
 def free_port():
-    """A port that is free at present. It is none of those that the system gives to connections, where it leaves others, so a server that
-    is started anew finds its port free."""
+    """A port that is free at present. It is none of those that the system gives to connections, if it leaves others, so a server that
+    is restarted finds its port free."""
     first = int(pathlib.Path("/proc/sys/net/ipv4/ip_local_port_range").read_text().split()[0])
     while True:
         port = random.randrange(20000, first if first > 21000 else 65536)
@@ -26,7 +26,7 @@ def free_port():
 
 
 def listened():
-    """The ports that are listened on, as the system tells them."""
+    """The ports that are listened on, as the system reports them."""
     lines = [line.split() for line in pathlib.Path("/proc/net/tcp").read_text().splitlines()[1:]]
     return {int(address.split(":")[1], 16) for _, address, _, state, *_ in lines if state == "0A"}
 

@@ -1,4 +1,4 @@
-"""The built program: where it is, how long it is waited for, and its words that answer at once."""
+"""The built program: where it is, how long to wait for it, and its commands that answer at once."""
 
 import os
 import pathlib
@@ -12,7 +12,7 @@ PATIENCE = 300
 
 
 def printed(*words):
-    """The lines that a run of the program prints, which has to end with status 0."""
+    """The lines that a run of the program prints, which must end with status 0."""
     return subprocess.run([PROGRAM, *words], capture_output=True, text=True, check=True, timeout=PATIENCE).stdout.splitlines()
 
 
@@ -36,7 +36,7 @@ class Player:
         self.close()
 
     def legal(self):
-        """The legal moves. Where there are none, `outcome` says why."""
+        """The legal moves. If there are none, `outcome` says why."""
         moves, state = printed("moves", self.fen)
         self.outcome = None if state == "going" else state
         return moves.split()
@@ -61,7 +61,7 @@ def fens(start, moves):
 
 
 def game_by_chance(start, chance, plies):
-    """A game of legal moves by chance, until it ends or has so many plies."""
+    """A game of random legal moves, until it ends or has this many plies."""
     moves = []
     with Player(start) as player:
         while len(moves) < plies and (legal := player.legal()):

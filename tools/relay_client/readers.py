@@ -19,7 +19,7 @@ class Stockfish:
         self.process.stdin.flush()
 
     def counts(self, fen, depth):
-        """The moves of a position, each with the number of lines of so many plies that it begins."""
+        """The moves of a position, each with the number of lines of this many plies that it begins."""
         self.say(f"position fen {fen}")
         self.say(f"go perft {depth}")
         found = {}
@@ -49,7 +49,7 @@ class Stockfish:
 
 
 def is_same(fen, other):
-    """Compares two FENs. Stockfish writes the square of a capture in passing only where a pawn stands ready for it."""
+    """Compares two FENs. Stockfish writes the square of an en passant capture only if a pawn is ready for it."""
     one, two = fen.split(" "), other.split(" ")
     return one[3] in ("-", two[3]) and one[:3] + one[4:] == two[:3] + two[4:]
 
@@ -60,6 +60,6 @@ def games_in(file):
 
 
 def read_by_pychess(text):
-    """How many moves PyChess reads in a game's PGN, and the men and the side to move behind them. It raises an error at one that it cannot play."""
+    """How many moves PyChess reads in a game's PGN, and the men and the side to move after them. It raises an error at one that it cannot play."""
     model = pgn.load(io.StringIO(text)).loadToModel(None)
     return len(model.moves), model.boards[-1].asFen().split(" ")[:2]

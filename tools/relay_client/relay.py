@@ -1,4 +1,4 @@
-"""A relay beside asynchronous tests, which can be killed and started anew on the same port."""
+"""A relay beside asynchronous tests, which can be killed and restarted on the same port."""
 
 import asyncio
 
@@ -7,7 +7,7 @@ from relay_client.server import Server
 
 
 class Relay:
-    """`relay960 serve` with these options, and with a watch port where that is wanted; its queues hold as many moves as the documents' own
+    """`relay960 serve` with these options, and with a watch port if that is wanted; its queues hold as many moves as the documents' own
     commands give them."""
 
     running = []
@@ -38,7 +38,7 @@ class Relay:
             self.server = None
 
     async def has_served(self, count):
-        """Waits for its end: so many connections were served."""
+        """Waits for its end: this many connections were served."""
         await asyncio.to_thread(self.server.has_served, count)
 
     @classmethod

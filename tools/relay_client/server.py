@@ -66,12 +66,12 @@ class Server:
         return printed, complained, self.process.returncode
 
     def has_served(self, count, failed=0):
-        """Waits for its end: so many connections were served, and so many could not be accepted."""
+        """Waits for its end: this many connections were served, and this many could not be accepted."""
         ended = self.ended()
         assert ended == (b"", f"served {count}, failed {failed}\n".encode(), 0), ended
 
     def data_kibibytes(self):
-        """How much memory it has to itself, its stacks among it."""
+        """How much memory it has to itself, including its stacks."""
         status = pathlib.Path(f"/proc/{self.process.pid}/status").read_text()
         return int(re.search(r"^VmData:\s+(\d+) kB$", status, re.M)[1])
 

@@ -15,7 +15,7 @@ from relay_client.ports import free_port, listened
 from relay_client.strokes import BACKSPACE, keys_of, stroke_of, to
 
 BINARY = "/usr/lib/x86_64-linux-gnu/webkit2gtk-4.1/MiniBrowser"
-# What a page has thrown is kept in the page, since the driver does not tell it. What is thrown while the page loads is not seen.
+# What a page has thrown is kept in the page, since the driver does not report it. What is thrown while the page loads is not seen.
 LISTEN = """window.addEventListener("error", (event) => { window.thrown = [...(window.thrown || []), String(event.message)]; });
     window.addEventListener("unhandledrejection", (event) => { window.thrown = [...(window.thrown || []), String(event.reason)]; });"""
 

@@ -65,7 +65,7 @@ def write(path, text, mode=0o644):
 
 
 class Commands(unittest.TestCase):
-    """Five crates: `left` and `right` stand on `low`, the program on all three, and the tests of `left` in a crate of their own."""
+    """Five crates: `left` and `right` depend on `low`, the program on all three, and the tests of `left` are in a separate crate."""
 
     def setUp(self):
         room = tempfile.TemporaryDirectory(dir="/var/tmp")
@@ -129,7 +129,7 @@ class Try(Commands):
 
 class Run(Commands):
     def test_it_proves_side_by_side_and_says_which_crate_how_far_and_how_long(self):
-        """`left` and `right` each wait until the other has begun, where the machine holds two proofs at a time."""
+        """`left` and `right` each wait until the other has begun, if the machine holds two proofs at a time."""
         if width_of_machine() > 1:
             write(self.state / "meet", "")
         done = self.run_it("run.sh", "start", "0")
@@ -215,7 +215,7 @@ class Planted(Commands):
 
 
 class Quick(Commands):
-    """With stand-ins for the linters and the replays too, in a repository of its own."""
+    """With stand-ins for the linters and the replays too, in its own repository."""
 
     def setUp(self):
         super().setUp()
@@ -254,7 +254,7 @@ class Quick(Commands):
 
 
 class Gate(Commands):
-    """`.ci/run`, with stand-ins for all that it calls. Its proofs go on for a second after the program is built."""
+    """`.ci/run`, with stand-ins for everything that it calls. Its proofs go on for a second after the program is built."""
 
     CALLED = ("replay .ci/replay", "replay crates/relay960/replays/all.py", "replay .ci/replay-sessions", "replay benches/refusals.py")
 

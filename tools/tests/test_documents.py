@@ -121,7 +121,7 @@ def has_function(text, word):
 
 
 def groups(cell):
-    """What a cell names, with what stands in brackets behind it: pairs of a list of words and the words of the brackets."""
+    """What a cell names, with what is in brackets after it: pairs of a list of words and the words of the brackets."""
     found = []
     for names, brackets in re.findall(r"((?:`[^`]+`[^`(]*)+)(?:\(([^)]*)\))?", cell):
         found.append((code(names), code(brackets)))

@@ -8,7 +8,7 @@ import sys
 import unittest
 
 HERE = pathlib.Path(__file__).resolve().parent
-# So many tests at most are tried again. They hang on time, and a machine may be too busy with the others.
+# At most this many tests are tried again. They depend on time, and a machine may be too busy with the others.
 MOST_AGAIN = 5
 
 
@@ -54,7 +54,7 @@ def one_after_another(found):
 
 
 def main():
-    # The servers are of its group. Where it is told to end, they end with it.
+    # The servers are in its group. If it is told to end, they end with it.
     if os.getpgrp() != os.getpid():
         os.setpgrp()
     signal.signal(signal.SIGTERM, lambda *_: os.killpg(0, signal.SIGKILL))

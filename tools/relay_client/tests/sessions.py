@@ -11,7 +11,7 @@ ABANDONED = over("abandoned")
 
 @contextlib.contextmanager
 def main_port(count):
-    """The port of a server that serves so many connections."""
+    """The port of a server that serves this many connections."""
     with Server("--connections", str(count)) as server:
         yield server.port
         server.has_served(count)

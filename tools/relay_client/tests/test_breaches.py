@@ -75,7 +75,7 @@ class Breaches(unittest.TestCase):
     listening = staticmethod(main_port)
 
     def get(self, breaches, *told):
-        """Each of these breaches is told these lines and then the end, behind an answer to what was sent before it."""
+        """Each of these breaches gets these lines and then the end, after an answer to what was sent before it."""
         with self.listening(len(breaches)) as port:
             for name, sent in breaches.items():
                 with self.subTest(name):
@@ -87,7 +87,7 @@ class Breaches(unittest.TestCase):
                     peer.close()
 
     def test_frames_that_break_the_protocol_are_told_1002(self):
-        """Before, the connection ended without a close. Closes with a bad code alone were told 1002."""
+        """Before, the connection ended without a close. Only closes with a bad code got 1002."""
         self.get({**UNMASKED, **HEADS, **CONTROLS, **PLACES}, PROTOCOL)
 
     def test_texts_and_reasons_that_are_no_utf8_are_told_1007(self):

@@ -24,13 +24,13 @@ logging.getLogger("asyncio").setLevel(logging.ERROR)
 CLIENTS = TOP / "examples/clients"
 STAND_IN = pathlib.Path(__file__).resolve().parent / "stand_in"
 TWO_PLIES = "rnbqkbnr/pppp1ppp/8/4p3/4P3/8/PPPP1PPP/RNBQKBNR w HAha e6 0 2"
-# A move en passant, a promotion, and both sides' castling, with the position behind them.
+# A move en passant, a promotion, and both sides' castling, with the position after them.
 RICH_GAME = "e2e4 a7a6 e4e5 d7d5 e5d6 a6a5 d6c7 a5a4 c7b8q a4a3 g1f3 g8f6 f1e2 g7g6 e1h1 f8g7 h2h3 e8h8".split()
 RICH_END = "rQbq1rk1/1p2ppbp/5np1/8/8/p4N1P/PPPPBPP1/RNBQ1RK1 w - - 1 10"
 
 
 def node_words():
-    """How node runs the client; nothing where there is no node with a WebSocket, which node has from 20 on."""
+    """How node runs the client; nothing if there is no node with a WebSocket, which node has from 20 on."""
     node = shutil.which("node")
     release = node and int(re.match(r"v(\d+)", subprocess.run([node, "--version"], capture_output=True, text=True).stdout)[1])
     if not node or release < 20:
@@ -80,7 +80,7 @@ class Clients:
         await self.relay.kill()
 
     async def restart(self, **options):
-        """The relay is started anew, with these options."""
+        """The relay is restarted, with these options."""
         await self.relay.kill()
         self.relay.options.update(options)
         await self.relay.start()
@@ -109,7 +109,7 @@ class Clients:
         await self.hears(*texts[1:])
 
     async def is_told_of_the_end(self, game):
-        """The game ends, the client is told so, and ends too."""
+        """The game ends, the client hears so, and ends too."""
         game.end()
         await self.hears(over("agreed"))
         self.assertEqual(await asyncio.wait_for(self.client.wait(), PATIENCE), 0)
@@ -132,7 +132,7 @@ class Clients:
         await self.is_told_of_the_end(game)
 
     async def another_game(self, first, *moves):
-        """The relay is started anew, and another game has the name of the first before the client comes back."""
+        """The relay is restarted, and another game has the name of the first before the client comes back."""
         await self.wire.cut()
         await self.restart()
         first.connection.close()
@@ -141,7 +141,7 @@ class Clients:
         return game
 
     async def test_a_client_notices_another_game_of_the_name_and_follows_it_from_its_first_move(self):
-        """The other game is as long, so its place alone tells nothing. Before, PROTOCOL said to count places, so that a client made one game of
+        """The other game is as long, so its place alone says nothing. Before, PROTOCOL said to count places, so that a client made one game of
         two."""
         first = Game(self.relay, ["d2d4", "d7d5"])
         await self.follow()
@@ -178,7 +178,7 @@ class Clients:
 
 
 class PythonClient(Clients, unittest.IsolatedAsyncioTestCase):
-    """Over Debian's python3-websockets, or over the stand-in where this Python lacks it."""
+    """Over Debian's python3-websockets, or over the stand-in if this Python lacks it."""
 
     words = [sys.executable, "-B", str(CLIENTS / "follow.py")]
     if importlib.util.find_spec("websockets") is None:

@@ -24,7 +24,7 @@ NOT_YOURS = refused(13, "NotYourBoard")
 
 
 def keys_that_differ(place, count):
-    """So many keys that differ from the stranger's, and from one another, at this place alone."""
+    """This many keys that differ from the stranger's, and from one another, only at this place."""
     others = [it for it in ALPHABET if it != KEY[place]]
     return [KEY[:place] + it + KEY[place + 1:] for it in others[:count]]
 

@@ -99,7 +99,7 @@ class Connections(unittest.TestCase):
             self.assertEqual(backlog(server.port), min(BACKLOG, somaxconn()))
 
     def test_threads_that_have_ended_are_joined(self):
-        """Behind 500 short connections the process maps little more memory than behind none: a thread that is not joined keeps two maps."""
+        """After 500 short connections the process maps little more memory than after none: a thread that is not joined keeps two maps."""
         with Server("--connections", "501") as server:
             first = server.maps()
             for _ in range(500):
@@ -109,7 +109,7 @@ class Connections(unittest.TestCase):
             server.has_served(501)
 
     def test_newcomers_without_a_descriptor_are_told_so_and_later_ones_are_served(self):
-        """The server has no descriptor left for some of its peers. Each of them counts as failed, so 60 would be spent in no time if the server
+        """The server has no descriptor left for some of its peers. Each of them counts as failed, so 60 would be used up in no time if the server
         tried again at once. Once its peers are gone, it still accepts. Before, nobody was told anything."""
         with Server("--connections", "60") as server:
             resource.prlimit(server.process.pid, resource.RLIMIT_NOFILE, (16, 16))

@@ -58,7 +58,7 @@ def seconds_of_half(name, stream):
 
 class Deadlines(unittest.TestCase):
     def lasts(self, began, least, most):
-        """So many seconds have passed since."""
+        """This many seconds have passed since."""
         took = time.monotonic() - began
         self.assertTrue(least < took < most, took)
 
@@ -86,7 +86,7 @@ class Deadlines(unittest.TestCase):
                 pass
 
     def test_what_a_board_is_sent_has_thirty_seconds_in_all_whether_it_takes_none_or_some(self):
-        """The board is abandoned. Before, each part that was taken began the thirty seconds anew."""
+        """The board is abandoned. Before, each part that was taken started the thirty seconds again."""
         with Server("--connections", "4") as server:
             silent, slow = (owner_of(server, room=4096, board=board) for board in ("b1", "b2"))
             guests = [guest_of(server, board=board) for board in ("b1", "b2")]
@@ -190,7 +190,7 @@ class Deadlines(unittest.TestCase):
             server.has_served(3)
 
     def test_an_operator_that_answers_no_ping_has_gone_after_ninety_seconds_and_one_that_does_stays(self):
-        """Before, none was sent a ping, and a board stood open as long as its operator's connection did."""
+        """Before, none was sent a ping, and a board stayed open as long as its operator's connection did."""
         with Server("--connections", "4") as server:
             began, heard = time.monotonic(), []
             vanished, guest = owner_of(server), guest_of(server)

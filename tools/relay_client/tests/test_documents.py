@@ -24,7 +24,7 @@ class Commands(unittest.TestCase):
 
 class Logs(unittest.TestCase):
     def test_the_log_of_a_proxy_has_no_arguments(self):
-        """An operator's key stands there. Before, the whole request was written, as nginx does by itself."""
+        """An operator's key is there. Before, the whole request was written, as nginx does by itself."""
         http, server = (TOP.joinpath(f"examples/deployment/relay960-{it}.conf").read_text() for it in ("http", "server"))
         form = re.search(r"^log_format relay960 ([^;]*);", http, re.M)[1]
         self.assertIn("$uri", form)

@@ -1,4 +1,4 @@
-"""The feed of examples/many_spectators over a stand-in for the channels of nginx: what it tells of boards that are gone or go on elsewhere, its
+"""The feed of examples/many_spectators over a stand-in for the channels of nginx: what it publishes of boards that are gone or go on elsewhere, its
 beats, and its names. Its own tests, by hand, try it over nginx itself. It needs Debian's python3-websockets."""
 
 import base64
@@ -29,7 +29,7 @@ SOON = 10  # Seconds more, on a busy machine.
 
 
 def python_words():
-    """A Python that has websockets; nothing where there is none."""
+    """A Python that has websockets; nothing if there is none."""
     for python in sys.executable, "/usr/bin/python3":
         with contextlib.suppress(OSError):
             if subprocess.run([python, "-c", "import websockets"], capture_output=True).returncode == 0:
@@ -42,7 +42,7 @@ def follow_on(board):
 
 
 class Asked(http.server.BaseHTTPRequestHandler):
-    """What the feed asks of nginx: to publish a text, how many there are, and all of them over WebSocket, each behind its number."""
+    """What the feed asks of nginx: to publish a text, how many there are, and all of them over WebSocket, each after its number."""
 
     protocol_version = "HTTP/1.1"
 
@@ -109,7 +109,7 @@ class Channels(http.server.ThreadingHTTPServer):
 
 
 def until(test, seconds=PATIENCE):
-    """Whether it has become true within so many seconds."""
+    """Whether it has become true within this many seconds."""
     end = time.monotonic() + seconds
     while not (is_true := test()) and time.monotonic() < end:
         time.sleep(0.02)
@@ -135,7 +135,7 @@ class Feeds(unittest.TestCase):
         return feed
 
     def plays(self, server, board, *moves):
-        """An owner that opens a board and plays; what its followers are told."""
+        """An owner that opens a board and plays; what its followers receive."""
         owner = owner_of(server, board)
         for place, move in enumerate(moves):
             owner.asks(submits(board, move), played(place))
@@ -165,7 +165,7 @@ class Feeds(unittest.TestCase):
             owner.close()
 
     def test_another_game_of_the_name_begins_behind_the_end_of_the_first(self):
-        """Before, its moves were told behind those of the first, as one game."""
+        """Before, its moves were published after those of the first, as one game."""
         self.feed("b1")
         with self.server() as server:
             owner, first = self.plays(server, "b1", "e2e4", "e7e5")
@@ -190,7 +190,7 @@ class Feeds(unittest.TestCase):
         self.assertEqual(len(self.channels.beats("b1")), 3)
 
     def test_names_are_read_again_at_a_hangup(self):
-        """One that is new is fed, and one that is gone is left. Before, a feed was started anew for each name."""
+        """One that is new is fed, and one that is gone is left. Before, a feed was restarted for each name."""
         with tempfile.TemporaryDirectory() as folder, self.server() as server:
             names = pathlib.Path(folder, "names")
             names.write_text("b1 b2\n")

@@ -43,7 +43,7 @@ class BrokenFrames(unittest.TestCase):
 class LongTexts(unittest.TestCase):
     def test_a_text_of_65536_bytes_is_refused_and_one_byte_more_ends_the_session(self):
         """It is refused too, and the session ends with 1009, whether the frame says so, before its bytes have come, or a second one makes
-        the message that long. Before, the connection ended without an answer and without a close: who pasted too much was not told why."""
+        the message that long. Before, the connection ended without an answer and without a close: someone who pasted too much did not learn why."""
         with Server("--connections", "4") as server:
             longer = head(0x81, 65537)
             in_two = head(0x01, 65536) + bytes(65536) + head(0x80, 1) + bytes(1)

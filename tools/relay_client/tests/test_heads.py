@@ -38,7 +38,7 @@ class Heads(unittest.TestCase):
             server.has_served(2)
 
     def test_a_head_that_begins_with_an_empty_line_is_none(self):
-        """It is answered at once, and nothing is waited for behind it. Before, it was closed without a word."""
+        """It is answered at once, and nothing after it is waited for. Before, it was closed without an answer."""
         with Server("--connections", "2") as server:
             for before in (b"\r\n\r\n", b"\n"):
                 with socket.create_connection(("127.0.0.1", server.port), timeout=9) as peer:

@@ -28,7 +28,7 @@ OPENING = "e2e4 e7e5 g1f3 b8c6 f1b5 a7a6 b5a4 g8f6 d2d3 d7d6 c2c3 b7b5 a4b3 c8g4
 
 
 def waits(grace):
-    """A server whose boards wait so many seconds, and that accepts more connections than come."""
+    """A server whose boards wait this many seconds, and that accepts more connections than come."""
     return Server("--grace", str(grace), "--connections", "1000", "--boards", "40")
 
 
@@ -52,7 +52,7 @@ class Keys(unittest.TestCase):
         connection.asks(ends(board, "agreed"), NOT_YOURS)
 
     def is_abandoned(self, guest, grace=0, lost=None, soon=SOON):
-        """The guest hears of the board's end once, so many seconds behind the loss and not much later."""
+        """The guest hears of the board's end once, this many seconds after the loss and not much later."""
         lost = lost or time.monotonic()
         guest.hears(ABANDONED, "close 1000")
         took = time.monotonic() - lost
@@ -62,7 +62,7 @@ class Keys(unittest.TestCase):
 
 
 class ALostConnection(Keys):
-    """Before, the followers were told `abandoned` at once, and who came back was refused 13."""
+    """Before, the followers got `abandoned` at once, and the operator who came back was refused 13."""
 
     def goes_on_after(self, lose):
         """A board whose operator's connection was lost in this way waits, and goes on under its name from where it was."""
@@ -113,7 +113,7 @@ class ALostConnection(Keys):
             guest.hears(moved("g1f3", 2))
 
     def test_a_move_that_was_on_its_way_is_played_once_and_seen_by_following_without_the_key(self):
-        """The operator was cut before the answer came. It looks from its last place on, and goes on behind what it finds."""
+        """The operator was cut before the answer came. It looks from its last place on, and goes on after what it finds."""
         with waits(LONG) as server:
             owner = owner_of(server, key=KEY)
             self.is_owned(owner, 0, "e2e4")
@@ -128,7 +128,7 @@ class ALostConnection(Keys):
 
 
 def close_in_order_unread(owner):
-    """Ends a connection behind what it has sent, and reads no answer."""
+    """Ends a connection after what it has sent, and reads no answer."""
     owner.stream.shutdown(socket.SHUT_WR)
     while owner.stream.recv(1024):
         pass
@@ -139,7 +139,7 @@ class TheGrace(Keys):
     """Before, there was none: each of these boards had ended within a moment."""
 
     def test_a_board_ends_as_abandoned_when_the_grace_is_over(self):
-        """Its followers are told once. It stays its owner's, and no name is given twice."""
+        """Its followers hear of it once. It stays its owner's, and no name is given twice."""
         with waits(2) as server:
             owner, guest = owner_of(server, key=KEY), guest_of(server)
             lost = time.monotonic()
@@ -297,7 +297,7 @@ class TheGrace(Keys):
                     each.close()
 
     def test_without_a_grace_no_key_is_looked_at(self):
-        """Neither where it is 0, nor where none is given."""
+        """Neither if it is 0, nor if none is given."""
         for words in ["--grace", "0"], []:
             with Server("--connections", "1000", *words) as server:
                 owner, guest = owner_of(server, key=KEY), guest_of(server)
@@ -351,7 +351,7 @@ class WhoseBoard(Keys):
                 stranger.hears(moved("e2e4", 0))
 
     def test_a_connection_whose_key_owns_a_board_may_not_follow(self):
-        """Not another one, and not when the board has ended. Where its key owns none it may."""
+        """Not another one, and not when the board has ended. If its key owns none it may."""
         with waits(LONG) as server:
             before, stranger = Connection(server.port, key=KEY), owner_of(server, "b2")
             owner = owner_of(server, key=KEY)

@@ -1,4 +1,4 @@
-"""What `serve --log` tells on standard error."""
+"""What `serve --log` writes on standard error."""
 
 import time
 import unittest
@@ -37,7 +37,7 @@ class Reader:
         raise AssertionError(f"{words!r} did not come, but {self.lines[-20:]}")
 
     def ended(self):
-        """All lines up to the server's end, without the last, which tells of that."""
+        """All lines up to the server's end, without the last, which reports it."""
         printed, complained, status = self.server.ended()
         assert (printed, status) == (b"", 0), (printed, status)
         self.lines += complained.decode().splitlines()
@@ -87,7 +87,7 @@ class Log(unittest.TestCase):
                 "board b5 opened",
                 "board b5 waits for its operator",
             ])))
-            # Behind the last connection no board waits any more.
+            # After the last connection no board waits any more.
             self.assertEqual(sorted(lines[12:]), sorted(map(line, [
                 "board b5 ended: abandoned",
                 "board b6 opened",

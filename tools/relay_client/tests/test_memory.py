@@ -18,7 +18,7 @@ MOST_IN_ALL = 128  # Kibibytes that a peer may pin.
 
 
 def asked(server, text, answer, count):
-    """So many peers, each of which was answered to the text and is silent since."""
+    """This many peers, each of which got an answer to the text and has been silent since."""
     peers = [Connection(server.port) for _ in range(count)]
     for peer in peers:
         peer.asks(text, answer)
@@ -26,7 +26,7 @@ def asked(server, text, answer, count):
 
 
 def shaken(server, request, count):
-    """So many peers, each of which was let in with this request and is silent since."""
+    """This many peers, each of which was let in with this request and has been silent since."""
     peers = []
     for _ in range(count):
         peer = socket.create_connection(("127.0.0.1", server.port), timeout=PATIENCE)

@@ -58,7 +58,7 @@ class Requests(unittest.TestCase):
     listening = staticmethod(main_port)
 
     def get(self, requests, status, *fields):
-        """Each of these requests, with more behind it, is answered with this status and these fields, and then comes the end."""
+        """Each of these requests, with more after it, is answered with this status and these fields, and then comes the end."""
         with self.listening(len(requests)) as port:
             for name, sent in requests.items():
                 with self.subTest(name), socket.create_connection(("127.0.0.1", port), timeout=PATIENCE) as peer:

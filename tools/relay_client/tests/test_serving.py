@@ -40,7 +40,7 @@ def refuses(port):
 
 class HowLong(unittest.TestCase):
     def test_a_server_for_ever_counts_no_connections(self):
-        """Before, each had a number of connections, of 1,000,000 at most, and ended behind them. One peer that connects and goes could spend them."""
+        """Before, each had a number of connections, of at most 1,000,000, and ended after them. One peer that connects and goes could spend them."""
         with Server("--forever") as server:
             for _ in range(300):
                 Connection(server.port).close()
@@ -70,7 +70,7 @@ class Idle(unittest.TestCase):
     """Before, nobody was sent away for saying nothing. Who owned and followed nothing kept a thread for as long as he liked."""
 
     def lasts(self, began, least):
-        """So many seconds have passed since, and not many more."""
+        """This many seconds have passed since, and not many more."""
         took = time.monotonic() - began
         self.assertTrue(least - 0.1 < took < least + SOON, took)
 
@@ -104,7 +104,7 @@ class Idle(unittest.TestCase):
             connection.close()
 
     def test_who_has_the_key_of_a_board_may_say_nothing_for_longer(self):
-        """Also where another connection opened it, before or behind the handshake."""
+        """Even if another connection opened it, before the handshake or after it."""
         key = new_key()
         with Server("--idle", "4", "--grace", "60", "--connections", "3") as server:
             before, owner = Connection(server.port, key=key), owner_of(server, key=key)
@@ -146,14 +146,14 @@ class Idle(unittest.TestCase):
 
 
 class UntilInputEnds(unittest.TestCase):
-    """Before, a server could only be killed. Nobody was told of it, and in most ends some followers lacked the last moves."""
+    """Before, a server could only be killed. Nobody heard of it, and in most ends some followers missed the last moves."""
 
     def server(self, *words, **options):
         """A server whose input is open."""
         return Server("--until-input-ends", *words, stdin=subprocess.PIPE, **options)
 
     def end_input(self, server):
-        """Ends the server's input, and tells when."""
+        """Ends the server's input, and returns when."""
         server.process.stdin.close()
         server.process.stdin = None
         return time.monotonic()

@@ -1,8 +1,8 @@
 """Transcripts of sessions in documents, byte for byte.
 
 A line `1> TEXT` is sent by connection 1, which is made at its first line; `1< TEXT` is what it receives next. `1: TARGET` makes it with
-that target of its request, and `1: lost` ends it without a word. `close CODE` is a close frame. The port of the transcript is replaced by a
-free one. A further line `$ relay960 serve ..` in a transcript is the relay started anew, after it was killed: the connections of the one
+that target of its request, and `1: lost` ends it silently. `close CODE` is a close frame. The port of the transcript is replaced by a
+free one. A further line `$ relay960 serve ..` in a transcript is the relay restarted, after it was killed: the connections of the one
 before are lost.
 """
 

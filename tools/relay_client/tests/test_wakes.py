@@ -1,4 +1,4 @@
-"""When the followers of a board are woken: after its operator is answered, and also where the operator reads no answers."""
+"""When the followers of a board are woken: after its operator is answered, even if the operator reads no answers."""
 
 import json
 import socket

@@ -1,4 +1,4 @@
-"""The port for those who only watch: the same texts as on the main port, whoever comes and however they behave."""
+"""The port for those who only watch: the same texts as on the main port, whatever guests come and however they behave."""
 
 import concurrent.futures
 import pathlib
@@ -40,7 +40,7 @@ def spectator_of(server, board="b1", place=None, **options):
 
 
 def watcher_of(server, board="b1", **options):
-    """A connection that watches the board from its start, where no move was made yet."""
+    """A connection that watches the board from its start, with no move made yet."""
     spectator, answer = spectator_of(server, board, **options)
     assert answer == following(), answer
     return spectator
@@ -69,8 +69,8 @@ def answered(port, line, **options):
 
 
 def kept_by_system(server, connection):
-    """What the system keeps of the server's end of a connection: how many bytes that were not taken yet, and how many that were not read. Nothing,
-    where that end is gone."""
+    """What the system keeps of the server's end of a connection: how many bytes were not taken yet, and how many were not read. Nothing,
+    if that end is gone."""
     ends = [f":{server.watch_port:04X}", f":{connection.stream.getsockname()[1]:04X}"]
     for line in (PROC / "net/tcp").read_text().splitlines()[1:]:
         words = line.split()
@@ -80,7 +80,7 @@ def kept_by_system(server, connection):
 
 
 def newcomers(server, comes):
-    """Newcomers ask for all boards, one after another, as long as they are to come; how many they were."""
+    """Newcomers ask for all boards, one after another, as long as they should come; returns how many there were."""
     count = 0
     while comes.is_set():
         newcomer = Connection(server.watch_port)
@@ -93,7 +93,7 @@ def newcomers(server, comes):
 
 def passers_by(server, chance, is_over):
     """Newcomers who come and go, one after another, until that is set, and no fewer than the least; how many they were. They go with half a request,
-    when they have asked, while they are answered or behind that, by an end or a reset."""
+    when they have asked, while they are answered or after that, by an end or a reset."""
     count = 0
     while count < LEAST_PASSING or not is_over.is_set():
         with socket.create_connection(("127.0.0.1", server.watch_port), timeout=PATIENCE) as newcomer:
@@ -488,7 +488,7 @@ class Limits(unittest.TestCase):
             owner.close()
 
     def comes_down(self, server, most):
-        """Waits until the server has no more than so many descriptors open."""
+        """Waits until the server has at most this many descriptors open."""
         until = time.monotonic() + SOON
         while len(list(open_descriptors(server))) > most and time.monotonic() < until:
             time.sleep(0.1)
@@ -571,7 +571,7 @@ def open_descriptors(server):
 
 class Ending(unittest.TestCase):
     def test_the_port_ends_with_the_main_one(self):
-        """Who watches has the end of the game, and who asks for nothing is told that the server goes."""
+        """A spectator gets the end of the game, and one who asks for nothing hears that the server goes."""
         with Server("--connections", "1", watch=True) as server:
             owner, watcher, asking = owner_of(server), watcher_of(server), Connection(server.watch_port)
             owner.asks(submits("b1", "e2e4"), played(0))

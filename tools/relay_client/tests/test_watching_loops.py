@@ -1,4 +1,4 @@
-"""What the loops of the port for those who only watch keep of their guests: who is told at once, whoever comes, goes, floods or stops reading."""
+"""What the loops of the port for those who only watch keep of their guests: who hears at once, whatever guests come, go, flood or stop reading."""
 
 import concurrent.futures
 import itertools
@@ -32,11 +32,11 @@ ONE_PING, ONE_PONG = masked(PING, PAYLOAD), b"\x8a\x7d" + PAYLOAD
 NO_WORDS_PING = b"\x89\x00"  # As the server sends one.
 # One whose connection takes some 40,000 bytes while it reads nothing.
 SLOW = {"room": 1024, "segment": 536}
-LONG = 1400  # Moves, of which such a connection does not take all.
+LONG = 1400  # More moves than such a connection takes.
 
 
 def long_game(count):
-    """So many moves, of at most 1,492: between two pawns' moves the pieces go in a circle of 40 positions."""
+    """This many moves, of at most 1,492: between two pawns' moves the pieces go in a circle of 40 positions."""
     pieces = [itertools.cycle("a1a2 g1f3 a2a3 f3g1 a3a1".split()), itertools.cycle("a8a7 g8f6 a7a8 f6g8".split())]
     moves = []
     for at, pawn in enumerate("a2a3 a7a6 a3a4 a6a5 b2b3 b7b6 b3b4 b6b5 c2c3 c7c6 c3c4 c6c5".split()):
@@ -67,7 +67,7 @@ def processor_seconds(server):
 
 class AtOnce(unittest.TestCase):
     def is_told_at_once(self, act, least=3):
-        """So many of ten at least are told at once; on a busy machine others are late. The act tells when that happened which it heard of."""
+        """At least this many of ten hear at once; on a busy machine others are late. The act returns when that happened which it heard of."""
         took = []
         for number in range(ROUNDS):
             time.sleep(0.1)  # The loops wait again.
@@ -150,7 +150,7 @@ class AtOnce(unittest.TestCase):
 
 class Boards(unittest.TestCase):
     def test_a_move_behind_the_opening_is_told_however_soon_it_comes(self):
-        """The text of a board is made while it is played on. What came meanwhile is told a second later."""
+        """The text of a board is made while it is played on. What came meanwhile is reported a second later."""
         names = [f"b{number}" for number in range(MOST_BOARDS)]
         positions = fens(518, ["e2e4"])
         with Server("--forever", "--boards", str(MOST_BOARDS), "--watch-threads", "1", watch=True) as server:
@@ -237,7 +237,7 @@ class Boards(unittest.TestCase):
             for watcher in slow, quick:
                 watcher.send(BOARDS)
             quick.hears(*map(stands, names))
-            for _ in range(5):  # Turns of the loop, in which all is heard that came.
+            for _ in range(5):  # Turns of the loop, in which everything that came is read.
                 answered(server.watch_port, "[]")
             for place, move in enumerate(moves):
                 owner.asks(submits(names[0], move), played(place))
@@ -367,7 +367,7 @@ class ComingAndGoing(unittest.TestCase):
 
 class Floods(unittest.TestCase):
     def reads(self, stream, count):
-        """Reads the pongs of so many pings."""
+        """Reads the pongs of this many pings."""
         wanted = len(ONE_PONG) * count
         received = bytearray()
         while len(received) < wanted:
@@ -377,7 +377,7 @@ class Floods(unittest.TestCase):
         self.assertEqual(received, ONE_PONG * count)
 
     def test_what_comes_at_once_is_answered_at_once(self):
-        """A text that is longer than what a loop reads of one guest in three turns, with nothing behind it."""
+        """A text that is longer than what a loop reads of one guest in three turns, with nothing after it."""
         with Server("--forever", "--watch-threads", "1", watch=True) as server:
             peer, took = Connection(server.watch_port), []
             peer.stream.settimeout(BEFORE_A_PING)
