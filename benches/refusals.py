@@ -47,8 +47,6 @@ TESTS = {
         "tests::relays::memory::a_refused_run_makes_no_step",
         "tests::relays::memory::a_refused_step_is_accepted_when_made_again",
         "tests::relays::memory::the_steps_after_an_opening_and_a_follow_are_answered_whatever_is_refused",
-    ],
-    "relay_texts_tests": [
         "tests::connections::a_connection_may_what_its_boards_let_it",
         "tests::connections::a_relay_answers_as_its_history_asks",
         "tests::live::cut_pushed_from_a_live_board",

@@ -1,1 +1,4 @@
+pub mod Answered
 mod Handed
+pub mod Names
+pub mod Told

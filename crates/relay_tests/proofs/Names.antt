@@ -17,7 +17,7 @@ use Rattle.relay_core.specs.State.{RelayRecord}
 use Rattle.relay_core.proofs.Grounds.{told}
 use Rattle.relay_core.proofs.NameFacts.{same_name_is, is_same_name}
 use Rattle.relay_pushing.specs.Connections.{is_among}
-use Rattle.relay_texts_tests.specs.Keeping.{IsKeeping, Knows, Makes, board_opened, names_with}
+use Rattle.relay_tests.specs.Keeping.{IsKeeping, Knows, Makes, board_opened, names_with}
 
 -- ---- Which boards are known.
 

@@ -20,8 +20,8 @@ use Rattle.relay_messages.specs.declared.fault.MessageFault.TheVariants as fault
 use Rattle.relay_messages.specs.Answers.{answer_text}
 use Rattle.relay_messages.specs.Decoding.{IsDecoding, decoded}
 use Rattle.relay_pushing.specs.Connections as conn
-use Rattle.relay_texts_tests.specs.Asked.{IsAnswered, IsAsked, IsAt, IsUnanswered, abandoned, answer_asked, are_none, boards_asked, history_asked, may_make, not_its_own, why_not}
-use Rattle.relay_texts_tests.specs.Keeping.{Tells, Makes}
+use Rattle.relay_tests.specs.Asked.{IsAnswered, IsAsked, IsAt, IsUnanswered, abandoned, answer_asked, are_none, boards_asked, history_asked, may_make, not_its_own, why_not}
+use Rattle.relay_tests.specs.Keeping.{Tells, Makes}
 
 -- a text that was read as a step says it
 read : (text : List ℕ) (step : Step) → IsDecoding text (Ok step) → decoded text ≡ Ok step

@@ -1,7 +1,7 @@
 use Rattle.std.proofs.Common.{◌≡◌, rules, vec_capacity}
 use Rattle.relay_pushing.specs.Connections.{is_among}
-use Rattle.relay_texts_tests.proofs.Names.{known_by_names}
-use Rattle.relay_texts_tests.proofs.relay_keeper.RelayKeeperKeeper.knows.Goals as goal
+use Rattle.relay_tests.proofs.Names.{known_by_names}
+use Rattle.relay_tests.proofs.relay_keeper.RelayKeeperKeeper.knows.Goals as goal
 
 pub returns : goal.returns
 returns c =

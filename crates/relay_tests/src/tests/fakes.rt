@@ -1,6 +1,6 @@
 //! A source over a relay, a keeper that notes what it is asked, a source over a list, and a bell that rings when it is waited for.
 
-ghost use Rattle.relay_texts_tests.specs.Keeping.{Makes};
+ghost use Rattle.relay_tests.specs.Keeping.{Makes};
 
 use crate::relay_keeper::RelayKeeper;
 use c960_game::Limits;
@@ -72,7 +72,7 @@ impl Desk {
 }
 
 impl Keeper for Desk {
-    ghost use Rattle.relay_texts_tests.specs.Keeping.{Makes};
+    ghost use Rattle.relay_tests.specs.Keeping.{Makes};
 
     // What a desk tells is compared with what is wanted by the tests alone.
     ghost tells = { λ _ _ _. Unit {0} };

@@ -5,8 +5,8 @@ ghost use Rattle.std.specs.Prelude.{◌≡◌, [], IfOk, OnErr, string_bytes};
 ghost use Rattle.c960_game.specs.Limits.{LimitNumbers};
 ghost use Rattle.relay_core.specs.History.{History};
 ghost use Rattle.relay_core.specs.Stands.{Stands};
-ghost use Rattle.relay_texts_tests.specs.Asked.{IsAnswered, IsUnanswered, abandoned};
-ghost use Rattle.relay_texts_tests.specs.Keeping.{Makes, board_opened};
+ghost use Rattle.relay_tests.specs.Asked.{IsAnswered, IsUnanswered, abandoned};
+ghost use Rattle.relay_tests.specs.Keeping.{Makes, board_opened};
 
 use c960_game::Limits;
 use relay_core::{BoardName, Relay, Reply, Step};
@@ -25,7 +25,7 @@ pub struct RelayKeeper {
 impl Model for RelayKeeper {
     ghost use Rattle.std.specs.Prelude.{vec_capacity};
     ghost use Rattle.relay_core.specs.State.{RelayRecord};
-    ghost use Rattle.relay_texts_tests.specs.Keeping.{IsKeeping};
+    ghost use Rattle.relay_tests.specs.Keeping.{IsKeeping};
 
     ghost Value = { RelayRecord };
 
@@ -96,7 +96,7 @@ impl RelayKeeper {
 }
 
 impl Keeper for RelayKeeper {
-    ghost use Rattle.relay_texts_tests.specs.Keeping.{Makes, Tells};
+    ghost use Rattle.relay_tests.specs.Keeping.{Makes, Tells};
 
     ghost tells = { λ keeper question answer. Tells keeper question answer };
 

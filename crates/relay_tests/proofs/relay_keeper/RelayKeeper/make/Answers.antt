@@ -1,6 +1,6 @@
 use Rattle.std.proofs.Common.{arith, vec_capacity}
-use Rattle.relay_texts_tests.proofs.Names.{fits, keeps}
-use Rattle.relay_texts_tests.proofs.relay_keeper.RelayKeeper.make.Goals as goal
+use Rattle.relay_tests.proofs.Names.{fits, keeps}
+use Rattle.relay_tests.proofs.relay_keeper.RelayKeeper.make.Goals as goal
 
 pub push_reserved-requires : goal.push_reserved-requires
 push_reserved-requires c =

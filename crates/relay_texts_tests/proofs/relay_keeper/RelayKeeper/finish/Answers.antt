@@ -1,5 +1,0 @@
-use Rattle.relay_texts_tests.proofs.Answered.{abandons}
-use Rattle.relay_texts_tests.proofs.relay_keeper.RelayKeeper.finish.Goals as goal
-
-pub returns : goal.returns
-returns c = abandons c.args.self.now c.args.conn c.finish.new.keeper c.finish.ensures
