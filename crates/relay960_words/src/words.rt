@@ -155,10 +155,11 @@ fn command_order<'a>(alloc: Global, name: &str, given: &ArgMatches<'a>) -> Resul
         "script" => Ok(Order::Run(Job::Script(limits_of(alloc, given)?))),
         "serve" => Ok(Order::Serve(service_of(alloc, given)?)),
         // `clap` has seen to it that it is one of these.
-        _ => Err(program_command(alloc)?.error(
+        _ => Err(program_error(
+            alloc,
             ErrorKind::InvalidSubcommand,
             "there is no such command",
-        )?),
+        )),
     }
 }
 
@@ -169,10 +170,11 @@ fn text_of<'a>(alloc: Global, given: &ArgMatches<'a>, name: &str) -> Result<&'a 
     match given.get_str(name) {
         Some(text) => Ok(text),
         // `clap` has seen to it that there is one.
-        None => Err(program_command(alloc)?.error(
+        None => Err(program_error(
+            alloc,
             ErrorKind::MissingRequiredArgument,
             "a text is missing",
-        )?),
+        )),
     }
 }
 
@@ -185,10 +187,11 @@ where
     match given.get_one::<T>(name) {
         Some(value) => Ok(value),
         // `clap` has seen to it that there is one.
-        None => Err(program_command(alloc)?.error(
+        None => Err(program_error(
+            alloc,
             ErrorKind::MissingRequiredArgument,
             "a value is missing",
-        )?),
+        )),
     }
 }
 
@@ -212,7 +215,7 @@ fn connections_of(alloc: Global, given: &ArgMatches) -> Result<Connections, Erro
                 alloc,
                 ErrorKind::ArgumentConflict,
                 "the argument '--connections <connections>' cannot be used with '--forever'",
-            )?)
+            ))
         }
         _ => Ok(Connections::Forever),
     }
@@ -258,16 +261,37 @@ fn address_of(alloc: Global, text: &str) -> Result<SocketAddr, Error>
             let message = format!(in alloc;
                 "invalid value '{text}' for '--watch <ADDRESS:PORT>': {error}"
             )?;
-            Err(serve_error(alloc, ErrorKind::ValueValidation, message.as_str())?)
+            Err(serve_error(alloc, ErrorKind::ValueValidation, message.as_str()))
         }
     }
 }
 
-/// An error of the command `serve`, with its usage.
-fn serve_error(alloc: Global, kind: ErrorKind, message: &str) -> Result<Error, AllocError> {
+/// An error of the command `serve`, with its usage; or that there was no memory to make it.
+fn serve_error(alloc: Global, kind: ErrorKind, message: &str) -> Error {
+    made(try_serve_error(alloc, kind, message))
+}
+
+fn try_serve_error(alloc: Global, kind: ErrorKind, message: &str) -> Result<Error, AllocError> {
     serve_command(alloc)?
         .bin_name("relay960 serve")?
         .error(kind, message)
+}
+
+/// An error of the program, with its usage; or that there was no memory to make it.
+fn program_error(alloc: Global, kind: ErrorKind, message: &str) -> Error {
+    made(try_program_error(alloc, kind, message))
+}
+
+fn try_program_error(alloc: Global, kind: ErrorKind, message: &str) -> Result<Error, AllocError> {
+    program_command(alloc)?.error(kind, message)
+}
+
+/// The error that was made; or that there was no memory to make it.
+fn made(error: Result<Error, AllocError>) -> Error {
+    match error {
+        Ok(error) => error,
+        Err(error) => Error::from(error),
+    }
 }
 
 /// The limits that are given.
@@ -283,23 +307,18 @@ fn limits_of(alloc: Global, given: &ArgMatches) -> Result<Limits, Error>
     match limits {
         Some(limits) => Ok(limits),
         // `clap` has tried each against its range, so they make limits.
-        None => Err(program_command(alloc)?.error(
+        None => Err(program_error(
+            alloc,
             ErrorKind::ValueValidation,
             "these limits are out of range",
-        )?),
+        )),
     }
 }
 
 /// The error for a word that is no text in UTF-8.
 pub(crate) fn not_utf8(alloc: Global) -> Error {
-    match not_utf8_text(alloc) {
-        Ok(error) => error,
-        Err(error) => Error::from(error),
-    }
-}
-
-fn not_utf8_text(alloc: Global) -> Result<Error, AllocError> {
-    program_command(alloc)?.error(
+    program_error(
+        alloc,
         ErrorKind::InvalidValue,
         "invalid UTF-8 was detected in one or more arguments",
     )
