@@ -970,7 +970,12 @@ async def main():
     hosts = f"--host-resolver-rules=MAP {rounds.OTHER_HOST} 127.0.0.1, MAP * ~NOTFOUND, EXCLUDE 127.0.0.1, EXCLUDE localhost"
 
     async def begin():
-        return await (other().start() if other else Browser().start("--ignore-certificate-errors", hosts))
+        begun = other() if other else Browser()
+        try:
+            return await (begun.start() if other else begun.start("--ignore-certificate-errors", hosts))
+        except BaseException:
+            await begun.stop()  # One that did not come up is not left behind.
+            raise
 
     browser = await begin()
     failed = []
