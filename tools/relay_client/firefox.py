@@ -9,10 +9,8 @@ import tempfile
 
 import websockets
 
-from relay_client.acts import PATIENCE, Acts
+from relay_client.acts import ANSWER, Acts
 from relay_client.strokes import BACKSPACE, keys_of, stroke_of, to
-
-BEGIN = 120  # Seconds until it listens, and until its first answers: on a busy machine it begins slowly.
 
 # A page in the background keeps its timers, sounds and all; whatever is not of this machine goes to a proxy that is not there.
 WISHES = {
@@ -57,16 +55,16 @@ class Firefox:
             stdout=asyncio.subprocess.DEVNULL, stderr=asyncio.subprocess.PIPE, env={**os.environ, "HOME": self.folder.name})
         found = None
         while found is None:
-            line = await asyncio.wait_for(self.process.stderr.readline(), BEGIN)
+            line = await asyncio.wait_for(self.process.stderr.readline(), ANSWER)
             if not line:
                 raise RuntimeError("Firefox ended before it listened")
             found = re.search(rb"WebDriver BiDi listening on ws://127\.0\.0\.1:(\d+)", line)
         self.drain = asyncio.create_task(self.process.stderr.read())
-        self.socket = await websockets.connect(f"ws://127.0.0.1:{int(found[1])}/session", max_size=None, ping_interval=None, compression=None)
+        self.socket = await websockets.connect(f"ws://127.0.0.1:{int(found[1])}/session", max_size=None, ping_interval=None, compression=None, open_timeout=ANSWER)
         self.reader = asyncio.create_task(self.read())
         accept = {"acceptInsecureCerts": True, "unhandledPromptBehavior": {"default": "accept", "beforeUnload": "accept"}}
-        await self.call("session.new", BEGIN, capabilities={"alwaysMatch": accept})
-        await self.call("session.subscribe", BEGIN, events=["log.entryAdded"])
+        await self.call("session.new", capabilities={"alwaysMatch": accept})
+        await self.call("session.subscribe", events=["log.entryAdded"])
         return self
 
     async def read(self):
@@ -87,12 +85,12 @@ class Firefox:
                 if page.context == entry["source"].get("context"):
                     page.faults.append(entry["text"])
 
-    async def call(self, method, seconds=PATIENCE, /, **params):
+    async def call(self, method, **params):
         self.number += 1
         answer = asyncio.get_running_loop().create_future()
         self.answers[self.number] = answer
         await self.socket.send(json.dumps({"id": self.number, "method": method, "params": params}))
-        message = await asyncio.wait_for(answer, seconds)
+        message = await asyncio.wait_for(answer, ANSWER)
         if message["type"] == "error":
             raise RuntimeError(f"{method}: {message['error']} {message['message']}")
         return message["result"]
