@@ -3,6 +3,7 @@ import asyncio
 import json
 
 PATIENCE = 30  # Seconds that a page is waited for: a machine that is busy with proofs needs some.
+ANSWER = 120  # Seconds that a browser has to begin, to answer and to load a page, whatever else the machine does.
 
 
 class Acts:

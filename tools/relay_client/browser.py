@@ -9,7 +9,7 @@ import urllib.request
 
 import websockets
 
-from relay_client.acts import Acts
+from relay_client.acts import ANSWER, Acts
 
 FLAGS = [
     "--headless=new", "--disable-gpu", "--no-first-run", "--no-default-browser-check", "--disable-background-networking",
@@ -35,7 +35,7 @@ class Browser:
             "chromium", *flags, "about:blank", stdout=asyncio.subprocess.DEVNULL, stderr=asyncio.subprocess.PIPE)
         found = None
         while found is None:
-            line = await asyncio.wait_for(self.process.stderr.readline(), 60)
+            line = await asyncio.wait_for(self.process.stderr.readline(), ANSWER)
             if not line:
                 raise RuntimeError("Chromium ended before it listened")
             found = re.search(rb"DevTools listening on ws://127\.0\.0\.1:(\d+)/", line)
@@ -46,8 +46,8 @@ class Browser:
     async def open(self, address, size=(1280, 900)):
         """A new page at an address, of that size."""
         request = urllib.request.Request(f"http://127.0.0.1:{self.port}/json/new?about:blank", method="PUT")
-        made = json.loads(await asyncio.to_thread(lambda: urllib.request.urlopen(request, timeout=20).read()))
-        socket = await websockets.connect(made["webSocketDebuggerUrl"], max_size=None, ping_interval=None, compression=None)
+        made = json.loads(await asyncio.to_thread(lambda: urllib.request.urlopen(request, timeout=ANSWER).read()))
+        socket = await websockets.connect(made["webSocketDebuggerUrl"], max_size=None, ping_interval=None, compression=None, open_timeout=ANSWER)
         page = Page(socket)
         self.pages.append(page)
         await page.call("Page.enable")
@@ -105,7 +105,7 @@ class Page(Acts):
         answer = asyncio.get_running_loop().create_future()
         self.answers[self.number] = answer
         await self.socket.send(json.dumps({"id": self.number, "method": method, "params": params}))
-        message = await asyncio.wait_for(answer, 30)
+        message = await asyncio.wait_for(answer, ANSWER)
         if "error" in message:
             raise RuntimeError(f"{method}: {message['error']}")
         return message["result"]
@@ -113,7 +113,7 @@ class Page(Acts):
     async def go(self, address):
         self.loaded.clear()
         await self.call("Page.navigate", url=address)
-        await asyncio.wait_for(self.loaded.wait(), 30)
+        await asyncio.wait_for(self.loaded.wait(), ANSWER)
 
     async def run(self, script):
         """The value of a script."""

@@ -9,7 +9,7 @@ import tempfile
 
 import websockets
 
-from relay_client.acts import Acts
+from relay_client.acts import ANSWER, Acts
 from relay_client.strokes import BACKSPACE, keys_of, stroke_of, to
 
 # A page in the background keeps its timers, sounds and all; whatever is not of this machine goes to a proxy that is not there.
@@ -55,12 +55,12 @@ class Firefox:
             stdout=asyncio.subprocess.DEVNULL, stderr=asyncio.subprocess.PIPE, env={**os.environ, "HOME": self.folder.name})
         found = None
         while found is None:
-            line = await asyncio.wait_for(self.process.stderr.readline(), 60)
+            line = await asyncio.wait_for(self.process.stderr.readline(), ANSWER)
             if not line:
                 raise RuntimeError("Firefox ended before it listened")
             found = re.search(rb"WebDriver BiDi listening on ws://127\.0\.0\.1:(\d+)", line)
         self.drain = asyncio.create_task(self.process.stderr.read())
-        self.socket = await websockets.connect(f"ws://127.0.0.1:{int(found[1])}/session", max_size=None, ping_interval=None, compression=None)
+        self.socket = await websockets.connect(f"ws://127.0.0.1:{int(found[1])}/session", max_size=None, ping_interval=None, compression=None, open_timeout=ANSWER)
         self.reader = asyncio.create_task(self.read())
         accept = {"acceptInsecureCerts": True, "unhandledPromptBehavior": {"default": "accept", "beforeUnload": "accept"}}
         await self.call("session.new", capabilities={"alwaysMatch": accept})
@@ -90,7 +90,7 @@ class Firefox:
         answer = asyncio.get_running_loop().create_future()
         self.answers[self.number] = answer
         await self.socket.send(json.dumps({"id": self.number, "method": method, "params": params}))
-        message = await asyncio.wait_for(answer, 30)
+        message = await asyncio.wait_for(answer, ANSWER)
         if message["type"] == "error":
             raise RuntimeError(f"{method}: {message['error']} {message['message']}")
         return message["result"]

@@ -10,7 +10,7 @@ import tempfile
 import urllib.error
 import urllib.request
 
-from relay_client.acts import PATIENCE, Acts
+from relay_client.acts import ANSWER, Acts
 from relay_client.ports import free_port, listened
 from relay_client.strokes import BACKSPACE, keys_of, stroke_of, to
 
@@ -35,7 +35,7 @@ class WebKit:
         self.process = subprocess.Popen(
             ["xvfb-run", "-a", "-s", "-screen 0 1600x1200x24", "WebKitWebDriver", f"--port={self.port}"], start_new_session=True,
             env={**os.environ, "HOME": self.home.name}, stdout=subprocess.DEVNULL, stderr=subprocess.DEVNULL)
-        for _ in range(20 * PATIENCE):
+        for _ in range(20 * ANSWER):
             if self.port in listened():
                 break
             await asyncio.sleep(0.05)
@@ -52,7 +52,7 @@ class WebKit:
 
         def answer():
             try:
-                with urllib.request.urlopen(request, timeout=60) as it:
+                with urllib.request.urlopen(request, timeout=ANSWER) as it:
                     return json.load(it)["value"]
             except urllib.error.HTTPError as fault:
                 raise RuntimeError(f"{path}: {fault.read().decode()}") from fault

@@ -26,7 +26,7 @@ SCRIPT = """(() => {
   const name = (it) => `${it.tagName.toLowerCase()}${it.id && "#" + it.id}${[...it.classList].map((one) => "." + one).join("")}`;
   const opacity = (it) => (it === null ? 1 : Number(getComputedStyle(it).opacity) * opacity(it.parentElement));
   const faults = [];
-  let texts = 0, edges = 0;
+  let texts = 0, edges = 0, men = 0;
 
   function text(it, pseudo) {
     const style = getComputedStyle(it, pseudo);
@@ -59,19 +59,27 @@ SCRIPT = """(() => {
 
   /* The men on their squares by their bodies or their outlines, and the edge of the last move on its squares and beside plain ones. */
   const plain = ["light", "dark"].map((it) => document.querySelector(`.square.${it}:not(.last, .check, .picked)`)).filter(Boolean).map(ground);
+  function man(letter, cell, {fill, stroke}) {
+    const isWhite = letter === letter.toUpperCase();
+    const had = Math.max(ratio(parsed(fill), ground(cell)), isWhite ? ratio(parsed(stroke), ground(cell)) : 0);
+    men += 1;
+    if (had < 3) faults.push(`man ${letter} on ${cell.dataset.square} ${had.toFixed(2)}`);
+  }
+
   for (const it of document.querySelectorAll(".square .piece")) {
-    const [body] = it.querySelectorAll(".body");
-    const cell = ground(it.closest(".square"));
-    const style = getComputedStyle(body);
-    const had = Math.max(ratio(parsed(style.fill), cell), it.classList.contains("white") ? ratio(parsed(style.stroke), cell) : 0);
-    if (had < 3) faults.push(`man ${it.dataset.piece} on ${it.closest(".square").dataset.square} ${had.toFixed(2)}`);
+    man(it.dataset.piece, it.closest(".square"), getComputedStyle(it.querySelector(".body")));
+  }
+  /* Those of a round are images, which have their colours in them. */
+  for (const it of document.querySelectorAll(".images .square")) {
+    const [, fill, stroke] = /class="body" fill="([^"]+)" stroke="([^"]+)"/.exec(decodeURIComponent(getComputedStyle(it).backgroundImage)) || [];
+    if (fill !== undefined) man(it.dataset.man, it, {fill, stroke});
   }
   for (const it of document.querySelectorAll(".square.last")) {
     const line = parsed((/rgba?\\([^)]*\\)|color\\([^)]*\\)/.exec(getComputedStyle(it).boxShadow) || ["rgba(0, 0, 0, 0)"])[0]);
     const had = Math.min(...[ground(it), ...plain].map((one) => ratio(over(line, one), one)));
     if (had < 3) faults.push(`last move on ${it.dataset.square} ${had.toFixed(2)}`);
   }
-  return {texts, edges, faults};
+  return {texts, edges, men, faults};
 })()"""
 
 
@@ -80,16 +88,17 @@ IN_FRAME = f'document.querySelector(".shown iframe").contentWindow.eval({json.du
 
 
 class Count:
-    texts = edges = 0
+    texts = edges = men = 0
 
 
-async def looked_at(page, what, script=SCRIPT):
+async def looked_at(page, what, script=SCRIPT, has_controls=True):
     for scheme in ("light", "dark"):
         await page.scheme(scheme)
         had = await page.run(script)
-        assert had["texts"] > 10 and had["edges"] > 0, (what, had)
+        assert had["texts"] > 10 and (had["edges"] > 0) == has_controls, (what, had)
         Count.texts += had["texts"]
         Count.edges += had["edges"]
+        Count.men += had["men"]
         assert not had["faults"], f"{what}, {scheme}: {json.dumps(had['faults'], ensure_ascii=False, indent=1)}"
 
 
@@ -116,22 +125,49 @@ async def try_contrast(browser):
     await until_state(table, "over")
     await looked_at(table, "table, over")
     client = await Client.to(relay.address)
-    await client.open("b2")
-    await client.submit("b2", "e2e4")
-    round_page = await browser.open(url("round.html", server=relay.address, boards="b1,b2,b3", players="Carlsen–Caruana"))
-    await round_page.until('document.querySelectorAll(".tile[data-state=live], .tile[data-state=over]").length === 2')
-    await round_page.run('document.querySelector("#settings").open = true')
-    await looked_at(round_page, "round")
+    round_page = await look_at_round(browser, relay, client)
     await look_at_tabs(browser, relay)
-    print(f"    {Count.texts} texts and {Count.edges} edges")
+    print(f"    {Count.texts} texts, {Count.edges} edges and {Count.men} men")
     for style, fault in (("--soft: #999", "text "), ("--field: #ccc", "edge "), ("--last-edge: #8a8", "last move "), ("--dark: #445", "man ")):
         await seer.scheme("light")
         await seer.run(f'document.documentElement.style = "{style}"')
         assert any(it.startswith(fault) for it in (await seer.run(SCRIPT))["faults"]), f"{style} was not noticed"
+    await round_page.scheme("light")
+    await round_page.run('document.documentElement.style = "--dark: #445"')
+    assert any(it.startswith("man ") for it in (await round_page.run(SCRIPT))["faults"]), "dark squares of a round were not noticed"
     for page in (idle, table, seer, round_page):
         assert not page.faults, page.faults
         await page.close()
     await client.close()
+
+
+async def look_at_round(browser, relay, client):
+    """The page of a round, with a board that is over, one that has a new move, and one that is not open yet; without a connection; and in a hall."""
+    await client.open("b2")
+    await client.submit("b2", "e2e4")
+    wire = await Wire(relay.port).mend()
+    address = url("round.html", server=wire.address, boards="b1,b2,b3", players="Carlsen–Caruana")
+    page = await browser.open(address)
+    await page.until('document.querySelectorAll(".tile[data-state=live], .tile[data-state=over]").length === 2')
+    await page.run('document.querySelector("#settings").open = true')
+    await page.resize(390, 460)
+    await page.hover(".tile:nth-child(2)")
+    await page.run('scrollTo(0, document.body.scrollHeight)')  # What is out of sight stays new.
+    await client.submit("b2", "e7e5")
+    await page.until('document.querySelector(".tile.new .fresh") !== null')
+    await looked_at(page, "round")
+    assert await page.run('document.querySelector(".tile.new .fresh").textContent') == "1 new"
+    hall = await browser.open(f"{address}&hall")
+    await hall.until('document.querySelectorAll(".tile[data-state=live], .tile[data-state=over]").length === 2')
+    await looked_at(hall, "hall", has_controls=False)
+    await wire.cut()
+    for it, what in ((page, "round"), (hall, "hall")):
+        await it.front()
+        await it.until('document.querySelectorAll(".tile[data-state=lost]").length === 2')
+        await looked_at(it, f"{what}, no connection", has_controls=it is page)
+    assert not hall.faults, hall.faults
+    await hall.close()
+    return page
 
 
 async def open_tabs(browser, address, relay):

@@ -10,6 +10,7 @@ import time
 import websockets
 
 import back
+import broadcast
 import contrast
 import desk
 import gone
@@ -954,7 +955,7 @@ async def try_next(browser):
 OTHERS = {"firefox": Firefox, "webkit": WebKit}
 # What is tried in these too: what a person does most. Without a device for sound it makes none, so sounds are not among it.
 OFTEN = ["games", "castling", "mate", "typed", "goals", "refused_claim", "next_name", "next", "wire", "cut", "on_its_way", "ending_lost", "correct", "crash",
-         "interrupted", "freed", "kept_pgn", "records", "list", "newer", "round", "round_pgn", "listed", "watch_port", "tabs", "tabs_pgn", "tabs_attention", "tabs_from_disk",
+         "interrupted", "freed", "kept_pgn", "records", "list", "newer", "round", "round_pgn", "listed", "broadcast", "watch_port", "tabs", "tabs_pgn", "tabs_attention", "tabs_from_disk",
          "tabs_desk"]
 
 
@@ -963,13 +964,18 @@ async def main():
     pictures = words[1] if words[:1] == ["--pictures"] else None
     other = OTHERS.get(words[0]) if words else None
     words = (words[1:] or OFTEN) if other else words
-    modules = (back, contrast, desk, gone, lists, notation, rounds, senses, tabs)
+    modules = (back, broadcast, contrast, desk, gone, lists, notation, rounds, senses, tabs)
     tries = {name[4:]: it for module in (globals(), *map(vars, modules)) for name, it in module.items() if name.startswith("try_")}
     # A test's site makes its own certificate, and has a name of its own.
     hosts = f"--host-resolver-rules=MAP {rounds.OTHER_HOST} 127.0.0.1, MAP * ~NOTFOUND, EXCLUDE 127.0.0.1, EXCLUDE localhost"
 
     async def begin():
-        return await (other().start() if other else Browser().start("--ignore-certificate-errors", hosts))
+        begun = other() if other else Browser()
+        try:
+            return await (begun.start() if other else begun.start("--ignore-certificate-errors", hosts))
+        except BaseException:
+            await begun.stop()  # One that did not come up is not left behind.
+            raise
 
     browser = await begin()
     failed = []
