@@ -17,8 +17,8 @@ from relay_client.program import PATIENCE, fens
 from relay_client.server import Server
 from relay_client.tests.sessions import ABANDONED, moves_without_a_draw, owner_of, play
 from relay_client.tests.test_deadlines import HALVES, seconds_of_half, seconds_until_given_up
-from relay_client.tests.test_watching import (AGAIN, CROWD, DONE, MOVES, SOON, WRONG_MODE, all_until_close, answered, close_all, open_descriptors,
-                                               spectator_of, watcher_of)
+from relay_client.tests.test_watching import (AGAIN, CROWD, DONE, MOVES, SOON, WRONG_MODE, all_until_close, answered, close_all, kept_by_system,
+                                               open_descriptors, spectator_of, watcher_of)
 from relay_client.texts import (BAD_FIELD, BOARDS, NOT_JSON, NOT_OBJECT, OPENED, START_518, ended, ends, following, follows, moved, opens, over,
                                 played, stands, submits)
 
@@ -33,6 +33,8 @@ NO_WORDS_PING = b"\x89\x00"  # As the server sends one.
 # One whose connection takes some 40,000 bytes while it reads nothing.
 SLOW = {"room": 1024, "segment": 536}
 LONG = 1400  # More moves than such a connection takes.
+FEW = 40  # Texts of some 45 bytes.
+BEHIND_TRIES = 28  # Seconds. The last try comes within 27, and the end not before 29.
 
 
 def long_game(count):
@@ -491,6 +493,21 @@ class Full(unittest.TestCase):
                 self.assertTrue(piece, f"{len(received)} of {len(wanted)} bytes came")
                 received = (received + piece).replace(NO_WORDS_PING, b"")
             self.assertEqual(received, wanted)
+            close_all(owner, slow)
+
+    def test_one_that_takes_too_little_too_late_is_told_why_it_goes(self):
+        """It takes less than what the system would tell the loop of, behind the last try of its thirty seconds. So there is room for the close."""
+        with Server("--forever", "--watch-threads", "1", "--plies", "8192", watch=True) as server:
+            owner = owner_of(server)
+            slow, texts = self.full(server, owner)
+            while kept_by_system(server, slow).startswith("0" * 8):
+                time.sleep(0.05)
+            time.sleep(BEHIND_TRIES)
+            received = [slow.receive_any() for _ in range(FEW)]
+            time.sleep(SOON)
+            received += all_until_close(slow)
+            self.assertEqual(received[-1], "close 1008")
+            self.assertEqual(received[:-1], texts[:len(received) - 1])
             close_all(owner, slow)
 
     def test_one_that_takes_nothing_is_given_up_however_often_it_sends_a_ping(self):
