@@ -19,6 +19,7 @@
 #include <fcntl.h>
 #include <netinet/tcp.h>
 #include <poll.h>
+#include <signal.h>
 #include <stdio.h>
 #include <stdlib.h>
 #include <string.h>
@@ -368,7 +369,7 @@ static void moves(int followers, int count, int at_once) {
 // ---- when a move has arrived, the reading client left out
 
 // In seconds: how often pings are answered while no move is on its way.
-enum { MOST_A_PROCESS = 18000, MOST_PROCESSES = 64, PING_SECONDS = 15 };
+enum { MOST_A_PROCESS = 18000, MOST_PROCESSES = 64, PING_SECONDS = 10 };
 
 static double real_time(void) {
     struct timespec t;
@@ -609,6 +610,7 @@ int main(int argc, char **argv) {
     getrlimit(RLIMIT_NOFILE, &most);
     most.rlim_cur = most.rlim_max;
     setrlimit(RLIMIT_NOFILE, &most);
+    signal(SIGPIPE, SIG_IGN);
     kind = !strcmp(argv[2], "relay") ? RELAY : !strcmp(argv[2], "nchan") ? NCHAN : MOSQUITTO;
     port = atoi(argv[3]);
     follow_port = strchr(argv[3], '/') ? atoi(strchr(argv[3], '/') + 1) : port;

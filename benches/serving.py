@@ -72,9 +72,7 @@ def raised_limit(followers):
 
 
 def built(room, name, *options):
-    """A program of this folder. Where the environment names a folder in which it is built already, it is that one."""
-    if ready := os.environ.get("BUILT"):
-        return f"{ready}/{name}"
+    """A program of this folder, built into the room."""
     subprocess.run(["cc", "-O2", *options, "-o", f"{room}/{name}", str(HERE / f"{name}.c")], check=True)
     return f"{room}/{name}"
 

@@ -1,6 +1,7 @@
 """What the loops of the port for those who only watch keep of their guests: who hears at once, whatever guests come, go, flood or stop reading."""
 
 import concurrent.futures
+import contextlib
 import itertools
 import os
 import pathlib
@@ -17,8 +18,8 @@ from relay_client.program import PATIENCE, fens
 from relay_client.server import Server
 from relay_client.tests.sessions import ABANDONED, moves_without_a_draw, owner_of, play
 from relay_client.tests.test_deadlines import HALVES, seconds_of_half, seconds_until_given_up
-from relay_client.tests.test_watching import (AGAIN, CROWD, DONE, MOVES, SOON, WRONG_MODE, all_until_close, answered, close_all, kept_by_system,
-                                               open_descriptors, spectator_of, watcher_of)
+from relay_client.tests.test_watching import (AGAIN, CROWD, DONE, MOVES, SOON, WRONG_MODE, all_until_close, answered, close_all, open_descriptors,
+                                               spectator_of, watcher_of)
 from relay_client.texts import (BAD_FIELD, BOARDS, NOT_JSON, NOT_OBJECT, OPENED, START_518, ended, ends, following, follows, moved, opens, over,
                                 played, stands, submits)
 
@@ -34,7 +35,8 @@ NO_WORDS_PING = b"\x89\x00"  # As the server sends one.
 SLOW = {"room": 1024, "segment": 536}
 LONG = 1400  # More moves than such a connection takes.
 FEW = 40  # Texts of some 45 bytes.
-BEHIND_TRIES = 28  # Seconds. The last try comes within 27, and the end not before 29.
+# Seconds. The last try comes by the 27th, and the end not before the 29th.
+TAKEN_AFTER = [24 + at / 2 for at in range(16)]
 
 
 def long_game(count):
@@ -496,19 +498,33 @@ class Full(unittest.TestCase):
             close_all(owner, slow)
 
     def test_one_that_takes_too_little_too_late_is_told_why_it_goes(self):
-        """It takes less than what the system would tell the loop of, behind the last try of its thirty seconds. So there is room for the close."""
+        """Each takes less than what the system would tell the loop of. Who does so before the last try stays. Who does so between that and the end of
+        its thirty seconds has room for the close. Who does so later is lost without one."""
         with Server("--forever", "--watch-threads", "1", "--plies", "8192", watch=True) as server:
             owner = owner_of(server)
-            slow, texts = self.full(server, owner)
-            while kept_by_system(server, slow).startswith("0" * 8):
-                time.sleep(0.05)
-            time.sleep(BEHIND_TRIES)
-            received = [slow.receive_any() for _ in range(FEW)]
+            texts = [following(), *play(owner, long_game(LONG))]
+            crowd = [Connection(server.watch_port, **SLOW) for _ in TAKEN_AFTER]
+            began = time.monotonic()
+            for slow in crowd:
+                slow.send(follows("b1", place=0))
+            received = []
+            for slow, seconds in zip(crowd, TAKEN_AFTER):
+                time.sleep(max(0, began + seconds - time.monotonic()))
+                received.append([slow.receive_any() for _ in range(FEW)])
             time.sleep(SOON)
-            received += all_until_close(slow)
-            self.assertEqual(received[-1], "close 1008")
-            self.assertEqual(received[:-1], texts[:len(received) - 1])
-            close_all(owner, slow)
+            closes = [self.close_of(slow, had, texts) for slow, had in zip(crowd, received)]
+            self.assertIn("close 1008", closes)
+            close_all(owner, *crowd)
+
+    def close_of(self, slow, received, texts):
+        """The close that comes behind some of the texts, if one does."""
+        slow.stream.settimeout(SOON)
+        with contextlib.suppress(AssertionError, OSError):
+            while len(received) < len(texts) and not received[-1].startswith("close"):
+                received.append(slow.receive())
+        close = received.pop() if received[-1].startswith("close") else None
+        self.assertEqual(received, texts[:len(received)])
+        return close
 
     def test_one_that_takes_nothing_is_given_up_however_often_it_sends_a_ping(self):
         with Server("--forever", "--watch-threads", "1", "--plies", "8192", watch=True) as server:
