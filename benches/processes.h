@@ -63,9 +63,13 @@ static long resident(void) {
     return all;
 }
 
-// The processor seconds of all threads, those that have ended too. The system counts them in hundredths.
-static double spent_in_all(void) {
-    double all = 0;
+struct seconds {
+    double own, system;
+};
+
+// The processor seconds of all threads, those that have ended too. The system counts them in hundredths, and tells what was the program's own.
+static struct seconds spent_in_all(void) {
+    struct seconds all = {0, 0};
     char list[256], path[300];
     snprintf(list, sizeof list, "%s", pids);
     for (char *pid = strtok(list, ","); pid; pid = strtok(NULL, ",")) {
@@ -74,7 +78,8 @@ static double spent_in_all(void) {
         FILE *file = fopen(path, "r");
         if (!file) die(path);
         if (fscanf(file, "%*d %*s %*c %*d %*d %*d %*d %*d %*u %*u %*u %*u %*u %lu %lu", &user, &system) != 2) die(path);
-        all += (double)(user + system) / sysconf(_SC_CLK_TCK);
+        all.own += (double)user / sysconf(_SC_CLK_TCK);
+        all.system += (double)system / sysconf(_SC_CLK_TCK);
         fclose(file);
     }
     return all;

@@ -3,22 +3,30 @@
 //
 //   reader burst KIND PORT FOLLOWERS MOVES PIDS   moves sent at once; prints deliveries, seconds, processor time, context switches, memory
 //   reader turns KIND PORT FOLLOWERS MOVES PIDS   each move is sent when all followers had the one before
+//   reader arrives KIND PORT FOLLOWERS MOVES PIDS the same, but nothing is read until the server rests: prints when the last one had each move
 //   reader connects KIND PORT CONNECTIONS PIDS    connections opened and closed, 64 at a time; prints how many a second, processor time
 //   reader rush KIND PORT JOININGS MOVES PIDS     the same of followers that come to a board of this many moves, and go once they are greeted
 //   reader idle KIND PORT FOLLOWERS PIDS          followers that wait; prints the server's resident kilobytes before and with them
 //
 // KIND is relay, nchan or mosquitto. Of a relay PORT may be MAIN/WATCH: then followers watch at the second one. PIDS are the server's processes,
 // separated by commas.
+//
+// In `arrives` the system stamps what comes to a follower with its time, so the reading client takes no part in what is measured. Its followers are in as
+// many processes as their descriptors need.
 #define _GNU_SOURCE
 #include <arpa/inet.h>
 #include <errno.h>
 #include <fcntl.h>
 #include <netinet/tcp.h>
+#include <poll.h>
+#include <signal.h>
 #include <stdio.h>
 #include <stdlib.h>
 #include <string.h>
 #include <sys/epoll.h>
 #include <sys/resource.h>
+#include <sys/socket.h>
+#include <sys/wait.h>
 #include <time.h>
 #include <unistd.h>
 
@@ -152,6 +160,7 @@ static void take(struct peer *p, const unsigned char *bytes, long n) {
             fprintf(stderr, "closed by the server after %ld texts: %s\n", p->texts, p->last);
             exit(1);
         }
+        if (kind != MOSQUITTO && type == 9 && write(p->fd, "\x8a\x80\0\0\0\0", 6) != 6) die("pong");
         p->texts += kind == MOSQUITTO ? type == 3 : type == 1;
         p->skip = payload;
         p->kept = 0;
@@ -163,8 +172,9 @@ static void take(struct peer *p, const unsigned char *bytes, long n) {
 
 // There are some 28,000 ports of the own machine for connections to one address, so of many each 20,000 go to another one of loopback. There
 // a relay has to watch at 0.0.0.0.
+static int dialled;
+
 static int dial(int port) {
-    static int dialled;
     int fd = socket(AF_INET, SOCK_STREAM, 0), one = 1;
     struct sockaddr_in to = {.sin_family = AF_INET, .sin_port = htons(port), .sin_addr.s_addr = htonl(INADDR_LOOPBACK + dialled++ / 20000)};
     if (fd < 0) die("socket");
@@ -287,15 +297,22 @@ static int hears(struct peer *p, long texts) {
 
 // ---- what is measured
 
+// The processor seconds of the server since then.
+static double since(struct seconds then) {
+    struct seconds now = spent_in_all();
+    return now.own + now.system - then.own - then.system;
+}
+
 static void moves(int followers, int count, int at_once) {
     struct peer *peers = calloc(followers + 1, sizeof *peers);
     unsigned char *out = malloc((size_t)count * 160);
     size_t *ends = malloc((count + 1) * sizeof *ends), end = 0;
     peers[0] = publisher();
     long empty = resident();
-    double began = now(), idle = spent_in_all();
+    double began = now();
+    struct seconds idle = spent_in_all();
     for (int i = 1; i <= followers; i++) peers[i] = follower();
-    double joined = now() - began, joining = spent_in_all() - idle;
+    double joined = now() - began, joining = since(idle);
     for (int i = 0; i < count; i++) {
         end += publication(out + end, i);
         ends[i] = end;
@@ -349,6 +366,150 @@ static void moves(int followers, int count, int at_once) {
            joining * 1e6 / followers, empty, full, (full - empty) * 1024. / followers);
 }
 
+// ---- when a move has arrived, the reading client left out
+
+// In seconds: how often pings are answered while no move is on its way.
+enum { MOST_A_PROCESS = 18000, MOST_PROCESSES = 64, PING_SECONDS = 10 };
+
+static double real_time(void) {
+    struct timespec t;
+    clock_gettime(CLOCK_REALTIME, &t);
+    return t.tv_sec + t.tv_nsec / 1e9;
+}
+
+// Reads what has come; returns when the last of it came, as the system stamped it.
+static double stamped(struct peer *p) {
+    union {
+        char bytes[256];
+        struct cmsghdr aligned;
+    } told;
+    double last = 0;
+    for (;;) {
+        struct iovec into = {chunk, sizeof chunk};
+        struct msghdr m = {.msg_iov = &into, .msg_iovlen = 1, .msg_control = &told, .msg_controllen = sizeof told};
+        ssize_t n = recvmsg(p->fd, &m, MSG_DONTWAIT);
+        if (n < 0 && errno == EAGAIN) return last;
+        if (n <= 0) die("recvmsg");
+        take(p, chunk, n);
+        for (struct cmsghdr *c = CMSG_FIRSTHDR(&m); c; c = CMSG_NXTHDR(&m, c)) {
+            struct timespec t;
+            if (c->cmsg_level != SOL_SOCKET || c->cmsg_type != SCM_TIMESTAMPNS) continue;
+            memcpy(&t, CMSG_DATA(c), sizeof t);
+            last = t.tv_sec + t.tv_nsec / 1e9;
+        }
+    }
+}
+
+// Reads what has come to all of them, until each has this many texts; returns when the last of it came. Their pings are answered so.
+static double stamped_of_all(struct peer *peers, int followers, int texts) {
+    double last = 0;
+    for (int i = 0; i < followers; i++) {
+        double came = stamped(&peers[i]);
+        last = came > last ? came : last;
+        while (peers[i].texts < texts) {
+            usleep(10000);
+            came = stamped(&peers[i]);
+            last = came > last ? came : last;
+        }
+    }
+    return last;
+}
+
+// Waits for a word, and answers pings of these meanwhile, who have this many texts.
+static void awaits(int words, struct peer *peers, int followers, int texts) {
+    struct pollfd waited = {words, POLLIN, 0};
+    while (!poll(&waited, 1, PING_SECONDS * 1000)) stamped_of_all(peers, followers, texts);
+}
+
+// A process of followers. It says that they are there, and after each word of its parent when the last of them had the move.
+static void part(int followers, int count, int words, int answers) {
+    struct peer *peers = calloc(followers, sizeof *peers);
+    double last = 0, read_at = now();
+    for (int i = 0; i < followers; i++) {
+        int one = 1;
+        peers[i] = follower();
+        if (setsockopt(peers[i].fd, SOL_SOCKET, SO_TIMESTAMPNS, &one, sizeof one)) die("stamps");
+        if (now() < read_at + PING_SECONDS) continue;
+        stamped_of_all(peers, i + 1, 0);
+        read_at = now();
+    }
+    put(answers, &last, sizeof last);
+    for (int ply = 0; ply < count; ply++) {
+        char word;
+        awaits(words, peers, followers, ply);
+        if (read(words, &word, 1) != 1) exit(1);
+        last = stamped_of_all(peers, followers, ply + 1);
+        put(answers, &last, sizeof last);
+    }
+    char word;
+    exit(read(words, &word, 1) == 1 ? 0 : 1);
+}
+
+static double last_of(int answers, int parts, struct peer *board) {
+    double last = 0, one;
+    for (int i = 0; i < parts; i++) {
+        awaits(answers, board, 1, 0);
+        if (read(answers, &one, sizeof one) != sizeof one) die("a process of followers ended");
+        last = one > last ? one : last;
+    }
+    return last;
+}
+
+// Waits until the server has taken less than a twentieth of a processor for a fifth of a second. Some of it looks around each second.
+static void server_rests(void) {
+    for (double before = spent().seconds, now;; before = now) {
+        usleep(200000);
+        now = spent().seconds;
+        if (now - before < 0.01) return;
+    }
+}
+
+static int in_order(const void *a, const void *b) { return *(double *)a < *(double *)b ? -1 : *(double *)a > *(double *)b; }
+
+static void arrivals(int followers, int count) {
+    int parts = (followers + MOST_A_PROCESS - 1) / MOST_A_PROCESS, words[MOST_PROCESSES][2], answers[2];
+    double *took = malloc(count * sizeof *took), used = 0;
+    unsigned char frame[160];
+    if (parts > MOST_PROCESSES || count < 1) die("too many followers, or no move");
+    struct peer board = publisher();
+    long empty = resident();
+    if (pipe(answers)) die("pipe");
+    double began = now();
+    struct seconds idle = spent_in_all();
+    for (int i = 0; i < parts; i++) {
+        if (pipe(words[i])) die("pipe");
+        if (fork()) continue;
+        for (int k = 0; k <= i; k++) close(words[k][1]);
+        close(answers[0]);
+        dialled = i * 20000;
+        part(followers / parts + (i < followers % parts), count, words[i][0], answers[1]);
+    }
+    close(answers[1]);
+    last_of(answers[0], parts, &board);
+    double joined = now() - began, joining = since(idle);
+    server_rests();
+    long full = resident();
+    for (int ply = 0; ply < count; ply++) {
+        size_t length = publication(frame, ply);
+        struct spent before = spent();
+        double sent = real_time();
+        put(board.fd, frame, length);
+        if (kind == RELAY) read_text(&board);
+        server_rests();
+        used += spent().seconds - before.seconds;
+        for (int i = 0; i < parts; i++) put(words[i][1], "m", 1);
+        took[ply] = last_of(answers[0], parts, &board) - sent;
+    }
+    qsort(took, count, sizeof *took, in_order);
+    printf("{\"followers\": %d, \"least_ms\": %.1f, \"median_ms\": %.1f, \"most_ms\": %.1f, \"cpu_us\": %.3f, ", followers, took[0] * 1e3, took[count / 2] * 1e3,
+           took[count - 1] * 1e3, used * 1e6 / ((double)followers * count));
+    printf("\"joinings_a_second\": %.0f, \"joining_cpu_us\": %.1f, \"before_kb\": %ld, \"resident_kb\": %ld, \"bytes_each\": %.0f}\n", followers / joined,
+           joining * 1e6 / followers, empty, full, (full - empty) * 1024. / followers);
+    fflush(stdout);
+    for (int i = 0; i < parts; i++) put(words[i][1], "e", 1);
+    while (wait(NULL) > 0) continue;
+}
+
 // What a newcomer asks for: to connect, and to join if that is said; the bytes in all.
 static size_t asking(char *ask, size_t room, int joins) {
     char text[100];
@@ -378,7 +539,8 @@ static void connects(int count, int joins) {
     char ask[512];
     size_t length = asking(ask, sizeof ask, joins);
     int poll = epoll_create1(0), started = 0, ended = 0;
-    double before = spent_in_all(), start = now();
+    struct seconds before = spent_in_all();
+    double start = now();
     for (int i = 0; i < MOST && started < count; i++, started++) {
         struct epoll_event e = {.events = EPOLLIN, .data.u32 = i};
         open[i].fd = dial(follow_port);
@@ -408,8 +570,8 @@ static void connects(int count, int joins) {
     }
     double took = now() - start;
     usleep(500000);
-    printf("{\"connections\": %d, \"seconds\": %.3f, \"a_second\": %.0f, \"cpu_us\": %.1f, \"resident_kb\": %ld}\n", count, took, count / took,
-           (spent_in_all() - before) * 1e6 / count, resident());
+    printf("{\"connections\": %d, \"seconds\": %.3f, \"a_second\": %.0f, \"cpu_us\": %.1f, \"own_us\": %.1f, \"resident_kb\": %ld}\n", count, took, count / took,
+           since(before) * 1e6 / count, (spent_in_all().own - before.own) * 1e6 / count, resident());
 }
 
 // Followers that come at once to a board with this many moves.
@@ -448,6 +610,7 @@ int main(int argc, char **argv) {
     getrlimit(RLIMIT_NOFILE, &most);
     most.rlim_cur = most.rlim_max;
     setrlimit(RLIMIT_NOFILE, &most);
+    signal(SIGPIPE, SIG_IGN);
     kind = !strcmp(argv[2], "relay") ? RELAY : !strcmp(argv[2], "nchan") ? NCHAN : MOSQUITTO;
     port = atoi(argv[3]);
     follow_port = strchr(argv[3], '/') ? atoi(strchr(argv[3], '/') + 1) : port;
@@ -457,6 +620,7 @@ int main(int argc, char **argv) {
     if (!strcmp(argv[1], "connects")) connects(first, 0);
     else if (!strcmp(argv[1], "rush")) rush(first, atoi(argv[5]));
     else if (!strcmp(argv[1], "idle")) idle(first);
+    else if (!strcmp(argv[1], "arrives")) arrivals(first, atoi(argv[5]));
     else moves(first, atoi(argv[5]), !strcmp(argv[1], "burst"));
     return 0;
 }

@@ -4,11 +4,13 @@ the same reading client (reader.c, built by cc). Prints a table's rows: the medi
 
     benches/serving.py                        all servers, 100 followers, 1,000 moves, 7 rounds
     benches/serving.py --followers 1000 --only relay --rounds 5
-    benches/serving.py --what turns|connects|rush|idle
+    benches/serving.py --what turns|arrives|connects|rush|idle
+    benches/serving.py --what arrives --only relay-watch-8,nchan-8 --followers 100000 --moves 5 --rounds 1 --tables
     benches/serving.py --only relay-watch-2 --rounds 1 --under "strace -c -f -o calls"
 
 A relay-watch-N is the relay's watch port with N loops. A connection takes a descriptor of the server and one of the reading client. If the hard limit
-on descriptors is too low for the followers asked for, nothing is measured.
+on descriptors is too low for the followers asked for, nothing is measured. With --tables each loop has a table of descriptors of its own (tables.c), and
+that many followers only have to fit into all of them together.
 """
 import argparse
 import json
@@ -38,7 +40,7 @@ http {{
     access_log off; client_body_temp_path {room}/a; proxy_temp_path {room}/b; fastcgi_temp_path {room}/c; uwsgi_temp_path {room}/d; scgi_temp_path {room}/e;
     nchan_shared_memory_size 256M;
     server {{
-        listen 127.0.0.1:{port} backlog=1024;
+        {listens}
         location ~ ^/pub/(\\w+)$ {{ nchan_publisher websocket; nchan_channel_id $1; nchan_message_buffer_length 2000; }}
         location ~ ^/sub/(\\w+)$ {{ nchan_subscriber websocket; nchan_channel_id $1; }}
     }}
@@ -61,7 +63,7 @@ def children(pid):
 
 
 def raised_limit(followers):
-    """Raises the limit on descriptors, which servers and the reading client inherit, and returns it."""
+    """Raises the limit on descriptors of a process, which must hold so many followers; servers and the reading client inherit it. Returns it."""
     _, most = resource.getrlimit(resource.RLIMIT_NOFILE)
     if most < followers + 100:
         raise SystemExit(f"a process may have {most} descriptors here: raise the hard limit first (ulimit -Hn)")
@@ -69,11 +71,18 @@ def raised_limit(followers):
     return most
 
 
+def built(room, name, *options):
+    """A program of this folder, built into the room."""
+    subprocess.run(["cc", "-O2", *options, "-o", f"{room}/{name}", str(HERE / f"{name}.c")], check=True)
+    return f"{room}/{name}"
+
+
 class Server:
-    def __init__(self, kind, words, room, port, watched=None):
+    def __init__(self, kind, words, room, port, watched=None, preloaded=None):
         self.kind, self.port = kind, port
         self.ports = f"{port}/{watched}" if watched else str(port)
-        self.process = subprocess.Popen(words, stdout=subprocess.DEVNULL, stderr=open(f"{room}/{kind}.err", "w"))
+        around = {**os.environ, "LD_PRELOAD": preloaded} if preloaded else None
+        self.process = subprocess.Popen(words, stdout=subprocess.DEVNULL, stderr=open(f"{room}/{kind}.err", "w"), env=around)
         if not come_up({port}):
             raise SystemExit(open(f"{room}/{kind}.err").read())
 
@@ -93,12 +102,14 @@ def servers(names, given, room, most):
             watched = None
             if name.startswith("relay-watch"):
                 watched, threads = free_port(), name.removeprefix("relay-watch").strip("-") or "2"
-                words += ["--watch", f"0.0.0.0:{watched}", "--watch-threads", threads, "--watch-most", str(most)]
-            yield name, Server("relay", words, room, port, watched)
+                words += ["--watch", f"0.0.0.0:{watched}", "--watch-threads", threads, "--watch-most", str(max(most, given.followers))]
+            yield name, Server("relay", words, room, port, watched, given.preloaded)
         elif name.startswith("nchan"):
             workers = name.partition("-")[2] or "1"
             file = pathlib.Path(room, "nginx.conf")
-            file.write_text(NGINX.format(workers=workers, room=room, port=port, most=most))
+            # The reading client goes to another address after each 20,000.
+            listens = " ".join(f"listen 127.0.0.{1 + at}:{port} backlog=1024;" for at in range(1 + given.followers // 18000))
+            file.write_text(NGINX.format(workers=workers, room=room, port=port, most=most, listens=listens))
             yield name, Server("nchan", ["nginx", "-p", room, "-c", str(file)], room, port)
         else:
             file = pathlib.Path(room, "mosquitto.conf")
@@ -108,19 +119,20 @@ def servers(names, given, room, most):
 
 def main():
     words = argparse.ArgumentParser(description=__doc__, formatter_class=argparse.RawDescriptionHelpFormatter)
-    words.add_argument("--what", default="burst", choices=["burst", "turns", "connects", "rush", "idle"])
+    words.add_argument("--what", default="burst", choices=["burst", "turns", "arrives", "connects", "rush", "idle"])
     words.add_argument("--only", default="relay,relay-watch-2,nchan-1,nchan-4,mosquitto", help="which, parted by commas; the number is that of its workers or loops")
     words.add_argument("--followers", type=int, default=100, help="of connects and rush: how many connections")
     words.add_argument("--moves", type=int, default=1000)
     words.add_argument("--rounds", type=int, default=7)
     words.add_argument("--binary", default=str(PROGRAM))
     words.add_argument("--under", default="", help="what the relay runs under")
+    words.add_argument("--tables", action="store_true", help="a table of descriptors for each loop of the relay")
     given = words.parse_args()
-    most = raised_limit(64 if given.what in ("connects", "rush") else given.followers)
+    most = raised_limit(64 if given.what in ("connects", "rush", "arrives") else given.followers)
     with tempfile.TemporaryDirectory() as room:
         os.chmod(room, 0o755)
-        reader = f"{room}/reader"
-        subprocess.run(["cc", "-O2", "-o", reader, str(HERE / "reader.c")], check=True)
+        reader = built(room, "reader")
+        given.preloaded = built(room, "tables", "-shared", "-fPIC") if given.tables else None
         for name, server in servers(given.only.split(","), given, room, most):
             rows = []
             try:
@@ -131,7 +143,7 @@ def main():
                         print(name, "round lost:", said.stderr.strip())
                         continue
                     rows.append(json.loads(said.stdout))
-                    time.sleep(0.3)
+                    time.sleep(0.3 + given.followers / 50000)  # The server has to let all of them go.
             finally:
                 server.stop()
             if not rows:

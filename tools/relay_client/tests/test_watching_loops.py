@@ -1,6 +1,7 @@
 """What the loops of the port for those who only watch keep of their guests: who hears at once, whatever guests come, go, flood or stop reading."""
 
 import concurrent.futures
+import contextlib
 import itertools
 import os
 import pathlib
@@ -33,6 +34,9 @@ NO_WORDS_PING = b"\x89\x00"  # As the server sends one.
 # One whose connection takes some 40,000 bytes while it reads nothing.
 SLOW = {"room": 1024, "segment": 536}
 LONG = 1400  # More moves than such a connection takes.
+FEW = 40  # Texts of some 45 bytes.
+# Seconds. The last try comes by the 27th, and the end not before the 29th.
+TAKEN_AFTER = [24 + at / 2 for at in range(16)]
 
 
 def long_game(count):
@@ -492,6 +496,35 @@ class Full(unittest.TestCase):
                 received = (received + piece).replace(NO_WORDS_PING, b"")
             self.assertEqual(received, wanted)
             close_all(owner, slow)
+
+    def test_one_that_takes_too_little_too_late_is_told_why_it_goes(self):
+        """Each takes less than what the system would tell the loop of. Who does so before the last try stays. Who does so between that and the end of
+        its thirty seconds has room for the close. Who does so later is lost without one."""
+        with Server("--forever", "--watch-threads", "1", "--plies", "8192", watch=True) as server:
+            owner = owner_of(server)
+            texts = [following(), *play(owner, long_game(LONG))]
+            crowd = [Connection(server.watch_port, **SLOW) for _ in TAKEN_AFTER]
+            began = time.monotonic()
+            for slow in crowd:
+                slow.send(follows("b1", place=0))
+            received = []
+            for slow, seconds in zip(crowd, TAKEN_AFTER):
+                time.sleep(max(0, began + seconds - time.monotonic()))
+                received.append([slow.receive_any() for _ in range(FEW)])
+            time.sleep(SOON)
+            closes = [self.close_of(slow, had, texts) for slow, had in zip(crowd, received)]
+            self.assertIn("close 1008", closes)
+            close_all(owner, *crowd)
+
+    def close_of(self, slow, received, texts):
+        """The close that comes behind some of the texts, if one does."""
+        slow.stream.settimeout(SOON)
+        with contextlib.suppress(AssertionError, OSError):
+            while len(received) < len(texts) and not received[-1].startswith("close"):
+                received.append(slow.receive())
+        close = received.pop() if received[-1].startswith("close") else None
+        self.assertEqual(received, texts[:len(received)])
+        return close
 
     def test_one_that_takes_nothing_is_given_up_however_often_it_sends_a_ping(self):
         with Server("--forever", "--watch-threads", "1", "--plies", "8192", watch=True) as server:
