@@ -87,6 +87,7 @@ def held(server):
 
 
 def answers(programs, room, figures):
+    resident = {}
     for (what, (followers, kind, peers, ahead)), program in itertools.product(CROWDS.items(), programs):
         server = start(program, room, followers if kind == "refused" else MOST_FOLLOWERS)
         words = [f"{room}/operators", str(server.port), str(followers), str(MOVES["answers"]), kind, str(peers), str(ahead)]
@@ -95,8 +96,12 @@ def answers(programs, room, figures):
             holds = held(server)
             said = client.communicate("go\n")[0]
         server.stop()
+        resident[what, program] = holds["resident_kb"]
         if client.returncode == 0:
             figures.note(what, program.name, {**json.loads(said), **holds})
+    for program in programs:
+        more = resident["1,000 follow", program] - resident["100 follow", program]
+        figures.note("memory of a follower", program.name, {"kb": round(more / 900, 1)})
 
 
 def turns(programs, room, figures):
@@ -176,7 +181,8 @@ def main():
         for number in range(given.rounds):
             print(f"round {number + 1}, load {os.getloadavg()[0]:.1f}", file=sys.stderr)
             for what in [given.what] if given.what else WHAT:
-                WHAT[what](programs, room, figures)
+                # Who is first in one round is last in the next.
+                WHAT[what](programs[::-1] if number % 2 else programs, room, figures)
     figures.show()
 
 
