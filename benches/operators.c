@@ -26,6 +26,7 @@
 #include "processes.h"
 
 static const int PAUSE = 10000;  // microseconds between an answer and the next move
+static const int MOST_SECONDS = 60;  // of a run: then it is lost, and so are the processes beside it
 
 // What the processes tell one another.
 static volatile struct {
@@ -175,6 +176,7 @@ int main(int argc, char **argv) {
         fprintf(stderr, "see the head of operators.c\n");
         return 2;
     }
+    alarm(MOST_SECONDS);
     int count = atoi(argv[2]), moves = atoi(argv[3]);
     void (*crowd)(int, int) = !strcmp(argv[4], "joins") ? join_and_leave : !strcmp(argv[4], "refused") ? be_refused : nobody;
     port = follow_port = atoi(argv[1]);

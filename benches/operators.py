@@ -14,6 +14,7 @@ Prints the medians of the rounds with the least and greatest, and the load of th
 """
 import argparse
 import collections
+import contextlib
 import itertools
 import json
 import os
@@ -73,10 +74,15 @@ def spread(values):
     return f"{statistics.median(values):g} ({min(values):g} to {max(values):g})"
 
 
-def start(program, room, followers=MOST_FOLLOWERS):
+@contextlib.contextmanager
+def running(program, room, followers=MOST_FOLLOWERS):
     port = free_port()
     words = [program.path, "serve", "--port", str(port), "--forever", "--followers", str(followers), "--capacity", "1024", "--plies", "1024"]
-    return serving.Server("relay", words, room, port)
+    server = serving.Server("relay", words, room, port)
+    try:
+        yield server
+    finally:
+        server.stop()
 
 
 def held(server):
@@ -89,30 +95,38 @@ def held(server):
 def answers(programs, room, figures):
     resident = {}
     for (what, (followers, kind, peers, ahead)), program in itertools.product(CROWDS.items(), programs):
-        server = start(program, room, followers if kind == "refused" else MOST_FOLLOWERS)
-        words = [f"{room}/operators", str(server.port), str(followers), str(MOVES["answers"]), kind, str(peers), str(ahead)]
-        with subprocess.Popen(words, stdin=subprocess.PIPE, stdout=subprocess.PIPE, text=True) as client:
-            client.stdout.readline()
-            holds = held(server)
-            said = client.communicate("go\n")[0]
-        server.stop()
+        with running(program, room, followers if kind == "refused" else MOST_FOLLOWERS) as server:
+            words = [f"{room}/operators", str(server.port), str(followers), str(MOVES["answers"]), kind, str(peers), str(ahead)]
+            with subprocess.Popen(words, stdin=subprocess.PIPE, stdout=subprocess.PIPE, text=True) as client:
+                client.stdout.readline()
+                holds = held(server)
+                said = client.communicate("go\n")[0]
         resident[what, program] = holds["resident_kb"]
         if client.returncode == 0:
             figures.note(what, program.name, {**json.loads(said), **holds})
+        else:
+            print(f"{what}, {program.name}: lost", file=sys.stderr)
     for program in programs:
         more = resident["1,000 follow", program] - resident["100 follow", program]
         figures.note("memory of a follower", program.name, {"kb": round(more / 900, 1)})
 
 
+def take_turns(name, server, room, figures):
+    pids = ",".join(serving.children(server.process.pid))
+    words = [f"{room}/reader", "turns", server.kind, server.ports, str(TURNS_FOLLOWERS), str(MOVES["turns"]), pids]
+    said = json.loads(subprocess.run(words, stdout=subprocess.PIPE, check=True).stdout)
+    figures.note("in turn, 100 follow", name, {key: said[key] for key in ("cpu_us", "a_second", "switches")})
+
+
 def turns(programs, room, figures):
-    most = serving.raised_limit(TURNS_FOLLOWERS)
-    servers = [(program.name, start(program, room)) for program in programs] + list(serving.servers(["nchan-1"], None, room, most))
-    for name, server in servers:
-        pids = ",".join(serving.children(server.process.pid))
-        words = [f"{room}/reader", "turns", server.kind, server.ports, str(TURNS_FOLLOWERS), str(MOVES["turns"]), pids]
-        said = json.loads(subprocess.run(words, stdout=subprocess.PIPE, check=True).stdout)
-        figures.note("in turn, 100 follow", name, {key: said[key] for key in ("cpu_us", "a_second", "switches")})
-        server.stop()
+    for program in programs:
+        with running(program, room) as server:
+            take_turns(program.name, server, room, figures)
+    for name, server in serving.servers(["nchan-1"], None, room, serving.raised_limit(TURNS_FOLLOWERS)):
+        try:
+            take_turns(name, server, room, figures)
+        finally:
+            server.stop()
 
 
 def milliseconds_to(job):
@@ -145,21 +159,20 @@ LEAVING = {"close": lambda guest: guest.send("close 1001"), "end of bytes": Conn
 
 def places(programs, room, figures):
     for way, program in itertools.product([None, *LEAVING], programs):
-        server = start(program, room, followers=1)
-        owner, guest, asker = owner_of(server), guest_of(server), Connection(server.port)
-        guest.stream.settimeout(PATIENCE)
-        if way is None:
-            waited = [milliseconds_to(lambda: ping(guest))]
-            waited += [milliseconds_to(lambda: ping(guest)) for _ in range(PINGS) if waited != [None]]
-            figures.note("ping to pong", program.name, {"median_ms": None if None in waited else statistics.median(waited)})
-        else:
-            LEAVING[way](guest)
-            figures.note(f"a place is free after a {way}", program.name, {"ms": milliseconds_to(lambda: place_is_free(asker))})
-        if way == "close":
-            guest.stream.settimeout(0.1)
-            figures.note("a close is answered by then", program.name, {"is": milliseconds_to(lambda: guest.hears("close 1001")) is not None})
-        owner.close()
-        server.stop()
+        with running(program, room, followers=1) as server:
+            owner, guest, asker = owner_of(server), guest_of(server), Connection(server.port)
+            guest.stream.settimeout(PATIENCE)
+            if way is None:
+                waited = [milliseconds_to(lambda: ping(guest))]
+                waited += [milliseconds_to(lambda: ping(guest)) for _ in range(PINGS) if waited != [None]]
+                figures.note("ping to pong", program.name, {"median_ms": None if None in waited else statistics.median(waited)})
+            else:
+                LEAVING[way](guest)
+                figures.note(f"a place is free after: {way}", program.name, {"ms": milliseconds_to(lambda: place_is_free(asker))})
+            if way == "close":
+                guest.stream.settimeout(0.1)
+                figures.note("a close is answered by then", program.name, {"is": milliseconds_to(lambda: guest.hears("close 1001")) is not None})
+            owner.close()
 
 
 WHAT = {"answers": answers, "turns": turns, "places": places}
