@@ -118,6 +118,15 @@ static int head_length(const struct peer *p, long *payload) {
     return 4;
 }
 
+static void put(int fd, const void *bytes, size_t n) {
+    while (n > 0) {
+        ssize_t done = write(fd, bytes, n);
+        if (done <= 0) die("write");
+        bytes = (const char *)bytes + done;
+        n -= done;
+    }
+}
+
 static void take(struct peer *p, const unsigned char *bytes, long n) {
     while (n > 0) {
         if (p->skip > 0) {
@@ -144,6 +153,7 @@ static void take(struct peer *p, const unsigned char *bytes, long n) {
             fprintf(stderr, "closed by the server after %ld texts: %s\n", p->texts, p->last);
             exit(1);
         }
+        if (kind != MOSQUITTO && type == 9) put(p->fd, "\x8a\x80\0\0\0", 6);  // a pong, or the peer counts as gone after a while
         p->texts += kind == MOSQUITTO ? type == 3 : type == 1;
         p->skip = payload;
         p->kept = 0;
@@ -163,15 +173,6 @@ static int dial(int port) {
     setsockopt(fd, IPPROTO_TCP, TCP_NODELAY, &one, sizeof one);
     if (connect(fd, (struct sockaddr *)&to, sizeof to)) die("connect");
     return fd;
-}
-
-static void put(int fd, const void *bytes, size_t n) {
-    while (n > 0) {
-        ssize_t done = write(fd, bytes, n);
-        if (done <= 0) die("write");
-        bytes = (const char *)bytes + done;
-        n -= done;
-    }
 }
 
 static size_t request(char *to, size_t room, const char *path) {
