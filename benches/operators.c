@@ -26,7 +26,7 @@
 #include "processes.h"
 
 static const int PAUSE = 10000;  // microseconds between an answer and the next move
-static const int MOST_SECONDS = 60;  // of a run: then it is lost, and so are the processes beside it
+static const int MOST_SECONDS = 120;  // of a run: then it is lost, and so are the processes beside it
 
 // What the processes tell one another.
 static volatile struct {
@@ -152,7 +152,7 @@ static double *play(struct peer *owner, int moves) {
 }
 
 static void wait_for_all(long texts) {
-    for (double end = now() + 10; told->texts < texts; usleep(1000)) {
+    for (double end = now() + 30; told->texts < texts; usleep(1000)) {
         if (now() < end) continue;
         fprintf(stderr, "followers have %ld texts of %ld\n", told->texts, texts);
         exit(1);
