@@ -17,6 +17,7 @@ use crate::lookout::Lookout;
 use c960_board::{Move, Position};
 use c960_game::{Ending, Limits, Outcome, Refusal};
 use live_board::{Board, Follower};
+use once_cell::race::OnceBox;
 use relay_core::BoardName;
 use relay_messages::BoardSummary;
 use relay_pushing::Bell;
@@ -33,6 +34,8 @@ pub(crate) struct Broadcast {
     owner: Option<Key>,
     /// Those who look at it beside its followers.
     lookouts: Arc<Vec<Arc<Lookout, Global>>, Global>,
+    /// The loops in which it is followed, once it is.
+    loops: OnceBox<Arc<Vec<Arc<Lookout, Global>>, Global>>,
     board: Mutex<Board>,
 }
 
@@ -61,6 +64,7 @@ impl Broadcast {
             chime: Chime::new(),
             owner,
             lookouts,
+            loops: OnceBox::new(alloc),
             board: Mutex::new(board),
         })
     }
@@ -152,9 +156,35 @@ impl Broadcast {
         self.board.lock(rt).position_at(place)
     }
 
-    /// Wakes all who sleep until it is rung for, and all who look at it.
+    /// From now on these loops are woken where the board is rung for, unless others are.
+    ///
+    /// # Errors
+    ///
+    /// There was no memory.
+    pub(crate) fn is_followed_in(
+        &self,
+        alloc: Global,
+        loops: &Arc<Vec<Arc<Lookout, Global>>, Global>,
+    ) -> Result<(), AllocError> {
+        if self.loops.get().is_some() {
+            return Ok(());
+        }
+        let Ok(loops) = Arc::try_clone(loops) else {
+            return Err(AllocError);
+        };
+        // Another thread may have been quicker, with the same ones.
+        let _ = self.loops.set(Box::new(alloc, loops)?);
+        Ok(())
+    }
+
+    /// Wakes all who sleep until it is rung for, the loops in which it is followed, and all who look at it.
     pub(crate) fn wake(&self) {
         self.chime.wake();
+        if let Some(loops) = self.loops.get() {
+            for lookout in loops.iter() {
+                lookout.wake();
+            }
+        }
         for lookout in self.lookouts.iter() {
             lookout.wake();
         }
