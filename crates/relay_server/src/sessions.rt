@@ -101,14 +101,14 @@ pub(crate) fn come<R: Wait + Clock, S: Stream + Drop>(
 }
 
 /// Answers a connection that has come, to its end.
-fn attend<'a, R: Wait + Clock, S: Stream + Drop, G: Gate>(
+fn attend<'a, 'g, R: Wait + Clock, S: Stream + Drop, G: Gate>(
     rt: &'a R,
     alloc: Global,
     registry: &'a Registry,
     connection: u32,
     arrival: Arrival<S>,
-    gate: &G,
-    patience: &Patience,
+    gate: &'g G,
+    patience: &'g Patience,
 ) -> SessionEnd {
     let Arrival { outlet, key } = arrival;
     let seat = Seat::new(rt, registry, key);
@@ -118,14 +118,14 @@ fn attend<'a, R: Wait + Clock, S: Stream + Drop, G: Gate>(
 }
 
 /// Answers a connection that has come, until it follows or to its end. Where it follows it is handed over to a loop, if one takes it.
-pub(crate) fn attend_or_hand_over<'a, R: Wait + Clock, G: Gate>(
+pub(crate) fn attend_or_hand_over<'a, 'g, R: Wait + Clock, G: Gate>(
     rt: &'a R,
     alloc: Global,
     registry: &'a Registry,
     connection: u32,
     arrival: Arrival<Connection<'a, R>>,
-    gate: &G,
-    patience: &Patience,
+    gate: &'g G,
+    patience: &'g Patience,
     gallery: &Option<Arc<Gallery, Global>>,
 ) {
     let Arrival { outlet, key } = arrival;
