@@ -10,7 +10,7 @@ from relay_client.server import Server
 from relay_client.tests.sessions import ABANDONED, guest_of, moves_without_a_draw, owner_of, play
 from relay_client.tests.test_log import Reader
 from relay_client.tests.test_watching_loops import Stopped, long_game
-from relay_client.texts import CUT, following, follows, moved, played, refused, submits
+from relay_client.texts import CUT, NOT_JSON, following, follows, moved, played, refused, submits
 
 SOON = 10  # Seconds within which what happens at once has happened, on a machine that is busy with proofs too.
 FREE = 2 + SOON  # Within which a place is free whose follower has gone.
@@ -68,6 +68,8 @@ class Places(unittest.TestCase):
                 guest, answer, _ = seconds_until_followed(server)
                 self.assertEqual(answer, following())
                 list(GOING.values())[number % 3](guest)
+                if number % 50 == 0:
+                    owner.asks("[", NOT_JSON)  # So are the pings answered that came meanwhile.
             guest = guest_of(server)
             owner.asks(submits("b1", "e2e4"), played(0))
             guest.hears(moved("e2e4", 0))
@@ -97,7 +99,7 @@ class Places(unittest.TestCase):
     def test_one_that_reads_nothing_and_was_cut_gives_its_place_back_while_its_texts_are_on_their_way(self):
         """Its connection takes some hundreds of moves. Behind these its queue has room for four."""
         moves = long_game(1400)
-        with Server("--forever", "--followers", "1", "--capacity", "4") as server:
+        with Server("--forever", "--followers", "1", "--capacity", "4", "--plies", "1500") as server:
             owner, guest = owner_of(server), guest_of(server, room=1024, segment=536)
             for start in range(0, len(moves), 100):
                 owner.send(*(submits("b1", move) for move in moves[start:start + 100]))
@@ -205,7 +207,7 @@ class Ends(unittest.TestCase):
     def test_a_cut_comes_at_the_move_at_which_the_queue_was_full(self):
         """The server stands still while three moves come, so that nobody takes one between them."""
         moves = ["e2e4", "e7e5", "g1f3"]
-        with Server("--forever", "--capacity", "2") as server:
+        with Server("--forever", "--capacity", "2", "--boards", "20") as server:
             for number in range(20):
                 board = f"c{number}"
                 owner, guest = owner_of(server, board), guest_of(server, board)
