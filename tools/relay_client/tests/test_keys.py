@@ -164,15 +164,15 @@ class TheGrace(Keys):
                 self.is_abandoned(guest, 2, lost)
 
     def test_boards_that_wait_take_no_thread_each(self):
-        """One thread ends all those whose time is over. Beside it there is the one that accepts."""
+        """One thread ends all those whose time is over. Beside it there are the one that accepts, and two for those who follow."""
         with waits(LONG) as server:
             boards = [(f"b{number}", f"{KEY}{number}") for number in range(40)]
             for name, key in boards:
                 owner_of(server, name, key=key).reset()
             threads, until = pathlib.Path(f"/proc/{server.process.pid}/task"), time.monotonic() + SOON
-            while (count := len(list(threads.iterdir()))) > 2 and time.monotonic() < until:
+            while (count := len(list(threads.iterdir()))) > 4 and time.monotonic() < until:
                 time.sleep(0.05)
-            self.assertEqual(count, 2)
+            self.assertEqual(count, 4)
             for name, key in boards:
                 self.is_owned(Connection(server.port, key=key), 0, "e2e4", name)
 
