@@ -72,7 +72,8 @@ impl<'a, R: Wait + Clock> Spectators<'a, R> {
 
     // ---- Coming and going.
 
-    /// A newcomer, which is pushed at once what there is. The system is to tell when it may be read and written.
+    /// A newcomer, which is pushed at once what there is. What was read behind its command to follow is heeded. The system is to tell when it may be
+    /// read and written.
     pub(crate) fn enters(&mut self, poll: &mio::Registry, newcomer: Newcomer) {
         let Newcomer {
             spectator,
@@ -86,8 +87,7 @@ impl<'a, R: Wait + Clock> Spectators<'a, R> {
         match self.seated.insert(Seated::new(spectator, at, self.now)) {
             Ok(key) => {
                 self.count_one_more(at);
-                if is_registered(poll, descriptor, key) {
-                    self.serve(key);
+                if is_registered(poll, descriptor, key) && self.heed_all(key).is_ok() {
                     self.hear(key);
                 } else {
                     self.remove(key);

@@ -98,19 +98,21 @@ class ALostConnection(Keys):
         with waits(LONG) as server:
             vanished, guest = owner_of(server, key=KEY), guest_of(server)
             self.is_owned(vanished, 0, "e2e4")
-            back, heard = Connection(server.port, key=KEY), []
+            back, heard = Connection(server.port, key=KEY), {}
             self.is_owned(back, 1, "e7e5")
             guest.hears(moved("e2e4", 0), moved("e7e5", 1))
-            # It answers pings while it waits.
-            waiting = threading.Thread(target=lambda: heard.append(back.receive()))
-            waiting.start()
+            # They answer pings while they wait.
+            waiting = [threading.Thread(target=lambda it=it: heard.update({it: it.receive()})) for it in (back, guest)]
+            for it in waiting:
+                it.start()
             self.assertEqual([vanished.receive_any() for _ in range(2)], ["ping", "ping"])
             vanished.has_ended()
-            self.assertTrue(says_nothing(guest, 1))
+            time.sleep(1)
+            self.assertEqual(heard, {})
             back.send(submits("b1", "g1f3"))
-            waiting.join(PATIENCE)
-            self.assertEqual(heard, [played(2)])
-            guest.hears(moved("g1f3", 2))
+            for it in waiting:
+                it.join(PATIENCE)
+            self.assertEqual(heard, {back: played(2), guest: moved("g1f3", 2)})
 
     def test_a_move_that_was_on_its_way_is_played_once_and_seen_by_following_without_the_key(self):
         """The operator was cut before the answer came. It looks from its last place on, and goes on behind what it finds."""

@@ -1,11 +1,12 @@
 """What those who follow on the main port may rely on: places that come free, pings and closes that are answered, and an end in order."""
 
+import socket
 import subprocess
 import time
 import unittest
 
 from relay_client.connection import Connection
-from relay_client.frames import CLOSE, PING, TEXT, frame, masked
+from relay_client.frames import CLOSE, PING, REQUEST, TEXT, frame, masked
 from relay_client.server import Server
 from relay_client.tests.sessions import ABANDONED, guest_of, moves_without_a_draw, owner_of, play
 from relay_client.tests.test_log import Reader
@@ -25,11 +26,11 @@ GOING = {
 }
 
 
-def seconds_until_followed(server, place=None):
+def seconds_until_followed(server, board="b1"):
     """Asks to follow until that is not refused, by one connection that refusals leave as it was; the connection, and how long it took."""
     began, newcomer = time.monotonic(), Connection(server.port)
     while True:
-        newcomer.send(follows("b1", place=place))
+        newcomer.send(follows(board))
         if (answer := newcomer.receive()) != FULL:
             return newcomer, answer, time.monotonic() - began
         if time.monotonic() - began > 120:
@@ -179,6 +180,22 @@ class Frames(unittest.TestCase):
             guest.stream.sendall(frame("half of it")[-3:] + masked(PING, PAYLOAD))
             self.assertEqual(frames_until_pong(guest), [])
             close_all(owner, guest)
+
+    def test_what_came_with_the_follow_is_heeded(self):
+        """All of it comes in one piece, as a client may send it that does not wait for answers."""
+        with Server("--forever", "--followers", "1") as server:
+            for board, messages in ("b1", 0), ("b2", 5):
+                owner = owner_of(server, board)
+                behind = masked(TEXT, b"[" * 1000) * messages + masked(PING, PAYLOAD)
+                with socket.create_connection(("127.0.0.1", server.port), timeout=SOON) as stream:
+                    stream.sendall(REQUEST + frame(follows(board)) + behind + AWAY)
+                    told = b""
+                    while piece := stream.recv(4096):
+                        told += piece
+                    self.assertEqual(told.partition(b"\r\n\r\n")[2].partition(b"}")[2], b"\x8a\x7d" + PAYLOAD + b"\x88\x02\x03\xe9")
+                newcomer, _, took = seconds_until_followed(server, board)
+                self.assertLess(took, FREE)
+                close_all(owner, newcomer)
 
     def test_one_that_sends_messages_without_end_is_closed_and_its_place_is_free(self):
         with Server("--forever", "--followers", "1") as server:
