@@ -10,7 +10,6 @@ use crate::stream::Stream;
 use relay_frames::{Code, Event};
 use relay_pushing::{PushEnd, Turn};
 use std::alloc::Global;
-use std::io::{ErrorKind, Read, Write};
 use std::sync::Wait;
 use std::time::Clock;
 use std::{io, mem};

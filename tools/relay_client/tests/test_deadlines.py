@@ -90,15 +90,23 @@ class Deadlines(unittest.TestCase):
         with Server("--connections", "4") as server:
             silent, slow = (owner_of(server, room=4096, board=board) for board in ("b1", "b2"))
             guests = [guest_of(server, board=board) for board in ("b1", "b2")]
+            heard = {}
+            # They answer pings while they wait.
+            hearing = [threading.Thread(target=lambda it=it: heard.update({it: it.receive()})) for it in guests]
+            for it in hearing:
+                it.start()
             began, is_over = time.monotonic(), threading.Event()
             for owner in silent, slow:
                 self.asks_until_nothing_is_taken(owner)
             taking = threading.Thread(target=self.takes, args=(slow.stream, is_over))
             taking.start()
             try:
-                for guest in guests:
-                    guest.hears(ABANDONED, "close 1000")
+                for it in hearing:
+                    it.join(PATIENCE)
+                self.assertEqual(heard, dict.fromkeys(guests, ABANDONED))
                 self.lasts(began, 29, 58)
+                for guest in guests:
+                    guest.hears("close 1000")
             finally:
                 is_over.set()
                 taking.join()
