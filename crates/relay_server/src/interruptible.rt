@@ -51,6 +51,14 @@ impl<'a, S: Stream, C: Clock> Interruptible<'a, S, C> {
         }
     }
 
+    /// The stream alone.
+    pub(crate) fn into_inner(self) -> S
+        ensures { result ≡ self.stream }
+    {
+        let Interruptible { stream, .. } = self;
+        stream
+    }
+
     /// Whether reads fail, since the server goes away.
     fn is_interrupted(&self) -> bool {
         !self.has_ended && (self.registry.is_ending() || self.patience.is_over(self.clock))

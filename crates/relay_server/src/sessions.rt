@@ -9,8 +9,10 @@ ghost use Rattle.relay_server.specs.Lines.{written as line_written};
 ghost use Rattle.relay_server.specs.Memory.{LacksMemory};
 ghost use Rattle.relay_server.specs.Seating.{Replies};
 ghost use Rattle.relay_server.specs.Spectating.{Conversed, Followed, Pushed};
+ghost use Rattle.relay_server.specs.Talking.{TalkEnds};
 
 use crate::chronicle::What;
+use crate::gallery::{Connection, Gallery, hand_over};
 use crate::head::Head;
 use crate::key::Key;
 use crate::line::Line;
@@ -27,7 +29,7 @@ use relay_frames::Acceptance;
 use relay_pushing::{Conn, Gate, Outlet, PushEnd};
 use std::alloc::{AllocError, Global};
 use std::io::{Read, Write};
-use std::sync::Wait;
+use std::sync::{Arc, Wait};
 use std::time::{Clock, Duration};
 use tungstenite::Error;
 
@@ -59,7 +61,7 @@ const NORMAL: u16 = 1000;
 const GOING_AWAY: u16 = 1001;
 
 /// The close code after `Cut`: this server's own, of those for private use (RFC 6455, section 7.4.2).
-const CUT_OFF: u16 = 4001;
+pub(crate) const CUT_OFF: u16 = 4001;
 
 /// One connection from its handshake to its end: it answers commands, and once it follows a board, pushes that board's moves and is
 /// read no more. The request's head may have 8,192 bytes and take 10 seconds; a request that is refused is answered with its status.
@@ -107,28 +109,58 @@ pub(crate) fn come<R: Wait + Clock, S: Stream + Drop>(
 }
 
 /// Answers a connection that has come, to its end.
-pub(crate) fn attend<'a, R: Wait + Clock, S: Stream + Drop, G: Gate>(
+fn attend<'a, 'g, R: Wait + Clock, S: Stream + Drop, G: Gate>(
     rt: &'a R,
     alloc: Global,
     registry: &'a Registry,
     connection: u32,
     arrival: Arrival<S>,
-    gate: &G,
-    patience: &Patience,
+    gate: &'g G,
+    patience: &'g Patience,
 ) -> SessionEnd {
     let Arrival { outlet, key } = arrival;
-    let mut talk = Talk {
-        alloc,
-        connection,
-        outlet,
-        conn: Conn::new(alloc),
-        seat: Seat::new(rt, registry, key),
-        gate,
-        is_open: false,
-        patience,
-        is_owner: false,
-    };
+    let seat = Seat::new(rt, registry, key);
+    let mut talk = Talk::new(alloc, connection, outlet, seat, gate, patience);
     let end = converse(rt, &mut talk);
+    end_talk(rt, registry, talk, key, end)
+}
+
+/// Answers a connection that has come, until it follows or to its end. Where it follows it is handed over to a loop, if one takes it.
+pub(crate) fn attend_or_hand_over<'a, 'g, R: Wait + Clock, G: Gate>(
+    rt: &'a R,
+    alloc: Global,
+    registry: &'a Registry,
+    connection: u32,
+    arrival: Arrival<Connection<'a, R>>,
+    gate: &'g G,
+    patience: &'g Patience,
+    gallery: &Option<Arc<Gallery, Global>>,
+) {
+    let Arrival { outlet, key } = arrival;
+    let seat = Seat::new(rt, registry, key);
+    let mut talk = Talk::new(alloc, connection, outlet, seat, gate, patience);
+    let talked = talk.run(rt);
+    let talk = match (talked, gallery) {
+        (TalkEnd::Follows, Some(gallery)) => match hand_over(rt, registry, gallery, talk, key) {
+            Some(talk) => talk,
+            None => return,
+        },
+        _ => talk,
+    };
+    let mut talk = talk;
+    let end = conclude(rt, &mut talk, talked);
+    let _ = end_talk(rt, registry, talk, key, end);
+    registry.goes();
+}
+
+/// Ends a talk whose session ended so.
+fn end_talk<'a, R: Wait + Clock, S: Stream + Drop, G: Gate>(
+    rt: &'a R,
+    registry: &'a Registry,
+    talk: Talk<'a, '_, R, S, G>,
+    key: Option<Key>,
+    end: SessionEnd,
+) -> SessionEnd {
     let Talk {
         mut outlet,
         conn,
@@ -219,7 +251,19 @@ fn converse<'a, R: Wait + Clock, S: Stream + Drop, G: Gate>(
 ) -> SessionEnd
     ensures { talk.old.seat.follower ≡ None → Conversed talk.new.outlet.texts.items result }
 {
-    match talk.run(rt) {
+    let talked = talk.run(rt);
+    conclude(rt, talk, talked)
+}
+
+/// Ends a session whose talk ended so: where the connection follows a board, that board's moves are pushed to it.
+fn conclude<'a, R: Wait + Clock, S: Stream + Drop, G: Gate>(
+    rt: &'a R,
+    talk: &mut Talk<'a, '_, R, S, G>,
+    talked: TalkEnd,
+) -> SessionEnd
+    ensures { TalkEnds talked talk.old.seat.follower talk.old.outlet.texts.items → Conversed talk.new.outlet.texts.items result }
+{
+    match talked {
         TalkEnd::Closed(code) => match talk.outlet.put_close(code) {
             Ok(()) => SessionEnd::Closed,
             Err(_) => SessionEnd::Failed,
@@ -286,7 +330,7 @@ fn push<R: Wait, S: Stream + Drop>(
 }
 
 /// The close code after `Over`.
-fn code_of_over(is_ending: bool) -> u16
+pub(crate) fn code_of_over(is_ending: bool) -> u16
     ensures { result ≡ if is_ending then 1001 else 1000 }
 {
     if is_ending { GOING_AWAY } else { NORMAL }
