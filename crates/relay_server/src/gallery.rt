@@ -8,14 +8,13 @@ use crate::key::Key;
 use crate::lookout::Lookout;
 use crate::outlet::SocketOutlet;
 use crate::registry::Registry;
+use crate::seat::Seat;
 use crate::socket::Socket;
 use crate::spectating::Spectating;
 use crate::spectator::Spectator;
 use crate::spectators::Newcomer;
-use crate::talk::Talk;
 use crate::threads::{Running, Shared};
 use crate::wire::Wire;
-use relay_pushing::Gate;
 use std::alloc::Global;
 use std::io;
 use std::io::ErrorKind;
@@ -89,6 +88,17 @@ impl Gallery {
         self.is_closing.load(Ordering::SeqCst)
     }
 
+    /// The board that a connection follows, if its followers may come here. It is known to be followed here before a loop takes of it: what is rung
+    /// for behind that wakes the loop.
+    fn board_of<R>(&self, alloc: Global, seat: &Seat<'_, R>) -> Option<Arc<Broadcast, Global>> {
+        let Some(spectating) = &seat.spectating else {
+            return None;
+        };
+        let board = Arc::try_clone(spectating.broadcast()).ok()?;
+        board.is_followed_in(alloc, &self.lookouts).ok()?;
+        Some(board)
+    }
+
     /// The balcony to which the next one goes.
     fn next(&self) -> Option<&Balcony> {
         let turn = self.next.fetch_add(1, Ordering::SeqCst);
@@ -101,31 +111,25 @@ impl Gallery {
 }
 
 /// Hands a connection that follows over to a loop, with its follower: the same seat. Where none takes it, it is given back.
-pub(crate) fn hand_over<'a, 'g, R: Wait + Clock, G: Gate>(
+pub(crate) fn hand_over<'a, R: Wait + Clock>(
     rt: &R,
+    alloc: Global,
     registry: &Registry,
-    gallery: &Arc<Gallery, Global>,
-    talk: Talk<'a, 'g, R, Connection<'a, R>, G>,
-    key: Option<Key>,
-) -> Option<Talk<'a, 'g, R, Connection<'a, R>, G>> {
-    let Some(spectating) = &talk.seat.spectating else {
-        return Some(talk);
+    gallery: &Gallery,
+    outlet: SocketOutlet<Connection<'a, R>>,
+    seat: Seat<'a, R>,
+    key: &Option<Key>,
+) -> Option<(SocketOutlet<Connection<'a, R>>, Seat<'a, R>)> {
+    let Some(board) = gallery.board_of(alloc, &seat) else {
+        return Some((outlet, seat));
     };
-    let Ok(board) = Arc::try_clone(spectating.broadcast()) else {
-        return Some(talk);
-    };
-    // The board is known to be followed there before the loop takes of it: what is rung for behind that wakes the loop.
-    if board.is_followed_in(talk.alloc, &gallery.lookouts).is_err() {
-        return Some(talk);
-    }
     let Some(balcony) = gallery.next() else {
-        return Some(talk);
+        return Some((outlet, seat));
     };
     let mut inbox = balcony.inbox(rt);
     if !inbox.has_room() {
-        return Some(talk);
+        return Some((outlet, seat));
     }
-    let Talk { outlet, seat, .. } = talk;
     if let Some(spectating) = seat.part() {
         match coming_over(outlet, spectating, key, board) {
             Ok(newcomer) => inbox.put(newcomer),
@@ -145,13 +149,13 @@ pub(crate) fn hand_over<'a, 'g, R: Wait + Clock, G: Gate>(
 fn coming_over<R: Clock>(
     outlet: SocketOutlet<Connection<'_, R>>,
     spectating: Spectating,
-    key: Option<Key>,
+    key: &Option<Key>,
     board: Arc<Broadcast, Global>,
 ) -> Result<Newcomer, Spectator<Wire>> {
     let (stream, outlet) = outlet.unplugged();
     let (wire, is_ready) = Wire::new(stream.into_inner().into_inner());
     let descriptor = wire.descriptor();
-    let spectator = Spectator::new(outlet.onto(wire), spectating, key);
+    let spectator = Spectator::new(outlet.onto(wire), spectating, *key);
     if is_ready {
         Ok(Newcomer {
             spectator,

@@ -1,5 +1,7 @@
 //! A stream whose reads are interrupted where the server goes away: serving is to end, or patience with the peer is over.
 
+ghost use Rattle.std.specs.Prelude.{◌≡◌};
+
 use crate::deadline::Deadline;
 use crate::outlet::is_silence;
 use crate::patience::Patience;
@@ -53,7 +55,7 @@ impl<'a, S: Stream, C: Clock> Interruptible<'a, S, C> {
 
     /// The stream alone.
     pub(crate) fn into_inner(self) -> S
-        ensures { result ≡ self.stream }
+        ensures { result ≡ self.entry.stream }
     {
         let Interruptible { stream, .. } = self;
         stream

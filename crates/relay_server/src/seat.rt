@@ -106,7 +106,7 @@ impl<'a, R: Wait> Seat<'a, R> {
 
     /// Parts with what the connection follows, which it is then up to somebody else to leave. Who is still asleep is woken.
     pub(crate) fn part(self) -> Option<Spectating>
-        ensures { option_map (λ s. s.source) result ≡ self.follower }
+        ensures { option_map (λ s. s.source) result ≡ self.entry.follower }
     {
         let Seat {
             spectating,

@@ -122,7 +122,13 @@ fn attend<'a, 'g, R: Wait + Clock, S: Stream + Drop, G: Gate>(
     let seat = Seat::new(rt, registry, key);
     let mut talk = Talk::new(alloc, connection, outlet, seat, gate, patience);
     let end = converse(rt, &mut talk);
-    end_talk(rt, registry, talk, key, end)
+    let Talk {
+        outlet,
+        conn,
+        seat,
+        ..
+    } = talk;
+    end_session(rt, registry, outlet, conn, seat, &key, end)
 }
 
 /// Answers a connection that has come, until it follows or to its end. Where it follows it is handed over to a loop, if one takes it.
@@ -140,37 +146,56 @@ pub(crate) fn attend_or_hand_over<'a, 'g, R: Wait + Clock, G: Gate>(
     let seat = Seat::new(rt, registry, key);
     let mut talk = Talk::new(alloc, connection, outlet, seat, gate, patience);
     let talked = talk.run(rt);
-    let talk = match (talked, gallery) {
-        (TalkEnd::Follows, Some(gallery)) => match hand_over(rt, registry, gallery, talk, key) {
-            Some(talk) => talk,
-            None => return,
-        },
-        _ => talk,
-    };
-    let mut talk = talk;
+    if let (TalkEnd::Follows, Some(gallery)) = (talked, gallery) {
+        // It has opened no board, so that none is to be ended behind it.
+        let Talk { outlet, seat, .. } = talk;
+        follow_in_loop(rt, alloc, registry, gallery, outlet, seat, &key);
+        return;
+    }
     let end = conclude(rt, &mut talk, talked);
-    let _ = end_talk(rt, registry, talk, key, end);
+    let Talk {
+        outlet,
+        conn,
+        seat,
+        ..
+    } = talk;
+    let _ = end_session(rt, registry, outlet, conn, seat, &key, end);
     registry.goes();
 }
 
-/// Ends a talk whose session ended so.
-fn end_talk<'a, R: Wait + Clock, S: Stream + Drop, G: Gate>(
+/// Hands a connection that follows over to a loop. Where none takes it, the board's moves are pushed to it here.
+fn follow_in_loop<'a, R: Wait + Clock>(
+    rt: &'a R,
+    alloc: Global,
+    registry: &'a Registry,
+    gallery: &Gallery,
+    outlet: SocketOutlet<Connection<'a, R>>,
+    seat: Seat<'a, R>,
+    key: &Option<Key>,
+) {
+    let (mut outlet, mut seat) = match hand_over(rt, alloc, registry, gallery, outlet, seat, key) {
+        Some(back) => back,
+        None => return,
+    };
+    let end = follow(rt, alloc, &mut outlet, &mut seat);
+    let _ = end_session(rt, registry, outlet, Conn::new(alloc), seat, key, end);
+    registry.goes();
+}
+
+/// Ends a session that ended so: the boards that the connection opened are ended, and its follower leaves.
+fn end_session<'a, R: Wait + Clock, S: Stream + Drop>(
     rt: &'a R,
     registry: &'a Registry,
-    talk: Talk<'a, '_, R, S, G>,
-    key: Option<Key>,
+    mut outlet: SocketOutlet<S>,
+    conn: Conn,
+    mut seat: Seat<'a, R>,
+    key: &Option<Key>,
     end: SessionEnd,
 ) -> SessionEnd {
-    let Talk {
-        mut outlet,
-        conn,
-        mut seat,
-        ..
-    } = talk;
     outlet.give_up();
     end_own(conn, &mut seat);
     seat.leave();
-    if let Some(key) = &key {
+    if let Some(key) = key {
         registry.leave(rt, key);
     }
     if end != SessionEnd::Failed {

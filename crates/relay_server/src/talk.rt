@@ -66,7 +66,7 @@ impl<'a, 'g, R: Wait, S: Stream + Drop, G: Gate> Talk<'a, 'g, R, S, G> {
         patience: &'g Patience,
     ) -> Talk<'a, 'g, R, S, G>
         ensures outlet { result.outlet ≡ outlet }
-        ensures seat { result.seat ≡ seat }
+        ensures seat { result.seat ≡ seat.entry }
     {
         Talk {
             alloc,
