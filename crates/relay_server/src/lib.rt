@@ -33,11 +33,13 @@ mod sessions;
 mod shown;
 mod socket;
 mod spectating;
+mod spectator;
 mod stream;
 mod talk;
 mod texts;
 mod threads;
 mod wakes;
+mod wire;
 
 pub use gates::OpenGate;
 pub use lookout::Lookout;

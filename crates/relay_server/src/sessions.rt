@@ -59,7 +59,7 @@ const NORMAL: u16 = 1000;
 const GOING_AWAY: u16 = 1001;
 
 /// The close code after `Cut`: this server's own, of those for private use (RFC 6455, section 7.4.2).
-const CUT_OFF: u16 = 4001;
+pub(crate) const CUT_OFF: u16 = 4001;
 
 /// One connection from its handshake to its end: it answers commands, and once it follows a board, pushes that board's moves and is
 /// read no more. The request's head may have 8,192 bytes and take 10 seconds; a request that is refused is answered with its status.
@@ -286,7 +286,7 @@ fn push<R: Wait, S: Stream + Drop>(
 }
 
 /// The close code after `Over`.
-fn code_of_over(is_ending: bool) -> u16
+pub(crate) fn code_of_over(is_ending: bool) -> u16
     ensures { result ≡ if is_ending then 1001 else 1000 }
 {
     if is_ending { GOING_AWAY } else { NORMAL }
