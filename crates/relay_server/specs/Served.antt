@@ -1,9 +1,11 @@
 -- Who follows in a loop: how it stands to its board, and what it was sent by turns.
-use Rattle.std.specs.Prelude.{◌≡◌, ◌+◌, ◌≤◌, ◌<◌, ◌⊎◌, ℕ, List, length, Option, Some, ⊤}
-use Rattle.std.specs.Io.KnownBytes.{Appends}
+use Rattle.std.specs.Prelude.{◌≡◌, ◌+◌, ◌≤◌, ◌<◌, ◌⊎◌, ℕ, List, [], ◌++◌, length, Option, None, Some, option_map, ⊤}
+use Rattle.std.specs.Io.KnownBytes.{Appends, Consumes, Keeps}
 use Rattle.relay_frames.specs.Breaches.{code_of}
-use Rattle.relay_frames.specs.Events.{Told, fragment, text, binary, ping, pong, closed, broken}
+use Rattle.relay_frames.specs.Events.{Told, fragment, text, binary, ping, pong, closed, broken, told}
 use Rattle.relay_frames.specs.Frames.{close_frame, pong_frame}
+use Rattle.relay_frames.specs.Reading.{Reading, fed, next_step}
+use Rattle.relay_frames.specs.declared.event.Event.{Event}
 use Rattle.relay_pushing.specs.declared.pushing.Turn.{Turn}
 use Rattle.relay_pushing.specs.declared.pushing.Turn.TheVariants as turns
 use Rattle.relay_pushing.specs.Pushing.{Going, Turned}
@@ -52,13 +54,20 @@ IsPeers ends.Closed = ⊤
 IsPeers ends.Broken = ⊤
 IsPeers other = ⊥
 
--- One who follows in a loop, to a contract: how it stands to its board, the texts that it was handed, the bytes that its line was written, where
--- its stream tells them, those of them that are kept back still, and how many bytes it sent in vain.
+-- One who follows in a loop, to a contract.
 pub record Served : Type 0 where
+  -- how it stands to its board
   pub standing : Standing
+  -- the texts that it was handed
   pub texts : List (List ℕ)
+  -- the bytes that its line was written, where its stream tells what that took, and those of them that are kept back still
   pub written : Option (List ℕ)
   pub kept : List ℕ
+  -- what was read of it so far; the bytes that came with its request and are not read yet; and those that its stream has left, where that is told
+  pub peer : Reading
+  pub behind : List ℕ
+  pub remaining : Option (List ℕ)
+  -- how many bytes it sent in vain
   pub unread : ℕ
 
 -- A turn of one that follows. Where it went on, it follows still, by what its follower has become. Where pushing ended, it ended so, and follows no
@@ -67,7 +76,23 @@ abbrev pub TookTurn : FollowerSeat → List (List ℕ) → Standing → List (Li
 TookTurn f old standing new (turns.Ended end) = (standing ≡ Ended (session_end end)) × (g : FollowerSeat) × Turned Gives f g (Some old) (Some new) (turns.Ended end)
 TookTurn f old standing new turn = (g : FollowerSeat) × (standing ≡ Following g) × Turned Gives f g (Some old) (Some new) turn
 
+-- Behind the end's text a close with this code was put behind all that was written, or, where none is due or there was no memory for it, nothing.
+abbrev pub IsLeftWith : Served → Served → Option ℕ → Type 0
+IsLeftWith old new None = new.written ≡ old.written
+IsLeftWith old new (Some number) = Appends old.written new.written (close_frame (Some number)) ⊎ Keeps old.written new.written
+
 -- ---- What it says meanwhile.
+
+-- So many bytes came of it: the next that came with its request, or, where none is left of those, the next of its stream. They were read once.
+pub record IsTakenIn (old new : Served) (n : ℕ) : Type 0 where
+  pub bytes : List ℕ
+  pub count : n ≡ length bytes
+  pub came : ((old.behind ≡ bytes ++ new.behind) × (new.remaining ≡ old.remaining)) ⊎ ((old.behind ≡ []) × (new.behind ≡ []) × Consumes old.remaining new.remaining bytes)
+  pub fed_with : new.peer ≡ fed old.peer bytes
+
+-- what it says next was told, if it says anything, and is read no second time
+abbrev pub IsNext : Served → Served → Option Event → Type 0
+IsNext old new event = (option_map told event ≡ (next_step old.peer).told) × (new ≡ record old { peer = (next_step old.peer).then })
 
 -- it stays as it is, and this frame was put behind all that was written
 abbrev pub IsAnswered : Served → Served → List ℕ → Type 0

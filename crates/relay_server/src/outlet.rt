@@ -100,6 +100,7 @@ impl<S: Read + Write + Drop> SocketOutlet<S> {
     /// Writes a ping (RFC 6455, section 5.5.2). It leaves before the next read waits.
     pub(crate) fn ping(&mut self) -> Result<(), Error>
         ensures given { OnOk result (Appends (line_written S.contents self.old.line) (line_written S.contents self.new.line) (ping_frame [])) }
+        ensures ungiven { OnErr result (Keeps (line_written S.contents self.old.line) (line_written S.contents self.new.line)) }
         ensures texts { self.new.texts ≡ self.old.texts }
         ensures due { self.new.due ≡ self.old.due }
     {
@@ -116,6 +117,7 @@ impl<S: Read + Write + Drop> SocketOutlet<S> {
     /// The line took no more, or there was no memory.
     pub(crate) fn pong(&mut self, payload: &[u8]) -> Result<(), Error>
         ensures given { OnOk result (Appends (line_written S.contents self.old.line) (line_written S.contents self.new.line) (pong_frame payload.now)) }
+        ensures ungiven { OnErr result (Keeps (line_written S.contents self.old.line) (line_written S.contents self.new.line)) }
         ensures texts { self.new.texts ≡ self.old.texts }
     {
         let mut frame = Vec::new(self.alloc);
@@ -163,6 +165,7 @@ impl<S: Read + Write + Drop> SocketOutlet<S> {
     /// The line took no more, or there was no memory.
     pub(crate) fn put_close(&mut self, code: Option<Code>) -> Result<(), Error>
         ensures given { OnOk result (Appends (line_written S.contents self.old.line) (line_written S.contents self.new.line) (close_frame (number_of code))) }
+        ensures ungiven { OnErr result (Keeps (line_written S.contents self.old.line) (line_written S.contents self.new.line)) }
         ensures texts { self.new.texts ≡ self.old.texts }
         ensures failures { self.new.failures ≡ self.old.failures }
     {

@@ -1,22 +1,25 @@
 //! One that follows a board in a loop: what it is pushed, and what it says meanwhile. The loop's poll and its clock stand elsewhere.
 
-ghost use Rattle.std.specs.Prelude.{◌≡◌, ◌≤◌, ◌⊎◌, ◌↔◌, IsTrue, true, [], length, None, Some, IfOk, IsOk, OnOk};
-ghost use Rattle.std.specs.Io.KnownBytes.{Keeps};
+ghost use Rattle.std.specs.Prelude.{◌≡◌, ◌≤◌, ◌↔◌, IsTrue, true, [], length, Some, option_map, IfOk, IsOk, OnOk, OnErr};
+ghost use Rattle.std.specs.Io.KnownBytes.{Appends, Keeps};
 ghost use Rattle.relay_frames.specs.Events.{is_last, number_of, told};
-ghost use Rattle.relay_frames.specs.Frames.{ping_frame, pong_frame};
+ghost use Rattle.relay_frames.specs.Frames.{close_frame, ping_frame, pong_frame};
 ghost use Rattle.relay_pushing.specs.declared.pushing.Turn.TheVariants as turns;
 ghost use Rattle.live_board.specs.Seats.{FollowerSeat};
+ghost use Rattle.relay_frames.specs.Reading.{is_midway};
+ghost use Rattle.relay_server.specs.Heads.{left};
 ghost use Rattle.relay_server.specs.Lines.{written as line_written};
-ghost use Rattle.relay_server.specs.Served.{Ended, Following, Heeded, IsAnswered, IsClosed, IsGone, IsPassedOver, IsPeers, TookTurn, standing_of};
+ghost use Rattle.relay_server.specs.Served.{Ended, Following, Heeded, IsAnswered, IsClosed, IsGone, IsLeftWith, IsNext, IsPassedOver, IsPeers, IsTakenIn, TookTurn, standing_of};
 ghost use Rattle.relay_server.specs.Spectating.{HasBeenTold, close_code, session_end};
 
 use crate::chronicle::What;
 use crate::key::Key;
 use crate::outlet::SocketOutlet;
 use crate::registry::Registry;
-use crate::sessions::{CUT_OFF, SessionEnd, code_of_over};
+use crate::sessions::{CUT_OFF, SessionEnd};
 use crate::spectating::Spectating;
 use crate::stream::Stream;
+use relay_core::BoardName;
 use relay_frames::{Code, Event};
 use relay_pushing::{PushEnd, Turn};
 use std::alloc::Global;
@@ -61,12 +64,13 @@ pub(crate) struct Spectator<S: Read + Write> {
 }
 
 impl<S: Read + Write> Model for Spectator<S> {
+    ghost use Rattle.relay_server.specs.Heads.{left};
     ghost use Rattle.relay_server.specs.Lines.{written as line_written};
     ghost use Rattle.relay_server.specs.Served.{IsServed, Served, standing_of};
 
     ghost Value = { Served };
 
-    ghost view = { λ s. record { standing = standing_of s.state; texts = s.outlet.texts.items; written = line_written S.contents s.outlet.line; kept = s.outlet.line.output.items; unread = s.unread } };
+    ghost view = { λ s. record { standing = standing_of s.state; texts = s.outlet.texts.items; written = line_written S.contents s.outlet.line; kept = s.outlet.line.output.items; peer = s.outlet.peer; behind = left s.outlet.line.head; remaining = S.remaining s.outlet.line.stream; unread = s.unread } };
 
     ghost invariant = { λ s. IsServed (standing_of s.state) s.outlet.texts.items };
 }
@@ -83,6 +87,8 @@ impl<S: Stream + Drop> Spectator<S> {
         ensures texts { result.texts ≡ outlet.texts.items }
         ensures written { result.written ≡ line_written S.contents outlet.line }
         ensures kept { result.kept ≡ outlet.line.output.items }
+        ensures peer { result.peer ≡ outlet.peer }
+        ensures behind { result.behind ≡ left outlet.line.head }
         ensures unread { result.unread ≡ 0 }
     {
         Spectator {
@@ -118,19 +124,41 @@ impl<S: Stream + Drop> Spectator<S> {
         let State::Follows(spectating) = &mut self.state else {
             return Turn::Waits;
         };
+        let board = spectating.board();
         let turn = spectating.push_some(alloc, &mut self.outlet);
         if let Turn::Ended(end) = turn {
-            let board = spectating.board();
-            let (ended, code) = ending_of(&end, registry.is_ending());
-            leave(&mut self.state, ended, registry);
-            if ended == SessionEnd::Cut {
-                registry.note(rt, board, What::Cut);
-            }
-            if let Some(code) = code {
-                let _ = self.outlet.put_close(Code::new(code));
-            }
+            leave(&mut self.state, ending_of(&end), registry);
+            self.is_told_to_go(&end, registry.is_ending());
+            note_if_cut(rt, registry, board, &end);
         }
         turn
+    }
+
+    /// Behind the text of pushing's end the close is put, if one is due.
+    fn is_told_to_go(&mut self, end: &PushEnd, is_ending: bool)
+        ensures left { IsLeftWith self.old self.new (close_code is_ending end.now) }
+        ensures standing { self.new.standing ≡ self.old.standing }
+        ensures texts { self.new.texts ≡ self.old.texts }
+        ensures unread { self.new.unread ≡ self.old.unread }
+    {
+        if let Some(code) = code_of_end(end, is_ending) {
+            let _ = self.puts_close(Some(code));
+        }
+    }
+
+    /// Puts a close with this code or none behind all that was written.
+    ///
+    /// # Errors
+    ///
+    /// The device failed, or there was no memory. Then nothing was put.
+    fn puts_close(&mut self, code: Option<Code>) -> Result<(), Lost>
+        ensures given { OnOk result (Appends self.old.written self.new.written (close_frame (number_of code))) }
+        ensures failed { OnErr result (Keeps self.old.written self.new.written) }
+        ensures standing { self.new.standing ≡ self.old.standing }
+        ensures texts { self.new.texts ≡ self.old.texts }
+        ensures unread { self.new.unread ≡ self.old.unread }
+    {
+        or_lost(self.outlet.put_close(code).is_ok())
     }
 
     /// The same, however much is kept for it already.
@@ -154,6 +182,7 @@ impl<S: Stream + Drop> Spectator<S> {
     pub(crate) fn heed(&mut self, registry: &Registry, event: &Event) -> Result<(), Lost>
         ensures heeded { (f : FollowerSeat) → self.old.standing ≡ Following f → OnOk result (Heeded self.old (told event.now) self.new) }
         ensures last { is_last (told event.now) ≡ true → IsGone self.new.standing }
+        ensures failed { OnErr result (Keeps self.old.written self.new.written) }
         ensures gone { IsGone self.old.standing → self.new ≡ self.old }
         ensures texts { self.new.texts ≡ self.old.texts }
     {
@@ -175,6 +204,7 @@ impl<S: Stream + Drop> Spectator<S> {
     /// Answers a ping of these bytes.
     fn answers(&mut self, payload: &[u8]) -> Result<(), Lost>
         ensures answered { OnOk result (IsAnswered self.old self.new (pong_frame payload.now)) }
+        ensures failed { OnErr result (Keeps self.old.written self.new.written) }
         ensures texts { self.new.texts ≡ self.old.texts }
         ensures standing { self.new.standing ≡ self.old.standing }
     {
@@ -185,6 +215,7 @@ impl<S: Stream + Drop> Spectator<S> {
     fn passes_over(&mut self, registry: &Registry, bytes: usize) -> Result<(), Lost>
         requires follows { IsGone self.old.standing → ⊥ }
         ensures passed { OnOk result (IsPassedOver self.old self.new bytes) }
+        ensures failed { OnErr result (Keeps self.old.written self.new.written) }
         ensures texts { self.new.texts ≡ self.old.texts }
     {
         let unread = self
@@ -208,11 +239,12 @@ impl<S: Stream + Drop> Spectator<S> {
         requires follows { IsGone self.old.standing → ⊥ }
         requires peers { IsPeers ended }
         ensures closed { OnOk result (IsClosed self.old self.new ended (number_of code)) }
+        ensures failed { OnErr result (Keeps self.old.written self.new.written) }
         ensures gone { IsGone self.new.standing }
         ensures texts { self.new.texts ≡ self.old.texts }
     {
         leave(&mut self.state, ended, registry);
-        or_lost(self.outlet.put_close(code).is_ok())
+        self.puts_close(code)
     }
 
     /// Sends a ping, unless it follows no more.
@@ -238,6 +270,7 @@ impl<S: Stream + Drop> Spectator<S> {
     ///
     /// Nothing is there now (`WouldBlock`), the stream failed, or there was no memory.
     pub(crate) fn take_in(&mut self) -> io::Result<usize>
+        ensures came { IfOk result (λ n. IsTakenIn self.old self.new n) }
         ensures standing { self.new.standing ≡ self.old.standing }
         ensures texts { self.new.texts ≡ self.old.texts }
         ensures kept { self.new.kept ≡ self.old.kept }
@@ -252,7 +285,8 @@ impl<S: Stream + Drop> Spectator<S> {
     ///
     /// There was no memory.
     pub(crate) fn heard_next(&mut self) -> Result<Option<Event>, Lost>
-        ensures { self.new ≡ self.old }
+        ensures next { IfOk result (λ event. IsNext self.old self.new event) }
+        ensures unchanged { OnErr result (self.new ≡ self.old) }
     {
         match self.outlet.heard_next() {
             Ok(event) => Ok(event),
@@ -261,7 +295,9 @@ impl<S: Stream + Drop> Spectator<S> {
     }
 
     /// Whether it is in the middle of a message.
-    pub(crate) fn is_midway(&self) -> bool {
+    pub(crate) fn is_midway(&self) -> bool
+        ensures { result ≡ is_midway self.now.peer }
+    {
         self.outlet.is_midway()
     }
 
@@ -322,15 +358,34 @@ fn leave(state: &mut State, ended: SessionEnd, registry: &Registry)
     }
 }
 
-/// How a session ends whose pushing ended so, and the code of its close, if it is sent one.
-fn ending_of(end: &PushEnd, is_ending: bool) -> (SessionEnd, Option<u16>)
-    ensures end { result.0 ≡ session_end end.now }
-    ensures code { result.1 ≡ close_code is_ending end.now }
+/// Notes for the log that a follower of a board was cut off, where pushing ended so.
+fn note_if_cut<R: Wait>(rt: &R, registry: &Registry, board: BoardName, end: &PushEnd) {
+    if matches!(end, PushEnd::Cut) {
+        registry.note(rt, board, What::Cut);
+    }
+}
+
+/// How a session ends whose pushing ended so.
+fn ending_of(end: &PushEnd) -> SessionEnd
+    ensures { result ≡ session_end end.now }
 {
     match end {
-        PushEnd::Over(_) => (SessionEnd::Over, Some(code_of_over(is_ending))),
-        PushEnd::Cut => (SessionEnd::Cut, Some(CUT_OFF)),
-        PushEnd::Failed(_) => (SessionEnd::Failed, None),
+        PushEnd::Over(_) => SessionEnd::Over,
+        PushEnd::Cut => SessionEnd::Cut,
+        PushEnd::Failed(_) => SessionEnd::Failed,
+    }
+}
+
+/// The code of the close behind pushing that ended so, if one is sent.
+#[tactic(auto, unfolding(relay_frames::specs::Codes::may_be_sent))]
+fn code_of_end(end: &PushEnd, is_ending: bool) -> Option<Code>
+    ensures { option_map (λ code. code.number) result ≡ close_code is_ending end.now }
+{
+    match end {
+        PushEnd::Over(_) if is_ending => Some(Code::AWAY),
+        PushEnd::Over(_) => Some(Code::NORMAL),
+        PushEnd::Cut => Code::new(CUT_OFF),
+        PushEnd::Failed(_) => None,
     }
 }
 
