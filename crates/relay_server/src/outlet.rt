@@ -287,6 +287,7 @@ impl<S: Read + Write + Drop> SocketOutlet<S> {
     /// From now on there is room for a text more, however much is kept back, or there is only where that is little.
     pub(crate) fn lift(&mut self, is_lifted: bool)
         ensures room { self.new.room ≡ if is_lifted then usize.MAX else 4096 }
+        ensures peer { self.new.peer ≡ self.old.peer }
         ensures line { self.new.line ≡ self.old.line }
         ensures texts { self.new.texts ≡ self.old.texts }
     {

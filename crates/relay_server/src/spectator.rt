@@ -167,10 +167,17 @@ impl<S: Stream + Drop> Spectator<S> {
         ensures gone { IsGone self.old.standing → (self.new ≡ self.old) × (result ≡ turns.Waits) }
         ensures unread { self.new.unread ≡ self.old.unread }
     {
-        self.outlet.lift(true);
+        self.lift(true);
         let turn = self.push(rt, alloc, registry);
-        self.outlet.lift(false);
+        self.lift(false);
         turn
+    }
+
+    /// From now on there is room for a text more, however much is kept for it, or there is only where that is little.
+    fn lift(&mut self, is_lifted: bool)
+        ensures { self.new ≡ self.old }
+    {
+        self.outlet.lift(is_lifted);
     }
 
     /// Heeds what it says. A ping and a close are answered; a message is not, and of messages without end it is told by a close. Behind a close
