@@ -1,10 +1,10 @@
 //! A stream that puts off what need not be done before its peer is waited for.
 
-ghost use Rattle.std.specs.Prelude.{◌≡◌, ◌+◌, ◌≤◌, ◌<◌, ◌⊎◌, true, false, [], None, Some, is_some, length, take, drop, vec_capacity, vec_len, IfOk, OnOk, OnErr, IsErr};
+ghost use Rattle.std.specs.Prelude.{◌≡◌, ◌+◌, ◌≤◌, ◌<◌, ◌⊎◌, ◌↔◌, IsTrue, true, false, [], None, Some, is_some, length, take, drop, vec_capacity, vec_len, IfOk, OnOk, OnErr, IsErr};
 ghost use Rattle.std.specs.Io.{ReadsAtMost, WritesAtMost};
 ghost use Rattle.std.specs.Io.KnownBytes.{Appends, Keeps, ReadConsumes, WriteAppends};
 ghost use Rattle.relay_server.specs.Heads.{left};
-ghost use Rattle.relay_server.specs.Lines.{IsSilent, ReadsLast, Sends, written};
+ghost use Rattle.relay_server.specs.Lines.{IsSilent, ReadsLast, ReadsOn, Sends, written};
 
 use crate::broadcast::Broadcast;
 use crate::head::Head;
@@ -243,21 +243,21 @@ impl<S: Read + Write> Line<S> {
     /// The stream failed, now or before. What it did not take is still kept back.
     pub(crate) fn send_some(&mut self) -> io::Result<bool>
         ensures bytes { Keeps (written S.contents self.old) (written S.contents self.new) }
-        ensures sent { IfOk result (λ all. all ≡ true → self.new.output.items ≡ []) }
+        ensures all { IfOk result (λ all. IsTrue all ↔ (self.new.output.items ≡ [])) }
         ensures failed { OnErr result (self.new.has_failed ≡ true) }
         ensures silent { self.old.has_failed ≡ true → IsErr result × IsSilent self.old self.new }
         ensures front { Sends S.contents self.old self.new.stream self.new.output.items }
+        ensures wakes { self.new.wakes ≡ self.old.wakes }
     {
         if self.has_failed {
             return Err(io::Error::from(ErrorKind::BrokenPipe));
         }
         match self.send_output() {
-            Ok(()) => Ok(true),
-            Err(error) if error.kind() == ErrorKind::WouldBlock => Ok(false),
-            Err(error) => {
+            Err(error) if error.kind() != ErrorKind::WouldBlock => {
                 self.has_failed = true;
                 Err(error)
             }
+            _ => Ok(self.output.is_empty()),
         }
     }
 
@@ -268,8 +268,9 @@ impl<S: Read + Write> Line<S> {
     /// As the stream's.
     pub(crate) fn read_on(&mut self, buf: &mut [u8]) -> io::Result<usize>
         ensures bound { ReadsAtMost result buf.new }
-        ensures bytes { ReadConsumes None None result buf.new }
-        ensures kept { self.new.output ≡ self.old.output }
+        ensures next { ReadsOn S.remaining self.old self.new result buf.new }
+        ensures output { self.new.output ≡ self.old.output }
+        ensures wakes { self.new.wakes ≡ self.old.wakes }
     {
         let n = self.head.give(buf);
         if n > 0 {
@@ -290,7 +291,9 @@ impl<S: Read + Write> Line<S> {
     pub(crate) fn unplugged(self) -> (S, Line<()>)
         ensures stream { result.0 ≡ self.stream }
         ensures output { result.1.output.items ≡ self.output.items }
+        ensures behind { left result.1.head ≡ left self.head }
         ensures failed { result.1.has_failed ≡ self.has_failed }
+        ensures wakes { result.1.wakes ≡ self.wakes }
     {
         let Line {
             alloc,
@@ -317,11 +320,13 @@ impl<S: Read + Write> Line<S> {
 }
 
 impl Line<()> {
-    /// The same line over this stream, which does not wait: what it keeps back is sent by `send_some` alone.
+    /// The same line over this stream, which does not wait: what it keeps back, however much, is sent by `send_some` alone.
     pub(crate) fn onto<S>(self, stream: S) -> Line<S>
         ensures stream { result.stream ≡ stream }
         ensures output { result.output.items ≡ self.output.items }
+        ensures behind { left result.head ≡ left self.head }
         ensures failed { result.has_failed ≡ self.has_failed }
+        ensures wakes { result.wakes ≡ self.wakes }
     {
         let Line {
             alloc,

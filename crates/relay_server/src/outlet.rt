@@ -1,13 +1,16 @@
 //! The outlet over a WebSocket.
 
-ghost use Rattle.std.specs.Prelude.{◌≡◌, [], ◌∷◌, ◌++◌, ◌≤◌, None, Some, Err, true, false, is_some, length, IfOk, OnOk, OnErr};
+ghost use Rattle.std.specs.Prelude.{◌≡◌, [], ◌∷◌, ◌++◌, ◌≤◌, ◌<◌, ◌↔◌, IsTrue, None, Some, Err, true, false, is_some, length, option_map, IfOk, OnOk, OnErr, if◌then◌else◌};
 ghost use Rattle.std.specs.Io.KnownBytes.{Appends, Keeps};
 ghost use Rattle.relay_frames.specs.Breaches.{code_of};
-ghost use Rattle.relay_frames.specs.Events.{number_of};
-ghost use Rattle.relay_frames.specs.Frames.{close_frame, pong_frame, text_frame};
+ghost use Rattle.relay_frames.specs.Events.{number_of, told};
+ghost use Rattle.relay_frames.specs.Frames.{close_frame, ping_frame, pong_frame, text_frame};
+ghost use Rattle.relay_frames.specs.Reading.{is_midway, next_step};
 ghost use Rattle.relay_pushing.specs.Sending.{Counts};
 ghost use Rattle.relay_pushing.specs.declared.outlet.SendFault.TheVariants.{Device};
 ghost use Rattle.relay_server.specs.Dues.{IsStillDue};
+ghost use Rattle.relay_server.specs.Heads.{left};
+ghost use Rattle.relay_server.specs.Hearing.{TakesIn};
 ghost use Rattle.relay_server.specs.Lines.{Sends, written as line_written};
 ghost use Rattle.relay_server.specs.Memory.{IsToldOf};
 
@@ -96,6 +99,8 @@ impl<S: Read + Write + Drop> SocketOutlet<S> {
 
     /// Writes a ping (RFC 6455, section 5.5.2). It leaves before the next read waits.
     pub(crate) fn ping(&mut self) -> Result<(), Error>
+        ensures given { OnOk result (Appends (line_written S.contents self.old.line) (line_written S.contents self.new.line) (ping_frame [])) }
+        ensures ungiven { OnErr result (Keeps (line_written S.contents self.old.line) (line_written S.contents self.new.line)) }
         ensures texts { self.new.texts ≡ self.old.texts }
         ensures due { self.new.due ≡ self.old.due }
     {
@@ -112,6 +117,7 @@ impl<S: Read + Write + Drop> SocketOutlet<S> {
     /// The line took no more, or there was no memory.
     pub(crate) fn pong(&mut self, payload: &[u8]) -> Result<(), Error>
         ensures given { OnOk result (Appends (line_written S.contents self.old.line) (line_written S.contents self.new.line) (pong_frame payload.now)) }
+        ensures ungiven { OnErr result (Keeps (line_written S.contents self.old.line) (line_written S.contents self.new.line)) }
         ensures texts { self.new.texts ≡ self.old.texts }
     {
         let mut frame = Vec::new(self.alloc);
@@ -159,6 +165,7 @@ impl<S: Read + Write + Drop> SocketOutlet<S> {
     /// The line took no more, or there was no memory.
     pub(crate) fn put_close(&mut self, code: Option<Code>) -> Result<(), Error>
         ensures given { OnOk result (Appends (line_written S.contents self.old.line) (line_written S.contents self.new.line) (close_frame (number_of code))) }
+        ensures ungiven { OnErr result (Keeps (line_written S.contents self.old.line) (line_written S.contents self.new.line)) }
         ensures texts { self.new.texts ≡ self.old.texts }
         ensures failures { self.new.failures ≡ self.old.failures }
     {
@@ -222,8 +229,9 @@ impl<S: Read + Write + Drop> SocketOutlet<S> {
     ///
     /// The stream failed, or there was no memory.
     pub(crate) fn take_in(&mut self) -> io::Result<usize>
-        ensures texts { self.new.texts ≡ self.old.texts }
+        ensures came { IfOk result (λ n. TakesIn S.remaining self.old self.new n) }
         ensures kept { self.new.line.output ≡ self.old.line.output }
+        ensures texts { self.new.texts ≡ self.old.texts }
     {
         let mut bytes = [0; READ_BYTES];
         let n = self.line.read_on(&mut bytes)?;
@@ -237,16 +245,21 @@ impl<S: Read + Write + Drop> SocketOutlet<S> {
     ///
     /// # Errors
     ///
-    /// There was no memory.
+    /// There was no memory. Then nothing has changed.
     pub(crate) fn heard_next(&mut self) -> Result<Option<Event>, AllocError>
-        ensures texts { self.new.texts ≡ self.old.texts }
+        ensures told { IfOk result (λ event. option_map told event ≡ (next_step self.old.peer).told) }
+        ensures then { OnOk result (self.new.peer ≡ (next_step self.old.peer).then) }
+        ensures unchanged { OnErr result (self.new.peer ≡ self.old.peer) }
         ensures line { self.new.line ≡ self.old.line }
+        ensures texts { self.new.texts ≡ self.old.texts }
     {
         self.peer.next()
     }
 
     /// Whether the peer is in the middle of a message.
-    pub(crate) fn is_midway(&self) -> bool {
+    pub(crate) fn is_midway(&self) -> bool
+        ensures { result ≡ is_midway self.now.peer }
+    {
         self.peer.is_midway()
     }
 
@@ -254,10 +267,10 @@ impl<S: Read + Write + Drop> SocketOutlet<S> {
     ///
     /// # Errors
     ///
-    /// The stream failed, now or before.
+    /// The stream failed, now or before. What it did not take is still kept back.
     pub(crate) fn send_some(&mut self) -> io::Result<bool>
         ensures bytes { Keeps (line_written S.contents self.old.line) (line_written S.contents self.new.line) }
-        ensures sent { IfOk result (λ all. all ≡ true → self.new.line.output.items ≡ []) }
+        ensures all { IfOk result (λ all. IsTrue all ↔ (self.new.line.output.items ≡ [])) }
         ensures front { Sends S.contents self.old.line self.new.line.stream self.new.line.output.items }
         ensures texts { self.new.texts ≡ self.old.texts }
     {
@@ -273,19 +286,23 @@ impl<S: Read + Write + Drop> SocketOutlet<S> {
 
     /// From now on there is room for a text more, however much is kept back, or there is only where that is little.
     pub(crate) fn lift(&mut self, is_lifted: bool)
-        ensures texts { self.new.texts ≡ self.old.texts }
+        ensures room { self.new.room ≡ if is_lifted then usize.MAX else 4096 }
+        ensures peer { self.new.peer ≡ self.old.peer }
         ensures line { self.new.line ≡ self.old.line }
+        ensures texts { self.new.texts ≡ self.old.texts }
     {
         self.room = if is_lifted { usize::MAX } else { ROOM_BYTES };
     }
 
     /// The stream, and the outlet without it, for another stream that takes its place.
     pub(crate) fn unplugged(self) -> (S, SocketOutlet<()>)
-        ensures texts { result.1.texts ≡ self.texts }
+        ensures stream { result.0 ≡ self.line.stream }
         ensures kept { result.1.line.output.items ≡ self.line.output.items }
+        ensures behind { left result.1.line.head ≡ left self.line.head }
+        ensures failed { result.1.line.has_failed ≡ self.line.has_failed }
         ensures peer { result.1.peer ≡ self.peer }
         ensures failures { result.1.failures ≡ self.failures }
-        ensures stream { result.0 ≡ self.line.stream }
+        ensures texts { result.1.texts ≡ self.texts }
     {
         let SocketOutlet {
             alloc,
@@ -315,11 +332,13 @@ impl<S: Read + Write + Drop> SocketOutlet<S> {
 impl SocketOutlet<()> {
     /// The same outlet over this stream, which does not wait.
     pub(crate) fn onto<S>(self, stream: S) -> SocketOutlet<S>
-        ensures texts { result.texts ≡ self.texts }
+        ensures stream { result.line.stream ≡ stream }
         ensures kept { result.line.output.items ≡ self.line.output.items }
+        ensures behind { left result.line.head ≡ left self.line.head }
+        ensures failed { result.line.has_failed ≡ self.line.has_failed }
         ensures peer { result.peer ≡ self.peer }
         ensures failures { result.failures ≡ self.failures }
-        ensures stream { result.line.stream ≡ stream }
+        ensures texts { result.texts ≡ self.texts }
     {
         let SocketOutlet {
             alloc,
@@ -441,7 +460,9 @@ impl<S: Read + Write + Drop> Outlet for SocketOutlet<S> {
     ghost failures = { λ s. s.failures };
 
     /// Who waits for room while it sends need not ask.
-    fn has_room(&self) -> bool {
+    fn has_room(&self) -> bool
+        ensures { IsTrue result ↔ (length self.now.line.output.items < self.now.room) }
+    {
         self.line.kept() < self.room
     }
 

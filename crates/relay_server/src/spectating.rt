@@ -2,6 +2,7 @@
 
 ghost use Rattle.std.specs.Prelude.{◌≡◌};
 ghost use Rattle.relay_pushing.specs.Pushing.{Turned};
+ghost use Rattle.live_steps.specs.Views.{next_of};
 ghost use Rattle.relay_server.specs.Spectating.{Gives, Sent};
 
 use crate::broadcast::Broadcast;
@@ -90,7 +91,9 @@ impl Spectating {
     }
 
     /// The place of the board's log of the move that the follower takes next.
-    pub(crate) fn next(&self) -> u64 {
+    pub(crate) fn next(&self) -> u64
+        ensures { result ≡ next_of self.now.source.part }
+    {
         u64::from(self.source.follower.joined()).saturating_add(u64::from(
             self.source.follower.taken(),
         ))
