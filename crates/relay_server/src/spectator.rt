@@ -261,6 +261,7 @@ impl<S: Stream + Drop> Spectator<S> {
     /// The device failed, or there was no memory.
     pub(crate) fn ping(&mut self) -> Result<(), Lost>
         ensures given { (f : FollowerSeat) → self.old.standing ≡ Following f → OnOk result (IsAnswered self.old self.new (ping_frame [])) }
+        ensures failed { OnErr result (Keeps self.old.written self.new.written) }
         ensures gone { IsGone self.old.standing → self.new ≡ self.old }
         ensures texts { self.new.texts ≡ self.old.texts }
         ensures standing { self.new.standing ≡ self.old.standing }

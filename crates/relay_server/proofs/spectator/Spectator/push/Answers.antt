@@ -1,4 +1,4 @@
-use Rattle.std.proofs.Common.{◌≡◌, refl, sym, ap, subst, ◌∙◌}
+use Rattle.std.proofs.Common.{refl, sym, ap, subst, ◌∙◌}
 use Rattle.relay_server.specs.Served.{Ended, IsGone, Served, standing_of}
 use Rattle.relay_server.proofs.Served.{ended_served, pushed_at, same_follower, sent_so_far, took_turn, turn_of, turned_sent}
 use Rattle.relay_server.proofs.spectator.Spectator.push.Goals as goal
