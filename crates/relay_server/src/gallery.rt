@@ -1,5 +1,9 @@
 //! Where those go who follow: loops that serve many of them each.
 
+ghost use Rattle.std.specs.Prelude.{◌≡◌, Some, IfOk, IfSome};
+ghost use Rattle.relay_server.specs.Served.{Following};
+ghost use Rattle.relay_server.specs.Spectating.{HasBeenTold};
+
 use crate::balcony::Balcony;
 use crate::balcony_loop::BalconyLoop;
 use crate::broadcast::Broadcast;
@@ -119,7 +123,10 @@ pub(crate) fn hand_over<'a, R: Wait + Clock>(
     outlet: SocketOutlet<Connection<'a, R>>,
     seat: Seat<'a, R>,
     key: &Option<Key>,
-) -> Option<(SocketOutlet<Connection<'a, R>>, Seat<'a, R>)> {
+) -> Option<(SocketOutlet<Connection<'a, R>>, Seat<'a, R>)>
+    requires told { HasBeenTold seat.follower outlet.texts.items }
+    ensures back { IfSome result (λ back. (back.0.texts.items ≡ outlet.entry.texts.items) × (back.1.follower ≡ seat.entry.follower)) }
+{
     let Some(board) = gallery.board_of(alloc, &seat) else {
         return Some((outlet, seat));
     };
@@ -151,7 +158,12 @@ fn coming_over<R: Clock>(
     spectating: Spectating,
     key: &Option<Key>,
     board: Arc<Broadcast, Global>,
-) -> Result<Newcomer, Spectator<Wire>> {
+) -> Result<Newcomer, Spectator<Wire>>
+    requires told { HasBeenTold (Some spectating.source) outlet.texts.items }
+    ensures texts { IfOk result (λ newcomer. newcomer.spectator.texts ≡ outlet.entry.texts.items) }
+    ensures kept { IfOk result (λ newcomer. newcomer.spectator.kept ≡ outlet.entry.line.output.items) }
+    ensures follows { IfOk result (λ newcomer. newcomer.spectator.standing ≡ Following spectating.source) }
+{
     let (stream, outlet) = outlet.unplugged();
     let (wire, is_ready) = Wire::new(stream.into_inner().into_inner());
     let descriptor = wire.descriptor();

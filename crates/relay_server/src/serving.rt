@@ -15,7 +15,7 @@ use crate::sessions::{Arrival, SessionEnd, attend_or_hand_over, come};
 use crate::socket::Socket;
 use crate::threads::{Running, Shared, join_all, join_ended, join_until_due, join_until_ending};
 use relay_pushing::Gate;
-use std::alloc::Global;
+use std::alloc::{AllocError, Global};
 use std::io;
 use std::io::StdinLock;
 use std::net::{Net, TcpListener, TcpStream};
@@ -345,6 +345,23 @@ fn come_in<'a, R: Wait + Clock>(
     come(own, alloc, registry, stream)
 }
 
+/// The gallery, if there is one, for one more thread.
+///
+/// # Errors
+///
+/// There was no memory.
+fn share(
+    gallery: &Option<Arc<Gallery, Global>>,
+) -> Result<Option<Arc<Gallery, Global>>, AllocError> {
+    match gallery {
+        Some(gallery) => match Arc::try_clone(gallery) {
+            Ok(gallery) => Ok(Some(gallery)),
+            Err(_) => Err(AllocError),
+        },
+        None => Ok(None),
+    }
+}
+
 /// Starts a thread for the session of a connection.
 fn spawn<R, G>(
     rt: &R,
@@ -367,10 +384,7 @@ where
     let of_thread = Arc::try_clone(shared).ok()?;
     let of_running = Arc::try_clone(shared).ok()?;
     let coming = Arc::try_clone(&registry).ok()?;
-    let gallery = match gallery {
-        Some(gallery) => Some(Arc::try_clone(gallery).ok()?),
-        None => None,
-    };
+    let gallery = share(gallery).ok()?;
     coming.comes();
     let started = Builder::new()
         .stack_size(STACK_BYTES)

@@ -8,7 +8,7 @@ ghost use Rattle.relay_server.specs.Heads.{left};
 ghost use Rattle.relay_server.specs.Lines.{written as line_written};
 ghost use Rattle.relay_server.specs.Memory.{LacksMemory};
 ghost use Rattle.relay_server.specs.Seating.{Replies};
-ghost use Rattle.relay_server.specs.Spectating.{Conversed, Followed, Pushed};
+ghost use Rattle.relay_server.specs.Spectating.{Conversed, Followed, HasBeenTold, Pushed};
 ghost use Rattle.relay_server.specs.Talking.{TalkEnds};
 
 use crate::chronicle::What;
@@ -172,7 +172,9 @@ fn follow_in_loop<'a, R: Wait + Clock>(
     outlet: SocketOutlet<Connection<'a, R>>,
     seat: Seat<'a, R>,
     key: &Option<Key>,
-) {
+)
+    requires told { HasBeenTold seat.follower outlet.texts.items }
+{
     let (mut outlet, mut seat) = match hand_over(rt, alloc, registry, gallery, outlet, seat, key) {
         Some(back) => back,
         None => return,
