@@ -5,18 +5,14 @@ use Rattle.relay_pushing.specs.declared.pushing.PushEnd.TheVariants.{Over, Cut, 
 use Rattle.relay_pushing.specs.declared.pushing.Turn.{Turn}
 use Rattle.relay_pushing.specs.declared.pushing.Turn.TheVariants as turns
 use Rattle.relay_pushing.specs.Pushing.{Going, Turned, Pushed}
-use Rattle.relay_pushing.proofs.Turns.{nothing_yet, going_on, pushed_on, waiting_goes_on}
+use Rattle.relay_pushing.proofs.Turns.{going_on, pushed_on, waiting_goes_on}
 use Rattle.live_board.specs.Seats.{FollowerSeat}
 use Rattle.relay_server.specs.declared.spectating.Spectating.{Spectating}
 use Rattle.relay_server.specs.declared.spectator.State.{State}
 use Rattle.relay_server.specs.declared.spectator.State.TheVariants as states
-use Rattle.relay_server.specs.Spectating.{Gives, IsToldOf, Spectated, session_end}
+use Rattle.relay_server.specs.Spectating.{Gives, Spectated, session_end}
 use Rattle.relay_server.specs.Served.{Ended, Following, IsSentSoFar, IsServed, Standing, TookTurn, standing_of}
 use Rattle.relay_server.proofs.Stretches.{pushed_sent}
-
--- who was told of a follower that has taken nothing since was sent nothing since
-pub nothing_sent : (f : FollowerSeat) (texts : List (List ℕ)) → IsToldOf f texts → IsSentSoFar f texts
-nothing_sent f texts told = record { f = f; before = texts; told = told; going = nothing_yet Gives f (Some texts) }
 
 -- one turn more that went on
 pub sent_on : (g h : FollowerSeat) (old new : List (List ℕ)) → IsSentSoFar g old → Going Gives g h (Some old) (Some new) → IsSentSoFar h new

@@ -326,6 +326,7 @@ impl Line<()> {
         ensures output { result.output.items ≡ self.output.items }
         ensures behind { left result.head ≡ left self.head }
         ensures failed { result.has_failed ≡ self.has_failed }
+        ensures unbounded { result.most_output ≡ usize.MAX }
         ensures wakes { result.wakes ≡ self.wakes }
     {
         let Line {

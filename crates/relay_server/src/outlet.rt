@@ -101,6 +101,7 @@ impl<S: Read + Write + Drop> SocketOutlet<S> {
     pub(crate) fn ping(&mut self) -> Result<(), Error>
         ensures given { OnOk result (Appends (line_written S.contents self.old.line) (line_written S.contents self.new.line) (ping_frame [])) }
         ensures ungiven { OnErr result (Keeps (line_written S.contents self.old.line) (line_written S.contents self.new.line)) }
+        ensures peer { self.new.peer ≡ self.old.peer }
         ensures texts { self.new.texts ≡ self.old.texts }
         ensures due { self.new.due ≡ self.old.due }
     {
@@ -118,6 +119,7 @@ impl<S: Read + Write + Drop> SocketOutlet<S> {
     pub(crate) fn pong(&mut self, payload: &[u8]) -> Result<(), Error>
         ensures given { OnOk result (Appends (line_written S.contents self.old.line) (line_written S.contents self.new.line) (pong_frame payload.now)) }
         ensures ungiven { OnErr result (Keeps (line_written S.contents self.old.line) (line_written S.contents self.new.line)) }
+        ensures peer { self.new.peer ≡ self.old.peer }
         ensures texts { self.new.texts ≡ self.old.texts }
     {
         let mut frame = Vec::new(self.alloc);
@@ -166,6 +168,7 @@ impl<S: Read + Write + Drop> SocketOutlet<S> {
     pub(crate) fn put_close(&mut self, code: Option<Code>) -> Result<(), Error>
         ensures given { OnOk result (Appends (line_written S.contents self.old.line) (line_written S.contents self.new.line) (close_frame (number_of code))) }
         ensures ungiven { OnErr result (Keeps (line_written S.contents self.old.line) (line_written S.contents self.new.line)) }
+        ensures peer { self.new.peer ≡ self.old.peer }
         ensures texts { self.new.texts ≡ self.old.texts }
         ensures failures { self.new.failures ≡ self.old.failures }
     {
@@ -272,6 +275,7 @@ impl<S: Read + Write + Drop> SocketOutlet<S> {
         ensures bytes { Keeps (line_written S.contents self.old.line) (line_written S.contents self.new.line) }
         ensures all { IfOk result (λ all. IsTrue all ↔ (self.new.line.output.items ≡ [])) }
         ensures front { Sends S.contents self.old.line self.new.line.stream self.new.line.output.items }
+        ensures peer { self.new.peer ≡ self.old.peer }
         ensures texts { self.new.texts ≡ self.old.texts }
     {
         self.line.send_some()
@@ -336,6 +340,7 @@ impl SocketOutlet<()> {
         ensures kept { result.line.output.items ≡ self.line.output.items }
         ensures behind { left result.line.head ≡ left self.line.head }
         ensures failed { result.line.has_failed ≡ self.line.has_failed }
+        ensures unbounded { result.line.most_output ≡ usize.MAX }
         ensures peer { result.peer ≡ self.peer }
         ensures failures { result.failures ≡ self.failures }
         ensures texts { result.texts ≡ self.texts }

@@ -1,10 +1,11 @@
 //! One that follows a board in a loop: what it is pushed, and what it says meanwhile. The loop's poll and its clock stand elsewhere.
 
-ghost use Rattle.std.specs.Prelude.{◌≡◌, ◌≤◌, ◌↔◌, IsTrue, true, [], length, Some, option_map, IfOk, IsOk, OnOk, OnErr};
+ghost use Rattle.std.specs.Prelude.{◌≡◌, ◌≤◌, ◌↔◌, IsTrue, true, [], length, None, Some, option_map, IfOk, IsOk, OnOk, OnErr};
 ghost use Rattle.std.specs.Io.KnownBytes.{Appends, Keeps};
 ghost use Rattle.relay_frames.specs.Events.{is_last, number_of, told};
 ghost use Rattle.relay_frames.specs.Frames.{close_frame, ping_frame, pong_frame};
 ghost use Rattle.relay_pushing.specs.declared.pushing.Turn.TheVariants as turns;
+ghost use Rattle.live_steps.specs.Views.{next_of};
 ghost use Rattle.live_board.specs.Seats.{FollowerSeat};
 ghost use Rattle.relay_frames.specs.Reading.{is_midway};
 ghost use Rattle.relay_server.specs.Heads.{left};
@@ -107,7 +108,10 @@ impl<S: Stream + Drop> Spectator<S> {
     }
 
     /// The place of the move that it takes next, while it follows.
-    pub(crate) fn next(&self) -> Option<u64> {
+    pub(crate) fn next(&self) -> Option<u64>
+        ensures place { (f : FollowerSeat) → self.now.standing ≡ Following f → result ≡ Some (next_of f.part) }
+        ensures none { IsGone self.now.standing → result ≡ None }
+    {
         match &self.state {
             State::Follows(spectating) => Some(spectating.next()),
             State::Ended(_) => None,
@@ -156,6 +160,7 @@ impl<S: Stream + Drop> Spectator<S> {
         ensures failed { OnErr result (Keeps self.old.written self.new.written) }
         ensures standing { self.new.standing ≡ self.old.standing }
         ensures texts { self.new.texts ≡ self.old.texts }
+        ensures peer { self.new.peer ≡ self.old.peer }
         ensures unread { self.new.unread ≡ self.old.unread }
     {
         or_lost(self.outlet.put_close(code).is_ok())
@@ -192,6 +197,7 @@ impl<S: Stream + Drop> Spectator<S> {
         ensures failed { OnErr result (Keeps self.old.written self.new.written) }
         ensures gone { IsGone self.old.standing → self.new ≡ self.old }
         ensures texts { self.new.texts ≡ self.old.texts }
+        ensures peer { self.new.peer ≡ self.old.peer }
     {
         if self.has_ended() {
             return Ok(());
@@ -213,6 +219,7 @@ impl<S: Stream + Drop> Spectator<S> {
         ensures answered { OnOk result (IsAnswered self.old self.new (pong_frame payload.now)) }
         ensures failed { OnErr result (Keeps self.old.written self.new.written) }
         ensures texts { self.new.texts ≡ self.old.texts }
+        ensures peer { self.new.peer ≡ self.old.peer }
         ensures standing { self.new.standing ≡ self.old.standing }
     {
         or_lost(self.outlet.pong(payload).is_ok())
@@ -224,6 +231,7 @@ impl<S: Stream + Drop> Spectator<S> {
         ensures passed { OnOk result (IsPassedOver self.old self.new bytes) }
         ensures failed { OnErr result (Keeps self.old.written self.new.written) }
         ensures texts { self.new.texts ≡ self.old.texts }
+        ensures peer { self.new.peer ≡ self.old.peer }
     {
         let unread = self
             .unread
@@ -249,6 +257,7 @@ impl<S: Stream + Drop> Spectator<S> {
         ensures failed { OnErr result (Keeps self.old.written self.new.written) }
         ensures gone { IsGone self.new.standing }
         ensures texts { self.new.texts ≡ self.old.texts }
+        ensures peer { self.new.peer ≡ self.old.peer }
     {
         leave(&mut self.state, ended, registry);
         self.puts_close(code)
@@ -261,8 +270,10 @@ impl<S: Stream + Drop> Spectator<S> {
     /// The device failed, or there was no memory.
     pub(crate) fn ping(&mut self) -> Result<(), Lost>
         ensures given { (f : FollowerSeat) → self.old.standing ≡ Following f → OnOk result (IsAnswered self.old self.new (ping_frame [])) }
+        ensures failed { OnErr result (Keeps self.old.written self.new.written) }
         ensures gone { IsGone self.old.standing → self.new ≡ self.old }
         ensures texts { self.new.texts ≡ self.old.texts }
+        ensures peer { self.new.peer ≡ self.old.peer }
         ensures standing { self.new.standing ≡ self.old.standing }
     {
         if self.has_ended() {
@@ -325,6 +336,7 @@ impl<S: Stream + Drop> Spectator<S> {
         ensures all { IfOk result (λ all. IsTrue all ↔ (self.new.kept ≡ [])) }
         ensures standing { self.new.standing ≡ self.old.standing }
         ensures texts { self.new.texts ≡ self.old.texts }
+        ensures peer { self.new.peer ≡ self.old.peer }
         ensures unread { self.new.unread ≡ self.old.unread }
     {
         self.outlet.send_some()
