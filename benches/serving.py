@@ -84,7 +84,8 @@ class Server:
         around = {**os.environ, "LD_PRELOAD": preloaded} if preloaded else None
         self.process = subprocess.Popen(words, stdout=subprocess.DEVNULL, stderr=open(f"{room}/{kind}.err", "w"), env=around)
         if not come_up({port}):
-            raise SystemExit(open(f"{room}/{kind}.err").read())
+            self.process.kill()
+            raise SystemExit(f"{kind} did not come up: " + open(f"{room}/{kind}.err").read())
 
     def stop(self):
         """Ends the server itself, and not what it runs under, which would let it go on."""

@@ -6,3 +6,4 @@ pub mod Told
 pub mod Owned
 pub mod Refusals
 pub mod Sendings
+pub mod Served

@@ -1,5 +1,5 @@
 -- Why one may not join a board.
-use Rattle.std.proofs.Common.{◌≡◌, ◌+◌, ◌<◌, ◌≤◌, ℕ, length, Option, None, Some, Err, refl, inl, inr, arith}
+use Rattle.std.proofs.Common.{◌+◌, ◌<◌, ◌≤◌, ℕ, length, Option, None, Some, Err, refl, inl, inr, arith}
 use Rattle.c960_game.specs.declared.refusal.Refusal.TheVariants.{NotYet, TooFarBack, TooManyFollowers}
 use Rattle.c960_game.proofs.KeptFacts.{opened_is_game}
 use Rattle.live_steps.specs.declared.view.View.{View}

@@ -1,6 +1,7 @@
 pub mod Broadcasting
 pub mod Dues
 pub mod Heads
+pub mod Hearing
 pub mod Holders
 pub mod Holding
 pub mod Keys
@@ -8,6 +9,7 @@ pub mod Lines
 pub mod Memory
 pub mod Opening
 pub mod Seating
+pub mod Served
 pub mod Showing
 pub mod Spectating
 pub mod Talking

@@ -1,6 +1,7 @@
 -- What a line was written, where its stream tells what that was written, and what its calls leave of what is kept back.
-use Rattle.std.specs.Prelude.{◌≡◌, ◌⊎◌, ℕ, List, [], take, drop, true, Option, Result}
-use Rattle.std.specs.Io.KnownBytes.{append_known, Appends, ReadConsumes}
+use Rattle.std.specs.Prelude.{◌≡◌, ◌<◌, ◌⊎◌, ◌++◌, ℕ, List, [], length, take, drop, true, Option, Result, MatchResult}
+use Rattle.std.specs.Io.KnownBytes.{append_known, Appends, Consumes, Keeps, ReadConsumes}
+use Rattle.relay_server.specs.Heads.{left}
 use Rattle.relay_server.specs.declared.line.Line.{Line}
 
 module _ {S : Type 0} where
@@ -24,3 +25,15 @@ module _ {S : Type 0} where
     pub before : S
     pub sends : Sends contents old before new.output.items
     pub reads : (new.stream ≡ before) ⊎ ((new.output.items ≡ []) × ReadConsumes (remaining before) (remaining new.stream) result buf)
+
+  -- These bytes came: the next of those that came behind the head, and the stream was let alone; or, where none of them is left, the next of
+  -- the stream.
+  abbrev pub Came : (S → Option (List ℕ)) → Line S → Line S → List ℕ → Type 0
+  Came remaining old new bytes =
+      ((left old.head ≡ bytes ++ left new.head) × (new.stream ≡ old.stream))
+      ⊎ ((left old.head ≡ []) × (left new.head ≡ []) × Consumes (remaining old.stream) (remaining new.stream) bytes)
+
+  -- a read gave what came, each byte once; and where it failed, nothing was lost
+  abbrev pub ReadsOn : {E : Type 0} → (S → Option (List ℕ)) → Line S → Line S → Result ℕ E → List ℕ → Type 0
+  ReadsOn remaining old new result buf =
+      MatchResult result (λ n. 0 < length buf → Came remaining old new (take n buf)) (λ _. (left new.head ≡ left old.head) × Keeps (remaining old.stream) (remaining new.stream))

@@ -1,5 +1,5 @@
 -- What the connection of a follower is sent: what the follower takes.
-use Rattle.std.specs.Prelude.{◌≡◌, ◌+◌, ◌≤◌, ℕ, List, [], ◌∷◌, ◌++◌, length, Option, Some, None, IsSomeAnd, ⊤}
+use Rattle.std.specs.Prelude.{◌≡◌, ◌+◌, ◌≤◌, ℕ, List, [], ◌∷◌, ◌++◌, length, Option, Some, None, IsSomeAnd, ⊤, Bool, if◌then◌else◌}
 use Rattle.c960_board.specs.declared.parts.Parts.{Parts}
 use Rattle.c960_board.specs.Moves.{Triple}
 use Rattle.c960_game.specs.Positions.{last_position}
@@ -76,6 +76,13 @@ abbrev pub session_end : PushEnd → SessionEnd
 session_end (Over outcome) = ends.Over
 session_end Cut = ends.Cut
 session_end (Failed fault) = ends.Failed
+
+-- the code of the close behind pushing that ended so, if one is sent: a normal end, or that the server goes away, behind the game's end, and
+-- the server's own behind a cut
+abbrev pub close_code : Bool → PushEnd → Option ℕ
+close_code is_ending (Over outcome) = Some (if is_ending then 1001 else 1000)
+close_code is_ending Cut = Some 4001
+close_code is_ending (Failed fault) = None
 
 -- the session ended as its pushing did, and was sent what the follower took: these texts came behind those before
 abbrev pub Pushed : FollowerSeat → FollowerSeat → List (List ℕ) → List (List ℕ) → SessionEnd → Type 0

@@ -18,6 +18,7 @@ use crate::places::Places;
 use c960_board::{Move, Position};
 use c960_game::{Ending, Limits, Outcome, Refusal, Replaying};
 use live_board::{Board, Follower};
+use once_cell::race::OnceBox;
 use relay_core::BoardName;
 use relay_messages::BoardSummary;
 use relay_pushing::Bell;
@@ -36,6 +37,8 @@ pub(crate) struct Broadcast {
     lookouts: Arc<Vec<Arc<Lookout, Global>>, Global>,
     /// The places of its followers: who comes to a full board is refused without the search for a place behind the lock.
     places: Places,
+    /// The loops in which it is followed, once it is.
+    loops: OnceBox<Arc<Vec<Arc<Lookout, Global>>, Global>>,
     board: Mutex<Board>,
 }
 
@@ -65,6 +68,7 @@ impl Broadcast {
             owner,
             lookouts,
             places: Places::new(limits.followers()),
+            loops: OnceBox::new(alloc),
             board: Mutex::new(board),
         })
     }
@@ -180,12 +184,38 @@ impl Broadcast {
 
     /// Whether anybody may have to be woken where it is rung for.
     pub(crate) fn has_sleepers(&self) -> bool {
-        self.chime.has_sleepers() || !self.lookouts.is_empty()
+        self.chime.has_sleepers() || self.loops.get().is_some() || !self.lookouts.is_empty()
     }
 
-    /// Wakes all who sleep until it is rung for, and all who look at it.
+    /// From now on these loops are woken where the board is rung for, unless others are.
+    ///
+    /// # Errors
+    ///
+    /// There was no memory.
+    pub(crate) fn is_followed_in(
+        &self,
+        alloc: Global,
+        loops: &Arc<Vec<Arc<Lookout, Global>>, Global>,
+    ) -> Result<(), AllocError> {
+        if self.loops.get().is_some() {
+            return Ok(());
+        }
+        let Ok(loops) = Arc::try_clone(loops) else {
+            return Err(AllocError);
+        };
+        // Another thread may have been quicker, with the same ones.
+        let _ = self.loops.set(Box::new(alloc, loops)?);
+        Ok(())
+    }
+
+    /// Wakes all who sleep until it is rung for, the loops in which it is followed, and all who look at it.
     pub(crate) fn wake(&self) {
         self.chime.wake();
+        if let Some(loops) = self.loops.get() {
+            for lookout in loops.iter() {
+                lookout.wake();
+            }
+        }
         for lookout in self.lookouts.iter() {
             lookout.wake();
         }

@@ -1,5 +1,7 @@
 //! A stream whose reads are interrupted where the server goes away: serving is to end, or patience with the peer is over.
 
+ghost use Rattle.std.specs.Prelude.{◌≡◌};
+
 use crate::deadline::Deadline;
 use crate::outlet::is_silence;
 use crate::patience::Patience;
@@ -49,6 +51,14 @@ impl<'a, S: Stream, C: Clock> Interruptible<'a, S, C> {
             turn: None,
             has_ended: false,
         }
+    }
+
+    /// The stream alone.
+    pub(crate) fn into_inner(self) -> S
+        ensures { result ≡ self.entry.stream }
+    {
+        let Interruptible { stream, .. } = self;
+        stream
     }
 
     /// Whether reads fail, since the server goes away.

@@ -1,6 +1,9 @@
 //! Sessions of a relay over WebSocket (RFC 6455), a thread for each connection.
 #![tactic(auto)]
 
+mod audience;
+mod balcony;
+mod balcony_loop;
 mod board_map;
 mod boards;
 mod broadcast;
@@ -10,6 +13,7 @@ mod deadline;
 mod door;
 mod drain;
 mod ending;
+mod gallery;
 mod gates;
 mod grace;
 mod hall;
@@ -24,20 +28,26 @@ mod outlet;
 mod patience;
 mod places;
 mod presence;
+mod ready;
 mod registry;
 mod request;
 mod scribe;
 mod seat;
+mod seated;
 mod serving;
 mod sessions;
 mod shown;
+mod since;
 mod socket;
 mod spectating;
+mod spectator;
+mod spectators;
 mod stream;
 mod talk;
 mod texts;
 mod threads;
 mod wakes;
+mod wire;
 
 pub use gates::OpenGate;
 pub use lookout::Lookout;

@@ -1,10 +1,10 @@
 //! A stream that puts off what need not be done before its peer is waited for.
 
-ghost use Rattle.std.specs.Prelude.{◌≡◌, ◌+◌, ◌≤◌, ◌<◌, ◌⊎◌, true, false, [], None, Some, is_some, length, take, drop, vec_capacity, vec_len, IfOk, OnOk, OnErr, IsErr};
+ghost use Rattle.std.specs.Prelude.{◌≡◌, ◌+◌, ◌≤◌, ◌<◌, ◌⊎◌, ◌↔◌, IsTrue, true, false, [], None, Some, is_some, length, take, drop, vec_capacity, vec_len, IfOk, OnOk, OnErr, IsErr};
 ghost use Rattle.std.specs.Io.{ReadsAtMost, WritesAtMost};
 ghost use Rattle.std.specs.Io.KnownBytes.{Appends, Keeps, ReadConsumes, WriteAppends};
 ghost use Rattle.relay_server.specs.Heads.{left};
-ghost use Rattle.relay_server.specs.Lines.{IsSilent, ReadsLast, Sends, written};
+ghost use Rattle.relay_server.specs.Lines.{IsSilent, ReadsLast, ReadsOn, Sends, written};
 
 use crate::broadcast::Broadcast;
 use crate::head::Head;
@@ -16,7 +16,7 @@ use std::io::{ErrorKind, Read, Write};
 use std::sync::Arc;
 use std::time::Duration;
 
-/// How many bytes of output are kept back at most, beside the last piece written.
+/// How many bytes of output are kept back at most for a stream that waits, beside the last piece written.
 const MOST_OUTPUT: usize = 16384;
 
 /// How many bytes of room stay for output where nothing is kept back.
@@ -33,6 +33,8 @@ pub(crate) struct Line<S> {
     stream: S,
     head: Head,
     output: Vec<u8>,
+    /// How many bytes of output are kept back at most, beside the last piece written.
+    most_output: usize,
     /// Whether the stream failed. Nothing is sent any more.
     has_failed: bool,
     /// Whether the stream took less than it was offered last.
@@ -57,6 +59,7 @@ impl<S: Read + Write> Line<S> {
             stream,
             head,
             output: answer,
+            most_output: MOST_OUTPUT,
             has_failed: false,
             is_stuck: false,
             wakes: Wakes::new(most_wakes),
@@ -199,7 +202,7 @@ impl<S: Read + Write> Line<S> {
         ensures silent { self.old.has_failed ≡ true → IsErr result × IsSilent self.old self.new }
         ensures front { Sends S.contents self.old self.new.stream self.new.output.items }
     {
-        if self.has_failed || self.output.len() > MOST_OUTPUT {
+        if self.has_failed || self.output.len() > self.most_output {
             self.send_now()
         } else {
             Ok(())
@@ -228,6 +231,130 @@ impl<S: Read + Write> Line<S> {
         match self.output.extend_from_slice(bytes) {
             Ok(()) => Ok(()),
             Err(_) => Err(io::Error::from(ErrorKind::OutOfMemory)),
+        }
+    }
+}
+
+impl<S: Read + Write> Line<S> {
+    /// Whether the stream failed before.
+    fn failed_before(&self) -> bool
+        ensures { result ≡ self.now.has_failed }
+    {
+        self.has_failed
+    }
+
+    /// Sends of what was kept back as much as a stream takes that does not wait. Whether nothing is kept back any more is told.
+    ///
+    /// # Errors
+    ///
+    /// The stream failed, now or before. What it did not take is still kept back.
+    pub(crate) fn send_some(&mut self) -> io::Result<bool>
+        ensures bytes { Keeps (written S.contents self.old) (written S.contents self.new) }
+        ensures all { IfOk result (λ all. IsTrue all ↔ (self.new.output.items ≡ [])) }
+        ensures failed { OnErr result (self.new.has_failed ≡ true) }
+        ensures silent { self.old.has_failed ≡ true → IsErr result × IsSilent self.old self.new }
+        ensures front { Sends S.contents self.old self.new.stream self.new.output.items }
+        ensures wakes { self.new.wakes ≡ self.old.wakes }
+    {
+        if self.failed_before() {
+            return Err(io::Error::from(ErrorKind::BrokenPipe));
+        }
+        match self.send_output() {
+            Err(error) if error.kind() != ErrorKind::WouldBlock => {
+                self.has_failed = true;
+                Err(error)
+            }
+            _ => Ok(self.output.is_empty()),
+        }
+    }
+
+    /// Reads what came behind the head in the same pieces, and then the stream. Nothing is sent before.
+    ///
+    /// # Errors
+    ///
+    /// As the stream's.
+    pub(crate) fn read_on(&mut self, buf: &mut [u8]) -> io::Result<usize>
+        ensures bound { ReadsAtMost result buf.new }
+        ensures next { ReadsOn S.remaining self.old self.new result buf.new }
+        ensures output { self.new.output ≡ self.old.output }
+        ensures wakes { self.new.wakes ≡ self.old.wakes }
+    {
+        let given = self.head.give(buf);
+        if given > 0 {
+            return Ok(given);
+        }
+        self.head.let_go();
+        read_some(&mut self.stream, buf)
+    }
+
+    /// How many bytes are kept back.
+    pub(crate) fn kept(&self) -> usize
+        ensures { result ≡ length self.now.output.items }
+    {
+        self.output.len()
+    }
+
+    /// The stream, and the line without it, for another stream that takes its place.
+    pub(crate) fn unplugged(self) -> (S, Line<()>)
+        ensures stream { result.0 ≡ self.stream }
+        ensures output { result.1.output.items ≡ self.output.items }
+        ensures behind { left result.1.head ≡ left self.head }
+        ensures failed { result.1.has_failed ≡ self.has_failed }
+        ensures wakes { result.1.wakes ≡ self.wakes }
+    {
+        let Line {
+            alloc,
+            stream,
+            head,
+            output,
+            most_output,
+            has_failed,
+            is_stuck,
+            wakes,
+        } = self;
+        let line = Line {
+            alloc,
+            stream: (),
+            head,
+            output,
+            most_output,
+            has_failed,
+            is_stuck,
+            wakes,
+        };
+        (stream, line)
+    }
+}
+
+impl Line<()> {
+    /// The same line over this stream, which does not wait: what it keeps back, however much, is sent by `send_some` alone.
+    pub(crate) fn onto<S>(self, stream: S) -> Line<S>
+        ensures stream { result.stream ≡ stream }
+        ensures output { result.output.items ≡ self.output.items }
+        ensures behind { left result.head ≡ left self.head }
+        ensures failed { result.has_failed ≡ self.has_failed }
+        ensures unbounded { result.most_output ≡ usize.MAX }
+        ensures wakes { result.wakes ≡ self.wakes }
+    {
+        let Line {
+            alloc,
+            stream: _,
+            head,
+            output,
+            most_output: _,
+            has_failed,
+            is_stuck,
+            wakes,
+        } = self;
+        Line {
+            alloc,
+            stream,
+            head,
+            output,
+            most_output: usize::MAX,
+            has_failed,
+            is_stuck,
+            wakes,
         }
     }
 }

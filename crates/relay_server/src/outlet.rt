@@ -1,14 +1,17 @@
 //! The outlet over a WebSocket.
 
-ghost use Rattle.std.specs.Prelude.{◌≡◌, [], ◌∷◌, ◌++◌, ◌≤◌, None, Some, Err, true, false, is_some, length, IfOk, OnOk, OnErr};
-ghost use Rattle.std.specs.Io.KnownBytes.{Appends};
+ghost use Rattle.std.specs.Prelude.{◌≡◌, [], ◌∷◌, ◌++◌, ◌≤◌, ◌<◌, ◌↔◌, IsTrue, None, Some, Err, true, false, is_some, length, option_map, IfOk, OnOk, OnErr, if◌then◌else◌};
+ghost use Rattle.std.specs.Io.KnownBytes.{Appends, Keeps};
 ghost use Rattle.relay_frames.specs.Breaches.{code_of};
-ghost use Rattle.relay_frames.specs.Events.{number_of};
-ghost use Rattle.relay_frames.specs.Frames.{close_frame, text_frame};
+ghost use Rattle.relay_frames.specs.Events.{number_of, told};
+ghost use Rattle.relay_frames.specs.Frames.{close_frame, ping_frame, pong_frame, text_frame};
+ghost use Rattle.relay_frames.specs.Reading.{is_midway, next_step};
 ghost use Rattle.relay_pushing.specs.Sending.{Counts};
 ghost use Rattle.relay_pushing.specs.declared.outlet.SendFault.TheVariants.{Device};
 ghost use Rattle.relay_server.specs.Dues.{IsStillDue};
-ghost use Rattle.relay_server.specs.Lines.{written as line_written};
+ghost use Rattle.relay_server.specs.Heads.{left};
+ghost use Rattle.relay_server.specs.Hearing.{TakesIn};
+ghost use Rattle.relay_server.specs.Lines.{Sends, written as line_written};
 ghost use Rattle.relay_server.specs.Memory.{IsToldOf};
 
 use crate::broadcast::Broadcast;
@@ -20,7 +23,7 @@ use crate::stream::Stream;
 use crate::texts::Texts;
 use relay_frames::{Breach, Code, Event, Peer, outgoing};
 use relay_pushing::{Outlet, SendFault};
-use std::alloc::Global;
+use std::alloc::{AllocError, Global};
 use std::io;
 use std::io::{ErrorKind, Read, Write};
 use std::sync::Arc;
@@ -39,6 +42,9 @@ const MOST_HALF_SECONDS: u64 = 10;
 /// How many bytes one read of the stream asks for.
 const READ_BYTES: usize = 4096;
 
+/// How many bytes are kept back at least for one that is pushed to by turns, before it has no room.
+const ROOM_BYTES: usize = 4096;
+
 /// An outlet over a WebSocket, from the end of its handshake on. It tells the texts whose frames it put into the line.
 #[derive(Drop)]
 pub(crate) struct SocketOutlet<S> {
@@ -49,6 +55,8 @@ pub(crate) struct SocketOutlet<S> {
     due: Option<Deadline>,
     /// Whether that message comes in fragments: what stands between them is none.
     is_in_fragments: bool,
+    /// How many bytes may be kept back where there is room for a text more.
+    room: usize,
     failures: u64,
     texts: Texts,
 }
@@ -66,6 +74,7 @@ impl<S: Read + Write + Drop> SocketOutlet<S> {
             peer: Peer::new(alloc),
             due: None,
             is_in_fragments: false,
+            room: ROOM_BYTES,
             failures: 0,
             texts: Texts::new(),
         }
@@ -89,7 +98,10 @@ impl<S: Read + Write + Drop> SocketOutlet<S> {
     }
 
     /// Writes a ping (RFC 6455, section 5.5.2). It leaves before the next read waits.
-    fn ping(&mut self) -> Result<(), Error>
+    pub(crate) fn ping(&mut self) -> Result<(), Error>
+        ensures given { OnOk result (Appends (line_written S.contents self.old.line) (line_written S.contents self.new.line) (ping_frame [])) }
+        ensures ungiven { OnErr result (Keeps (line_written S.contents self.old.line) (line_written S.contents self.new.line)) }
+        ensures peer { self.new.peer ≡ self.old.peer }
         ensures texts { self.new.texts ≡ self.old.texts }
         ensures due { self.new.due ≡ self.old.due }
     {
@@ -105,7 +117,10 @@ impl<S: Read + Write + Drop> SocketOutlet<S> {
     ///
     /// The line took no more, or there was no memory.
     pub(crate) fn pong(&mut self, payload: &[u8]) -> Result<(), Error>
-        ensures { self.new.texts ≡ self.old.texts }
+        ensures given { OnOk result (Appends (line_written S.contents self.old.line) (line_written S.contents self.new.line) (pong_frame payload.now)) }
+        ensures ungiven { OnErr result (Keeps (line_written S.contents self.old.line) (line_written S.contents self.new.line)) }
+        ensures peer { self.new.peer ≡ self.old.peer }
+        ensures texts { self.new.texts ≡ self.old.texts }
     {
         let mut frame = Vec::new(self.alloc);
         outgoing::pong(payload, &mut frame)?;
@@ -152,6 +167,8 @@ impl<S: Read + Write + Drop> SocketOutlet<S> {
     /// The line took no more, or there was no memory.
     pub(crate) fn put_close(&mut self, code: Option<Code>) -> Result<(), Error>
         ensures given { OnOk result (Appends (line_written S.contents self.old.line) (line_written S.contents self.new.line) (close_frame (number_of code))) }
+        ensures ungiven { OnErr result (Keeps (line_written S.contents self.old.line) (line_written S.contents self.new.line)) }
+        ensures peer { self.new.peer ≡ self.old.peer }
         ensures texts { self.new.texts ≡ self.old.texts }
         ensures failures { self.new.failures ≡ self.old.failures }
     {
@@ -208,7 +225,157 @@ impl<S: Read + Write + Drop> SocketOutlet<S> {
     }
 }
 
+impl<S: Read + Write + Drop> SocketOutlet<S> {
+    /// Reads a stream once that does not wait, and feeds the peer's reader what came. How many bytes came is told.
+    ///
+    /// # Errors
+    ///
+    /// The stream failed, or there was no memory.
+    pub(crate) fn take_in(&mut self) -> io::Result<usize>
+        ensures came { IfOk result (λ n. TakesIn S.remaining self.old self.new n) }
+        ensures kept { self.new.line.output ≡ self.old.line.output }
+        ensures texts { self.new.texts ≡ self.old.texts }
+    {
+        let mut piece = [0; READ_BYTES];
+        let n = self.line.read_on(&mut piece)?;
+        match self.peer.feed(&piece[..n]) {
+            Ok(()) => Ok(n),
+            Err(_) => Err(io::Error::from(ErrorKind::OutOfMemory)),
+        }
+    }
+
+    /// What the bytes say next that were read, if they say anything.
+    ///
+    /// # Errors
+    ///
+    /// There was no memory. Then nothing has changed.
+    pub(crate) fn heard_next(&mut self) -> Result<Option<Event>, AllocError>
+        ensures told { IfOk result (λ event. option_map told event ≡ (next_step self.old.peer).told) }
+        ensures then { OnOk result (self.new.peer ≡ (next_step self.old.peer).then) }
+        ensures unchanged { OnErr result (self.new.peer ≡ self.old.peer) }
+        ensures line { self.new.line ≡ self.old.line }
+        ensures texts { self.new.texts ≡ self.old.texts }
+    {
+        self.peer.next()
+    }
+
+    /// Whether the peer is in the middle of a message.
+    pub(crate) fn is_midway(&self) -> bool
+        ensures { result ≡ is_midway self.now.peer }
+    {
+        self.peer.is_midway()
+    }
+
+    /// Sends of what was kept back as much as a stream takes that does not wait. Whether nothing is kept back any more is told.
+    ///
+    /// # Errors
+    ///
+    /// The stream failed, now or before. What it did not take is still kept back.
+    pub(crate) fn send_some(&mut self) -> io::Result<bool>
+        ensures bytes { Keeps (line_written S.contents self.old.line) (line_written S.contents self.new.line) }
+        ensures all { IfOk result (λ all. IsTrue all ↔ (self.new.line.output.items ≡ [])) }
+        ensures front { Sends S.contents self.old.line self.new.line.stream self.new.line.output.items }
+        ensures peer { self.new.peer ≡ self.old.peer }
+        ensures texts { self.new.texts ≡ self.old.texts }
+    {
+        self.line.send_some()
+    }
+
+    /// How many bytes are kept back.
+    pub(crate) fn kept(&self) -> usize
+        ensures { result ≡ length self.now.line.output.items }
+    {
+        self.line.kept()
+    }
+
+    /// From now on there is room for a text more, however much is kept back, or there is only where that is little.
+    pub(crate) fn lift(&mut self, is_lifted: bool)
+        ensures room { self.new.room ≡ if is_lifted then usize.MAX else 4096 }
+        ensures peer { self.new.peer ≡ self.old.peer }
+        ensures line { self.new.line ≡ self.old.line }
+        ensures texts { self.new.texts ≡ self.old.texts }
+    {
+        self.room = if is_lifted { usize::MAX } else { ROOM_BYTES };
+    }
+
+    /// The stream, and the outlet without it, for another stream that takes its place.
+    pub(crate) fn unplugged(self) -> (S, SocketOutlet<()>)
+        ensures stream { result.0 ≡ self.line.stream }
+        ensures kept { result.1.line.output.items ≡ self.line.output.items }
+        ensures behind { left result.1.line.head ≡ left self.line.head }
+        ensures failed { result.1.line.has_failed ≡ self.line.has_failed }
+        ensures peer { result.1.peer ≡ self.peer }
+        ensures failures { result.1.failures ≡ self.failures }
+        ensures texts { result.1.texts ≡ self.texts }
+    {
+        let SocketOutlet {
+            alloc,
+            line,
+            peer,
+            due,
+            is_in_fragments,
+            room,
+            failures,
+            texts,
+        } = self;
+        let (stream, line) = line.unplugged();
+        let outlet = SocketOutlet {
+            alloc,
+            line,
+            peer,
+            due,
+            is_in_fragments,
+            room,
+            failures,
+            texts,
+        };
+        (stream, outlet)
+    }
+}
+
+impl SocketOutlet<()> {
+    /// The same outlet over this stream, which does not wait.
+    pub(crate) fn onto<S>(self, stream: S) -> SocketOutlet<S>
+        ensures stream { result.line.stream ≡ stream }
+        ensures kept { result.line.output.items ≡ self.line.output.items }
+        ensures behind { left result.line.head ≡ left self.line.head }
+        ensures failed { result.line.has_failed ≡ self.line.has_failed }
+        ensures unbounded { result.line.most_output ≡ usize.MAX }
+        ensures peer { result.peer ≡ self.peer }
+        ensures failures { result.failures ≡ self.failures }
+        ensures texts { result.texts ≡ self.texts }
+    {
+        let SocketOutlet {
+            alloc,
+            line,
+            peer,
+            due,
+            is_in_fragments,
+            room,
+            failures,
+            texts,
+        } = self;
+        SocketOutlet {
+            alloc,
+            line: line.onto(stream),
+            peer,
+            due,
+            is_in_fragments,
+            room,
+            failures,
+            texts,
+        }
+    }
+}
+
 impl<S: Stream + Drop> SocketOutlet<S> {
+    /// Ends the output of a stream that does not wait, to which all was written.
+    pub(crate) fn end_output(&mut self)
+        ensures { self.new.texts ≡ self.old.texts }
+    {
+        let _ = self.line.end_output();
+    }
+
     /// What the peer says next, but for fragments: what they say is told with the last one.
     ///
     /// # Errors
@@ -296,6 +463,13 @@ impl<S: Read + Write + Drop> Outlet for SocketOutlet<S> {
     ghost sent = { λ s. Some s.texts.items };
 
     ghost failures = { λ s. s.failures };
+
+    /// Who waits for room while it sends need not ask.
+    fn has_room(&self) -> bool
+        ensures { IsTrue result ↔ (length self.now.line.output.items < self.now.room) }
+    {
+        self.line.kept() < self.room
+    }
 
     fn send(&mut self, text: &str) -> Result<(), SendFault> {
         let done = self.hand_over(text);

@@ -408,6 +408,13 @@ impl Registry {
         (self.limits.capacity() / 4).max(1)
     }
 
+    /// How many moves of its board's log a follower may lie behind.
+    pub(crate) fn capacity(&self) -> u64
+        ensures { result ≡ self.now.capacity }
+    {
+        u64::from(self.limits.capacity())
+    }
+
     /// No board, for a connection that keeps those that it opens.
     pub(crate) fn no_boards(&self) -> BoardMap
         ensures { result.map.entries ≡ [] }

@@ -1,6 +1,6 @@
 //! What a connection asks of the registry: it keeps the boards for the connection's commands.
 
-ghost use Rattle.std.specs.Prelude.{◌≡◌, ◌⊎◌, true, None, is_some, IfErr, IfOk};
+ghost use Rattle.std.specs.Prelude.{◌≡◌, ◌⊎◌, true, None, is_some, option_map, IfErr, IfOk};
 ghost use Rattle.std.specs.Arc.{arc_value};
 ghost use Rattle.relay_core.specs.Name.{same_name};
 ghost use Rattle.relay_server.specs.Seating.{EndReply, FollowReply, OpenReply, Replies, SubmitReply, told};
@@ -102,6 +102,21 @@ impl<'a, R: Wait> Seat<'a, R> {
             spectating.leave();
             registry.unfollows();
         }
+    }
+
+    /// Parts with what the connection follows, which it is then up to somebody else to leave. Who is still asleep is woken.
+    pub(crate) fn part(self) -> Option<Spectating>
+        ensures { option_map (λ s. s.source) result ≡ self.entry.follower }
+    {
+        let Seat {
+            spectating,
+            rung,
+            ..
+        } = self;
+        if let Some(rung) = &rung {
+            rung.wake();
+        }
+        spectating
     }
 
     /// The board of a name: the connection's own, or else the registry's.

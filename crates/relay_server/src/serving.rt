@@ -2,18 +2,20 @@
 
 ghost use Rattle.std.specs.Prelude.{◌≡◌, ◌≤◌, ◌<◌, ◌+◌, IfSome, false, true};
 
+use crate::deadline::Deadline;
 use crate::door::{Door, Newcomer, turn_away};
 use crate::ending::watch_input;
+use crate::gallery::{Connection, Gallery, start_gallery};
 use crate::grace::Grace;
 use crate::interruptible::Interruptible;
 use crate::patience::Patience;
 use crate::registry::Registry;
 use crate::scribe::Scribe;
-use crate::sessions::{Arrival, SessionEnd, attend, come};
+use crate::sessions::{Arrival, SessionEnd, attend_or_hand_over, come};
 use crate::socket::Socket;
 use crate::threads::{Running, Shared, join_all, join_ended, join_until_due, join_until_ending};
 use relay_pushing::Gate;
-use std::alloc::Global;
+use std::alloc::{AllocError, Global};
 use std::io;
 use std::io::StdinLock;
 use std::net::{Net, TcpListener, TcpStream};
@@ -54,6 +56,10 @@ struct Reception<'a, R, G> {
     registry: &'a Arc<Registry, Global>,
     gate: &'a Arc<G, Global>,
     door: Door,
+    /// Where those go who follow, if there is such a place.
+    gallery: Option<Arc<Gallery, Global>>,
+    /// The threads of its loops.
+    loops: Vec<Running>,
     running: Vec<Running>,
     /// How many connections were met with, or how often that failed.
     met: u32,
@@ -103,12 +109,15 @@ where
     }
     let scribe = Scribe::start(rt, registry);
     let grace = Grace::start(rt, registry);
+    let (gallery, loops) = start_gallery(rt, alloc, registry);
     let mut reception = Reception {
         rt,
         alloc,
         registry,
         gate,
         door: Door::new(listener),
+        gallery,
+        loops,
         running: Vec::new(alloc),
         met: 0,
         failed: 0,
@@ -256,6 +265,7 @@ where
             self.alloc,
             self.registry,
             self.gate,
+            &self.gallery,
             self.accepted,
             &shared,
             &mut self.running,
@@ -278,6 +288,8 @@ where
             rt,
             registry,
             door,
+            gallery,
+            loops,
             running,
             met,
             failed,
@@ -288,14 +300,16 @@ where
         grace.end(registry);
         if until_input_ends {
             let running = join_until_ending(rt, registry, running);
-            join_until_due(
-                rt,
-                registry,
-                running,
-                Duration::from_secs(MOST_LEAVING_SECONDS),
-            );
+            close_gallery(&gallery);
+            let loops = join_until_ending(rt, registry, loops);
+            if let Ok(deadline) = Deadline::after(rt, Duration::from_secs(MOST_LEAVING_SECONDS)) {
+                join_until_due(rt, registry, running, &deadline);
+                join_until_due(rt, registry, loops, &deadline);
+            }
         } else {
             join_all(rt, running);
+            close_gallery(&gallery);
+            join_all(rt, loops);
         }
         grace.join(rt);
         scribe.end(rt, registry);
@@ -306,6 +320,13 @@ where
     }
 }
 
+/// Nobody follows any more but those who are there.
+fn close_gallery(gallery: &Option<Arc<Gallery, Global>>) {
+    if let Some(gallery) = gallery {
+        gallery.close();
+    }
+}
+
 /// Takes the connection that a thread was given, reads its request and answers it.
 fn come_in<'a, R: Wait + Clock>(
     own: &'a R,
@@ -313,7 +334,7 @@ fn come_in<'a, R: Wait + Clock>(
     registry: &'a Registry,
     patience: &'a Patience,
     shared: &Shared,
-) -> Result<Arrival<Interruptible<'a, Socket<'a, R>, R>>, SessionEnd> {
+) -> Result<Arrival<Connection<'a, R>>, SessionEnd> {
     let Some(stream) = shared.take(own) else {
         return Err(SessionEnd::Failed);
     };
@@ -324,12 +345,30 @@ fn come_in<'a, R: Wait + Clock>(
     come(own, alloc, registry, stream)
 }
 
+/// The gallery, if there is one, for one more thread.
+///
+/// # Errors
+///
+/// There was no memory.
+fn share(
+    gallery: &Option<Arc<Gallery, Global>>,
+) -> Result<Option<Arc<Gallery, Global>>, AllocError> {
+    match gallery {
+        Some(gallery) => match Arc::try_clone(gallery) {
+            Ok(gallery) => Ok(Some(gallery)),
+            Err(_) => Err(AllocError),
+        },
+        None => Ok(None),
+    }
+}
+
 /// Starts a thread for the session of a connection.
 fn spawn<R, G>(
     rt: &R,
     alloc: Global,
     registry: &Arc<Registry, Global>,
     gate: &Arc<G, Global>,
+    gallery: &Option<Arc<Gallery, Global>>,
     connection: u32,
     shared: &Arc<Shared, Global>,
     running: &mut Vec<Running>,
@@ -345,6 +384,7 @@ where
     let of_thread = Arc::try_clone(shared).ok()?;
     let of_running = Arc::try_clone(shared).ok()?;
     let coming = Arc::try_clone(&registry).ok()?;
+    let gallery = share(gallery).ok()?;
     coming.comes();
     let started = Builder::new()
         .stack_size(STACK_BYTES)
@@ -352,17 +392,15 @@ where
             let patience = registry.patience();
             let arrival = come_in(&own, alloc, &registry, &patience, &*of_thread);
             registry.has_come();
-            let end = match arrival {
-                Ok(arrival) => attend(
-                    &own, alloc, &registry, connection, arrival, &*gate, &patience,
+            match arrival {
+                Ok(arrival) => attend_or_hand_over(
+                    &own, alloc, &registry, connection, arrival, &*gate, &patience, &gallery,
                 ),
-                Err(end) => end,
-            };
-            registry.goes();
+                Err(_) => registry.goes(),
+            }
             of_thread.has_ended.store(true, Ordering::SeqCst);
             registry.ended.ring();
             registry.ended.wake();
-            end
         })
         .ok();
     let Some(handle) = started else {

@@ -8,9 +8,11 @@ ghost use Rattle.relay_server.specs.Heads.{left};
 ghost use Rattle.relay_server.specs.Lines.{written as line_written};
 ghost use Rattle.relay_server.specs.Memory.{LacksMemory};
 ghost use Rattle.relay_server.specs.Seating.{Replies};
-ghost use Rattle.relay_server.specs.Spectating.{Conversed, Followed, Pushed};
+ghost use Rattle.relay_server.specs.Spectating.{Conversed, Followed, HasBeenTold, Pushed};
+ghost use Rattle.relay_server.specs.Talking.{TalkEnds};
 
 use crate::chronicle::What;
+use crate::gallery::{Connection, Gallery, hand_over};
 use crate::head::Head;
 use crate::key::Key;
 use crate::line::Line;
@@ -27,7 +29,7 @@ use relay_frames::Acceptance;
 use relay_pushing::{Conn, Gate, Outlet, PushEnd};
 use std::alloc::{AllocError, Global};
 use std::io::{Read, Write};
-use std::sync::Wait;
+use std::sync::{Arc, Wait};
 use std::time::{Clock, Duration};
 use tungstenite::Error;
 
@@ -59,7 +61,7 @@ const NORMAL: u16 = 1000;
 const GOING_AWAY: u16 = 1001;
 
 /// The close code after `Cut`: this server's own, of those for private use (RFC 6455, section 7.4.2).
-const CUT_OFF: u16 = 4001;
+pub(crate) const CUT_OFF: u16 = 4001;
 
 /// One connection from its handshake to its end: it answers commands, and once it follows a board, pushes that board's moves and is
 /// read no more. The request's head may have 8,192 bytes and take 10 seconds; a request that is refused is answered with its status.
@@ -107,38 +109,95 @@ pub(crate) fn come<R: Wait + Clock, S: Stream + Drop>(
 }
 
 /// Answers a connection that has come, to its end.
-pub(crate) fn attend<'a, R: Wait + Clock, S: Stream + Drop, G: Gate>(
+fn attend<'a, 'g, R: Wait + Clock, S: Stream + Drop, G: Gate>(
     rt: &'a R,
     alloc: Global,
     registry: &'a Registry,
     connection: u32,
     arrival: Arrival<S>,
-    gate: &G,
-    patience: &Patience,
+    gate: &'g G,
+    patience: &'g Patience,
 ) -> SessionEnd {
     let Arrival { outlet, key } = arrival;
-    let mut talk = Talk {
-        alloc,
-        connection,
-        outlet,
-        conn: Conn::new(alloc),
-        seat: Seat::new(rt, registry, key),
-        gate,
-        is_open: false,
-        patience,
-        is_owner: false,
-    };
+    let seat = Seat::new(rt, registry, key);
+    let mut talk = Talk::new(alloc, connection, outlet, seat, gate, patience);
     let end = converse(rt, &mut talk);
     let Talk {
-        mut outlet,
+        outlet,
         conn,
-        mut seat,
+        seat,
         ..
     } = talk;
+    end_session(rt, registry, outlet, conn, seat, &key, end)
+}
+
+/// Answers a connection that has come, until it follows or to its end. Where it follows it is handed over to a loop, if one takes it.
+pub(crate) fn attend_or_hand_over<'a, 'g, R: Wait + Clock, G: Gate>(
+    rt: &'a R,
+    alloc: Global,
+    registry: &'a Registry,
+    connection: u32,
+    arrival: Arrival<Connection<'a, R>>,
+    gate: &'g G,
+    patience: &'g Patience,
+    gallery: &Option<Arc<Gallery, Global>>,
+) {
+    let Arrival { outlet, key } = arrival;
+    let seat = Seat::new(rt, registry, key);
+    let mut talk = Talk::new(alloc, connection, outlet, seat, gate, patience);
+    let talked = talk.run(rt);
+    if let (TalkEnd::Follows, Some(gallery)) = (talked, gallery) {
+        // It has opened no board, so that none is to be ended behind it.
+        let Talk { outlet, seat, .. } = talk;
+        follow_in_loop(rt, alloc, registry, gallery, outlet, seat, &key);
+        return;
+    }
+    let end = conclude(rt, &mut talk, talked);
+    let Talk {
+        outlet,
+        conn,
+        seat,
+        ..
+    } = talk;
+    let _ = end_session(rt, registry, outlet, conn, seat, &key, end);
+    registry.goes();
+}
+
+/// Hands a connection that follows over to a loop. Where none takes it, the board's moves are pushed to it here.
+fn follow_in_loop<'a, R: Wait + Clock>(
+    rt: &'a R,
+    alloc: Global,
+    registry: &'a Registry,
+    gallery: &Gallery,
+    outlet: SocketOutlet<Connection<'a, R>>,
+    seat: Seat<'a, R>,
+    key: &Option<Key>,
+)
+    requires told { HasBeenTold seat.follower outlet.texts.items }
+{
+    let (mut outlet, mut seat) = match hand_over(rt, alloc, registry, gallery, outlet, seat, key) {
+        Some(back) => back,
+        None => return,
+    };
+    let end = follow(rt, alloc, &mut outlet, &mut seat);
+    let _ = end_session(rt, registry, outlet, Conn::new(alloc), seat, key, end);
+    registry.goes();
+}
+
+/// Ends a session that ended so: the boards that the connection opened are ended, and its follower leaves.
+fn end_session<'a, R: Wait + Clock, S: Stream + Drop>(
+    rt: &'a R,
+    registry: &'a Registry,
+    mut outlet: SocketOutlet<S>,
+    conn: Conn,
+    mut seat: Seat<'a, R>,
+    key: &Option<Key>,
+    end: SessionEnd,
+) -> SessionEnd {
     outlet.give_up();
     end_own(conn, &mut seat);
     seat.leave();
-    if let Some(key) = &key {
+    if let Some(key) = key {
         registry.leave(rt, key);
     }
     if end != SessionEnd::Failed {
@@ -219,7 +278,19 @@ fn converse<'a, R: Wait + Clock, S: Stream + Drop, G: Gate>(
 ) -> SessionEnd
     ensures { talk.old.seat.follower ≡ None → Conversed talk.new.outlet.texts.items result }
 {
-    match talk.run(rt) {
+    let talked = talk.run(rt);
+    conclude(rt, talk, talked)
+}
+
+/// Ends a session whose talk ended so: where the connection follows a board, that board's moves are pushed to it.
+fn conclude<'a, R: Wait + Clock, S: Stream + Drop, G: Gate>(
+    rt: &'a R,
+    talk: &mut Talk<'a, '_, R, S, G>,
+    talked: TalkEnd,
+) -> SessionEnd
+    ensures { TalkEnds talked talk.old.seat.follower talk.old.outlet.texts.items → Conversed talk.new.outlet.texts.items result }
+{
+    match talked {
         TalkEnd::Closed(code) => match talk.outlet.put_close(code) {
             Ok(()) => SessionEnd::Closed,
             Err(_) => SessionEnd::Failed,
@@ -286,7 +357,7 @@ fn push<R: Wait, S: Stream + Drop>(
 }
 
 /// The close code after `Over`.
-fn code_of_over(is_ending: bool) -> u16
+pub(crate) fn code_of_over(is_ending: bool) -> u16
     ensures { result ≡ if is_ending then 1001 else 1000 }
 {
     if is_ending { GOING_AWAY } else { NORMAL }

@@ -50,6 +50,12 @@ impl<'a, C: Clock> Socket<'a, C> {
         Ok(socket)
     }
 
+    /// The connection alone.
+    pub(crate) fn into_inner(self) -> TcpStream {
+        let Socket { stream, .. } = self;
+        stream
+    }
+
     /// Lets the next write wait for so long at most.
     fn bound_write(&self, most: Duration) -> io::Result<()> {
         self.stream.set_write_timeout(Some(most))

@@ -1,13 +1,15 @@
 //! What a connection follows, and what it is sent of it.
 
 ghost use Rattle.std.specs.Prelude.{◌≡◌};
-ghost use Rattle.relay_server.specs.Spectating.{Sent};
+ghost use Rattle.relay_pushing.specs.Pushing.{Turned};
+ghost use Rattle.live_steps.specs.Views.{next_of};
+ghost use Rattle.relay_server.specs.Spectating.{Gives, Sent};
 
 use crate::broadcast::Broadcast;
 use crate::chime::BoardBell;
 use live_board::Follower;
 use relay_core::{BoardName, Taken};
-use relay_pushing::{Outlet, PushEnd, Source, push_all};
+use relay_pushing::{Outlet, PushEnd, Source, Turn, push_all, push_some};
 use std::alloc::Global;
 use std::marker::Model;
 use std::sync::{Arc, Wait};
@@ -74,6 +76,27 @@ impl Spectating {
             chime: &self.broadcast.chime,
         };
         push_all(rt, alloc, outlet, &mut self.source, &bell)
+    }
+
+    /// Sends what the follower takes as long as the outlet has room: a turn, which another one may follow.
+    pub(crate) fn push_some<O: Outlet>(&mut self, alloc: Global, outlet: &mut O) -> Turn
+        ensures { Turned Gives self.old.source self.new.source (O.sent outlet.old) (O.sent outlet.new) result }
+    {
+        push_some(alloc, outlet, &mut self.source)
+    }
+
+    /// The board that it follows.
+    pub(crate) fn broadcast(&self) -> &Arc<Broadcast, Global> {
+        &self.broadcast
+    }
+
+    /// The place of the board's log of the move that the follower takes next.
+    pub(crate) fn next(&self) -> u64
+        ensures { result ≡ next_of self.now.source.part }
+    {
+        u64::from(self.source.follower.joined()).saturating_add(u64::from(
+            self.source.follower.taken(),
+        ))
     }
 
     /// The follower leaves, and its place on the board is free.

@@ -56,6 +56,31 @@ pub(crate) struct Talk<'a, 'g, R, S, G> {
 }
 
 impl<'a, 'g, R: Wait, S: Stream + Drop, G: Gate> Talk<'a, 'g, R, S, G> {
+    /// A talk over a connection of which nothing was read.
+    pub(crate) fn new(
+        alloc: Global,
+        connection: u32,
+        outlet: SocketOutlet<S>,
+        seat: Seat<'a, R>,
+        gate: &'g G,
+        patience: &'g Patience,
+    ) -> Talk<'a, 'g, R, S, G>
+        ensures outlet { result.outlet ≡ outlet }
+        ensures seat { result.seat ≡ seat.entry }
+    {
+        Talk {
+            alloc,
+            connection,
+            outlet,
+            conn: Conn::new(alloc),
+            seat,
+            gate,
+            is_open: false,
+            patience,
+            is_owner: false,
+        }
+    }
+
     /// Reads and answers. The text that makes the connection follow is the last one that it hears.
     pub(crate) fn run<C: Clock>(&mut self, clock: &C) -> TalkEnd
         ensures follows { self.old.seat.follower ≡ None → TalkEnds result self.new.seat.follower self.new.outlet.texts.items }

@@ -16,6 +16,9 @@ impl Model for Texts {
     ghost also_owns = { λ _. ftrue };
 }
 
+// It owns nothing, so another thread may have it: a session's thread hands it over to a loop.
+unsafe impl Send for Texts {}
+
 impl Texts {
     /// No texts.
     pub(crate) fn new() -> Texts

@@ -2,13 +2,12 @@
 
 use crate::deadline::Deadline;
 use crate::registry::Registry;
-use crate::sessions::SessionEnd;
 use std::alloc::Global;
 use std::net::TcpStream;
 use std::sync::atomic::{AtomicBool, Ordering};
 use std::sync::{Arc, Mutex, Wait};
 use std::thread::{JoinHandle, Threads};
-use std::time::{Clock, Duration};
+use std::time::Clock;
 
 /// What a session's thread shares with who started it: the connection, until one of them takes it, and whether the session has ended.
 #[derive(Drop)]
@@ -26,16 +25,24 @@ impl Shared {
         }
     }
 
+    /// No connection.
+    pub(crate) fn without_stream() -> Shared {
+        Shared {
+            stream: Mutex::new(None),
+            has_ended: AtomicBool::new(false),
+        }
+    }
+
     /// Takes the connection, if nobody has.
     pub(crate) fn take<R: Wait>(&self, rt: &R) -> Option<TcpStream> {
         self.stream.lock(rt).take()
     }
 }
 
-/// A session's thread. Its last act is to note that the session has ended, so that it can be joined without waiting.
+/// The thread of a session or of a loop. Its last act is to note that it has ended, so that it can be joined without waiting.
 #[derive(Drop)]
 pub(crate) struct Running {
-    pub(crate) handle: JoinHandle<SessionEnd>,
+    pub(crate) handle: JoinHandle<()>,
     pub(crate) shared: Arc<Shared, Global>,
 }
 
@@ -48,7 +55,7 @@ pub(crate) fn join_ended<R: Threads>(rt: &R, running: &mut Vec<Running>) {
         }
         if running[at].shared.has_ended.load(Ordering::SeqCst) {
             let ended = running.swap_remove(at);
-            let _ = ended.handle.join(rt);
+            let () = ended.handle.join(rt);
         } else {
             at += 1;
         }
@@ -58,7 +65,7 @@ pub(crate) fn join_ended<R: Threads>(rt: &R, running: &mut Vec<Running>) {
 /// Joins all threads, as their sessions end.
 pub(crate) fn join_all<R: Threads>(rt: &R, running: Vec<Running>) {
     for one in running {
-        let _ = one.handle.join(rt);
+        let () = one.handle.join(rt);
     }
 }
 
@@ -79,16 +86,13 @@ pub(crate) fn join_until_ending<R: Threads + Wait>(
     unreachable!()
 }
 
-/// Joins threads as their sessions end, for so long at most. Those that are left then run on.
+/// Joins threads as their sessions end, until then at most. Those that are left then run on.
 pub(crate) fn join_until_due<R: Threads + Wait + Clock>(
     rt: &R,
     registry: &Registry,
     mut running: Vec<Running>,
-    most: Duration,
+    deadline: &Deadline,
 ) {
-    let Ok(deadline) = Deadline::after(rt, most) else {
-        return;
-    };
     for _ in rt.forever() {
         let heard = registry.ended.count();
         join_ended(rt, &mut running);

@@ -90,15 +90,23 @@ class Deadlines(unittest.TestCase):
         with Server("--connections", "4") as server:
             silent, slow = (owner_of(server, room=4096, board=board) for board in ("b1", "b2"))
             guests = [guest_of(server, board=board) for board in ("b1", "b2")]
+            heard = {}
+            # They answer pings while they wait.
+            hearing = [threading.Thread(target=lambda it=it: heard.update({it: it.receive()})) for it in guests]
+            for it in hearing:
+                it.start()
             began, is_over = time.monotonic(), threading.Event()
             for owner in silent, slow:
                 self.asks_until_nothing_is_taken(owner)
             taking = threading.Thread(target=self.takes, args=(slow.stream, is_over))
             taking.start()
             try:
-                for guest in guests:
-                    guest.hears(ABANDONED, "close 1000")
+                for it in hearing:
+                    it.join(PATIENCE)
+                self.assertEqual(heard, dict.fromkeys(guests, ABANDONED))
                 self.lasts(began, 29, 58)
+                for guest in guests:
+                    guest.hears("close 1000")
             finally:
                 is_over.set()
                 taking.join()
@@ -192,20 +200,21 @@ class Deadlines(unittest.TestCase):
     def test_an_operator_that_answers_no_ping_has_gone_after_ninety_seconds_and_one_that_does_stays(self):
         """Before, none was sent a ping, and a board stayed open as long as its operator's connection did."""
         with Server("--connections", "4") as server:
-            began, heard = time.monotonic(), []
+            began, heard = time.monotonic(), {}
             vanished, guest = owner_of(server), guest_of(server)
             present, next_guest = owner_of(server, board="b2"), guest_of(server, board="b2")
-            # It answers pings while it waits.
-            waiting = threading.Thread(target=lambda: heard.append(present.receive()))
-            waiting.start()
+            # They answer pings while they wait.
+            waiting = [threading.Thread(target=lambda it=it: heard.update({it: it.receive()})) for it in (present, next_guest)]
+            for it in waiting:
+                it.start()
             guest.hears(ABANDONED, "close 1000")
             self.lasts(began, 89, 120)
             self.assertEqual([vanished.receive_any() for _ in range(2)], ["ping", "ping"])
             vanished.has_ended()
             present.send(submits("b2", "e2e4"))
-            waiting.join(PATIENCE)
-            self.assertEqual(heard, [played(0)])
-            next_guest.hears(moved("e2e4", 0))
+            for it in waiting:
+                it.join(PATIENCE)
+            self.assertEqual(heard, {present: played(0), next_guest: moved("e2e4", 0)})
             present.close()
             next_guest.hears(ABANDONED, "close 1000")
             for connection in vanished, guest, next_guest:

@@ -98,19 +98,21 @@ class ALostConnection(Keys):
         with waits(LONG) as server:
             vanished, guest = owner_of(server, key=KEY), guest_of(server)
             self.is_owned(vanished, 0, "e2e4")
-            back, heard = Connection(server.port, key=KEY), []
+            back, heard = Connection(server.port, key=KEY), {}
             self.is_owned(back, 1, "e7e5")
             guest.hears(moved("e2e4", 0), moved("e7e5", 1))
-            # It answers pings while it waits.
-            waiting = threading.Thread(target=lambda: heard.append(back.receive()))
-            waiting.start()
+            # They answer pings while they wait.
+            waiting = [threading.Thread(target=lambda it=it: heard.update({it: it.receive()})) for it in (back, guest)]
+            for it in waiting:
+                it.start()
             self.assertEqual([vanished.receive_any() for _ in range(2)], ["ping", "ping"])
             vanished.has_ended()
-            self.assertTrue(says_nothing(guest, 1))
+            time.sleep(1)
+            self.assertEqual(heard, {})
             back.send(submits("b1", "g1f3"))
-            waiting.join(PATIENCE)
-            self.assertEqual(heard, [played(2)])
-            guest.hears(moved("g1f3", 2))
+            for it in waiting:
+                it.join(PATIENCE)
+            self.assertEqual(heard, {back: played(2), guest: moved("g1f3", 2)})
 
     def test_a_move_that_was_on_its_way_is_played_once_and_seen_by_following_without_the_key(self):
         """The operator was cut before the answer came. It looks from its last place on, and goes on after what it finds."""
@@ -164,15 +166,15 @@ class TheGrace(Keys):
                 self.is_abandoned(guest, 2, lost)
 
     def test_boards_that_wait_take_no_thread_each(self):
-        """One thread ends all those whose time is over. Beside it there is the one that accepts."""
+        """One thread ends all those whose time is over. Beside it there are the one that accepts, and two for those who follow."""
         with waits(LONG) as server:
             boards = [(f"b{number}", f"{KEY}{number}") for number in range(40)]
             for name, key in boards:
                 owner_of(server, name, key=key).reset()
             threads, until = pathlib.Path(f"/proc/{server.process.pid}/task"), time.monotonic() + SOON
-            while (count := len(list(threads.iterdir()))) > 2 and time.monotonic() < until:
+            while (count := len(list(threads.iterdir()))) > 4 and time.monotonic() < until:
                 time.sleep(0.05)
-            self.assertEqual(count, 2)
+            self.assertEqual(count, 4)
             for name, key in boards:
                 self.is_owned(Connection(server.port, key=key), 0, "e2e4", name)
 

@@ -4,6 +4,7 @@ import time
 import unittest
 
 from relay_client.connection import Connection
+from relay_client.frames import pong
 from relay_client.keys import new_key
 from relay_client.server import Server
 from relay_client.tests.sessions import ABANDONED, guest_of, moves_without_a_draw, owner_of
@@ -126,9 +127,10 @@ class Log(unittest.TestCase):
                 log.reads(f"connections of the watch port {len(watchers)}")
                 took = time.monotonic() - began
                 self.assertTrue(60 * minute - 1 < took < 60 * minute + SOON, took)
-                # Meanwhile both were sent pings, which are answered as the next answer is waited for.
+                # Meanwhile all were sent pings, which are answered as the next answer is waited for.
                 for peer in owner, other, *watchers:
                     peer.asks("[]", NOT_OBJECT)
+                guest.stream.sendall(pong())
                 watchers.pop().close()
             owner.close()
             guest.hears(ABANDONED, "close 1000")

@@ -244,9 +244,9 @@ class UntilInputEnds(unittest.TestCase):
             silent.close()
 
     def test_it_ends_where_there_is_no_descriptor_left(self):
-        """The three standard streams, the listener, the one in reserve, and three connections."""
+        """The three standard streams, the listener, the one in reserve, two for each of two loops, and three connections."""
         with self.server("--forever") as server:
-            resource.prlimit(server.process.pid, resource.RLIMIT_NOFILE, (8, 8))
+            resource.prlimit(server.process.pid, resource.RLIMIT_NOFILE, (12, 12))
             owner, guest, other = owner_of(server), guest_of(server), Connection(server.port)
             with socket.create_connection(("127.0.0.1", server.port), timeout=SOON) as newcomer:
                 self.assertTrue(newcomer.recv(100).startswith(b"HTTP/1.1 503 "))

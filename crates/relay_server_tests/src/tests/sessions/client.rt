@@ -1,6 +1,6 @@
 //! A client over a socket on loopback. A read that waits for more than twenty seconds fails, so each test ends by itself.
 
-use crate::tests::sessions::frames::{CLOSE, PING, REQUEST, RESPONSE_BYTES, TEXT, frame};
+use crate::tests::sessions::frames::{CLOSE, PING, PONG, REQUEST, RESPONSE_BYTES, TEXT, frame};
 use std::alloc::Global;
 use std::io::{Read, Write};
 use std::net::{Net, Shutdown, SocketAddr, TcpStream};
@@ -76,6 +76,20 @@ impl Client {
     pub fn hears(&mut self, wanted: &str) -> Result<bool, Fail> {
         let (first, payload) = self.hear()?;
         Ok(first == TEXT && payload.as_slice() == wanted.as_bytes())
+    }
+
+    /// Whether the next frame is this text, but for pongs before it, of 100 bytes each. There are at most so many.
+    pub fn hears_behind_pongs(&mut self, most: u32, wanted: &str) -> Result<bool, Fail> {
+        for _ in 0..most {
+            let (first, payload) = self.hear()?;
+            if first != PONG {
+                return Ok(first == TEXT && payload.as_slice() == wanted.as_bytes());
+            }
+            if payload.as_slice() != [0; 100].as_slice() {
+                return Ok(false);
+            }
+        }
+        self.hears(wanted)
     }
 
     /// Whether this text is answered by that one.

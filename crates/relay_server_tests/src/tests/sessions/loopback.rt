@@ -2,7 +2,7 @@
 
 use crate::tests::sessions::client::Client;
 use crate::tests::sessions::loopback::Act::{
-    Goes, Hears, HearsClose, HearsEnd, Pings, Says, SaysAtOnce, Waits,
+    Goes, Hears, HearsBehindPongs, HearsClose, HearsEnd, Pings, Says, SaysAtOnce, Waits,
 };
 use crate::tests::sessions::server::Server;
 use crate::tests::sessions::texts::{
@@ -29,6 +29,8 @@ enum Act {
     SaysAtOnce(&'static [&'static str]),
     /// Receives this text next.
     Hears(&'static str),
+    /// Receives this text next, or pongs and then this text.
+    HearsBehindPongs(&'static str),
     /// Receives a close with this code next.
     HearsClose(u16),
     /// Receives the end of the server's output next, though it has not closed itself.
@@ -130,20 +132,23 @@ const TWO_BOARDS: &[Line] = &[
     (2, Hears(ABANDONED)),
 ];
 
-/// The server has closed when the follower reads on, and a reset would have overtaken its texts.
+/// How many pings a follower sends.
+const PINGS: u32 = 500;
+
+/// The server has closed when the follower reads on, and a reset would have overtaken its texts. Its pings are answered between them.
 const A_FOLLOWER_THAT_SENDS: &[Line] = &[
     (0, Says(OPEN_B1)),
     (0, Hears(OPENED)),
     (1, Says(FOLLOW_B1)),
     (1, Hears(FOLLOWING)),
-    (1, Pings(500)),
+    (1, Pings(PINGS)),
     (0, Says(SUBMIT_E2E4)),
     (0, Hears(PLAYED_AT_0)),
     (0, Says(END_B1)),
     (0, Hears(ENDED)),
     (1, Waits),
-    (1, Hears(MOVED_E2E4)),
-    (1, Hears(OVER)),
+    (1, HearsBehindPongs(MOVED_E2E4)),
+    (1, HearsBehindPongs(OVER)),
     (1, HearsClose(1000)),
 ];
 
@@ -185,6 +190,7 @@ fn carry_out<C: Clock>(
         Says(text) => client.say(text)?,
         SaysAtOnce(texts) => client.say_all(texts)?,
         Hears(text) => return client.hears(text),
+        HearsBehindPongs(text) => return client.hears_behind_pongs(PINGS, text),
         HearsClose(code) => return client.hears_close(code),
         HearsEnd => return client.hears_end(),
         Pings(count) => client.ping(count)?,

@@ -1,0 +1,120 @@
+-- Who follows in a loop: how it stands to its board, and what it was sent by turns.
+use Rattle.std.specs.Prelude.{◌≡◌, ◌+◌, ◌≤◌, ◌<◌, ◌⊎◌, ℕ, List, [], ◌++◌, length, Option, None, Some, option_map, ⊤}
+use Rattle.std.specs.Io.KnownBytes.{Appends, Consumes, Keeps}
+use Rattle.relay_frames.specs.Breaches.{code_of}
+use Rattle.relay_frames.specs.Events.{Told, fragment, text, binary, ping, pong, closed, broken, told}
+use Rattle.relay_frames.specs.Frames.{close_frame, pong_frame}
+use Rattle.relay_frames.specs.Reading.{Reading, fed, next_step}
+use Rattle.relay_frames.specs.declared.event.Event.{Event}
+use Rattle.relay_pushing.specs.declared.pushing.Turn.{Turn}
+use Rattle.relay_pushing.specs.declared.pushing.Turn.TheVariants as turns
+use Rattle.relay_pushing.specs.Pushing.{Going, Turned}
+use Rattle.live_board.specs.Seats.{FollowerSeat}
+use Rattle.relay_server.specs.declared.sessions.SessionEnd.{SessionEnd}
+use Rattle.relay_server.specs.declared.sessions.SessionEnd.TheVariants as ends
+use Rattle.relay_server.specs.declared.spectator.State.{State}
+use Rattle.relay_server.specs.declared.spectator.State.TheVariants as states
+use Rattle.relay_server.specs.Spectating.{Gives, IsToldOf, Spectated, session_end}
+
+-- it follows its board by this follower; or it follows no more, and ended so
+pub data Standing : Type 0 where
+  Following : FollowerSeat → Standing
+  Ended : SessionEnd → Standing
+
+abbrev pub standing_of : State → Standing
+standing_of (states.Follows spectating) = Following spectating.source
+standing_of (states.Ended end) = Ended end
+
+-- it follows no more
+abbrev pub IsGone : Standing → Type 0
+IsGone (Following g) = ⊥
+IsGone (Ended end) = ⊤
+
+-- A connection was told of a follower. What that follower took since, until it became this one, by any number of turns, all went on, and the
+-- texts behind the one that told of it are those of all that it took, each once and in order.
+pub record IsSentSoFar (g : FollowerSeat) (texts : List (List ℕ)) : Type 0 where
+  pub f : FollowerSeat
+  pub before : List (List ℕ)
+  pub told : IsToldOf f before
+  pub going : Going Gives f g (Some before) (Some texts)
+
+-- What one who follows in a loop was sent, however many turns it had. While it follows, the texts of all that its follower took. Where pushing
+-- ended, the texts as one call of pushing sends them that ends so: behind the end's text there is none. Where it closed or broke the protocol
+-- before, those until then.
+abbrev pub IsServed : Standing → List (List ℕ) → Type 0
+IsServed (Following g) texts = IsSentSoFar g texts
+IsServed (Ended ends.Over) texts = Spectated texts ends.Over
+IsServed (Ended ends.Cut) texts = Spectated texts ends.Cut
+IsServed (Ended ends.Failed) texts = Spectated texts ends.Failed
+IsServed (Ended other) texts = (g : FollowerSeat) × IsSentSoFar g texts
+
+-- an end that its peer brings about, and no pushing
+abbrev pub IsPeers : SessionEnd → Type 0
+IsPeers ends.Closed = ⊤
+IsPeers ends.Broken = ⊤
+IsPeers other = ⊥
+
+-- One who follows in a loop, to a contract.
+pub record Served : Type 0 where
+  -- how it stands to its board
+  pub standing : Standing
+  -- the texts that it was handed
+  pub texts : List (List ℕ)
+  -- the bytes that its line was written, where its stream tells what that took, and those of them that are kept back still
+  pub written : Option (List ℕ)
+  pub kept : List ℕ
+  -- what was read of it so far; the bytes that came with its request and are not read yet; and those that its stream has left, where that is told
+  pub peer : Reading
+  pub behind : List ℕ
+  pub remaining : Option (List ℕ)
+  -- how many bytes it sent in vain
+  pub unread : ℕ
+
+-- A turn of one that follows. Where it went on, it follows still, by what its follower has become. Where pushing ended, it ended so, and follows no
+-- more.
+abbrev pub TookTurn : FollowerSeat → List (List ℕ) → Standing → List (List ℕ) → Turn → Type 0
+TookTurn f old standing new (turns.Ended end) = (standing ≡ Ended (session_end end)) × (g : FollowerSeat) × Turned Gives f g (Some old) (Some new) (turns.Ended end)
+TookTurn f old standing new turn = (g : FollowerSeat) × (standing ≡ Following g) × Turned Gives f g (Some old) (Some new) turn
+
+-- Behind the end's text a close with this code was put behind all that was written, or, where none is due or there was no memory for it, nothing.
+abbrev pub IsLeftWith : Served → Served → Option ℕ → Type 0
+IsLeftWith old new None = new.written ≡ old.written
+IsLeftWith old new (Some number) = Appends old.written new.written (close_frame (Some number)) ⊎ Keeps old.written new.written
+
+-- ---- What it says meanwhile.
+
+-- So many bytes came of it: the next that came with its request, or, where none is left of those, the next of its stream. They were read once.
+pub record IsTakenIn (old new : Served) (n : ℕ) : Type 0 where
+  pub bytes : List ℕ
+  pub count : n ≡ length bytes
+  pub came : ((old.behind ≡ bytes ++ new.behind) × (new.remaining ≡ old.remaining)) ⊎ ((old.behind ≡ []) × (new.behind ≡ []) × Consumes old.remaining new.remaining bytes)
+  pub fed_with : new.peer ≡ fed old.peer bytes
+
+-- what it says next was told, if it says anything, and is read no second time
+abbrev pub IsNext : Served → Served → Option Event → Type 0
+IsNext old new event = (option_map told event ≡ (next_step old.peer).told) × (new ≡ record old { peer = (next_step old.peer).then })
+
+-- it stays as it is, and this frame was put behind all that was written
+abbrev pub IsAnswered : Served → Served → List ℕ → Type 0
+IsAnswered old new frame = (new.standing ≡ old.standing) × (new.unread ≡ old.unread) × Appends old.written new.written frame
+
+-- it follows no more, it ended so, and a close with this code or none was put behind all that was written
+abbrev pub IsClosed : Served → Served → SessionEnd → Option ℕ → Type 0
+IsClosed old new end number = (new.standing ≡ Ended end) × Appends old.written new.written (close_frame number)
+
+-- A message of so many bytes is not answered. It counts, with the least head of a peer's frame, among what was sent in vain; beyond 65,536 bytes
+-- of that it is closed by 1008.
+abbrev pub IsPassedOver : Served → Served → ℕ → Type 0
+IsPassedOver old new size =
+    ((old.unread + size + 6 ≤ 65536) × (new ≡ record old { unread = old.unread + size + 6 }))
+    ⊎ ((65536 < old.unread + size + 6) × IsClosed old new ends.Broken (Some 1008))
+
+-- What comes of what one says that follows: a ping gets its pong and a close its close, a breach is told by its code, and a message is passed over.
+abbrev pub Heeded : Served → Told → Served → Type 0
+Heeded old (ping payload) new = IsAnswered old new (pong_frame payload)
+Heeded old (closed number) new = IsClosed old new ends.Closed number
+Heeded old (broken breach) new = IsClosed old new ends.Broken (Some (code_of breach))
+Heeded old (text bytes) new = IsPassedOver old new (length bytes)
+Heeded old (binary bytes) new = IsPassedOver old new (length bytes)
+Heeded old fragment new = new ≡ old
+Heeded old (pong payload) new = new ≡ old

@@ -1,0 +1,258 @@
+//! Where those go who follow: loops that serve many of them each.
+
+ghost use Rattle.std.specs.Prelude.{◌≡◌, Some, IfOk, IfSome};
+ghost use Rattle.relay_server.specs.Served.{Following};
+ghost use Rattle.relay_server.specs.Spectating.{HasBeenTold};
+
+use crate::balcony::Balcony;
+use crate::balcony_loop::BalconyLoop;
+use crate::broadcast::Broadcast;
+use crate::interruptible::Interruptible;
+use crate::key::Key;
+use crate::lookout::Lookout;
+use crate::outlet::SocketOutlet;
+use crate::registry::Registry;
+use crate::seat::Seat;
+use crate::socket::Socket;
+use crate::spectating::Spectating;
+use crate::spectator::Spectator;
+use crate::spectators::Newcomer;
+use crate::threads::{Running, Shared};
+use crate::wire::Wire;
+use std::alloc::Global;
+use std::io;
+use std::io::ErrorKind;
+use std::net::Net;
+use std::sync::atomic::{AtomicBool, AtomicU64, Ordering};
+use std::sync::{Arc, Wait};
+use std::thread::{Builder, Threads};
+use std::time::Clock;
+
+/// How many loops there are.
+const BALCONIES: usize = 2;
+
+/// How many bytes the stack of a loop's thread has.
+const STACK_BYTES: usize = 256 * 1024;
+
+/// All balconies. One that follows goes to the next in turn.
+#[derive(Drop)]
+pub(crate) struct Gallery {
+    balconies: Vec<Balcony>,
+    /// What wakes the loops.
+    lookouts: Arc<Vec<Arc<Lookout, Global>>, Global>,
+    next: AtomicU64,
+    is_closing: AtomicBool,
+}
+
+/// A connection, as its thread has it.
+pub(crate) type Connection<'a, R> = Interruptible<'a, Socket<'a, R>, R>;
+
+impl Gallery {
+    /// A gallery, and its loops, which do not run yet.
+    ///
+    /// # Errors
+    ///
+    /// As the system's own calls, or there was no memory.
+    fn open<N: Net>(net: &N, alloc: Global) -> io::Result<(Gallery, Vec<BalconyLoop>)> {
+        let mut balconies = Vec::new(alloc);
+        let mut lookouts = Vec::new(alloc);
+        let mut loops = Vec::new(alloc);
+        for _ in 0..BALCONIES {
+            let (balcony_loop, waker) = BalconyLoop::new(net, alloc)?;
+            let lookout = or_no_memory(Arc::new(alloc, Lookout::new(waker)).ok())?;
+            let of_balcony = or_no_memory(Arc::try_clone(&lookout).ok())?;
+            or_no_memory(balconies.push(Balcony::new(alloc, of_balcony)).ok())?;
+            or_no_memory(lookouts.push(lookout).ok())?;
+            or_no_memory(loops.push(balcony_loop).ok())?;
+        }
+        let gallery = Gallery {
+            balconies,
+            lookouts: or_no_memory(Arc::new(alloc, lookouts).ok())?,
+            next: AtomicU64::new(0),
+            is_closing: AtomicBool::new(false),
+        };
+        Ok((gallery, loops))
+    }
+
+    /// The balcony of this number.
+    pub(crate) fn balcony(&self, at: usize) -> Option<&Balcony> {
+        self.balconies.get(at)
+    }
+
+    /// No more connections follow. The loops end once nobody is there.
+    pub(crate) fn close(&self) {
+        self.is_closing.store(true, Ordering::SeqCst);
+        for lookout in self.lookouts.iter() {
+            lookout.wake();
+        }
+    }
+
+    /// Whether it closes.
+    pub(crate) fn is_closing(&self) -> bool {
+        self.is_closing.load(Ordering::SeqCst)
+    }
+
+    /// The board that a connection follows, if its followers may come here. It is known to be followed here before a loop takes of it: what is rung
+    /// for behind that wakes the loop.
+    fn board_of<R>(&self, alloc: Global, seat: &Seat<'_, R>) -> Option<Arc<Broadcast, Global>> {
+        let Some(spectating) = &seat.spectating else {
+            return None;
+        };
+        let board = Arc::try_clone(spectating.broadcast()).ok()?;
+        board.is_followed_in(alloc, &self.lookouts).ok()?;
+        Some(board)
+    }
+
+    /// The balcony to which the next one goes.
+    fn next(&self) -> Option<&Balcony> {
+        let turn = self.next.fetch_add(1, Ordering::SeqCst);
+        let count = self.balconies.len();
+        if count == 0 {
+            return None;
+        }
+        self.balconies.get((turn as usize) % count)
+    }
+}
+
+/// Hands a connection that follows over to a loop, with its follower: the same seat. Where none takes it, it is given back.
+pub(crate) fn hand_over<'a, R: Wait + Clock>(
+    rt: &R,
+    alloc: Global,
+    registry: &Registry,
+    gallery: &Gallery,
+    outlet: SocketOutlet<Connection<'a, R>>,
+    seat: Seat<'a, R>,
+    key: &Option<Key>,
+) -> Option<(SocketOutlet<Connection<'a, R>>, Seat<'a, R>)>
+    requires told { HasBeenTold seat.follower outlet.texts.items }
+    ensures back { IfSome result (λ back. (back.0.texts.items ≡ outlet.entry.texts.items) × (back.1.follower ≡ seat.entry.follower)) }
+{
+    let Some(board) = gallery.board_of(alloc, &seat) else {
+        return Some((outlet, seat));
+    };
+    let Some(balcony) = gallery.next() else {
+        return Some((outlet, seat));
+    };
+    let mut inbox = balcony.inbox(rt);
+    if !inbox.has_room() {
+        return Some((outlet, seat));
+    }
+    if let Some(spectating) = seat.part() {
+        match coming_over(outlet, spectating, key, board) {
+            Ok(newcomer) => inbox.put(newcomer),
+            Err(spectator) => spectator.go(rt, registry),
+        }
+    }
+    drop(inbox);
+    balcony.lookout.wake();
+    None
+}
+
+/// One that comes to a loop over this connection, which waits no more.
+///
+/// # Errors
+///
+/// The system does not let it: it is to go.
+fn coming_over<R: Clock>(
+    outlet: SocketOutlet<Connection<'_, R>>,
+    spectating: Spectating,
+    key: &Option<Key>,
+    board: Arc<Broadcast, Global>,
+) -> Result<Newcomer, Spectator<Wire>>
+    requires told { HasBeenTold (Some spectating.source) outlet.texts.items }
+    ensures texts { IfOk result (λ newcomer. newcomer.spectator.texts ≡ outlet.entry.texts.items) }
+    ensures kept { IfOk result (λ newcomer. newcomer.spectator.kept ≡ outlet.entry.line.output.items) }
+    ensures follows { IfOk result (λ newcomer. newcomer.spectator.standing ≡ Following spectating.source) }
+{
+    let (stream, outlet) = outlet.unplugged();
+    let (wire, is_ready) = Wire::new(stream.into_inner().into_inner());
+    let descriptor = wire.descriptor();
+    let spectator = Spectator::new(outlet.onto(wire), spectating, *key);
+    if is_ready {
+        Ok(Newcomer {
+            spectator,
+            descriptor,
+            board,
+        })
+    } else {
+        Err(spectator)
+    }
+}
+
+/// What was made, or that there was no memory for it.
+fn or_no_memory<T: Drop>(made: Option<T>) -> io::Result<T> {
+    match made {
+        Some(made) => Ok(made),
+        None => Err(io::Error::from(ErrorKind::OutOfMemory)),
+    }
+}
+
+/// Starts a gallery, each of its loops on a thread of its own, and tells their threads. There is none where the system has none.
+pub(crate) fn start_gallery<R>(
+    rt: &R,
+    alloc: Global,
+    registry: &Arc<Registry, Global>,
+) -> (Option<Arc<Gallery, Global>>, Vec<Running>)
+where
+    R: Net + Threads + Wait + Clock + Clone + Send + Drop + 'static,
+{
+    let mut running = Vec::new(alloc);
+    let Ok((gallery, loops)) = Gallery::open(rt, alloc) else {
+        return (None, running);
+    };
+    let Ok(gallery) = Arc::new(alloc, gallery) else {
+        return (None, running);
+    };
+    let mut at = 0usize;
+    for balcony_loop in loops {
+        if spawn(
+            rt,
+            alloc,
+            registry,
+            &gallery,
+            at,
+            balcony_loop,
+            &mut running,
+        )
+        .is_none()
+        {
+            if let Some(balcony) = gallery.balcony(at) {
+                balcony.close(rt);
+            }
+        }
+        at = at.saturating_add(1);
+    }
+    (Some(gallery), running)
+}
+
+/// Starts the thread of a loop.
+fn spawn<R>(
+    rt: &R,
+    alloc: Global,
+    registry: &Arc<Registry, Global>,
+    gallery: &Arc<Gallery, Global>,
+    at: usize,
+    balcony_loop: BalconyLoop,
+    running: &mut Vec<Running>,
+) -> Option<()>
+where
+    R: Threads + Wait + Clock + Clone + Send + Drop + 'static,
+{
+    running.reserve(1).ok()?;
+    let shared = Arc::new(alloc, Shared::without_stream()).ok()?;
+    let of_thread = Arc::try_clone(&shared).ok()?;
+    let own = rt.clone().ok()?;
+    let registry = Arc::try_clone(registry).ok()?;
+    let gallery = Arc::try_clone(gallery).ok()?;
+    let handle = Builder::new()
+        .stack_size(STACK_BYTES)
+        .spawn(rt, move || {
+            balcony_loop.run(&own, &registry, &gallery, at);
+            of_thread.has_ended.store(true, Ordering::SeqCst);
+            registry.ended.ring();
+            registry.ended.wake();
+        })
+        .ok()?;
+    running.push_reserved(Running { handle, shared });
+    Some(())
+}

@@ -1,0 +1,416 @@
+//! One that follows a board in a loop: what it is pushed, and what it says meanwhile. The loop's poll and its clock stand elsewhere.
+
+ghost use Rattle.std.specs.Prelude.{◌≡◌, ◌≤◌, ◌↔◌, IsTrue, true, [], length, None, Some, option_map, IfOk, IsOk, OnOk, OnErr};
+ghost use Rattle.std.specs.Io.KnownBytes.{Appends, Keeps};
+ghost use Rattle.relay_frames.specs.Events.{is_last, number_of, told};
+ghost use Rattle.relay_frames.specs.Frames.{close_frame, ping_frame, pong_frame};
+ghost use Rattle.relay_pushing.specs.declared.pushing.Turn.TheVariants as turns;
+ghost use Rattle.live_steps.specs.Views.{next_of};
+ghost use Rattle.live_board.specs.Seats.{FollowerSeat};
+ghost use Rattle.relay_frames.specs.Reading.{is_midway};
+ghost use Rattle.relay_server.specs.Heads.{left};
+ghost use Rattle.relay_server.specs.Lines.{written as line_written};
+ghost use Rattle.relay_server.specs.Served.{Ended, Following, Heeded, IsAnswered, IsClosed, IsGone, IsLeftWith, IsNext, IsPassedOver, IsPeers, IsTakenIn, TookTurn, standing_of};
+ghost use Rattle.relay_server.specs.Spectating.{HasBeenTold, close_code, session_end};
+
+use crate::chronicle::What;
+use crate::key::Key;
+use crate::outlet::SocketOutlet;
+use crate::registry::Registry;
+use crate::sessions::{CUT_OFF, SessionEnd};
+use crate::spectating::Spectating;
+use crate::stream::Stream;
+use relay_core::BoardName;
+use relay_frames::{Code, Event};
+use relay_pushing::{PushEnd, Turn};
+use std::alloc::Global;
+use std::io::{Read, Write};
+use std::marker::Model;
+use std::sync::Wait;
+use std::time::Clock;
+use std::{io, mem};
+
+/// How many bytes of messages a spectator may send in vain.
+const MOST_UNREAD: u64 = 65536;
+
+/// What a message counts beside its payload: the least head of a peer's frame.
+const HEAD_BYTES: u64 = 6;
+
+/// How many bytes may be kept for a spectator that is heard.
+const MOST_KEPT: usize = 16384;
+
+/// The device failed, or there was no memory.
+#[derive(Drop)]
+pub(crate) struct Lost;
+
+/// How a spectator stands to its board.
+#[derive(Drop)]
+pub(crate) enum State {
+    /// It follows the board.
+    Follows(Spectating),
+    /// It follows no more: it ended so.
+    Ended(SessionEnd),
+}
+
+/// One that was told of its follower and is pushed to by turns. However many turns it has had, the texts that it was sent are those of all that its
+/// follower took, and behind the end there is none.
+#[derive(Drop)]
+pub(crate) struct Spectator<S: Read + Write> {
+    outlet: SocketOutlet<S>,
+    state: State,
+    /// The key that the connection has.
+    key: Option<Key>,
+    /// How many bytes of messages it sent in vain.
+    unread: u64,
+}
+
+impl<S: Read + Write> Model for Spectator<S> {
+    ghost use Rattle.relay_server.specs.Heads.{left};
+    ghost use Rattle.relay_server.specs.Lines.{written as line_written};
+    ghost use Rattle.relay_server.specs.Served.{IsServed, Served, standing_of};
+
+    ghost Value = { Served };
+
+    ghost view = { λ s. record { standing = standing_of s.state; texts = s.outlet.texts.items; written = line_written S.contents s.outlet.line; kept = s.outlet.line.output.items; peer = s.outlet.peer; behind = left s.outlet.line.head; remaining = S.remaining s.outlet.line.stream; unread = s.unread } };
+
+    ghost invariant = { λ s. IsServed (standing_of s.state) s.outlet.texts.items };
+}
+
+impl<S: Stream + Drop> Spectator<S> {
+    /// One that was told of this follower, over a connection that does not wait.
+    pub(crate) fn new(
+        outlet: SocketOutlet<S>,
+        spectating: Spectating,
+        key: Option<Key>,
+    ) -> Spectator<S>
+        requires told { HasBeenTold (Some spectating.source) outlet.texts.items }
+        ensures follows { result.standing ≡ Following spectating.source }
+        ensures texts { result.texts ≡ outlet.texts.items }
+        ensures written { result.written ≡ line_written S.contents outlet.line }
+        ensures kept { result.kept ≡ outlet.line.output.items }
+        ensures peer { result.peer ≡ outlet.peer }
+        ensures behind { result.behind ≡ left outlet.line.head }
+        ensures unread { result.unread ≡ 0 }
+    {
+        Spectator {
+            outlet,
+            state: State::Follows(spectating),
+            key,
+            unread: 0,
+        }
+    }
+
+    /// Whether it follows no more.
+    pub(crate) fn has_ended(&self) -> bool
+        ensures { IsTrue result ↔ IsGone self.now.standing }
+    {
+        matches!(self.state, State::Ended(_))
+    }
+
+    /// The place of the move that it takes next, while it follows.
+    pub(crate) fn next(&self) -> Option<u64>
+        ensures place { (f : FollowerSeat) → self.now.standing ≡ Following f → result ≡ Some (next_of f.part) }
+        ensures none { IsGone self.now.standing → result ≡ None }
+    {
+        match &self.state {
+            State::Follows(spectating) => Some(spectating.next()),
+            State::Ended(_) => None,
+        }
+    }
+
+    /// Sends what there is to be taken, as long as there is room. Behind the end it has left its board, whose place is free then, and the texts
+    /// that it is due still stand before the close.
+    pub(crate) fn push<R: Wait>(&mut self, rt: &R, alloc: Global, registry: &Registry) -> Turn
+        ensures turned { (f : FollowerSeat) → self.old.standing ≡ Following f → TookTurn f self.old.texts self.new.standing self.new.texts result }
+        ensures gone { IsGone self.old.standing → (self.new ≡ self.old) × (result ≡ turns.Waits) }
+        ensures unread { self.new.unread ≡ self.old.unread }
+    {
+        let State::Follows(spectating) = &mut self.state else {
+            return Turn::Waits;
+        };
+        let board = spectating.board();
+        let turn = spectating.push_some(alloc, &mut self.outlet);
+        if let Turn::Ended(end) = turn {
+            leave(&mut self.state, ending_of(&end), registry);
+            self.is_told_to_go(&end, registry.is_ending());
+            note_if_cut(rt, registry, board, &end);
+        }
+        turn
+    }
+
+    /// Behind the text of pushing's end the close is put, if one is due.
+    fn is_told_to_go(&mut self, end: &PushEnd, is_ending: bool)
+        ensures left { IsLeftWith self.old self.new (close_code is_ending end.now) }
+        ensures standing { self.new.standing ≡ self.old.standing }
+        ensures texts { self.new.texts ≡ self.old.texts }
+        ensures unread { self.new.unread ≡ self.old.unread }
+    {
+        if let Some(code) = code_of_end(end, is_ending) {
+            let _ = self.puts_close(Some(code));
+        }
+    }
+
+    /// Puts a close with this code or none behind all that was written.
+    ///
+    /// # Errors
+    ///
+    /// The device failed, or there was no memory. Then nothing was put.
+    fn puts_close(&mut self, code: Option<Code>) -> Result<(), Lost>
+        ensures given { OnOk result (Appends self.old.written self.new.written (close_frame (number_of code))) }
+        ensures failed { OnErr result (Keeps self.old.written self.new.written) }
+        ensures standing { self.new.standing ≡ self.old.standing }
+        ensures texts { self.new.texts ≡ self.old.texts }
+        ensures peer { self.new.peer ≡ self.old.peer }
+        ensures unread { self.new.unread ≡ self.old.unread }
+    {
+        or_lost(self.outlet.put_close(code).is_ok())
+    }
+
+    /// The same, however much is kept for it already.
+    pub(crate) fn push_all<R: Wait>(&mut self, rt: &R, alloc: Global, registry: &Registry) -> Turn
+        ensures turned { (f : FollowerSeat) → self.old.standing ≡ Following f → TookTurn f self.old.texts self.new.standing self.new.texts result }
+        ensures gone { IsGone self.old.standing → (self.new ≡ self.old) × (result ≡ turns.Waits) }
+        ensures unread { self.new.unread ≡ self.old.unread }
+    {
+        self.lift(true);
+        let turn = self.push(rt, alloc, registry);
+        self.lift(false);
+        turn
+    }
+
+    /// From now on there is room for a text more, however much is kept for it, or there is only where that is little.
+    fn lift(&mut self, is_lifted: bool)
+        ensures { self.new ≡ self.old }
+    {
+        self.outlet.lift(is_lifted);
+    }
+
+    /// Heeds what it says. A ping and a close are answered; a message is not, and of messages without end it is told by a close. Behind a close
+    /// or a breach it has left its board.
+    ///
+    /// # Errors
+    ///
+    /// The device failed, or there was no memory.
+    pub(crate) fn heed(&mut self, registry: &Registry, event: &Event) -> Result<(), Lost>
+        ensures heeded { (f : FollowerSeat) → self.old.standing ≡ Following f → OnOk result (Heeded self.old (told event.now) self.new) }
+        ensures last { is_last (told event.now) ≡ true → IsGone self.new.standing }
+        ensures failed { OnErr result (Keeps self.old.written self.new.written) }
+        ensures gone { IsGone self.old.standing → self.new ≡ self.old }
+        ensures texts { self.new.texts ≡ self.old.texts }
+        ensures peer { self.new.peer ≡ self.old.peer }
+    {
+        if self.has_ended() {
+            return Ok(());
+        }
+        match event {
+            Event::Ping(payload) => self.answers(payload.as_slice()),
+            Event::Text(text) => self.passes_over(registry, text.as_str().len()),
+            Event::Binary(bytes) => self.passes_over(registry, bytes.as_slice().len()),
+            Event::Closed(code) => self.closes(registry, SessionEnd::Closed, *code),
+            Event::Broken(breach) => {
+                self.closes(registry, SessionEnd::Broken, Some(breach.code()))
+            }
+            Event::Fragment | Event::Pong(_) => Ok(()),
+        }
+    }
+
+    /// Answers a ping of these bytes.
+    fn answers(&mut self, payload: &[u8]) -> Result<(), Lost>
+        ensures answered { OnOk result (IsAnswered self.old self.new (pong_frame payload.now)) }
+        ensures failed { OnErr result (Keeps self.old.written self.new.written) }
+        ensures texts { self.new.texts ≡ self.old.texts }
+        ensures peer { self.new.peer ≡ self.old.peer }
+        ensures standing { self.new.standing ≡ self.old.standing }
+    {
+        or_lost(self.outlet.pong(payload).is_ok())
+    }
+
+    /// Passes over a message of so many bytes. One that sends too many is closed.
+    fn passes_over(&mut self, registry: &Registry, bytes: usize) -> Result<(), Lost>
+        requires follows { IsGone self.old.standing → ⊥ }
+        ensures passed { OnOk result (IsPassedOver self.old self.new bytes) }
+        ensures failed { OnErr result (Keeps self.old.written self.new.written) }
+        ensures texts { self.new.texts ≡ self.old.texts }
+        ensures peer { self.new.peer ≡ self.old.peer }
+    {
+        let unread = self
+            .unread
+            .saturating_add(bytes as u64)
+            .saturating_add(HEAD_BYTES);
+        if unread > MOST_UNREAD {
+            return self.closes(registry, SessionEnd::Broken, Some(Code::POLICY));
+        }
+        self.unread = unread;
+        Ok(())
+    }
+
+    /// It leaves its board, and a close with this code or none is the last that it is sent.
+    fn closes(
+        &mut self,
+        registry: &Registry,
+        ended: SessionEnd,
+        code: Option<Code>,
+    ) -> Result<(), Lost>
+        requires follows { IsGone self.old.standing → ⊥ }
+        requires peers { IsPeers ended }
+        ensures closed { OnOk result (IsClosed self.old self.new ended (number_of code)) }
+        ensures failed { OnErr result (Keeps self.old.written self.new.written) }
+        ensures gone { IsGone self.new.standing }
+        ensures texts { self.new.texts ≡ self.old.texts }
+        ensures peer { self.new.peer ≡ self.old.peer }
+    {
+        leave(&mut self.state, ended, registry);
+        self.puts_close(code)
+    }
+
+    /// Sends a ping, unless it follows no more.
+    ///
+    /// # Errors
+    ///
+    /// The device failed, or there was no memory.
+    pub(crate) fn ping(&mut self) -> Result<(), Lost>
+        ensures given { (f : FollowerSeat) → self.old.standing ≡ Following f → OnOk result (IsAnswered self.old self.new (ping_frame [])) }
+        ensures failed { OnErr result (Keeps self.old.written self.new.written) }
+        ensures gone { IsGone self.old.standing → self.new ≡ self.old }
+        ensures texts { self.new.texts ≡ self.old.texts }
+        ensures peer { self.new.peer ≡ self.old.peer }
+        ensures standing { self.new.standing ≡ self.old.standing }
+    {
+        if self.has_ended() {
+            return Ok(());
+        }
+        or_lost(self.outlet.ping().is_ok())
+    }
+
+    /// Reads once, and tells how many bytes came.
+    ///
+    /// # Errors
+    ///
+    /// Nothing is there now (`WouldBlock`), the stream failed, or there was no memory.
+    pub(crate) fn take_in(&mut self) -> io::Result<usize>
+        ensures came { IfOk result (λ n. IsTakenIn self.old self.new n) }
+        ensures standing { self.new.standing ≡ self.old.standing }
+        ensures texts { self.new.texts ≡ self.old.texts }
+        ensures kept { self.new.kept ≡ self.old.kept }
+        ensures unread { self.new.unread ≡ self.old.unread }
+    {
+        self.outlet.take_in()
+    }
+
+    /// What it says next of what was read, if it says anything.
+    ///
+    /// # Errors
+    ///
+    /// There was no memory.
+    pub(crate) fn heard_next(&mut self) -> Result<Option<Event>, Lost>
+        ensures next { IfOk result (λ event. IsNext self.old self.new event) }
+        ensures unchanged { OnErr result (self.new ≡ self.old) }
+    {
+        match self.outlet.heard_next() {
+            Ok(event) => Ok(event),
+            Err(_) => Err(Lost),
+        }
+    }
+
+    /// Whether it is in the middle of a message.
+    pub(crate) fn is_midway(&self) -> bool
+        ensures { result ≡ is_midway self.now.peer }
+    {
+        self.outlet.is_midway()
+    }
+
+    /// Whether so much is kept for it that it is not heard.
+    pub(crate) fn is_stuffed(&self) -> bool
+        ensures { IsTrue result ↔ (16384 ≤ length self.now.kept) }
+    {
+        self.outlet.kept() >= MOST_KEPT
+    }
+
+    /// Sends of what is kept for it as much as its connection takes. Whether that was all is told.
+    ///
+    /// # Errors
+    ///
+    /// The stream failed, now or before. What it did not take is still kept.
+    pub(crate) fn send(&mut self) -> io::Result<bool>
+        ensures bytes { Keeps self.old.written self.new.written }
+        ensures all { IfOk result (λ all. IsTrue all ↔ (self.new.kept ≡ [])) }
+        ensures standing { self.new.standing ≡ self.old.standing }
+        ensures texts { self.new.texts ≡ self.old.texts }
+        ensures peer { self.new.peer ≡ self.old.peer }
+        ensures unread { self.new.unread ≡ self.old.unread }
+    {
+        self.outlet.send_some()
+    }
+
+    /// Ends the output: the peer reads what was written, and then the end.
+    pub(crate) fn end_output(&mut self)
+        ensures standing { self.new.standing ≡ self.old.standing }
+        ensures texts { self.new.texts ≡ self.old.texts }
+        ensures unread { self.new.unread ≡ self.old.unread }
+    {
+        self.outlet.end_output();
+    }
+
+    /// It goes: it leaves its board, if it has not, and its connection counts no more.
+    pub(crate) fn go<R: Wait + Clock>(self, rt: &R, registry: &Registry) {
+        let Spectator { mut state, key, .. } = self;
+        leave(&mut state, SessionEnd::Failed, registry);
+        if let Some(key) = &key {
+            registry.leave(rt, key);
+        }
+        registry.goes();
+    }
+}
+
+/// Leaves the board, where that was not done. It ended so.
+fn leave(state: &mut State, ended: SessionEnd, registry: &Registry)
+    ensures left { (f : FollowerSeat) → standing_of state.old ≡ Following f → standing_of state.new ≡ Ended ended }
+    ensures gone { IsGone (standing_of state.new) }
+    ensures once { IsGone (standing_of state.old) → state.new ≡ state.old }
+{
+    if matches!(state, State::Ended(_)) {
+        return;
+    }
+    if let State::Follows(spectating) = mem::replace(state, State::Ended(ended)) {
+        spectating.leave();
+        registry.unfollows();
+    }
+}
+
+/// Notes for the log that a follower of a board was cut off, where pushing ended so.
+fn note_if_cut<R: Wait>(rt: &R, registry: &Registry, board: BoardName, end: &PushEnd) {
+    if matches!(end, PushEnd::Cut) {
+        registry.note(rt, board, What::Cut);
+    }
+}
+
+/// How a session ends whose pushing ended so.
+fn ending_of(end: &PushEnd) -> SessionEnd
+    ensures { result ≡ session_end end.now }
+{
+    match end {
+        PushEnd::Over(_) => SessionEnd::Over,
+        PushEnd::Cut => SessionEnd::Cut,
+        PushEnd::Failed(_) => SessionEnd::Failed,
+    }
+}
+
+/// The code of the close behind pushing that ended so, if one is sent.
+#[tactic(auto, unfolding(relay_frames::specs::Codes::may_be_sent))]
+fn code_of_end(end: &PushEnd, is_ending: bool) -> Option<Code>
+    ensures { option_map (λ code. code.number) result ≡ close_code is_ending end.now }
+{
+    match end {
+        PushEnd::Over(_) if is_ending => Some(Code::AWAY),
+        PushEnd::Over(_) => Some(Code::NORMAL),
+        PushEnd::Cut => Code::new(CUT_OFF),
+        PushEnd::Failed(_) => None,
+    }
+}
+
+/// An error where that was not done.
+fn or_lost(is_done: bool) -> Result<(), Lost>
+    ensures { IsOk result ↔ IsTrue is_done }
+{
+    if is_done { Ok(()) } else { Err(Lost) }
+}
