@@ -1,5 +1,7 @@
 //! What others see of a loop in which connections follow.
 
+ghost use Rattle.std.specs.Prelude.{◌≡◌, ◌<◌, ◌++◌, ◌∷◌, [], true, false, vec_len, vec_capacity};
+
 use crate::lookout::Lookout;
 use crate::spectators::Newcomer;
 use std::alloc::Global;
@@ -16,13 +18,21 @@ pub(crate) struct Inbox {
 
 impl Inbox {
     /// Whether one more can come. There is room for it then.
-    pub(crate) fn has_room(&mut self) -> bool {
+    pub(crate) fn has_room(&mut self) -> bool
+        ensures open { result ≡ true → self.new.is_closed ≡ false }
+        ensures room { result ≡ true → vec_len self.new.newcomers < vec_capacity self.new.newcomers }
+        ensures same { self.new.newcomers.items ≡ self.old.newcomers.items }
+    {
         !self.is_closed && self.newcomers.reserve(1).is_ok()
     }
 
-    /// One more comes.
-    pub(crate) fn put(&mut self, newcomer: Newcomer) {
-        let _ = self.newcomers.push(newcomer);
+    /// One more comes, behind those who have come.
+    pub(crate) fn put(&mut self, newcomer: Newcomer)
+        requires room { vec_len self.old.newcomers < vec_capacity self.old.newcomers }
+        ensures came { self.new.newcomers.items ≡ self.old.newcomers.items ++ newcomer ∷ [] }
+        ensures closed { self.new.is_closed ≡ self.old.is_closed }
+    {
+        self.newcomers.push_reserved(newcomer);
     }
 }
 

@@ -236,6 +236,13 @@ impl<S: Read + Write> Line<S> {
 }
 
 impl<S: Read + Write> Line<S> {
+    /// Whether the stream failed before.
+    fn failed_before(&self) -> bool
+        ensures { result ≡ self.now.has_failed }
+    {
+        self.has_failed
+    }
+
     /// Sends of what was kept back as much as a stream takes that does not wait. Whether nothing is kept back any more is told.
     ///
     /// # Errors
@@ -249,7 +256,7 @@ impl<S: Read + Write> Line<S> {
         ensures front { Sends S.contents self.old self.new.stream self.new.output.items }
         ensures wakes { self.new.wakes ≡ self.old.wakes }
     {
-        if self.has_failed {
+        if self.failed_before() {
             return Err(io::Error::from(ErrorKind::BrokenPipe));
         }
         match self.send_output() {
@@ -272,9 +279,9 @@ impl<S: Read + Write> Line<S> {
         ensures output { self.new.output ≡ self.old.output }
         ensures wakes { self.new.wakes ≡ self.old.wakes }
     {
-        let n = self.head.give(buf);
-        if n > 0 {
-            return Ok(n);
+        let given = self.head.give(buf);
+        if given > 0 {
+            return Ok(given);
         }
         self.head.let_go();
         read_some(&mut self.stream, buf)

@@ -236,9 +236,9 @@ impl<S: Read + Write + Drop> SocketOutlet<S> {
         ensures kept { self.new.line.output ≡ self.old.line.output }
         ensures texts { self.new.texts ≡ self.old.texts }
     {
-        let mut bytes = [0; READ_BYTES];
-        let n = self.line.read_on(&mut bytes)?;
-        match self.peer.feed(&bytes[..n]) {
+        let mut piece = [0; READ_BYTES];
+        let n = self.line.read_on(&mut piece)?;
+        match self.peer.feed(&piece[..n]) {
             Ok(()) => Ok(n),
             Err(_) => Err(io::Error::from(ErrorKind::OutOfMemory)),
         }

@@ -1,5 +1,8 @@
 //! All spectators of a loop, and what becomes of them.
 
+ghost use Rattle.std.specs.Prelude.{◌≡◌, None};
+ghost use Rattle.slab.specs.Slab.{get};
+
 use crate::audience::Audience;
 use crate::broadcast::Broadcast;
 use crate::registry::Registry;
@@ -102,7 +105,9 @@ impl<'a, R: Wait + Clock> Spectators<'a, R> {
     }
 
     /// A spectator goes, and its connection with it.
-    pub(crate) fn remove(&mut self, key: usize) {
+    pub(crate) fn remove(&mut self, key: usize)
+        ensures gone { get self.new.seated key ≡ None }
+    {
         self.rests(key);
         if let Some(seated) = self.seated.try_remove(key) {
             let Seated {
@@ -166,7 +171,9 @@ impl<'a, R: Wait + Clock> Spectators<'a, R> {
     }
 
     /// Counts one less in an audience. One that nobody is in any more goes.
-    fn count_one_less(&mut self, at: usize) {
+    fn count_one_less(&mut self, at: usize)
+        ensures { self.new.seated ≡ self.old.seated }
+    {
         if let Some(audience) = self.audiences.get_mut(at) {
             audience.count = audience.count.saturating_sub(1);
         }
@@ -174,7 +181,9 @@ impl<'a, R: Wait + Clock> Spectators<'a, R> {
     }
 
     /// An audience that nobody is in goes.
-    fn drop_if_empty(&mut self, at: usize) {
+    fn drop_if_empty(&mut self, at: usize)
+        ensures { self.new.seated ≡ self.old.seated }
+    {
         if let Some(audience) = self.audiences.get(at) {
             if audience.count == 0 {
                 let _ = self.audiences.try_remove(at);
