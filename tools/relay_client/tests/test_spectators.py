@@ -14,13 +14,14 @@ from relay_client.server import Server
 from relay_client.tests.sessions import ABANDONED, guest_of, moves_without_a_draw, owner_of, play
 from relay_client.tests.test_deadlines import HALVES, seconds_of_half
 from relay_client.tests.test_log import Reader
-from relay_client.tests.test_watching_loops import AT_ONCE, LONG, ROUNDS, SLOW, Stopped, long_game
+from relay_client.tests.test_watching_loops import AT_ONCE, LONG, ROUNDS, SLOW, Stopped, long_game, processor_seconds
 from relay_client.texts import CUT, NOT_JSON, OPENED, following, follows, moved, opens, played, refused, submits
 
 SOON = 10  # Seconds within which what happens at once has happened, on a machine that is busy with proofs too.
 FREE = 2 + SOON  # Within which a place is free whose follower has gone.
 FULL = refused(11, "TooManyFollowers")
 PAYLOAD = bytes(range(125))
+FLOODS = 350, 600  # Pings, whose pongs are more than a slow connection takes; and more than the server keeps for one that it hears.
 AWAY = masked(CLOSE, b"\x03\xe9")  # What a page sends that is left: 1001.
 # How one goes.
 GOING = {
@@ -40,6 +41,14 @@ def seconds_until_followed(server, board="b1"):
         if time.monotonic() - began > 120:
             raise AssertionError("no place comes free")
         time.sleep(0.05)
+
+
+def rests(server):
+    """Waits until the server has done what there was to be done."""
+    before = None
+    while (taken := processor_seconds(server)) != before:
+        before = taken
+        time.sleep(1)
 
 
 def close_all(*connections):
@@ -95,10 +104,16 @@ class Places(unittest.TestCase):
         with Server("--forever", "--followers", "1") as server:
             owner, guest = owner_of(server), guest_of(server)
             guest.vanish()
+            # It answers pings while it waits: with it the board would go, and its followers.
+            waiting = threading.Thread(target=owner.receive)
+            waiting.start()
             newcomer, answer, took = seconds_until_followed(server)
             self.assertEqual(answer, following())
             self.assertGreater(took, 80)
             self.assertLess(took, 90 + SOON)
+            owner.send(submits("b1", "e2e4"))
+            waiting.join()
+            newcomer.hears(moved("e2e4", 0))
             close_all(owner, guest, newcomer)
 
     def test_one_that_reads_nothing_and_was_cut_gives_its_place_back_while_its_texts_are_on_their_way(self):
@@ -112,9 +127,6 @@ class Places(unittest.TestCase):
                 time.sleep(0.01)
             newcomer, _, took = seconds_until_followed(server)
             self.assertLess(took, FREE)
-            # It says that it sends no more, and still is sent all.
-            guest.stream.shutdown(socket.SHUT_WR)
-            time.sleep(0.5)
             texts, received = [], guest.receive()
             while received != CUT:
                 texts.append(received)
@@ -122,6 +134,30 @@ class Places(unittest.TestCase):
             self.assertEqual(texts, [moved(move, place) for place, move in enumerate(moves[:len(texts)])])
             guest.hears("close 4001")
             close_all(owner, guest, newcomer)
+
+
+    def test_one_whose_connection_takes_nothing_is_cut_all_the_same_and_sent_the_rest_once_it_takes_it(self):
+        """Pongs fill its connection before the moves come: the server keeps some, or so many that it hears no more. Once it is cut it says that it
+        sends no more, and still is sent all."""
+        moves = list(moves_without_a_draw())[:10]
+        for flood in FLOODS:
+            with self.subTest(flood), Server("--forever", "--followers", "1", "--capacity", "4") as server:
+                owner, guest = owner_of(server), guest_of(server, **SLOW)
+                guest.stream.sendall(masked(PING, PAYLOAD) * flood)
+                rests(server)
+                play(owner, moves)
+                newcomer, _, took = seconds_until_followed(server)
+                self.assertLess(took, FREE)
+                guest.stream.shutdown(socket.SHUT_WR)
+                time.sleep(0.5)
+                guest.stream.settimeout(SOON)
+                texts = []
+                while (received := guest.receive()) != CUT:
+                    texts += [received] if received != "pong" else []
+                self.assertEqual(texts, [moved(move, place) for place, move in enumerate(moves[:4])])
+                guest.hears("close 4001")
+                guest.has_ended()
+                close_all(owner, guest, newcomer)
 
 
 class Crowds(unittest.TestCase):
@@ -166,6 +202,24 @@ class Crowds(unittest.TestCase):
             self.is_told_at_once(act)
             close_all(owner, guest)
 
+    def test_a_move_that_comes_while_a_loop_writes_wakes_it_again(self):
+        """The second of two that come close together is late by up to a second where the wake is lost. On a busy machine others are late."""
+        moves = list(moves_without_a_draw())
+        with Server("--forever", "--followers", "60") as server:
+            owner, guests = owner_of(server), [guest_of(server) for _ in range(60)]
+            owner.stream.setsockopt(socket.IPPROTO_TCP, socket.TCP_NODELAY, 1)
+            took = []
+            for place in range(0, 100, 2):
+                began = time.monotonic()
+                for place_of_one in place, place + 1:
+                    owner.send(submits("b1", moves[place_of_one]))
+                    owner.hears(played(place_of_one))
+                for guest in guests[0], guests[1], guests[-2], guests[-1]:
+                    guest.hears(moved(moves[place], place), moved(moves[place + 1], place + 1))
+                took.append(time.monotonic() - began)
+            self.assertLess(sorted(took)[40], AT_ONCE, took)
+            close_all(owner, *guests)
+
     def test_who_has_just_come_is_heard_at_once(self):
         with Server("--forever") as server:
             owner, guests = owner_of(server), []
@@ -181,13 +235,13 @@ class Crowds(unittest.TestCase):
 
     def test_each_hears_of_its_own_board_and_a_newcomer_of_a_quiet_board_of_all_that_it_asks_for(self):
         """Five boards, of which the loops have the followers in turn."""
-        moves = list(moves_without_a_draw())
+        moves = long_game(600)
         boards = [f"b{number}" for number in range(1, 6)]
-        with Server("--forever", "--capacity", "200") as server:
+        with Server("--forever", "--capacity", "1024") as server:
             owners = {board: owner_of(server, board) for board in boards}
             guests = [(board, guest_of(server, board)) for _ in range(3) for board in boards]
             for place in range(3):
-                for at, board in enumerate(boards):
+                for board in boards:
                     owners[board].asks(submits(board, moves[place]), played(place))
                 for board, guest in guests:
                     guest.stream.settimeout(SOON)
@@ -269,13 +323,30 @@ class Slow(unittest.TestCase):
             self.assertEqual(texts, [moved(long_game(LONG + 1)[LONG], LONG)])
             close_all(*owners, never, late, newcomer)
 
+    def test_those_whose_connections_take_no_more_keep_no_move_from_the_others(self):
+        """Pongs nearly fill their connections. So each takes some of the moves, and others than the next one."""
+        with Server("--forever", "--capacity", "1024") as server:
+            owner = owner_of(server)
+            slow = [guest_of(server, **SLOW) for _ in range(6)]
+            guests = [guest_of(server) for _ in range(6)]
+            for number, guest in enumerate(slow):
+                guest.stream.sendall(masked(PING, PAYLOAD) * (200 + 20 * number))
+            rests(server)
+            for place, move in enumerate(moves_without_a_draw()):
+                owner.asks(submits("b1", move), played(place))
+                for guest in guests:
+                    guest.stream.settimeout(SOON)
+                    guest.hears(moved(move, place))
+            close_all(owner, *slow, *guests)
+
     def test_pings_without_end_are_answered_as_the_pongs_are_taken(self):
-        """Behind some of them it is not read for a while. No frame is broken, and it hears of a move that came meanwhile."""
+        """Behind some of them it is not read, in the middle of one and for longer than half a message may take. No frame is broken, and it hears of a
+        move that came meanwhile."""
         count = 2000
         with Server("--forever") as server, concurrent.futures.ThreadPoolExecutor(1) as pool:
             owner, guest = owner_of(server), guest_of(server, **SLOW)
             sent = pool.submit(guest.stream.sendall, masked(PING, PAYLOAD) * count)
-            time.sleep(1)
+            time.sleep(12)
             owner.asks(submits("b1", "e2e4"), played(0))
             time.sleep(0.5)
             guest.stream.settimeout(SOON)
@@ -284,6 +355,17 @@ class Slow(unittest.TestCase):
             self.assertEqual(texts, [moved("e2e4", 0)])
             owner.asks(submits("b1", "e7e5"), played(1))
             guest.hears(moved("e7e5", 1))
+            close_all(owner, guest)
+
+    def test_one_that_takes_no_pongs_is_not_read_without_end(self):
+        """The server would else keep them all. The system's buffers take some millions of bytes of pings, and then no more."""
+        pings, sent, began = masked(PING, PAYLOAD) * 100, 0, time.monotonic()
+        with Server("--forever") as server:
+            owner, guest = owner_of(server), guest_of(server, **SLOW)
+            guest.stream.settimeout(3)
+            with self.assertRaises(TimeoutError):
+                while sent < 200_000_000 and time.monotonic() - began < 25:
+                    sent += guest.stream.send(pings)
             close_all(owner, guest)
 
 
@@ -461,6 +543,24 @@ class Ends(unittest.TestCase):
                 guest.hears(*texts, ABANDONED, "close 1001")
             self.assertLess(time.monotonic() - began, 5 + SOON)
             close_all(owner, *guests)
+            server.has_served(201)
+
+    def test_all_hear_the_end_of_serving_where_no_other_connection_is_left(self):
+        """Their board waits for its key. So no thread is waited for but those of the loops."""
+        with Server("--until-input-ends", "--forever", "--grace", "600", "--followers", "200", stdin=subprocess.PIPE) as server:
+            owner = owner_of(server, key="k" * 32)
+            guests = [guest_of(server) for _ in range(200)]
+            texts = play(owner, ["e2e4", "e7e5"])
+            owner.asks("close 1000", "close 1000")
+            owner.close()
+            guests[-1].hears(*texts)
+            time.sleep(0.5)
+            server.process.stdin.close()
+            server.process.stdin = None
+            guests[-1].hears(ABANDONED, "close 1001")
+            for guest in guests[:-1]:
+                guest.hears(*texts, ABANDONED, "close 1001")
+            close_all(*guests)
             server.has_served(201)
 
     def test_the_log_counts_those_who_follow_no_more(self):
