@@ -1,6 +1,11 @@
 -- What an outlet hears of a peer whose stream does not wait.
-use Rattle.std.specs.Prelude.{◌≡◌, ℕ, List, length, Option}
+use Rattle.std.specs.Prelude.{◌≡◌, ◌⊎◌, ℕ, List, length, Option}
+use Rattle.std.specs.Io.KnownBytes.{Keeps}
+use Rattle.std.specs.IoError.{error_kind}
+use Rattle.std.specs.declared.io.Error.{Error}
+use Rattle.std.specs.declared.io.ErrorKind.TheVariants.{OutOfMemory}
 use Rattle.relay_frames.specs.Reading.{fed}
+use Rattle.relay_server.specs.Heads.{left}
 use Rattle.relay_server.specs.Lines.{Came}
 use Rattle.relay_server.specs.declared.outlet.SocketOutlet.{SocketOutlet}
 
@@ -10,3 +15,10 @@ pub record TakesIn {S : Type 0} (remaining : S → Option (List ℕ)) (old new :
   pub count : n ≡ length bytes
   pub came : Came remaining old.line new.line bytes
   pub fed_with : new.peer ≡ fed old.peer bytes
+
+-- A read that failed fed the peer's reader nothing. Unless there was no memory for what came, nothing was lost either: all that is to come is still
+-- to be read.
+abbrev pub TakesNone : {S : Type 0} → (S → Option (List ℕ)) → SocketOutlet S → SocketOutlet S → Error → Type 0
+TakesNone remaining old new error =
+    (new.peer ≡ old.peer)
+    × ((error_kind error ≡ OutOfMemory) ⊎ ((left new.line.head ≡ left old.line.head) × Keeps (remaining old.line.stream) (remaining new.line.stream)))

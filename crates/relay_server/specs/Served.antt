@@ -1,6 +1,9 @@
 -- Who follows in a loop: how it stands to its board, and what it was sent by turns.
 use Rattle.std.specs.Prelude.{◌≡◌, ◌+◌, ◌≤◌, ◌<◌, ◌⊎◌, ℕ, List, [], ◌++◌, length, Option, None, Some, option_map, ⊤}
 use Rattle.std.specs.Io.KnownBytes.{Appends, Consumes, Keeps}
+use Rattle.std.specs.IoError.{error_kind}
+use Rattle.std.specs.declared.io.Error.{Error}
+use Rattle.std.specs.declared.io.ErrorKind.TheVariants.{OutOfMemory}
 use Rattle.relay_frames.specs.Breaches.{code_of}
 use Rattle.relay_frames.specs.Events.{Told, fragment, text, binary, ping, pong, closed, broken, told}
 use Rattle.relay_frames.specs.Frames.{close_frame, pong_frame}
@@ -76,10 +79,10 @@ abbrev pub TookTurn : FollowerSeat → List (List ℕ) → Standing → List (Li
 TookTurn f old standing new (turns.Ended end) = (standing ≡ Ended (session_end end)) × (g : FollowerSeat) × Turned Gives f g (Some old) (Some new) (turns.Ended end)
 TookTurn f old standing new turn = (g : FollowerSeat) × (standing ≡ Following g) × Turned Gives f g (Some old) (Some new) turn
 
--- Behind the end's text a close with this code was put behind all that was written, or, where none is due or there was no memory for it, nothing.
+-- Behind the end's text a close with this code was put behind all that was written, or nothing, where none is due.
 abbrev pub IsLeftWith : Served → Served → Option ℕ → Type 0
 IsLeftWith old new None = new.written ≡ old.written
-IsLeftWith old new (Some number) = Appends old.written new.written (close_frame (Some number)) ⊎ Keeps old.written new.written
+IsLeftWith old new (Some number) = Appends old.written new.written (close_frame (Some number))
 
 -- ---- What it says meanwhile.
 
@@ -89,6 +92,11 @@ pub record IsTakenIn (old new : Served) (n : ℕ) : Type 0 where
   pub count : n ≡ length bytes
   pub came : ((old.behind ≡ bytes ++ new.behind) × (new.remaining ≡ old.remaining)) ⊎ ((old.behind ≡ []) × (new.behind ≡ []) × Consumes old.remaining new.remaining bytes)
   pub fed_with : new.peer ≡ fed old.peer bytes
+
+-- Nothing was heard of it. Unless there was no memory for what came, nothing was lost either.
+abbrev pub NoneTakenIn : Served → Served → Error → Type 0
+NoneTakenIn old new error =
+    (new.peer ≡ old.peer) × ((error_kind error ≡ OutOfMemory) ⊎ ((new.behind ≡ old.behind) × Keeps old.remaining new.remaining))
 
 -- what it says next was told, if it says anything, and is read no second time
 abbrev pub IsNext : Served → Served → Option Event → Type 0

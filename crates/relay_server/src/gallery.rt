@@ -1,6 +1,7 @@
 //! Where those go who follow: loops that serve many of them each.
 
-ghost use Rattle.std.specs.Prelude.{◌≡◌, Some, IfOk, IfSome};
+ghost use Rattle.std.specs.Prelude.{◌≡◌, Some, IfErr, IfOk, IfSome};
+ghost use Rattle.relay_server.specs.Heads.{left};
 ghost use Rattle.relay_server.specs.Served.{Following};
 ghost use Rattle.relay_server.specs.Spectating.{HasBeenTold};
 
@@ -125,7 +126,7 @@ pub(crate) fn hand_over<'a, R: Wait + Clock>(
     key: &Option<Key>,
 ) -> Option<(SocketOutlet<Connection<'a, R>>, Seat<'a, R>)>
     requires told { HasBeenTold seat.follower outlet.texts.items }
-    ensures back { IfSome result (λ back. (back.0.texts.items ≡ outlet.entry.texts.items) × (back.1.follower ≡ seat.entry.follower)) }
+    ensures back { IfSome result (λ back. (back.0.texts.items ≡ outlet.entry.texts.items) × (back.0.line ≡ outlet.entry.line) × (back.0.peer ≡ outlet.entry.peer) × (back.1.follower ≡ seat.entry.follower)) }
 {
     let Some(board) = gallery.board_of(alloc, &seat) else {
         return Some((outlet, seat));
@@ -162,7 +163,10 @@ fn coming_over<R: Clock>(
     requires told { HasBeenTold (Some spectating.source) outlet.texts.items }
     ensures texts { IfOk result (λ newcomer. newcomer.spectator.texts ≡ outlet.entry.texts.items) }
     ensures kept { IfOk result (λ newcomer. newcomer.spectator.kept ≡ outlet.entry.line.output.items) }
+    ensures peer { IfOk result (λ newcomer. newcomer.spectator.peer ≡ outlet.entry.peer) }
+    ensures behind { IfOk result (λ newcomer. newcomer.spectator.behind ≡ left outlet.entry.line.head) }
     ensures follows { IfOk result (λ newcomer. newcomer.spectator.standing ≡ Following spectating.source) }
+    ensures refused { IfErr result (λ spectator. (spectator.texts ≡ outlet.entry.texts.items) × (spectator.standing ≡ Following spectating.source)) }
 {
     let (stream, outlet) = outlet.unplugged();
     let (wire, is_ready) = Wire::new(stream.into_inner().into_inner());

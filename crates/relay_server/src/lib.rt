@@ -1,4 +1,4 @@
-//! Sessions of a relay over WebSocket (RFC 6455), a thread for each connection.
+//! Sessions of a relay over WebSocket (RFC 6455): a thread for each connection that answers commands, and loops for those that follow.
 #![tactic(auto)]
 
 mod audience;

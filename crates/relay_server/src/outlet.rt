@@ -1,6 +1,6 @@
 //! The outlet over a WebSocket.
 
-ghost use Rattle.std.specs.Prelude.{◌≡◌, [], ◌∷◌, ◌++◌, ◌≤◌, ◌<◌, ◌↔◌, IsTrue, None, Some, Err, true, false, is_some, length, option_map, IfOk, OnOk, OnErr, if◌then◌else◌};
+ghost use Rattle.std.specs.Prelude.{◌≡◌, [], ◌∷◌, ◌++◌, ◌≤◌, ◌<◌, ◌↔◌, IsTrue, None, Some, Err, true, false, is_some, length, option_map, IfErr, IfOk, OnOk, OnErr, if◌then◌else◌};
 ghost use Rattle.std.specs.Io.KnownBytes.{Appends, Keeps};
 ghost use Rattle.relay_frames.specs.Breaches.{code_of};
 ghost use Rattle.relay_frames.specs.Events.{number_of, told};
@@ -10,7 +10,7 @@ ghost use Rattle.relay_pushing.specs.Sending.{Counts};
 ghost use Rattle.relay_pushing.specs.declared.outlet.SendFault.TheVariants.{Device};
 ghost use Rattle.relay_server.specs.Dues.{IsStillDue};
 ghost use Rattle.relay_server.specs.Heads.{left};
-ghost use Rattle.relay_server.specs.Hearing.{TakesIn};
+ghost use Rattle.relay_server.specs.Hearing.{TakesIn, TakesNone};
 ghost use Rattle.relay_server.specs.Lines.{Sends, written as line_written};
 ghost use Rattle.relay_server.specs.Memory.{IsToldOf};
 
@@ -230,9 +230,10 @@ impl<S: Read + Write + Drop> SocketOutlet<S> {
     ///
     /// # Errors
     ///
-    /// The stream failed, or there was no memory.
+    /// The stream failed, and nothing was lost; or there was no memory (`OutOfMemory`).
     pub(crate) fn take_in(&mut self) -> io::Result<usize>
         ensures came { IfOk result (λ n. TakesIn S.remaining self.old self.new n) }
+        ensures nothing { IfErr result (λ error. TakesNone S.remaining self.old self.new error) }
         ensures kept { self.new.line.output ≡ self.old.line.output }
         ensures texts { self.new.texts ≡ self.old.texts }
     {

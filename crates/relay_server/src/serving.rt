@@ -1,4 +1,4 @@
-//! Serving: connections are accepted one by one, and each gets a thread.
+//! Serving: connections are accepted one by one, and each gets a thread. Those that follow go over to loops.
 
 ghost use Rattle.std.specs.Prelude.{◌≡◌, ◌≤◌, ◌<◌, ◌+◌, IfSome, false, true};
 
@@ -74,8 +74,8 @@ struct Reception<'a, R, G> {
 }
 
 /// Accepts so many connections, or where there is no such number as many as come; numbers them from 1 in the order of accepting, gives
-/// each a thread, and waits until all sessions have ended. The listener is closed behind the last accept, so that the system refuses
-/// whoever comes later. A newcomer for which there is no descriptor or no thread is told so by the status 503; the first of several in a
+/// each a thread, and waits until all sessions have ended. One that follows goes over to a loop, and its thread ends. The listener is
+/// closed behind the last accept, so that the system refuses whoever comes later. A newcomer for which there is no descriptor or no thread is told so by the status 503; the first of several in a
 /// row is told of on standard error.
 ///
 /// Where it is to end when standard input does, it then accepts no more connections, and all boards end as abandoned. Followers get

@@ -123,12 +123,14 @@ fn attend<'a, 'g, R: Wait + Clock, S: Stream + Drop, G: Gate>(
     let mut talk = Talk::new(alloc, connection, outlet, seat, gate, patience);
     let end = converse(rt, &mut talk);
     let Talk {
-        outlet,
+        mut outlet,
         conn,
-        seat,
+        mut seat,
         ..
     } = talk;
-    end_session(rt, registry, outlet, conn, seat, &key, end)
+    outlet.give_up();
+    end_own(conn, &mut seat);
+    end_session(rt, registry, outlet, seat, &key, end)
 }
 
 /// Answers a connection that has come, until it follows or to its end. Where it follows it is handed over to a loop, if one takes it.
@@ -154,12 +156,14 @@ pub(crate) fn attend_or_hand_over<'a, 'g, R: Wait + Clock, G: Gate>(
     }
     let end = conclude(rt, &mut talk, talked);
     let Talk {
-        outlet,
+        mut outlet,
         conn,
-        seat,
+        mut seat,
         ..
     } = talk;
-    let _ = end_session(rt, registry, outlet, conn, seat, &key, end);
+    outlet.give_up();
+    end_own(conn, &mut seat);
+    let _ = end_session(rt, registry, outlet, seat, &key, end);
     registry.goes();
 }
 
@@ -180,22 +184,20 @@ fn follow_in_loop<'a, R: Wait + Clock>(
         None => return,
     };
     let end = follow(rt, alloc, &mut outlet, &mut seat);
-    let _ = end_session(rt, registry, outlet, Conn::new(alloc), seat, key, end);
+    outlet.give_up();
+    let _ = end_session(rt, registry, outlet, seat, key, end);
     registry.goes();
 }
 
-/// Ends a session that ended so: the boards that the connection opened are ended, and its follower leaves.
+/// Ends a session that ended so and whose boards were ended: its follower leaves, and what the peer still sends is read for a while.
 fn end_session<'a, R: Wait + Clock, S: Stream + Drop>(
     rt: &'a R,
     registry: &'a Registry,
     mut outlet: SocketOutlet<S>,
-    conn: Conn,
-    mut seat: Seat<'a, R>,
+    seat: Seat<'a, R>,
     key: &Option<Key>,
     end: SessionEnd,
 ) -> SessionEnd {
-    outlet.give_up();
-    end_own(conn, &mut seat);
     seat.leave();
     if let Some(key) = key {
         registry.leave(rt, key);

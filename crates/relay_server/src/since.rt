@@ -1,5 +1,7 @@
 //! Since when one who follows in a loop is waited for, in seconds of the loop's clock.
 
+ghost use Rattle.std.specs.Prelude.{◌≡◌};
+
 /// How many seconds half a message may take.
 const MOST_HALF_SECONDS: u64 = 10;
 
@@ -73,7 +75,10 @@ impl Since {
     }
 
     /// Something came from it; behind that it is in the middle of a message or not.
-    pub(crate) fn hears(&mut self, now: u64, is_midway: bool) {
+    pub(crate) fn hears(&mut self, now: u64, is_midway: bool)
+        ensures heard { self.new.heard_at ≡ now }
+        ensures pings { self.new.pings ≡ 0 }
+    {
         self.heard_at = now;
         self.pings = 0;
         self.midway_since = match self.midway_since {

@@ -1,6 +1,6 @@
 //! One that follows a board in a loop: what it is pushed, and what it says meanwhile. The loop's poll and its clock stand elsewhere.
 
-ghost use Rattle.std.specs.Prelude.{◌≡◌, ◌≤◌, ◌↔◌, IsTrue, true, [], length, None, Some, option_map, IfOk, IsOk, OnOk, OnErr};
+ghost use Rattle.std.specs.Prelude.{◌≡◌, ◌≤◌, ◌↔◌, IsTrue, true, [], length, None, Some, option_map, IfErr, IfOk, IsOk, OnOk, OnErr};
 ghost use Rattle.std.specs.Io.KnownBytes.{Appends, Keeps};
 ghost use Rattle.relay_frames.specs.Events.{is_last, number_of, told};
 ghost use Rattle.relay_frames.specs.Frames.{close_frame, ping_frame, pong_frame};
@@ -10,7 +10,7 @@ ghost use Rattle.live_board.specs.Seats.{FollowerSeat};
 ghost use Rattle.relay_frames.specs.Reading.{is_midway};
 ghost use Rattle.relay_server.specs.Heads.{left};
 ghost use Rattle.relay_server.specs.Lines.{written as line_written};
-ghost use Rattle.relay_server.specs.Served.{Ended, Following, Heeded, IsAnswered, IsClosed, IsGone, IsLeftWith, IsNext, IsPassedOver, IsPeers, IsTakenIn, TookTurn, standing_of};
+ghost use Rattle.relay_server.specs.Served.{Ended, Following, Heeded, IsAnswered, IsClosed, IsGone, IsLeftWith, IsNext, IsPassedOver, IsPeers, IsTakenIn, NoneTakenIn, TookTurn, standing_of};
 ghost use Rattle.relay_server.specs.Spectating.{HasBeenTold, close_code, session_end};
 
 use crate::chronicle::What;
@@ -132,21 +132,28 @@ impl<S: Stream + Drop> Spectator<S> {
         let turn = spectating.push_some(alloc, &mut self.outlet);
         if let Turn::Ended(end) = turn {
             leave(&mut self.state, ending_of(&end), registry);
-            self.is_told_to_go(&end, registry.is_ending());
+            // Without memory for the close the texts alone are sent, and then the end of the output.
+            let _ = self.is_told_to_go(&end, registry.is_ending());
             note_if_cut(rt, registry, board, &end);
         }
         turn
     }
 
     /// Behind the text of pushing's end the close is put, if one is due.
-    fn is_told_to_go(&mut self, end: &PushEnd, is_ending: bool)
-        ensures left { IsLeftWith self.old self.new (close_code is_ending end.now) }
+    ///
+    /// # Errors
+    ///
+    /// The device failed, or there was no memory. Then nothing was put.
+    fn is_told_to_go(&mut self, end: &PushEnd, is_ending: bool) -> Result<(), Lost>
+        ensures left { OnOk result (IsLeftWith self.old self.new (close_code is_ending end.now)) }
+        ensures failed { OnErr result (Keeps self.old.written self.new.written) }
         ensures standing { self.new.standing ≡ self.old.standing }
         ensures texts { self.new.texts ≡ self.old.texts }
         ensures unread { self.new.unread ≡ self.old.unread }
     {
-        if let Some(code) = code_of_end(end, is_ending) {
-            let _ = self.puts_close(Some(code));
+        match code_of_end(end, is_ending) {
+            Some(code) => self.puts_close(Some(code)),
+            None => Ok(()),
         }
     }
 
@@ -289,6 +296,7 @@ impl<S: Stream + Drop> Spectator<S> {
     /// Nothing is there now (`WouldBlock`), the stream failed, or there was no memory.
     pub(crate) fn take_in(&mut self) -> io::Result<usize>
         ensures came { IfOk result (λ n. IsTakenIn self.old self.new n) }
+        ensures nothing { IfErr result (λ error. NoneTakenIn self.old self.new error) }
         ensures standing { self.new.standing ≡ self.old.standing }
         ensures texts { self.new.texts ≡ self.old.texts }
         ensures kept { self.new.kept ≡ self.old.kept }

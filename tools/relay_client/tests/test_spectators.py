@@ -1,7 +1,9 @@
 """What those who follow on the main port may rely on: places that come free, pings and closes that are answered, and an end in order."""
 
+import concurrent.futures
 import socket
 import subprocess
+import threading
 import time
 import unittest
 
@@ -9,14 +11,16 @@ from relay_client.connection import Connection
 from relay_client.frames import CLOSE, PING, REQUEST, TEXT, frame, masked
 from relay_client.server import Server
 from relay_client.tests.sessions import ABANDONED, guest_of, moves_without_a_draw, owner_of, play
+from relay_client.tests.test_deadlines import HALVES, seconds_of_half
 from relay_client.tests.test_log import Reader
-from relay_client.tests.test_watching_loops import Stopped, long_game
+from relay_client.tests.test_watching_loops import SLOW, Stopped, long_game, processor_seconds
 from relay_client.texts import CUT, NOT_JSON, following, follows, moved, played, refused, submits
 
 SOON = 10  # Seconds within which what happens at once has happened, on a machine that is busy with proofs too.
 FREE = 2 + SOON  # Within which a place is free whose follower has gone.
 FULL = refused(11, "TooManyFollowers")
 PAYLOAD = bytes(range(125))
+FLOODS = 350, 600  # Pings, whose pongs are more than a slow connection takes; and more than the server keeps for one that it hears.
 AWAY = masked(CLOSE, b"\x03\xe9")  # What a page sends that is left: 1001.
 # How one goes.
 GOING = {
@@ -36,6 +40,14 @@ def seconds_until_followed(server, board="b1"):
         if time.monotonic() - began > 120:
             raise AssertionError("no place comes free")
         time.sleep(0.05)
+
+
+def rests(server):
+    """Waits until the server has done what there was to be done."""
+    before = None
+    while (taken := processor_seconds(server)) != before:
+        before = taken
+        time.sleep(1)
 
 
 def close_all(*connections):
@@ -91,10 +103,16 @@ class Places(unittest.TestCase):
         with Server("--forever", "--followers", "1") as server:
             owner, guest = owner_of(server), guest_of(server)
             guest.vanish()
+            # It answers pings while it waits: with it the board would go, and its followers.
+            waiting = threading.Thread(target=owner.receive)
+            waiting.start()
             newcomer, answer, took = seconds_until_followed(server)
             self.assertEqual(answer, following())
             self.assertGreater(took, 80)
             self.assertLess(took, 90 + SOON)
+            owner.send(submits("b1", "e2e4"))
+            waiting.join()
+            newcomer.hears(moved("e2e4", 0))
             close_all(owner, guest, newcomer)
 
     def test_one_that_reads_nothing_and_was_cut_gives_its_place_back_while_its_texts_are_on_their_way(self):
@@ -115,6 +133,30 @@ class Places(unittest.TestCase):
             self.assertEqual(texts, [moved(move, place) for place, move in enumerate(moves[:len(texts)])])
             guest.hears("close 4001")
             close_all(owner, guest, newcomer)
+
+
+    def test_one_whose_connection_takes_nothing_is_cut_all_the_same_and_sent_the_rest_once_it_takes_it(self):
+        """Pongs fill its connection before the moves come: the server keeps some, or so many that it hears no more. Once it is cut it says that it
+        sends no more, and still is sent all."""
+        moves = list(moves_without_a_draw())[:10]
+        for flood in FLOODS:
+            with self.subTest(flood), Server("--forever", "--followers", "1", "--capacity", "4") as server:
+                owner, guest = owner_of(server), guest_of(server, **SLOW)
+                guest.stream.sendall(masked(PING, PAYLOAD) * flood)
+                rests(server)
+                play(owner, moves)
+                newcomer, _, took = seconds_until_followed(server)
+                self.assertLess(took, FREE)
+                guest.stream.shutdown(socket.SHUT_WR)
+                time.sleep(0.5)
+                guest.stream.settimeout(SOON)
+                texts = []
+                while (received := guest.receive()) != CUT:
+                    texts += [received] if received != "pong" else []
+                self.assertEqual(texts, [moved(move, place) for place, move in enumerate(moves[:4])])
+                guest.hears("close 4001")
+                guest.has_ended()
+                close_all(owner, guest, newcomer)
 
 
 class Frames(unittest.TestCase):
@@ -219,6 +261,43 @@ class Frames(unittest.TestCase):
             self.assertTrue(9 < took < 12 + SOON, took)
             close_all(owner, guest, newcomer)
 
+    def test_half_a_message_has_ten_seconds_in_all_however_it_comes(self):
+        with Server("--forever") as server, concurrent.futures.ThreadPoolExecutor(len(HALVES)) as pool:
+            owner, guests = owner_of(server), {name: guest_of(server) for name in HALVES}
+            for name, took in pool.map(lambda it: (it[0], seconds_of_half(it[0], it[1].stream)), guests.items()):
+                with self.subTest(name):
+                    self.assertTrue(9 < took < 24, took)
+            close_all(owner, *guests.values())
+
+    def test_messages_without_a_pause_between_them_have_no_deadline_together(self):
+        """Each piece ends in the middle of a text, for longer than a text may take."""
+        with Server("--forever") as server:
+            owner, guest, text = owner_of(server), guest_of(server), frame("[")
+            guest.stream.settimeout(SOON)
+            guest.stream.sendall(text[:1])
+            for _ in range(13):
+                guest.stream.sendall(text[1:] + text[:1])
+                time.sleep(1)
+            guest.stream.sendall(text[1:] + masked(PING, PAYLOAD))
+            self.assertEqual(frames_until_pong(guest), [])
+            close_all(owner, guest)
+
+    def test_nobody_goes_for_what_came_in_time_while_the_server_stood_still(self):
+        with Server("--forever") as server:
+            owner, guests, text = owner_of(server), [guest_of(server) for _ in range(4)], frame("[")
+            for guest in guests:
+                guest.stream.sendall(text[:1])
+            time.sleep(1)
+            with Stopped(server):
+                for guest in guests:
+                    guest.stream.sendall(text[1:])
+                time.sleep(12)
+            for guest in guests:
+                guest.stream.settimeout(SOON)
+                guest.stream.sendall(masked(PING, PAYLOAD))
+                self.assertEqual(frames_until_pong(guest), [])
+            close_all(owner, *guests)
+
 
 class Ends(unittest.TestCase):
     def test_a_cut_comes_at_the_move_at_which_the_queue_was_full(self):
@@ -254,6 +333,24 @@ class Ends(unittest.TestCase):
                 guest.hears(*texts, ABANDONED, "close 1001")
             self.assertLess(time.monotonic() - began, 5 + SOON)
             close_all(owner, *guests)
+            server.has_served(201)
+
+    def test_all_hear_the_end_of_serving_where_no_other_connection_is_left(self):
+        """Their board waits for its key. So no thread is waited for but those of the loops."""
+        with Server("--until-input-ends", "--forever", "--grace", "600", "--followers", "200", stdin=subprocess.PIPE) as server:
+            owner = owner_of(server, key="k" * 32)
+            guests = [guest_of(server) for _ in range(200)]
+            texts = play(owner, ["e2e4", "e7e5"])
+            owner.asks("close 1000", "close 1000")
+            owner.close()
+            guests[-1].hears(*texts)
+            time.sleep(0.5)
+            server.process.stdin.close()
+            server.process.stdin = None
+            guests[-1].hears(ABANDONED, "close 1001")
+            for guest in guests[:-1]:
+                guest.hears(*texts, ABANDONED, "close 1001")
+            close_all(*guests)
             server.has_served(201)
 
     def test_the_log_counts_those_who_follow_no_more(self):
