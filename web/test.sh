@@ -9,13 +9,11 @@ cd "$(dirname "$0")"
 top=$(cd .. && pwd)
 # shellcheck disable=SC1091
 . "$top/tools/trial.sh"
-channels="nginx-light libnginx-mod-nchan redis-server"
-# shellcheck disable=SC2086  # a word for each package
 case ${1:-} in
-    "") begin_trial nodejs pychess stockfish pgn-extract chromium openssl python3-websockets $channels firefox-esr webkit2gtk-driver xvfb ;;
+    "") begin_trial nodejs pychess stockfish pgn-extract chromium openssl python3-websockets nginx-light libnginx-mod-nchan redis-server firefox-esr webkit2gtk-driver xvfb ;;
     chess) begin_trial nodejs pychess stockfish pgn-extract ;;
-    firefox) begin_trial firefox-esr python3-websockets $channels ;;
-    webkit) begin_trial webkit2gtk-driver xvfb python3-websockets $channels ;;
+    firefox) begin_trial firefox-esr python3-websockets nginx-light libnginx-mod-nchan redis-server ;;
+    webkit) begin_trial webkit2gtk-driver xvfb python3-websockets nginx-light libnginx-mod-nchan redis-server ;;
     *) begin_trial chromium openssl python3-websockets ;;
 esac
 if [ "${1:-chess}" = chess ]; then
