@@ -47,7 +47,6 @@ static void follow(int count, int) {
     int poll = epoll_create1(0);
     for (int i = 0; i < count; i++) {
         peers[i] = follower();
-        set_nonblocking(peers[i].fd);
         if (listen_to(poll, peers[i].fd, &peers[i])) die("epoll_ctl");
         told->there++;
     }

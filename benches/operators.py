@@ -34,7 +34,6 @@ from relay_client.program import PROGRAM
 from relay_client.tests.sessions import guest_of, owner_of
 from relay_client.texts import following, follows
 
-HERE = pathlib.Path(__file__).resolve().parent
 MOST_FOLLOWERS = 1024
 MOVES = {"answers": 200, "turns": 1000}
 TURNS_FOLLOWERS = 100
@@ -122,7 +121,8 @@ def turns(programs, room, figures):
     for program in programs:
         with running(program, room) as server:
             take_turns(program.name, server, room, figures)
-    for name, server in serving.servers(["nchan-1"], None, room, serving.raised_limit(TURNS_FOLLOWERS)):
+    given = argparse.Namespace(followers=TURNS_FOLLOWERS)
+    for name, server in serving.servers(["nchan-1"], given, room, serving.raised_limit(TURNS_FOLLOWERS)):
         try:
             take_turns(name, server, room, figures)
         finally:
@@ -190,7 +190,7 @@ def main():
     with tempfile.TemporaryDirectory() as room:
         os.chmod(room, 0o755)
         for client in ("operators", "reader"):
-            subprocess.run(["cc", "-O2", "-o", f"{room}/{client}", str(HERE / f"{client}.c")], check=True)
+            serving.built(room, client)
         for number in range(given.rounds):
             print(f"round {number + 1}, load {os.getloadavg()[0]:.1f}", file=sys.stderr)
             for what in [given.what] if given.what else WHAT:

@@ -92,6 +92,7 @@ struct peer {
     long texts;
     char last[128];  // the first bytes of the last payload
     int kept;
+    int ends_in_text;  // the last frame is one
 };
 
 // How long the head is and how long its payload; 0 where more bytes are needed.
@@ -153,8 +154,9 @@ static void take(struct peer *p, const unsigned char *bytes, long n) {
             fprintf(stderr, "closed by the server after %ld texts: %s\n", p->texts, p->last);
             exit(1);
         }
-        if (kind != MOSQUITTO && type == 9) put(p->fd, "\x8a\x80\0\0\0", 6);  // a pong, or the peer counts as gone after a while
-        p->texts += kind == MOSQUITTO ? type == 3 : type == 1;
+        if (kind != MOSQUITTO && type == 9) put(p->fd, "\x8a\x80\0\0\0\0", 6);  // a pong, or the peer counts as gone after a while
+        p->ends_in_text = kind == MOSQUITTO ? type == 3 : type == 1;
+        p->texts += p->ends_in_text;
         p->skip = payload;
         p->kept = 0;
         p->have = 0;
@@ -165,8 +167,9 @@ static void take(struct peer *p, const unsigned char *bytes, long n) {
 
 // There are some 28,000 ports of the own machine for connections to one address, so of many each 20,000 go to another one of loopback. There
 // a relay has to watch at 0.0.0.0.
+static int dialled;
+
 static int dial(int port) {
-    static int dialled;
     int fd = socket(AF_INET, SOCK_STREAM, 0), one = 1;
     struct sockaddr_in to = {.sin_family = AF_INET, .sin_port = htons(port), .sin_addr.s_addr = htonl(INADDR_LOOPBACK + dialled++ / 20000)};
     if (fd < 0) die("socket");
@@ -242,6 +245,9 @@ static struct peer publisher(void) {
     return p;
 }
 
+static void set_nonblocking(int fd) { fcntl(fd, F_SETFL, fcntl(fd, F_GETFL) | O_NONBLOCK); }
+
+// Reads of it do not wait.
 static struct peer follower(void) {
     struct peer p = {.fd = -1};
     char text[128];
@@ -259,6 +265,7 @@ static struct peer follower(void) {
         if (!strstr(p.last, "following")) die(p.last);
         p.texts = 0;
     }
+    set_nonblocking(p.fd);
     return p;
 }
 
@@ -272,8 +279,6 @@ static size_t asking(char *ask, size_t room, int joins) {
     return length + ws_text((unsigned char *)ask + length, text);
 }
 
-static void set_nonblocking(int fd) { fcntl(fd, F_SETFL, fcntl(fd, F_GETFL) | O_NONBLOCK); }
-
 static unsigned char chunk[1 << 16];
 
 // Reads what came; returns whether the peer has this many texts now and had fewer before.
@@ -286,6 +291,16 @@ static int hears(struct peer *p, long texts) {
     }
     if (n > 0) take(p, chunk, n);
     return before < texts && p->texts >= texts;
+}
+
+enum { PING_SECONDS = 10 };  // how often those who only wait are read
+
+// Reads these, of whom no read waits, where that is due. So their pings are answered while nothing else reads them.
+static inline void look_after(struct peer *peers, int count) {
+    static double done_at;
+    if (now() < done_at + PING_SECONDS) return;
+    for (int i = 0; i < count; i++) hears(&peers[i], 0);
+    done_at = now();
 }
 
 #endif

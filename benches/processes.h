@@ -1,4 +1,4 @@
-// The processes of a server that is measured: the processor time and the memory of all of them.
+// The processes of a server that is measured: the processor time and the memory of all of them. What is inline here not every client needs.
 #ifndef PROCESSES_H
 #define PROCESSES_H
 
@@ -21,7 +21,7 @@ struct spent {
 };
 
 // Of the threads that there are.
-static struct spent spent(void) {
+static inline struct spent spent(void) {
     struct spent all = {0, 0};
     char list[256], path[300];
     snprintf(list, sizeof list, "%s", pids);
@@ -47,7 +47,7 @@ static struct spent spent(void) {
     return all;
 }
 
-static long resident(void) {
+static inline long resident(void) {
     long all = 0;
     char list[256], path[300], line[256];
     snprintf(list, sizeof list, "%s", pids);
@@ -68,7 +68,7 @@ struct seconds {
 };
 
 // The processor seconds of all threads, those that have ended too. The system counts them in hundredths, and tells what was the program's own.
-static struct seconds spent_in_all(void) {
+static inline struct seconds spent_in_all(void) {
     struct seconds all = {0, 0};
     char list[256], path[300];
     snprintf(list, sizeof list, "%s", pids);

@@ -14,10 +14,6 @@
 // In `arrives` the system stamps what comes to a follower with its time, so the reading client takes no part in what is measured. Its followers are in as
 // many processes as their descriptors need.
 #define _GNU_SOURCE
-#include <arpa/inet.h>
-#include <errno.h>
-#include <fcntl.h>
-#include <netinet/tcp.h>
 #include <poll.h>
 #include <signal.h>
 #include <stdio.h>
@@ -30,272 +26,8 @@
 #include <time.h>
 #include <unistd.h>
 
+#include "peers.h"
 #include "processes.h"
-
-enum kind { RELAY, NCHAN, MOSQUITTO };
-
-static enum kind kind;
-static int port;
-static int follow_port;  // where followers come in
-static char name[32];  // of the board or channel, another one each run
-
-static double now(void) {
-    struct timespec t;
-    clock_gettime(CLOCK_MONOTONIC, &t);
-    return t.tv_sec + t.tv_nsec / 1e9;
-}
-
-// ---- a game that no draw ends: both sides' knights go round, with a pawn's step each 91 plies
-
-static void move_at(int ply, char *text) {
-    static const char *white[] = {"g1f3", "f3g5", "g5h3", "h3g1"};
-    static const char *black[] = {"g8h6", "h6f5", "f5g3", "g3h5", "h5f6", "f6g8"};
-    int steps[2] = {0, 0}, turns[2] = {0, 0};
-    for (int at = 0;; at++) {
-        int side = at % 2;
-        if (at % 91 == 90) {
-            char file = 'a' + steps[side] / 2;
-            int rank = side == 0 ? 2 + steps[side] % 2 : 7 - steps[side] % 2;
-            snprintf(text, 6, "%c%d%c%d", file, rank, file, side == 0 ? rank + 1 : rank - 1);
-            steps[side]++;
-        } else {
-            snprintf(text, 6, "%s", side == 0 ? white[turns[0] % 4] : black[turns[1] % 6]);
-            turns[side]++;
-        }
-        if (at == ply) return;
-    }
-}
-
-// ---- frames
-
-// A masked text frame, the key being 0.
-static size_t ws_text(unsigned char *to, const char *text) {
-    size_t n = strlen(text);
-    to[0] = 0x81;
-    to[1] = 0x80 | n;
-    memset(to + 2, 0, 4);
-    memcpy(to + 6, text, n);
-    return n + 6;
-}
-
-static size_t mqtt_publish(unsigned char *to, const char *text) {
-    size_t n = strlen(text), topic = strlen(name);
-    to[0] = 0x30;
-    to[1] = 2 + topic + n;
-    to[2] = 0;
-    to[3] = topic;
-    memcpy(to + 4, name, topic);
-    memcpy(to + 4 + topic, text, n);
-    return 4 + topic + n;
-}
-
-// The one command or publication of a move.
-static size_t publication(unsigned char *to, int ply) {
-    char move[8], text[120];
-    move_at(ply, move);
-    if (kind == RELAY)
-        snprintf(text, sizeof text, "{\"cmd\":\"submit\",\"board\":\"%s\",\"move\":\"%s\"}", name, move);
-    else
-        snprintf(text, sizeof text, "{\"move\":\"%s\",\"place\":%d,\"reply\":\"move\"}", move, ply);
-    return kind == MOSQUITTO ? mqtt_publish(to, text) : ws_text(to, text);
-}
-
-struct peer {
-    int fd;
-    unsigned char head[8];
-    int have;   // bytes of the head
-    long skip;  // bytes of the payload still to come
-    long texts;
-    char last[128];  // the first bytes of the last payload
-    int kept;
-};
-
-// How long the head is and how long its payload; 0 where more bytes are needed.
-static int head_length(const struct peer *p, long *payload) {
-    if (p->have < 2) return 0;
-    if (kind == MOSQUITTO) {
-        long n = 0;
-        for (int at = 1; at < p->have; at++) {
-            n |= (long)(p->head[at] & 0x7f) << (7 * (at - 1));
-            if (!(p->head[at] & 0x80)) {
-                *payload = n;
-                return at + 1;
-            }
-        }
-        return 0;
-    }
-    long n = p->head[1] & 0x7f;
-    if (n < 126) {
-        *payload = n;
-        return 2;
-    }
-    if (p->have < 4) return 0;
-    *payload = p->head[2] << 8 | p->head[3];
-    return 4;
-}
-
-static void take(struct peer *p, const unsigned char *bytes, long n) {
-    while (n > 0) {
-        if (p->skip > 0) {
-            long part = n < p->skip ? n : p->skip;
-            long room = (long)sizeof p->last - 1 - p->kept;
-            if (room > 0) {
-                long keep = part < room ? part : room;
-                memcpy(p->last + p->kept, bytes, keep);
-                p->kept += keep;
-                p->last[p->kept] = 0;
-            }
-            p->skip -= part;
-            bytes += part;
-            n -= part;
-            continue;
-        }
-        p->head[p->have++] = *bytes++;
-        n--;
-        long payload;
-        int length = head_length(p, &payload);
-        if (!length) continue;
-        int type = kind == MOSQUITTO ? p->head[0] >> 4 : p->head[0] & 15;
-        if (kind != MOSQUITTO && type == 8) {
-            fprintf(stderr, "closed by the server after %ld texts: %s\n", p->texts, p->last);
-            exit(1);
-        }
-        if (kind != MOSQUITTO && type == 9 && write(p->fd, "\x8a\x80\0\0\0\0", 6) != 6) die("pong");
-        p->texts += kind == MOSQUITTO ? type == 3 : type == 1;
-        p->skip = payload;
-        p->kept = 0;
-        p->have = 0;
-    }
-}
-
-// ---- connections
-
-// There are some 28,000 ports of the own machine for connections to one address, so of many each 20,000 go to another one of loopback. There
-// a relay has to watch at 0.0.0.0.
-static int dialled;
-
-static int dial(int port) {
-    int fd = socket(AF_INET, SOCK_STREAM, 0), one = 1;
-    struct sockaddr_in to = {.sin_family = AF_INET, .sin_port = htons(port), .sin_addr.s_addr = htonl(INADDR_LOOPBACK + dialled++ / 20000)};
-    if (fd < 0) die("socket");
-    setsockopt(fd, IPPROTO_TCP, TCP_NODELAY, &one, sizeof one);
-    if (connect(fd, (struct sockaddr *)&to, sizeof to)) die("connect");
-    return fd;
-}
-
-static void put(int fd, const void *bytes, size_t n) {
-    while (n > 0) {
-        ssize_t done = write(fd, bytes, n);
-        if (done <= 0) die("write");
-        bytes = (const char *)bytes + done;
-        n -= done;
-    }
-}
-
-static size_t request(char *to, size_t room, const char *path) {
-    return snprintf(to, room,
-                    "GET %s HTTP/1.1\r\nHost: 127.0.0.1:%d\r\nUpgrade: websocket\r\nConnection: Upgrade\r\n"
-                    "Sec-WebSocket-Key: dGhlIHNhbXBsZSBub25jZQ==\r\nSec-WebSocket-Version: 13\r\n\r\n",
-                    path, port);
-}
-
-static int shake_hands(int port, const char *path) {
-    int fd = dial(port), at = 0;
-    char text[1024];
-    put(fd, text, request(text, sizeof text, path));
-    while (at < 4 || memcmp(text + at - 4, "\r\n\r\n", 4)) {
-        if (at == sizeof text || read(fd, text + at, 1) != 1) die("handshake");
-        at++;
-    }
-    if (memcmp(text, "HTTP/1.1 101", 12)) die("no upgrade");
-    return fd;
-}
-
-static void read_text(struct peer *p) {
-    unsigned char byte;
-    long before = p->texts;
-    while (p->texts == before || p->skip > 0) {
-        if (read(p->fd, &byte, 1) != 1) die("read");
-        take(p, &byte, 1);
-    }
-}
-
-static int mqtt(int subscribes) {
-    int fd = dial(port);
-    unsigned char text[128], answer[8];
-    static int client;
-    int n = snprintf((char *)text + 14, 100, "b%d-%d", getpid(), client++);
-    memcpy(text, "\x10\0\0\4MQTT\4\2\0\0\0", 13);
-    text[1] = 12 + n;
-    text[13] = n;
-    put(fd, text, 14 + n);
-    if (read(fd, answer, 4) != 4 || answer[3]) die("connack");
-    if (!subscribes) return fd;
-    n = strlen(name);
-    unsigned char to[64] = {0x82, 5 + n, 0, 1, 0, n};
-    memcpy(to + 6, name, n);
-    to[6 + n] = 0;
-    put(fd, to, 7 + n);
-    if (read(fd, answer, 5) != 5 || answer[4]) die("suback");
-    return fd;
-}
-
-static struct peer publisher(void) {
-    struct peer p = {.fd = -1};
-    char text[128];
-    unsigned char frame[160];
-    if (kind == MOSQUITTO) {
-        p.fd = mqtt(0);
-    } else if (kind == NCHAN) {
-        snprintf(text, sizeof text, "/pub/%s", name);
-        p.fd = shake_hands(port, text);
-    } else {
-        p.fd = shake_hands(port, "/");
-        snprintf(text, sizeof text, "{\"cmd\":\"open\",\"board\":\"%s\",\"start\":518}", name);
-        put(p.fd, frame, ws_text(frame, text));
-        read_text(&p);
-        if (!strstr(p.last, "opened")) die(p.last);
-    }
-    return p;
-}
-
-static struct peer follower(void) {
-    struct peer p = {.fd = -1};
-    char text[128];
-    unsigned char frame[160];
-    if (kind == MOSQUITTO) {
-        p.fd = mqtt(1);
-    } else if (kind == NCHAN) {
-        snprintf(text, sizeof text, "/sub/%s", name);
-        p.fd = shake_hands(port, text);
-    } else {
-        p.fd = shake_hands(follow_port, "/");
-        snprintf(text, sizeof text, "{\"cmd\":\"follow\",\"board\":\"%s\",\"spectator\":1}", name);
-        put(p.fd, frame, ws_text(frame, text));
-        read_text(&p);
-        if (!strstr(p.last, "following")) die(p.last);
-        p.texts = 0;
-    }
-    return p;
-}
-
-static void set_nonblocking(int fd) { fcntl(fd, F_SETFL, fcntl(fd, F_GETFL) | O_NONBLOCK); }
-
-static unsigned char chunk[1 << 16];
-
-// Reads what came; returns whether the peer has this many texts now and had fewer before.
-static int hears(struct peer *p, long texts) {
-    long before = p->texts;
-    ssize_t n = read(p->fd, chunk, sizeof chunk);
-    if (n == 0 || (n < 0 && errno != EAGAIN)) {
-        fprintf(stderr, "lost a peer with %ld texts\n", p->texts);
-        exit(1);
-    }
-    if (n > 0) take(p, chunk, n);
-    return before < texts && p->texts >= texts;
-}
-
-// ---- what is measured
 
 // The processor seconds of the server since then.
 static double since(struct seconds then) {
@@ -308,10 +40,14 @@ static void moves(int followers, int count, int at_once) {
     unsigned char *out = malloc((size_t)count * 160);
     size_t *ends = malloc((count + 1) * sizeof *ends), end = 0;
     peers[0] = publisher();
+    set_nonblocking(peers[0].fd);
     long empty = resident();
     double began = now();
     struct seconds idle = spent_in_all();
-    for (int i = 1; i <= followers; i++) peers[i] = follower();
+    for (int i = 1; i <= followers; i++) {
+        peers[i] = follower();
+        look_after(peers, i + 1);
+    }
     double joined = now() - began, joining = since(idle);
     for (int i = 0; i < count; i++) {
         end += publication(out + end, i);
@@ -320,7 +56,6 @@ static void moves(int followers, int count, int at_once) {
     int poll = epoll_create1(0);
     for (int i = 0; i <= followers; i++) {
         struct epoll_event e = {.events = EPOLLIN, .data.u32 = i};
-        set_nonblocking(peers[i].fd);
         if (epoll_ctl(poll, EPOLL_CTL_ADD, peers[i].fd, &e)) die("epoll_ctl");
     }
     usleep(300000);
@@ -368,8 +103,7 @@ static void moves(int followers, int count, int at_once) {
 
 // ---- when a move has arrived, the reading client left out
 
-// In seconds: how often pings are answered while no move is on its way.
-enum { MOST_A_PROCESS = 18000, MOST_PROCESSES = 64, PING_SECONDS = 10 };
+enum { MOST_A_PROCESS = 18000, MOST_PROCESSES = 64 };
 
 static double real_time(void) {
     struct timespec t;
@@ -377,7 +111,10 @@ static double real_time(void) {
     return t.tv_sec + t.tv_nsec / 1e9;
 }
 
-// Reads what has come; returns when the last of it came, as the system stamped it.
+static double later(double a, double b) { return a > b ? a : b; }
+
+// Reads what has come; returns when the last of it came, as the system stamped it. Two frames may have one stamp, that of the second. So where a ping
+// is the last one, nobody knows when the move before it came, and what is returned is 0.
 static double stamped(struct peer *p) {
     union {
         char bytes[256];
@@ -388,7 +125,7 @@ static double stamped(struct peer *p) {
         struct iovec into = {chunk, sizeof chunk};
         struct msghdr m = {.msg_iov = &into, .msg_iovlen = 1, .msg_control = &told, .msg_controllen = sizeof told};
         ssize_t n = recvmsg(p->fd, &m, MSG_DONTWAIT);
-        if (n < 0 && errno == EAGAIN) return last;
+        if (n < 0 && errno == EAGAIN) return p->ends_in_text ? last : 0;
         if (n <= 0) die("recvmsg");
         take(p, chunk, n);
         for (struct cmsghdr *c = CMSG_FIRSTHDR(&m); c; c = CMSG_NXTHDR(&m, c)) {
@@ -404,41 +141,39 @@ static double stamped(struct peer *p) {
 static double stamped_of_all(struct peer *peers, int followers, int texts) {
     double last = 0;
     for (int i = 0; i < followers; i++) {
-        double came = stamped(&peers[i]);
-        last = came > last ? came : last;
+        last = later(last, stamped(&peers[i]));
         while (peers[i].texts < texts) {
             usleep(10000);
-            came = stamped(&peers[i]);
-            last = came > last ? came : last;
+            last = later(last, stamped(&peers[i]));
         }
     }
     return last;
 }
 
-// Waits for a word, and answers pings of these meanwhile, who have this many texts.
-static void awaits(int words, struct peer *peers, int followers, int texts) {
+// Waits for a word, and answers pings of these meanwhile, who have this many texts. Returns when the last text came that was read so.
+static double awaits(int words, struct peer *peers, int followers, int texts) {
     struct pollfd waited = {words, POLLIN, 0};
-    while (!poll(&waited, 1, PING_SECONDS * 1000)) stamped_of_all(peers, followers, texts);
+    double last = 0;
+    while (!poll(&waited, 1, PING_SECONDS * 1000)) last = later(last, stamped_of_all(peers, followers, texts));
+    return last;
 }
 
 // A process of followers. It says that they are there, and after each word of its parent when the last of them had the move.
 static void part(int followers, int count, int words, int answers) {
     struct peer *peers = calloc(followers, sizeof *peers);
-    double last = 0, read_at = now();
+    double last = 0;
     for (int i = 0; i < followers; i++) {
         int one = 1;
         peers[i] = follower();
         if (setsockopt(peers[i].fd, SOL_SOCKET, SO_TIMESTAMPNS, &one, sizeof one)) die("stamps");
-        if (now() < read_at + PING_SECONDS) continue;
-        stamped_of_all(peers, i + 1, 0);
-        read_at = now();
+        look_after(peers, i + 1);
     }
     put(answers, &last, sizeof last);
     for (int ply = 0; ply < count; ply++) {
         char word;
-        awaits(words, peers, followers, ply);
+        last = awaits(words, peers, followers, ply);
         if (read(words, &word, 1) != 1) exit(1);
-        last = stamped_of_all(peers, followers, ply + 1);
+        last = later(last, stamped_of_all(peers, followers, ply + 1));
         put(answers, &last, sizeof last);
     }
     char word;
@@ -450,7 +185,7 @@ static double last_of(int answers, int parts, struct peer *board) {
     for (int i = 0; i < parts; i++) {
         awaits(answers, board, 1, 0);
         if (read(answers, &one, sizeof one) != sizeof one) die("a process of followers ended");
-        last = one > last ? one : last;
+        last = later(last, one);
     }
     return last;
 }
@@ -499,6 +234,7 @@ static void arrivals(int followers, int count) {
         used += spent().seconds - before.seconds;
         for (int i = 0; i < parts; i++) put(words[i][1], "m", 1);
         took[ply] = last_of(answers[0], parts, &board) - sent;
+        if (took[ply] < 0) die("each follower had a ping after the move");
     }
     qsort(took, count, sizeof *took, in_order);
     printf("{\"followers\": %d, \"least_ms\": %.1f, \"median_ms\": %.1f, \"most_ms\": %.1f, \"cpu_us\": %.3f, ", followers, took[0] * 1e3, took[count / 2] * 1e3,
@@ -508,16 +244,6 @@ static void arrivals(int followers, int count) {
     fflush(stdout);
     for (int i = 0; i < parts; i++) put(words[i][1], "e", 1);
     while (wait(NULL) > 0) continue;
-}
-
-// What a newcomer asks for: to connect, and to join if that is said; the bytes in all.
-static size_t asking(char *ask, size_t room, int joins) {
-    char text[100];
-    snprintf(text, sizeof text, kind == NCHAN ? "/sub/%s" : "/", name);
-    size_t length = request(ask, room, text);
-    if (!joins) return length;
-    snprintf(text, sizeof text, "{\"cmd\":\"follow\",\"board\":\"%s\",\"spectator\":1}", name);
-    return length + ws_text((unsigned char *)ask + length, text);
 }
 
 // Whether all has come that one asked for: the head, or the greeting after it.
@@ -530,7 +256,8 @@ static int is_answered(const char *text, int length, int joins) {
     return 1;
 }
 
-static void connects(int count, int joins) {
+// Beside them some peers wait.
+static void connects(int count, int joins, struct peer *waiting, int waiting_count) {
     enum { MOST = 64 };
     static struct {
         int fd, at;
@@ -551,6 +278,7 @@ static void connects(int count, int joins) {
         struct epoll_event got[MOST];
         int n = epoll_wait(poll, got, MOST, 10000);
         if (n <= 0) die("nothing more came");
+        look_after(waiting, waiting_count);
         for (int k = 0; k < n; k++) {
             int i = got[k].data.u32;
             ssize_t came = read(open[i].fd, open[i].text + open[i].at, sizeof open[i].text - open[i].at);
@@ -577,25 +305,30 @@ static void connects(int count, int joins) {
 // Followers that come at once to a board with this many moves.
 static void rush(int joinings, int count) {
     unsigned char frame[160];
-    struct peer board = publisher();
+    struct peer waiting[2] = {publisher()};
     if (kind != RELAY) die("only a relay tells who joined");
     for (int ply = 0; ply < count; ply++) {
-        put(board.fd, frame, publication(frame, ply));
-        read_text(&board);
+        put(waiting[0].fd, frame, publication(frame, ply));
+        read_text(&waiting[0]);
     }
-    follower();  // stays, so that the board is watched all the time
-    connects(joinings, 1);
+    set_nonblocking(waiting[0].fd);
+    waiting[1] = follower();  // stays, so that the board is watched all the time
+    connects(joinings, 1, waiting, 2);
 }
 
 static void idle(int followers) {
     enum { MOST_A_BOARD = 1000 };
+    struct peer *peers = calloc(followers + followers / MOST_A_BOARD + 1, sizeof *peers);
+    int count = 0;
     long before = resident();
     for (int i = 0; i < followers; i++) {
         if (i % MOST_A_BOARD == 0) {
             snprintf(name, sizeof name, "r%d_%d", getpid(), i);
-            publisher();
+            peers[count] = publisher();
+            set_nonblocking(peers[count++].fd);
         }
-        follower();
+        peers[count++] = follower();
+        look_after(peers, count);
     }
     usleep(500000);
     printf("{\"followers\": %d, \"resident_kb\": %ld, \"before_kb\": %ld}\n", followers, resident(), before);
@@ -617,7 +350,7 @@ int main(int argc, char **argv) {
     pids = argv[argc - 1];
     snprintf(name, sizeof name, "r%d", getpid());
     int first = atoi(argv[4]);
-    if (!strcmp(argv[1], "connects")) connects(first, 0);
+    if (!strcmp(argv[1], "connects")) connects(first, 0, NULL, 0);
     else if (!strcmp(argv[1], "rush")) rush(first, atoi(argv[5]));
     else if (!strcmp(argv[1], "idle")) idle(first);
     else if (!strcmp(argv[1], "arrives")) arrivals(first, atoi(argv[5]));
