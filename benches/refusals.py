@@ -78,14 +78,24 @@ TURNED_AWAY = b"no descriptor or thread for a connection: turned away\n"
 ANSWERS = {*OWNED, *FOLLOWED, *NO_BOARD, NO_MEMORY}
 
 
-def talk(port, texts):
-    """What a connection receives that sends these texts and a close."""
-    told, data = [], b""
+def answer_of(data):
+    """The first text that was received whole, if one was. It is shorter than 126 bytes."""
+    frames = data.partition(b"\r\n\r\n")[2]
+    return frames[2 : 2 + frames[1]] if len(frames) > 1 and len(frames) >= 2 + frames[1] else None
+
+
+def talk(port, texts, follows=False):
+    """What a connection receives that sends these texts and a close. One that asks to follow closes only if it is refused, since a close ends
+    it at once, whatever it is still due."""
+    told, data, closes = [], b"", not follows
     with socket.create_connection(("127.0.0.1", port), timeout=PATIENCE) as peer:
         try:
-            peer.sendall(REQUEST + b"".join(map(frame, [*texts, "close 1000"])))
+            peer.sendall(REQUEST + b"".join(map(frame, [*texts, "close 1000"] if closes else texts)))
             while more := peer.recv(65536):
                 data += more
+                if not closes and answer_of(data) not in (None, FOLLOWING):
+                    closes = True
+                    peer.sendall(frame("close 1000"))
         except (ConnectionResetError, BrokenPipeError):
             pass
     frames = data.partition(b"\r\n\r\n")[2]
@@ -100,7 +110,7 @@ def met(refused, allocator):
     words = ["--connections", "4", "--boards", "1", "--followers", "1", "--capacity", "2"]
     try:
         with Server(*words, env={**os.environ, "LD_PRELOAD": allocator, "REFUSED": str(refused)}) as server:
-            owner, guests = talk(server.port, OWNER), [talk(server.port, GUEST) for _ in range(3)]
+            owner, guests = talk(server.port, OWNER), [talk(server.port, GUEST, follows=True) for _ in range(3)]
             _, said, _ = server.ended()
     except NotListening as fault:
         _, said, status = fault.args
