@@ -6,6 +6,10 @@ PATIENCE = 30  # Seconds that a page is waited for: a machine that is busy with 
 ANSWER = 120  # Seconds that a browser has to begin, to answer and to load a page, whatever else the machine does.
 
 
+class PageLeft(RuntimeError):
+    """The page was left while it was asked."""
+
+
 class Acts:
     """
     What all pages have in common. A browser's own page has `run(script)`, `front()`, `move_to(point)` and `stroke(points)` of the mouse,
@@ -15,7 +19,10 @@ class Acts:
     async def until(self, script, seconds=PATIENCE):
         """Waits until a script gives something true, and answers that."""
         for _ in range(int(seconds * 50)):
-            value = await self.run(script)
+            try:
+                value = await self.run(script)
+            except PageLeft:
+                value = None
             if value:
                 return value
             await asyncio.sleep(0.02)

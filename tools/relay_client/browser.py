@@ -9,7 +9,7 @@ import urllib.request
 
 import websockets
 
-from relay_client.acts import ANSWER, Acts
+from relay_client.acts import ANSWER, Acts, PageLeft
 
 FLAGS = [
     "--headless=new", "--disable-gpu", "--no-first-run", "--no-default-browser-check", "--disable-background-networking",
@@ -107,7 +107,8 @@ class Page(Acts):
         await self.socket.send(json.dumps({"id": self.number, "method": method, "params": params}))
         message = await asyncio.wait_for(answer, ANSWER)
         if "error" in message:
-            raise RuntimeError(f"{method}: {message['error']}")
+            fault = f"{method}: {message['error']}"
+            raise PageLeft(fault) if "navigated or closed" in fault else RuntimeError(fault)
         return message["result"]
 
     async def go(self, address):
