@@ -4,11 +4,14 @@
     benches/operators.py                                       the built program, or that of the environment's RELAY960
     benches/operators.py before=PROGRAM after=PROGRAM          two programs, and what to call them
     benches/operators.py --what answers --rounds 1
+    benches/operators.py --busy 12                             how long an operator waits beside 12 programs that never rest
 
 answers  how long an operator waits for its answer to a move (operators.c), with followers and with a crowd beside them; the memory and the threads
          of the server once the followers are there
 turns    a move, all 100 followers have it, the next: processor time a delivery and deliveries a second (reader.c), beside nchan
 places   of a follower on a quiet board: from its ping to the pong, from its close to the answer, and until its place is free
+elsewhere how long an operator waits with nobody following, while another server of the same machine has the followers and the crowd: what is left
+         of that is the machine's own
 
 Prints the medians of the rounds with the least and greatest, and the load of the machine. Nothing else is to run on it.
 """
@@ -91,9 +94,9 @@ def held(server):
     return {"resident_kb": int(memory), "threads": len(list((process / "task").iterdir()))}
 
 
-def answers(programs, room, figures):
+def answers(programs, room, figures, crowds=CROWDS):
     resident = {}
-    for (what, (followers, kind, peers, ahead)), program in itertools.product(CROWDS.items(), programs):
+    for (what, (followers, kind, peers, ahead)), program in itertools.product(crowds.items(), programs):
         with running(program, room, followers if kind == "refused" else MOST_FOLLOWERS) as server:
             words = [f"{room}/operators", str(server.port), str(followers), str(MOVES["answers"]), kind, str(peers), str(ahead)]
             with subprocess.Popen(words, stdin=subprocess.PIPE, stdout=subprocess.PIPE, text=True) as client:
@@ -105,9 +108,32 @@ def answers(programs, room, figures):
             figures.note(what, program.name, {**json.loads(said), **holds})
         else:
             print(f"{what}, {program.name}: lost", file=sys.stderr)
-    for program in programs:
+    for program in programs if "1,000 follow" in crowds else []:
         more = resident["1,000 follow", program] - resident["100 follow", program]
         figures.note("memory of a follower", program.name, {"kb": round(more / 900, 1)})
+
+
+@contextlib.contextmanager
+def crowded(program, room, crowd):
+    """While another server has this crowd, and its operator plays on."""
+    followers, kind, peers, ahead = crowd
+    with running(program, room, followers if kind == "refused" else MOST_FOLLOWERS) as server:
+        words = [f"{room}/operators", str(server.port), str(followers), "1000", kind, str(peers), str(ahead)]
+        with subprocess.Popen(words, stdin=subprocess.PIPE, stdout=subprocess.PIPE, text=True) as client:
+            client.stdout.readline()
+            client.stdin.write("go\n")
+            client.stdin.flush()
+            try:
+                yield
+            finally:
+                client.terminate()
+
+
+def elsewhere(programs, room, figures):
+    for (what, crowd), program in itertools.product(CROWDS.items(), programs):
+        if crowd[1] != "nobody":
+            with crowded(program, room, crowd):
+                answers([program], room, figures, {f"elsewhere: {what}": (0, "nobody", 0, 0)})
 
 
 def take_turns(name, server, room, figures):
@@ -175,7 +201,23 @@ def places(programs, room, figures):
             owner.close()
 
 
-WHAT = {"answers": answers, "turns": turns, "places": places}
+def busy_answers(programs, room, figures):
+    answers(programs, room, figures, {what: crowd for what, crowd in CROWDS.items() if crowd[1] == "nobody"})
+
+
+WHAT = {"answers": answers, "turns": turns, "places": places, "elsewhere": elsewhere}
+
+
+@contextlib.contextmanager
+def busy(count):
+    """This many programs beside that never rest."""
+    beside = [subprocess.Popen([sys.executable, "-c", "while True: pass"]) for _ in range(count)]
+    try:
+        yield
+    finally:
+        for it in beside:
+            it.kill()
+            it.wait()
 
 
 def main():
@@ -183,19 +225,21 @@ def main():
     words.add_argument("programs", nargs="*", metavar="NAME=PROGRAM", default=[f"relay960={PROGRAM}"])
     words.add_argument("--what", choices=WHAT, help="this alone")
     words.add_argument("--rounds", type=int, default=5)
+    words.add_argument("--busy", type=int, default=0, metavar="N", help="beside N programs that never rest: answers alone, without a crowd")
     given = words.parse_args()
+    jobs = [busy_answers] if given.busy else [WHAT[given.what]] if given.what else WHAT.values()
     serving.raised_limit(MOST_FOLLOWERS)
     programs = [Program(*named.split("=", 1)) for named in given.programs]
     figures = Figures()
-    with tempfile.TemporaryDirectory() as room:
+    with tempfile.TemporaryDirectory() as room, busy(given.busy):
         os.chmod(room, 0o755)
         for client in ("operators", "reader"):
             serving.built(room, client)
         for number in range(given.rounds):
             print(f"round {number + 1}, load {os.getloadavg()[0]:.1f}", file=sys.stderr)
-            for what in [given.what] if given.what else WHAT:
+            for job in jobs:
                 # Who is first in one round is last in the next.
-                WHAT[what](programs[::-1] if number % 2 else programs, room, figures)
+                job(programs[::-1] if number % 2 else programs, room, figures)
     figures.show()
 
 

@@ -13,15 +13,16 @@ TAKE_NOTHING = struct.pack("HBBI", 6, 0, 0, 0)  # A filter of sockets in one ste
 
 
 class Connection:
-    def __init__(self, port, room=None, key=None, target=None, segment=None, host="127.0.0.1"):
+    def __init__(self, port, room=None, key=None, target=None, segment=None, host="127.0.0.1", patience=PATIENCE):
         """A connection; with little room for what it receives, with a key, with another target of its request, in segments of this many bytes, or to
-        another address, if given. With small segments the system keeps far fewer bytes for a peer that reads nothing."""
+        another address, if given. With small segments the system keeps far fewer bytes for a peer that reads nothing. What it sends and receives
+        may each take so many seconds."""
         self.stream = socket.socket(socket.AF_INET6 if ":" in host else socket.AF_INET)
         if segment:
             self.stream.setsockopt(socket.IPPROTO_TCP, socket.TCP_MAXSEG, segment)
         if room:
             self.stream.setsockopt(socket.SOL_SOCKET, socket.SO_RCVBUF, room)
-        self.stream.settimeout(PATIENCE)
+        self.stream.settimeout(patience)
         self.stream.connect((host, port))
         self.stream.sendall(request(target or target_of(key)))
         head = b""

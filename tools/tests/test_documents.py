@@ -209,6 +209,18 @@ class Map(unittest.TestCase):
                 self.assertIn(name, CRATES)
 
 
+class WrongBodies(unittest.TestCase):
+    def test_the_gate_tries_as_many_as_are_said(self):
+        """In docs/PROVED.md, by crate."""
+        numbers = ["no", "a", "two", "three", "four", "five", "six", "seven"]
+        said = 0
+        for heading, text in re.findall(r"^## `(\w+)`\n(.*?)(?=^## |\Z)", DOCUMENTS["docs/PROVED.md"], re.S | re.M):
+            for number in re.findall(r"\btries\s+(\w+)\s+wrong\s+bod(?:y|ies)\b", text):
+                self.assertEqual(numbers.index(number), len(list((CRATES[heading].folder / "must-fail").glob("*.edit"))), heading)
+                said += 1
+        self.assertGreater(said, 3)
+
+
 class Terms(unittest.TestCase):
     def test_each_term_stands_once(self):
         terms = [term.strip() for row in self.rows() for term in row[0].split(",")]

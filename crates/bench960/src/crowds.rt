@@ -1,5 +1,5 @@
-//! Steps over boards with crowds of followers, each phase with the time that it takes. Over a stepper, so that either kind of relay is
-//! measured by the same code.
+//! Steps over boards with crowds of followers, each phase with the time that it takes. They run over a stepper, so that either kind of
+//! relay is measured by the same code.
 
 use c960_board::Move;
 use relay_core::{BoardName, Reply, Spectator, Step, Stepper};
@@ -41,7 +41,7 @@ fn spectator(board: u16, follower: u16) -> Spectator {
         .wrapping_add(u32::from(follower))
 }
 
-/// Adds the steps that open a board and let its spectators follow.
+/// Adds the steps that open a board and make its spectators follow.
 fn add_opening(steps: &mut Vec<Step>, board: u16, followers: u16) -> Result<(), AllocError> {
     let Some(name) = name_of(board) else {
         return Ok(());
@@ -97,8 +97,8 @@ fn timed<R: Print + Clock, S: Stepper>(
     println!(rt; "{what}: {accepted} steps in {took} microseconds")
 }
 
-/// Opens the boards and lets the crowds follow; makes the moves on each board in turn; lets the first spectator of each board take them; and
-/// lets it leave and follow again, as often.
+/// Opens the boards and makes the crowds follow; makes the moves on each board in turn; lets the first spectator of each board take them;
+/// and lets it leave and follow again, the same number of times.
 pub fn measure<R: Print + Clock, S: Stepper>(
     rt: &R,
     alloc: Global,

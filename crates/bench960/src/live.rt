@@ -1,5 +1,5 @@
-//! Plays live boards and takes from them, and tells on the error stream how long that took. The first word is the number of boards; where a
-//! number of followers and one of plies come behind it, it does no more than open such boards.
+//! Plays live boards and takes from them, and reports on the error stream how long that took. The first argument is the number of boards.
+//! If a number of followers and one of plies follow it, it only opens such boards.
 
 use crate::moves::number_of;
 use c960_board::Move;
@@ -14,14 +14,14 @@ use std::{io, thread};
 /// How many moves of the game are made: no more than a queue holds, so that nobody is ever closed.
 const MOVES: usize = 1000;
 
-/// Boards, and of each who takes one follower on each board.
+/// Boards, and for each taker one follower on each board.
 #[derive(Drop)]
 struct Hall {
     boards: Vec<Board>,
     takers: Vec<Vec<Follower>>,
 }
 
-/// So many boards, with room for so many plies, and so many followers on each.
+/// This many boards, with room for this many plies, and this many followers on each.
 fn open_hall(alloc: Global, boards: u16, followers: u16, plies: u16) -> Result<Hall, AllocError> {
     let mut hall = Hall {
         boards: Vec::new(alloc),
@@ -48,7 +48,7 @@ fn open_hall(alloc: Global, boards: u16, followers: u16, plies: u16) -> Result<H
     Ok(hall)
 }
 
-/// Makes the moves on each board, and gives how many that were.
+/// Makes the moves on each board, and returns how many there were.
 fn play(boards: &mut Vec<Board>, moves: &[Move]) -> u64 {
     let mut count: u64 = 0;
     for board in boards {
@@ -61,7 +61,7 @@ fn play(boards: &mut Vec<Board>, moves: &[Move]) -> u64 {
     count
 }
 
-/// Takes so many moves of each board, waiting for those that have not come yet, and gives how many that were.
+/// Takes this many moves of each board, waiting for those that have not come yet, and returns how many there were.
 fn take_all(followers: &mut Vec<Follower>, moves: usize) -> u64 {
     let mut count: u64 = 0;
     for follower in followers {
@@ -79,8 +79,8 @@ fn take_all(followers: &mut Vec<Follower>, moves: usize) -> u64 {
     count
 }
 
-/// Plays the boards, where `played` says so, while each who takes does so in a thread of its own; gives how many moves were taken.
-/// The boards are the caller's, so that the time in which they are let go is not counted.
+/// Plays the boards if `played` says so, while each taker takes in a thread of its own; returns how many moves were taken.
+/// The boards belong to the caller, so that the time in which they are dropped is not counted.
 fn take_in_threads<R: Threads>(
     rt: &R,
     alloc: Global,
@@ -121,7 +121,7 @@ fn begin<R: Clock + CpuClock>(rt: &R) -> io::Result<Beginning> {
     })
 }
 
-/// Prints how much was done; and on the error stream also how many nanoseconds passed, and how many the processors worked at it.
+/// Prints how much was done, and on the error stream also how many nanoseconds passed and how much processor time it took.
 fn tell<R: Print + Eprint + Clock + CpuClock>(
     rt: &R,
     since: Beginning,
@@ -138,7 +138,7 @@ fn tell<R: Print + Eprint + Clock + CpuClock>(
     eprintln!(rt; "{what} {followers}: {count} {wall} {processor}")
 }
 
-/// Plays so many boards while their followers take nothing.
+/// Plays this many boards while their followers take nothing.
 fn time_submits<R: Print + Eprint + Clock + CpuClock>(
     rt: &R,
     alloc: Global,
@@ -153,7 +153,7 @@ fn time_submits<R: Print + Eprint + Clock + CpuClock>(
     tell(rt, since, "submits, followers", followers, count)
 }
 
-/// Takes the moves by so many followers, each in a thread of its own: while the boards are played, where `played` says so, or else afterwards.
+/// Lets this many takers take the moves, each in a thread of its own: while the boards are played, if `played` says so, or else afterwards.
 fn time_takes<R: Print + Eprint + Clock + CpuClock + Threads>(
     rt: &R,
     alloc: Global,
@@ -176,7 +176,8 @@ fn time_takes<R: Print + Eprint + Clock + CpuClock + Threads>(
     tell(rt, since, what, threads, count)
 }
 
-/// Plays the first of these moves on each of so many boards, again and again with other followers; or opens the boards that the words name.
+/// Plays the first of these moves on each of this many boards, again and again with other followers; or opens the boards that the arguments
+/// name.
 pub fn run<R: Print + Eprint + Clock + CpuClock + Threads>(
     rt: &R,
     alloc: Global,

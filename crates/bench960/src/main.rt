@@ -1,5 +1,5 @@
-//! The benchmarks, a word for each: `positions` counts positions, `relay` makes steps of a relay, `live` plays live boards. Without a word it
-//! makes a short run of each.
+//! The benchmarks, one argument for each: `positions` counts positions, `relay` makes steps of a relay, `live` plays live boards. Without
+//! an argument it makes a short run of each.
 #![tactic(auto)]
 
 mod crowds;
@@ -18,14 +18,14 @@ use std::{env, io};
 /// What is run.
 #[derive(Clone, Copy)]
 enum Job {
-    /// Each benchmark, as it runs without words of its own.
+    /// Each benchmark, run without arguments of its own.
     Each,
     Positions,
     Relay,
     Live,
 }
 
-/// The job that the first word names, if there is one of its name.
+/// The job that the first argument names, if there is one.
 fn job_of(words: &[String]) -> Option<Job> {
     let Some(word) = words.get(1) else {
         return Some(Job::Each);
@@ -38,7 +38,7 @@ fn job_of(words: &[String]) -> Option<Job> {
     }
 }
 
-/// Runs the benchmarks of the job, with the words that stand behind its name.
+/// Runs the benchmarks of the job, with the arguments after its name.
 fn run<R: Input + Print + Eprint + Clock + CpuClock + Threads>(
     rt: &R,
     alloc: Global,

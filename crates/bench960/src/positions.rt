@@ -1,11 +1,11 @@
-//! Counts positions by the list of legal moves, to be timed from outside.
+//! Counts positions with the list of legal moves, to be timed from outside.
 
 use c960_board::{Position, read_fen};
 use c960_rules::{Lawful, legal_moves, play};
 use std::alloc::{AllocError, Global};
 use std::io;
 
-/// How many sequences of so many plies the position has.
+/// How many sequences of this many plies the position has.
 fn count(alloc: Global, lawful: &Lawful, plies: u8) -> Result<u64, AllocError> {
     let moves = legal_moves(alloc, lawful)?;
     if plies <= 1 {
@@ -23,7 +23,7 @@ fn count(alloc: Global, lawful: &Lawful, plies: u8) -> Result<u64, AllocError> {
     Ok(sum)
 }
 
-/// The count of the position of a text, and 0 where it is none.
+/// The count of the position of a text, or 0 if it is not a position's.
 fn count_of(alloc: Global, text: &[u8], plies: u8) -> Result<u64, AllocError> {
     let Ok(position) = read_fen(text) else {
         return Ok(0);
@@ -34,21 +34,21 @@ fn count_of(alloc: Global, text: &[u8], plies: u8) -> Result<u64, AllocError> {
     count(alloc, &lawful, plies)
 }
 
-/// The three positions that are counted: the standard array, one with castling and captures all over, one of pawns that promote.
+/// The three positions that are counted: the standard array, one full of castling and captures, and one with pawns that promote.
 const STANDARD: &[u8] = b"rnbqkbnr/pppppppp/8/8/8/8/PPPPPPPP/RNBQKBNR w HAha - 0 1";
 
 const MIDDLE: &[u8] = b"r3k2r/p1ppqpb1/bn2pnp1/3PN3/1p2P3/2N2Q1p/PPPBBPPP/R3K2R w HAha - 0 1";
 
 const PAWNS: &[u8] = b"n1n5/PPPk4/8/8/8/8/4Kppp/5N1N b - - 0 1";
 
-/// What is counted: without a word few plies, by the word `deep` as many as a second or more takes, by the word `starts` the 960 starts.
+/// What is counted: without an argument few plies; with `deep` as many as take a second or more; with `starts` the 960 starts.
 enum Job {
     Few,
     Deep,
     Starts,
 }
 
-/// The job that the first word names.
+/// The job that the first argument names.
 fn job_of(words: &[String]) -> Job {
     match words.first() {
         Some(word) if word.as_str() == "deep" => Job::Deep,
@@ -80,7 +80,7 @@ fn count_starts(rt: &impl Print, alloc: Global) -> io::Result<()> {
     Ok(())
 }
 
-/// Counts what the first word names.
+/// Counts what the first argument names.
 pub fn run(rt: &impl Print, alloc: Global, words: &[String]) -> io::Result<()> {
     match job_of(words) {
         Job::Few => count_positions(rt, alloc, [4, 3, 4]),

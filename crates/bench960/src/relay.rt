@@ -1,5 +1,5 @@
-//! Makes steps of a relay, to be timed from outside, or by the words `plain` or `live` and three numbers steps over crowds, which it times
-//! itself.
+//! Makes steps of a relay, to be timed from outside. With `plain` or `live` and three numbers as arguments it makes steps over crowds,
+//! which it times itself.
 
 use crate::crowds::{Crowd, measure};
 use crate::moves::number_of;
@@ -21,7 +21,7 @@ fn spectator(board: u8, follower: u32) -> Spectator {
     u32::from(board).wrapping_mul(64).wrapping_add(follower)
 }
 
-/// Adds the steps that open a board and let its spectators follow.
+/// Adds the steps that open a board and make its spectators follow.
 fn add_opening(steps: &mut Vec<Step>, board: u8) -> Result<(), AllocError> {
     let Some(name) = name_of(board) else {
         return Ok(());
@@ -33,7 +33,7 @@ fn add_opening(steps: &mut Vec<Step>, board: u8) -> Result<(), AllocError> {
     Ok(())
 }
 
-/// Adds the steps that make a move on a board and let the first so many of its followers take it.
+/// Adds the steps that make a move on a board and let the first `takers` of its followers take it.
 fn add_move(steps: &mut Vec<Step>, board: u8, takers: u32, m: Move) -> Result<(), AllocError> {
     let Some(name) = name_of(board) else {
         return Ok(());
@@ -54,7 +54,7 @@ fn opening(alloc: Global, boards: &[u8]) -> Result<Vec<Step>, AllocError> {
     Ok(steps)
 }
 
-/// The steps of the game of these moves on each board, whose every move the first so many followers take.
+/// The steps of the game of these moves on each board, each of whose moves the first `takers` followers take.
 fn plies(
     alloc: Global,
     moves: &[Move],
@@ -70,7 +70,7 @@ fn plies(
     Ok(steps)
 }
 
-/// Whether the reply tells that a move was played or taken, or that a spectator follows.
+/// Whether the reply says that a move was played or taken, or that a spectator follows.
 fn is_counted(reply: &Reply) -> bool {
     match reply {
         Reply::Played { outcome: None, .. } => true,
@@ -91,7 +91,7 @@ fn count(replies: &[Reply]) -> u64 {
     sum
 }
 
-/// Plays so many games on each board, each move taken by 64 followers, and gives how many replies were counted.
+/// Plays this many games on each board, each move taken by 64 followers, and returns how many replies were counted.
 fn play(alloc: Global, moves: &[Move], boards: &[u8], games: u32) -> Result<u64, AllocError> {
     let Some(limits) = Limits::new(16, 64, 64, 16384) else {
         return Ok(0);
@@ -109,7 +109,7 @@ fn play(alloc: Global, moves: &[Move], boards: &[u8], games: u32) -> Result<u64,
     Ok(sum)
 }
 
-/// After a game of these moves follows it 10,000 times from a place and leaves again; gives how many replies were counted.
+/// After a game of these moves, follows it 10,000 times from a place and leaves again; returns how many replies were counted.
 fn follow(alloc: Global, moves: &[Move], from: Option<u16>) -> Result<u64, AllocError> {
     let (Some(limits), Some(name)) = (Limits::new(1, 1, 1024, 16384), name_of(b'a')) else {
         return Ok(0);
@@ -140,7 +140,7 @@ enum Kind {
     Live,
 }
 
-/// What is measured where the words name it: the kind of relay, boards, followers a board, and moves a board.
+/// What is measured if the arguments name it: the kind of relay, boards, followers a board, and moves a board.
 fn named(words: &[String]) -> Option<(Kind, Crowd, Limits)> {
     let kind = match words.first()?.as_str() {
         "plain" => Kind::Plain,
@@ -168,7 +168,7 @@ fn games(rt: &impl Print, alloc: Global, moves: &[Move]) -> io::Result<()> {
     println!(rt; "follows from 1,000 plies back: {back}")
 }
 
-/// Makes the steps of these moves: of the games, or over the crowd that the words name.
+/// Makes the steps of these moves: of the games, or over the crowd that the arguments name.
 pub fn run<R: Print + Clock>(
     rt: &R,
     alloc: Global,

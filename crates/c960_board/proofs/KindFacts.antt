@@ -1,4 +1,4 @@
--- What the equality of kinds says.
+-- What the equality of kinds means.
 use Rattle.std.proofs.Common.{◌≡◌, refl, true}
 use Rattle.std.specs.Bool.{Decides}
 use Rattle.c960_board.specs.declared.piece.Kind.{Kind}

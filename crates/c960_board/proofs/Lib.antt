@@ -1,12 +1,7 @@
-pub mod Colours
-pub mod KindFacts
-pub mod MoveReading
-pub mod NumberFacts
-pub mod NumberTable
-pub mod Ranges
-pub mod Reading
-pub mod SetCells
-pub mod SetFacts
-pub mod StartFacts
-pub mod StartTable
-pub mod Written
+pub mod lemmas
+mod KindFacts
+mod NumberFacts
+mod NumberTable
+mod Reading
+mod StartTable
+mod Written

@@ -1,4 +1,4 @@
--- The numbers and the lawful ranks belong to each other, one to one.
+-- The numbers and the lawful ranks correspond one to one.
 use Rattle.std.proofs.Common.{◌≡◌, ℕ, suc, ◌+◌, ◌%◌, ◌<◌, Bool, true, false, ◌&&◌, List, [], ◌∷◌, Option, Some, None, length, cond, refl, sym, ap, subst, ◌∙◌, arith}
 use Rattle.std.specs.Prelude.{◌==◌, nat_lt, slice_get}
 use Rattle.std.specs.List.{list_any, range_with_len}
@@ -11,11 +11,11 @@ use Rattle.c960_board.specs.declared.piece.Kind.TheVariants.{Pawn, Knight, Bisho
 use Rattle.c960_board.specs.Pieces.{same_kind}
 use Rattle.c960_board.specs.Array.{array}
 use Rattle.c960_board.specs.LawfulRank.{pieces_of, Stands, IsBetweenRooks, IsLawfulRank}
-use Rattle.c960_board.proofs.Ranges.{each_below, some_range, passes_from, Passes}
+use Rattle.c960_board.proofs.lemmas.Ranges.{each_below, some_range, passes_from, Passes}
 use Rattle.c960_board.proofs.KindFacts.{same_kind_is, same_kind_self}
 use Rattle.c960_board.proofs.NumberTable.{same_kinds, tally, is_some_kind, is_on, is_beside_rooks, is_king_between, is_between, is_bishop_of, has_bishop_of, is_lawful, number_from, is_found, found_if_lawful, every, if_left, all_found, is_back, all_back, is_full, is_lawful_array, all_lawful}
 
--- ranks that pass the test are one
+-- ranks that pass the test are equal
 same_kinds_is : (xs ys : List Kind) → same_kinds xs ys ≡ true → xs ≡ ys
 unfolding same_kinds
 same_kinds_is [] [] e = refl
@@ -51,7 +51,7 @@ both : (p q : Bool) → p ≡ true → q ≡ true → elim p [ true ↦ q | fals
 both true q e f = f
 both false q e f = e
 
--- and back
+-- and the converse
 both_parts : (p q : Bool) → elim p [ true ↦ q | false ↦ false ] ≡ true → (p ≡ true) × (q ≡ true)
 both_parts true q e = (refl, e)
 both_parts false q e = absurd cc
@@ -61,12 +61,12 @@ kind_in : (k : Kind) (o : Option Kind) → is_some_kind k o ≡ true → o ≡ S
 kind_in k None e = absurd cc
 kind_in k (Some x) e = ap (λ (y : Kind). Some y) (same_kind_is x k e)
 
--- what stands passes the test
+-- what is there passes the test
 on_from : (k : Kind) (rank : List Kind) (f : ℕ) → Stands k rank f → is_on k rank f ≡ true
 unfolding is_on
 on_from k rank f h = ap (is_some_kind k) h ∙ same_kind_self k
 
--- what passes the test stands there
+-- what passes the test is there
 stands_from : (k : Kind) (rank : List Kind) (f : ℕ) → is_on k rank f ≡ true → Stands k rank f
 unfolding is_on
 stands_from k rank f h = kind_in k (slice_get rank f) h
@@ -166,7 +166,7 @@ lawful_passes rank h =
     both (is_between rank) (has_bishop_of 1 rank && has_bishop_of 0 rank) (between_passes rank h.full h.king)
     (and_from _ _ light dark)
 
--- what a test of every list says, by the first of the list
+-- what a test of every list says, by the first element of the list
 record Parts (m k q r n b : ℕ) (test : List Kind → Bool) : Type 0 where
   king : if_left k (λ j. every m j q r n b (λ xs. test (King ∷ xs))) ≡ true
   queen : if_left q (λ j. every m k j r n b (λ xs. test (Queen ∷ xs))) ≡ true

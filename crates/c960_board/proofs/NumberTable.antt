@@ -1,4 +1,4 @@
--- Each lawful rank has a number below 960: checked by computing over the arrangements of its pieces.
+-- Each lawful rank has a number below 960. This is checked by computation over the arrangements of its pieces.
 use Rattle.std.proofs.Common.{◌≡◌, ℕ, zero, suc, ◌+◌, ◌-◌, ◌*◌, ◌/◌, ◌%◌, Bool, true, false, ◌&&◌, cond, not, List, [], ◌∷◌, Option, Some, None, refl, drop, length}
 use Rattle.std.specs.Prelude.{◌==◌, nat_lt, slice_get}
 use Rattle.std.specs.List.{list_all, list_any, range_with_len, filter}
@@ -7,14 +7,14 @@ use Rattle.c960_board.specs.declared.piece.Kind.TheVariants.{Knight, Bishop, Roo
 use Rattle.c960_board.specs.Pieces.{same_kind}
 use Rattle.c960_board.specs.Array.{array}
 
--- whether two ranks are one
+-- whether two ranks are equal
 unfoldable pub same_kinds : List Kind → List Kind → Bool
 same_kinds [] [] = true
 same_kinds [] (y ∷ ys) = false
 same_kinds (x ∷ xs) [] = false
 same_kinds (x ∷ xs) (y ∷ ys) = same_kind x y && same_kinds xs ys
 
--- how many of a kind stand on the rank
+-- how many of a kind are on the rank
 unfoldable pub tally : Kind → List Kind → ℕ
 tally k [] = 0
 tally k (x ∷ xs) = cond (same_kind x k) (suc (tally k xs)) (tally k xs)
@@ -24,32 +24,32 @@ abbrev pub is_some_kind : Kind → Option Kind → Bool
 is_some_kind k None = false
 is_some_kind k (Some x) = same_kind x k
 
--- whether a piece of the kind stands on the file
+-- whether a piece of the kind is on the file
 unfoldable pub is_on : Kind → List Kind → ℕ → Bool
 is_on k rank f = is_some_kind k (slice_get rank f)
 
--- whether a rook stands on each side of the file
+-- whether there is a rook on each side of the file
 unfoldable pub is_beside_rooks : List Kind → ℕ → Bool
 is_beside_rooks rank f =
     list_any (is_on Rook rank) (range_with_len 0 f) && list_any (is_on Rook rank) (range_with_len (f + 1) 8)
 
--- whether the king stands on the file, between the rooks
+-- whether the king is on the file, between the rooks
 unfoldable pub is_king_between : List Kind → ℕ → Bool
 is_king_between rank f = elim (is_on King rank f) [ true ↦ is_beside_rooks rank f | false ↦ false ]
 
--- whether the king stands between the rooks
+-- whether the king is between the rooks
 unfoldable pub is_between : List Kind → Bool
 is_between rank = list_any (is_king_between rank) (range_with_len 0 8)
 
--- whether a bishop stands on the file, and its square has the colour
+-- whether there is a bishop on the file, and its square has the colour
 unfoldable pub is_bishop_of : ℕ → List Kind → ℕ → Bool
 is_bishop_of colour rank f = (f % 2 == colour) && is_on Bishop rank f
 
--- whether a bishop stands on a square of the colour, 1 for light
+-- whether there is a bishop on a square of the colour, 1 for light
 unfoldable pub has_bishop_of : ℕ → List Kind → Bool
 has_bishop_of colour rank = list_any (is_bishop_of colour rank) (range_with_len 0 8)
 
--- whether king and bishops stand as they must
+-- whether king and bishops are where they must be
 unfoldable pub is_lawful : List Kind → Bool
 is_lawful rank = elim (is_between rank) [ true ↦ has_bishop_of 1 rank && has_bishop_of 0 rank | false ↦ false ]
 
@@ -64,7 +64,7 @@ bishop_place here [] = 0
 bishop_place true (x ∷ xs) = cond (same_kind x Bishop) 0 (suc (bishop_place false xs))
 bishop_place false (x ∷ xs) = bishop_place true xs
 
--- the rank with the squares of a kind taken out
+-- the rank without the squares of a kind
 unfoldable pub without : Kind → List Kind → List Kind
 without k rank = filter (λ x. not (same_kind x k)) rank
 
@@ -72,11 +72,11 @@ without k rank = filter (λ x. not (same_kind x k)) rank
 unfoldable pub pair_number : ℕ → ℕ → ℕ
 pair_number p q = p * (9 - p) / 2 + q
 
--- the number of the knights, where no bishop and no queen is left
+-- the number of the knights, if no bishop and no queen is left
 unfoldable pub knights_number : List Kind → ℕ
 knights_number rank = pair_number (place_of Knight rank) (place_of Knight (drop (place_of Knight rank + 1) rank))
 
--- the number of queen and knights, where no bishop is left
+-- the number of queen and knights, if no bishop is left
 unfoldable pub rest_number : List Kind → ℕ
 rest_number rank = place_of Queen rank + 6 * knights_number (without Queen rank)
 
@@ -93,12 +93,12 @@ is_found rank = nat_lt (number_from rank) 960 && same_kinds (array (number_from 
 unfoldable pub found_if_lawful : List Kind → Bool
 found_if_lawful rank = elim (is_lawful rank) [ true ↦ is_found rank | false ↦ true ]
 
--- where one is left, the test at one less
+-- the test at one less, if one is left
 unfoldable pub if_left : ℕ → (ℕ → Bool) → Bool
 if_left zero f = true
 if_left (suc j) f = f j
 
--- the test holds of every list of m with so many kings, queens, rooks, knights and bishops
+-- the test holds for every list of m with this many kings, queens, rooks, knights and bishops
 unfoldable pub every : ℕ → ℕ → ℕ → ℕ → ℕ → ℕ → (List Kind → Bool) → Bool
 every zero k q r n b test = test []
 every (suc m) k q r n b test =

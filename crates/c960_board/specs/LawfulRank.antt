@@ -1,18 +1,18 @@
--- The lawful first ranks, apart from any number (Guidelines II.2).
+-- The lawful first ranks, independently of any number (Guidelines II.2).
 use Rattle.std.specs.Prelude.{ℕ, ◌≡◌, ◌<◌, ◌%◌, List, Some, length, count_by, slice_get}
 use Rattle.c960_board.specs.declared.piece.Kind.{Kind}
 use Rattle.c960_board.specs.declared.piece.Kind.TheVariants.{Knight, Bishop, Rook, Queen, King}
 use Rattle.c960_board.specs.Pieces.{same_kind}
 
--- how many pieces of a kind stand on the rank
+-- how many pieces of a kind are on the rank
 abbrev pub pieces_of : Kind → List Kind → ℕ
 pieces_of k rank = count_by (λ x. same_kind x k) rank
 
--- a piece of the kind stands on the file
+-- a piece of the kind is on the file
 abbrev pub Stands : Kind → List Kind → ℕ → Type 0
 Stands k rank f = slice_get rank f ≡ Some k
 
--- a rook stands on each side of the king
+-- there is a rook on each side of the king
 pub record IsBetweenRooks (rank : List Kind) : Type 0 where
   pub left : ℕ
   pub king : ℕ
@@ -23,7 +23,7 @@ pub record IsBetweenRooks (rank : List Kind) : Type 0 where
   pub between : Stands King rank king
   pub right_rook : Stands Rook rank right
 
--- the bishops stand on squares of opposite colour: the files b, d, f and h of the first rank are light
+-- the bishops are on squares of opposite colour: the files b, d, f and h of the first rank are light
 pub record AreOppositeBishops (rank : List Kind) : Type 0 where
   pub light : ℕ
   pub dark : ℕ

@@ -1,5 +1,5 @@
--- What every position keeps (FIDE Laws, Articles 2, 3.7 and 3.8; Guidelines II.3).
-use Rattle.std.specs.Prelude.{ℕ, ◌≡◌, ◌≢◌, ◌<◌, ◌≤◌, List, Some, None, Bool, false, nat_lt, length, slice_index_or, count_by, IsTrue}
+-- What is true of every position (FIDE Laws, Articles 2, 3.7 and 3.8; Guidelines II.3).
+use Rattle.std.specs.Prelude.{ℕ, ◌≡◌, ◌≢◌, ◌<◌, ◌≤◌, List, Some, None, nat_lt, length, count_by, IsTrue}
 use Rattle.c960_board.specs.declared.piece.Colour.{Colour}
 use Rattle.c960_board.specs.declared.piece.Colour.TheVariants.{White, Black}
 use Rattle.c960_board.specs.declared.piece.Kind.TheVariants.{Pawn, Rook, King}
@@ -7,19 +7,7 @@ use Rattle.c960_board.specs.declared.rights.CastlingRights.{CastlingRights}
 use Rattle.c960_board.specs.declared.parts.Parts.{Parts}
 use Rattle.c960_board.specs.Squares.{file_of, rank_of, home_rank, home_square, ahead, IsEndRank}
 use Rattle.c960_board.specs.Pieces.{Cell, man, other, holds}
-
--- what a square of a placement holds: nothing, past the last square
-abbrev pub cell_at : List Cell → ℕ → Cell
-cell_at cells s = slice_index_or cells s None
-
--- for each file from a, whether the side may still castle with the rook of that file
-abbrev pub rights_of : CastlingRights → Colour → List Bool
-rights_of r White = r.white
-rights_of r Black = r.black
-
--- the right of a side to castle with the rook of that file: none from file 8 on
-abbrev pub has_right : CastlingRights → Colour → ℕ → Bool
-has_right r c f = slice_index_or (rights_of r c) f false
+use Rattle.c960_board.specs.Cells.{cell_at, has_right, rights_of}
 
 -- 64 squares, one king a side, and no pawn on the first or the last rank
 pub record IsPlacement (cells : List Cell) : Type 0 where
@@ -28,7 +16,7 @@ pub record IsPlacement (cells : List Cell) : Type 0 where
   pub no_end_pawn : (c : Colour) (s : ℕ) → s < 64 → IsEndRank (rank_of s) → cell_at cells s ≢ man c Pawn
 
 -- For cells with one king a side, as `IsPlacement` says: each right has its rook on the side's home rank, the side's king
--- stands on that rank too, and no two rights are on one side of the king. Without a king this says nothing of it.
+-- is on that rank too, and no two rights are on one side of the king. Without a king this says nothing about it.
 pub record AreRights (cells : List Cell) (r : CastlingRights) (c : Colour) : Type 0 where
   pub width : length (rights_of r c) ≡ 8
   pub rook : (f : ℕ) → f < 8 → IsTrue (has_right r c f) → cell_at cells (home_square c f) ≡ man c Rook
@@ -36,13 +24,13 @@ pub record AreRights (cells : List Cell) (r : CastlingRights) (c : Colour) : Typ
   pub one_each_side : (f g s : ℕ) → f < 8 → g < 8 → s < 64 → IsTrue (has_right r c f) → IsTrue (has_right r c g)
       → cell_at cells s ≡ man c King → nat_lt f (file_of s) ≡ nat_lt g (file_of s) → f ≡ g
 
--- the rank of an en passant target: rank 6 where White has the move, rank 3 where Black has it (5 and 2, counted from 0)
+-- the rank of an en passant target: rank 6 if White has the move, rank 3 if Black has it (5 and 2, counted from 0)
 abbrev pub target_rank : Colour → ℕ
 target_rank White = 5
 target_rank Black = 2
 
 -- A pawn of the side not to move may just have made a double step over t: t and the square that it came from are empty,
--- and it stands on the next.
+-- and it is on the next.
 pub record IsTarget (cells : List Cell) (turn : Colour) (t : ℕ) : Type 0 where
   pub on_rank : rank_of t ≡ target_rank turn
   pub empty : cell_at cells t ≡ None

@@ -1,4 +1,4 @@
--- Sets of squares as numbers: bit s of a set, counted from the lowest, is 1 where the square s is in the set.
+-- Sets of squares as numbers: bit s of a set, counted from the lowest, is 1 if the square s is in the set.
 use Rattle.std.specs.Prelude.{ℕ, ◌==◌, Bool, true, false, List, Option, Some, None, map}
 use Rattle.std.specs.Int.{bit_at}
 use Rattle.std.specs.List.{range_with_len}
@@ -22,7 +22,7 @@ abbrev pub is_occupied : Cell → Bool
 is_occupied None = false
 is_occupied (Some p) = true
 
--- the squares whose cell passes the test
+-- the squares whose cells pass the test
 unfoldable pub set_of : (Cell → Bool) → List Cell → ℕ
 set_of test cells = mask_l (map test cells)
 
@@ -85,7 +85,7 @@ cell_in s u = cell_by (is_in s.white u) (is_in s.black u) (kind_in s u)
 unfoldable pub cells_of : Sets → List Cell
 cells_of s = map (cell_in s) (range_with_len 0 64)
 
--- the parts of a position whose placement is told by sets
+-- the parts of a position whose placement is given by sets
 abbrev pub parts_of : Sets → Colour → CastlingRights → Option ℕ → ℕ → ℕ → Parts
 parts_of s turn rights target half_moves number =
     record {

@@ -11,7 +11,7 @@ file_of s = s % 8
 abbrev pub rank_of : ℕ → ℕ
 rank_of s = s / 8
 
--- the rank on which a side's pieces stand at the start
+-- the rank on which a side's pieces are at the start
 abbrev pub home_rank : Colour → ℕ
 home_rank White = 0
 home_rank Black = 7
@@ -26,6 +26,6 @@ abbrev pub ahead : Colour → ℕ → ℕ
 ahead White s = s + 8
 ahead Black s = s - 8
 
--- the first rank and the last, on which no pawn stands
+-- the first rank and the last, on which there is no pawn
 abbrev pub IsEndRank : ℕ → Type 0
 IsEndRank r = (r ≡ 0) ⊎ (r ≡ 7)

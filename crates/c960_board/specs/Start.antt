@@ -29,8 +29,8 @@ start_cells rank n = map (start_cell rank) (range_with_len 0 n)
 abbrev pub rook_files : List Kind → List Bool
 rook_files rank = map (λ k. same_kind k Rook) rank
 
--- White has the move, each side may castle with both its rooks, there is no target, and the counters are at their
--- beginning.
+-- White has the move, each side may castle with both its rooks, there is no target, and the counters have their initial
+-- values.
 unfoldable pub start_of : List Kind → Parts
 start_of rank =
     record {

@@ -1,4 +1,4 @@
-//! The conditions that the parts of a position meet, each as a test.
+//! The conditions on the parts of a position, each as a test.
 
 ghost use Rattle.std.specs.Prelude.{◌≡◌, ◌↔◌, ◌≤◌, ℕ, IsTrue, Some};
 ghost use Rattle.c960_board.specs.declared.piece.Colour.{Colour};
@@ -33,18 +33,18 @@ fn rights_fit(parts: &Parts) -> bool
         && are_rights(&parts.placement, &parts.rights, Colour::Black)
 }
 
-/// Whether it is a move's number, from 1; its type bounds it from above.
+/// Whether it can be a move number: at least 1; its type bounds it from above.
 fn is_move_number(number: u16) -> bool
     ensures { IsTrue result ↔ (1 ≤ number) }
 {
     number > 0
 }
 
-/// Whether the parts are a position's.
+/// Whether the parts make up a position.
 pub fn are_parts(parts: &Parts) -> bool
     ensures { IsTrue result ↔ IsPosition parts.now }
 {
-    // So the proof has the bound of the half-move counter, which is its type's.
+    // This gives the proof the bound of the half-move counter, which is its type's.
     let _bound = parts.half_moves;
     is_placement(&parts.placement)
         && rights_fit(parts)

@@ -1,4 +1,4 @@
-//! Laws of the definitions that contracts cite. Each is a function with an empty body: its clauses hold of every value.
+//! Laws of the definitions that contracts cite. Each is a function with an empty body, whose clauses hold for every value.
 
 pub mod moves;
 pub mod numbering;

@@ -24,7 +24,7 @@ pub struct Move {
     pub from: Square,
     /// The square that the piece goes to.
     pub to: Square,
-    /// What a pawn becomes on the last rank.
+    /// What a pawn is promoted to.
     pub promotion: Option<Kind>,
 }
 

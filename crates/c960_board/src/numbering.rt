@@ -7,16 +7,16 @@ ghost use Rattle.c960_board.specs.declared.piece.Kind.TheVariants.{Pawn};
 
 use crate::piece::Kind;
 
-/// How many numbers there are.
+/// How many start numbers there are.
 const COUNT: u16 = 960;
 
-/// The free square of the left knight, by what is left of the number.
+/// The free square of the left knight, indexed by what is left of the number.
 const LEFT_KNIGHT: [u8; 10] = [0, 0, 0, 0, 1, 1, 1, 2, 2, 3];
 
-/// The free square of the right knight.
+/// The free square of the right knight, indexed in the same way.
 const RIGHT_KNIGHT: [u8; 10] = [1, 2, 3, 4, 2, 3, 4, 3, 4, 4];
 
-/// The file of the free square of that place, counted from the a side from 0; 8 where there is none.
+/// The file of the free square with this index, counted from the a side from 0; 8 if there is none.
 fn free_file(rank: &[Option<Kind>; 8], place: u8) -> usize
     ensures { result ≡ free_file rank.now place }
 {
@@ -32,7 +32,7 @@ fn free_file(rank: &[Option<Kind>; 8], place: u8) -> usize
     rank.len()
 }
 
-/// Puts a piece on the free square of that place.
+/// Puts a piece on the free square with this index.
 fn put_on_free(rank: &mut [Option<Kind>; 8], place: u8, kind: Kind)
     ensures { rank.new ≡ on_free rank.old place kind }
 {
@@ -93,7 +93,7 @@ fn is_rank(number: u16, rank: &[Kind; 8]) -> bool
     kinds_of(&squares_of(number)) == *rank
 }
 
-/// The number of a first rank, below 960: the inverse of `arrangement`. None where the rank is not lawful: it has a
+/// The number of a first rank, below 960: the inverse of `arrangement`. None if the rank is not lawful. A lawful rank has a
 /// king, a queen and two rooks, knights and bishops, the king between the rooks and the bishops on squares of
 /// opposite colour (Guidelines II.2).
 pub fn number_of(rank: [Kind; 8]) -> Option<u16>

@@ -1,4 +1,4 @@
-//! What a position is made of, as plain data: this is what contracts see of a position.
+//! The parts of a position as plain data: this is what contracts see of a position.
 
 use crate::piece::{Colour, Piece};
 use crate::rights::CastlingRights;

@@ -11,7 +11,7 @@ pub enum Colour {
 }
 
 impl Colour {
-    /// The opponent.
+    /// The opposing side.
     pub fn other(self) -> Colour
         ensures { result ≡ other self }
     {
@@ -40,7 +40,7 @@ pub struct Piece {
     pub kind: Kind,
 }
 
-/// Whether a square that holds this holds a piece of the colour and the kind.
+/// Whether a square with this content holds a piece of the colour and the kind.
 pub fn holds(cell: Option<Piece>, colour: Colour, kind: Kind) -> bool
     ensures test { result ≡ holds colour kind cell }
     ensures fact { IsTrue result ↔ (cell ≡ man colour kind) }

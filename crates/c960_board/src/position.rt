@@ -11,7 +11,7 @@ use crate::sets::Sets;
 use crate::square::Square;
 use std::marker::Model;
 
-/// A position. Contracts see its `Parts`, which meet every condition of `IsPosition`. What stands on the squares is held
+/// A position. Contracts see its `Parts`, which meet every condition of `IsPosition`. The contents of the squares are stored
 /// as sets of squares.
 #[derive(Clone, Copy, PartialEq, Eq, Debug)]
 pub struct Position {
@@ -59,10 +59,11 @@ impl Model for Position {
 
 impl Position {
     ghost use Rattle.c960_board.specs.Pieces.{holds};
-    ghost use Rattle.c960_board.specs.Position.{IsPosition, cell_at, has_right};
+    ghost use Rattle.c960_board.specs.Position.{IsPosition};
+    ghost use Rattle.c960_board.specs.Cells.{cell_at, has_right};
     ghost use Rattle.c960_board.specs.Sets.{is_occupied, set_of, sets_of, cells_of, parts_of};
 
-    /// The position of these parts: None exactly where they fail one of a position's conditions.
+    /// The position with these parts, or None exactly if they fail one of a position's conditions.
     pub fn make(parts: Parts) -> Option<Position>
         ensures some { IsSome result ↔ IsPosition parts }
         ensures value { IfSome result (λ p. p ≡ parts) }
@@ -74,7 +75,7 @@ impl Position {
         }
     }
 
-    /// The position of parts that are known to make one: `make` without its tests.
+    /// The position with parts that are known to make one: `make` without its tests.
     pub fn of_parts(parts: Parts) -> Position
         requires { IsPosition parts }
         ensures { result ≡ parts }
@@ -90,7 +91,7 @@ impl Position {
         }
     }
 
-    /// The position of the sets of a placement and of the other parts, which are known to make one.
+    /// The position with the sets of a placement and the other parts, which are known to make one.
     #[inline(always)]
     pub fn of_sets(
         sets: Sets,
@@ -147,7 +148,7 @@ impl Position {
         self.sets
     }
 
-    /// The squares that hold a piece, as a set: bit s is 1 where the square s is in it.
+    /// The squares that hold a piece, as a set: bit s is 1 if the square s is in it.
     #[inline(always)]
     pub fn occupied(&self) -> u64
         ensures set { result ≡ set_of is_occupied self.now.placement }
@@ -156,7 +157,7 @@ impl Position {
         self.sets.white | self.sets.black
     }
 
-    /// The squares that hold this piece, as a set: bit s is 1 where the square s is in it.
+    /// The squares that hold this piece, as a set: bit s is 1 if the square s is in it.
     #[inline(always)]
     pub fn pieces(&self, piece: Piece) -> u64
         ensures set { result ≡ set_of (holds piece.colour piece.kind) self.now.placement }

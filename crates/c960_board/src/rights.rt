@@ -14,7 +14,7 @@ pub struct CastlingRights {
 }
 
 impl CastlingRights {
-    ghost use Rattle.c960_board.specs.Position.{has_right};
+    ghost use Rattle.c960_board.specs.Cells.{has_right};
 
     /// Whether the side may still castle with the rook of that file, 0 for file a; false from 8 on.
     pub fn has(&self, colour: Colour, file: u8) -> bool

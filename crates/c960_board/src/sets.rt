@@ -1,4 +1,4 @@
-//! The squares of a placement's pieces as sets: bit s of a set, counted from the lowest, is 1 where the square s is in it.
+//! The squares of a placement's pieces as sets: bit s of a set, counted from the lowest, is 1 if the square s is in it.
 
 ghost use Rattle.std.specs.Prelude.{◌≡◌};
 ghost use Rattle.c960_board.specs.Pieces.{is_of};

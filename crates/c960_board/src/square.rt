@@ -24,7 +24,7 @@ impl Model for Square {
 }
 
 impl Square {
-    /// The square of that number, None from 64 on.
+    /// The square with that number, None from 64 on.
     pub fn new(number: u8) -> Option<Square>
         ensures some { IsSome result ↔ (number < 64) }
         ensures value { IfSome result (λ s. s ≡ number) }
@@ -36,7 +36,7 @@ impl Square {
         }
     }
 
-    /// The square of a number that is known to be one's.
+    /// The square with a number that is known to be valid.
     #[inline(always)]
     pub(crate) fn known(number: u8) -> Square
         requires { number < 64 }

@@ -1,7 +1,7 @@
-//! The texts of squares, which moves and positions' texts share.
+//! The texts of squares, used in the texts of moves and of positions.
 
 ghost use Rattle.std.specs.Prelude.{◌≡◌, ◌<◌, ℕ, [], ◌∷◌, Some, IfSome};
-ghost use Rattle.c960_board.specs.Moves.{square_text};
+ghost use Rattle.c960_board.specs.MoveTexts.{square_text};
 
 use crate::square::Square;
 

@@ -17,7 +17,7 @@ fn man(colour: Colour, kind: Kind) -> Option<Piece>
     Some(Piece { colour, kind })
 }
 
-/// What stands on a square at the start.
+/// What a square holds at the start.
 fn start_cell(rank: &[Kind; 8], square: usize) -> Option<Piece>
     ensures { result ≡ start_cell rank.now square }
 {
@@ -30,7 +30,7 @@ fn start_cell(rank: &[Kind; 8], square: usize) -> Option<Piece>
     }
 }
 
-#[tactic(auto, using(crate::proofs::StartFacts::start_cells_more, crate::proofs::StartFacts::start_cells_none))]
+#[tactic(auto, using(crate::proofs::lemmas::StartFacts::start_cells_more, crate::proofs::lemmas::StartFacts::start_cells_none))]
 fn start_cells(rank: &[Kind; 8]) -> [Option<Piece>; 64]
     ensures { result ≡ start_cells rank.now 64 }
 {
@@ -78,7 +78,7 @@ fn start_parts(rank: &[Kind; 8]) -> Parts
 }
 
 impl Position {
-    /// The starting position of that number, None from 960 on (Guidelines II.1 and II.2).
+    /// The starting position with that number, None from 960 on (Guidelines II.1 and II.2).
     pub fn start(number: u16) -> Option<Position>
         ensures some { IsSome result ↔ (number < 960) }
         ensures value { IfSome result (λ p. p ≡ start number) }

@@ -6,7 +6,7 @@ use Rattle.c960_board.specs.declared.piece.Colour.TheVariants.{White, Black}
 use Rattle.c960_board.specs.declared.piece.Kind.TheVariants.{Pawn}
 use Rattle.c960_board.specs.Moves.{Triple}
 use Rattle.c960_board.specs.Pieces.{other, holds, is_of}
-use Rattle.c960_board.specs.Position.{cell_at}
+use Rattle.c960_board.specs.Cells.{cell_at}
 use Rattle.c960_board.specs.Start.{start, start_of}
 use Rattle.c960_rules.specs.After.{after, half_moves_after, number_after}
 use Rattle.c960_game.specs.Positions.{position_after, last_position}

@@ -7,13 +7,14 @@ use Rattle.c960_board.specs.declared.parts.Parts.{Parts}
 use Rattle.c960_board.specs.Moves.{Triple}
 use Rattle.c960_rules.specs.After.{is_en_passant}
 use Rattle.c960_rules.specs.Effects.{with_counters}
-use Rattle.c960_rules.specs.Legal.{LegalEnPassant, is_legal, all_moves, legal_list}
-use Rattle.c960_rules.proofs.Contained.{in_none, in_first, in_rest, in_cases, kept, kept_only}
-use Rattle.c960_rules.proofs.CounterLaws.{legal_same}
-use Rattle.c960_rules.proofs.Listed.{listed, listed_only}
-use Rattle.c960_rules.proofs.MoveTests.{legal_from}
-use Rattle.c960_rules.proofs.Reached.{at_target}
-use Rattle.c960_game.specs.Same.{legal_target, is_legal_en_passant}
+use Rattle.c960_rules.specs.Legal.{LegalEnPassant}
+use Rattle.c960_rules.specs.Tests.Legal.{is_legal, all_moves, legal_list}
+use Rattle.c960_rules.proofs.lemmas.Contained.{in_none, in_first, in_rest, in_cases, kept, kept_only}
+use Rattle.c960_rules.proofs.lemmas.CounterLaws.{legal_same}
+use Rattle.c960_rules.proofs.lemmas.Listed.{listed, listed_only}
+use Rattle.c960_rules.proofs.lemmas.MoveTests.{legal_from}
+use Rattle.c960_rules.proofs.lemmas.Reached.{at_target}
+use Rattle.c960_game.specs.Tests.Same.{legal_target, is_legal_en_passant}
 
 -- ---- Whether a capture is legal.
 
@@ -27,7 +28,7 @@ some_element test (y ∷ xs) x h e =
       | inr later ↦ or_right (test y) (list_any test xs) (some_element test xs x later e)
     ]
 
--- and back
+-- and the converse
 found_element : {X : Type 0} (test : X → Bool) (xs : List X) → list_any test xs ≡ true
     → (x : X) × Contains xs x × (test x ≡ true)
 found_element test [] h = cc
@@ -59,7 +60,7 @@ capture_tells p h =
 
 -- ---- The square of the capture.
 
--- where a capture is legal, the square is the target
+-- if a capture is legal, the square is the target
 target_there : (p : Parts) (m : Triple) → LegalEnPassant p m → legal_target p ≡ p.target
 unfolding legal_target
 target_there p m h = let found = capture_from p m h in rw found refl
@@ -68,13 +69,13 @@ target_there p m h = let found = capture_from p m h in rw found refl
 goal_there : (p : Parts) (m : Triple) → LegalEnPassant p m → legal_target p ≡ Some m.to
 goal_there p m h = target_there p m h ∙ (let w = at_target p m h.takes in w.target)
 
--- where none is legal, there is no such square
+-- if none is legal, there is no such square
 target_nowhere : (p : Parts) → ((m : Triple) × LegalEnPassant p m → ⊥) → legal_target p ≡ None
 unfolding legal_target
 target_nowhere p h =
     let none = false_from_ne_true (has_capture p) (λ e. h (capture_tells p e)) in rw none refl
 
--- a square there comes of a capture
+-- if there is such a square, there is a capture
 target_of_capture : (p : Parts) (t : ℕ) → legal_target p ≡ Some t → (m : Triple) × LegalEnPassant p m
 unfolding legal_target
 target_of_capture p t h =
@@ -93,14 +94,14 @@ target_found p (Some t) some value =
 
 -- ---- Two positions.
 
--- a legal capture is one whatever the counters
+-- a capture is legal whatever the counters are
 capture_kept : (p : Parts) (m : Triple) (half_moves number : ℕ) → LegalEnPassant p m
     → LegalEnPassant (with_counters p half_moves number) m
 unfolding is_en_passant
 capture_kept p m half_moves number h =
     record { legal = legal_same p m half_moves number h.legal; takes = h.takes }
 
--- a position with the other's counters, where all else is equal
+-- a position with the other's counters, if everything else is equal
 counters_apart : (p q : Parts) → p.turn ≡ q.turn → p.placement ≡ q.placement → p.rights ≡ q.rights
     → p.target ≡ q.target → with_counters p q.half_moves q.number ≡ q
 counters_apart p q turn placement rights target =
@@ -122,7 +123,7 @@ capture_carried p q m turn placement rights target h =
     subst (λ (x : Parts). LegalEnPassant x m) (counters_apart p q turn placement rights equal)
     (capture_kept p m q.half_moves q.number h)
 
--- where the turn, the placement, the rights and the square are equal, the same captures are legal
+-- if the turn, the placement, the rights and the square are equal, the same captures are legal
 pub same_captures : (p q : Parts) → p.turn ≡ q.turn → p.placement ≡ q.placement → p.rights ≡ q.rights
     → legal_target p ≡ legal_target q → (m : Triple) → LegalEnPassant p m ↔ LegalEnPassant q m
 same_captures p q turn placement rights target m = (
@@ -130,7 +131,7 @@ same_captures p q turn placement rights target m = (
   capture_carried q p m (sym turn) (sym placement) (sym rights) (sym target),
 )
 
--- where the same captures are legal, the squares are equal
+-- if the same captures are legal, the squares are equal
 pub same_targets : (p q : Parts) → ((m : Triple) → LegalEnPassant p m ↔ LegalEnPassant q m)
     → legal_target p ≡ legal_target q
 same_targets p q h =

@@ -7,20 +7,20 @@ use Rattle.c960_board.specs.declared.parts.Parts.{Parts}
 use Rattle.c960_board.specs.Moves.{Triple}
 use Rattle.c960_board.specs.Position.{IsPosition}
 use Rattle.c960_board.specs.Start.{start}
-use Rattle.c960_board.proofs.StartFacts.{start_is_position}
+use Rattle.c960_board.proofs.lemmas.StartFacts.{start_is_position}
 use Rattle.c960_rules.specs.After.{after}
 use Rattle.c960_rules.specs.Check.{IsLawful}
 use Rattle.c960_rules.specs.Progress.{progress, Advances}
-use Rattle.c960_rules.proofs.AfterFacts.{after_position, after_lawful}
-use Rattle.c960_rules.proofs.ProgressLaws.{advances, same_progress}
-use Rattle.c960_rules.proofs.StartFacts.{start_is_lawful}
+use Rattle.c960_rules.proofs.lemmas.AfterFacts.{after_position, after_lawful}
+use Rattle.c960_rules.proofs.lemmas.ProgressLaws.{advances, same_progress}
+use Rattle.c960_rules.proofs.lemmas.StartFacts.{start_is_lawful}
 use Rattle.c960_game.specs.Game960.{Game960}
 use Rattle.c960_game.specs.Positions.{position_after, positions_from, last_position}
-use Rattle.c960_game.specs.Replay.{AllLegal}
-use Rattle.c960_game.specs.Same.{same}
+use Rattle.c960_game.specs.Inner.Replay.{AllLegal}
+use Rattle.c960_game.specs.Tests.Same.{same}
 use Rattle.c960_game.specs.Times.{times, uncounted, recent_positions, recent_times}
 use Rattle.c960_game.proofs.Bounds.{half_moves_grow, number_grows, half_moves_bound, number_bound}
-use Rattle.c960_game.proofs.LogFacts.{legal_from}
+use Rattle.c960_game.proofs.lemmas.LogFacts.{legal_from}
 use Rattle.c960_game.proofs.PositionFacts.{later_positions}
 use Rattle.c960_game.proofs.SameFacts.{same_placement_of}
 
@@ -63,7 +63,7 @@ game_can_make n l game short = record {
 
 -- ---- From a position to a later one.
 
--- by so many moves the counter rose by each, or it began anew on the way, where progress was made
+-- over this many moves the counter rose with each, or it restarted on the way, and then progress was made
 record Elapsed (p later : Parts) (moves : ℕ) : Type 0 where
   pub never_back : progress p ≤ progress later
   pub counted : (later.half_moves ≡ p.half_moves + moves) ⊎ ((later.half_moves < moves) × (progress p < progress later))
@@ -135,7 +135,7 @@ uncounted_left : (n : ℕ) (l : List Triple) → (last_position n l).half_moves 
 unfolding uncounted
 uncounted_left n l = omega (arith, half_moves_bound n l, length-drop (uncounted n l) l)
 
--- where the counter began to count is a place of the log
+-- the place where the counter began to count is a place of the log
 uncounted_within : (n : ℕ) (l : List Triple) → length (take (uncounted n l) l) ≡ uncounted n l
 unfolding uncounted
 uncounted_within n l = length-take-le (length l - (last_position n l).half_moves) l (omega arith)

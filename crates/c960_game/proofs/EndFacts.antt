@@ -1,4 +1,4 @@
--- A position has an outcome by itself exactly where it is mate or stalemate.
+-- A position has an outcome by itself exactly if it is mate or stalemate.
 use Rattle.std.proofs.Common.{◌≡◌, List, [], ◌∷◌, length, Option, Some, None, Bool, true, false, cond, refl, sym, subst, ◌∙◌, ◌⊎◌, inl, inr}
 use Rattle.std.specs.Prelude.{◌==◌, ◌↔◌}
 use Rattle.std.specs.List.{Contains}
@@ -7,11 +7,13 @@ use Rattle.c960_board.specs.declared.parts.Parts.{Parts}
 use Rattle.c960_board.specs.declared.piece.Colour.{Colour}
 use Rattle.c960_board.specs.Moves.{Triple}
 use Rattle.c960_board.specs.Pieces.{other}
-use Rattle.c960_rules.specs.Check.{InCheck, in_check}
-use Rattle.c960_rules.specs.Legal.{Legal, Mate, Stale, legal_list}
-use Rattle.c960_rules.proofs.AttackTests.{check_tells, check_from}
-use Rattle.c960_rules.proofs.Contained.{in_first}
-use Rattle.c960_rules.proofs.Listed.{listed_only, empty_none}
+use Rattle.c960_rules.specs.Check.{InCheck}
+use Rattle.c960_rules.specs.Tests.Check.{in_check}
+use Rattle.c960_rules.specs.Legal.{Legal, Mate, Stale}
+use Rattle.c960_rules.specs.Tests.Legal.{legal_list}
+use Rattle.c960_rules.proofs.lemmas.AttackTests.{check_tells, check_from}
+use Rattle.c960_rules.proofs.lemmas.Contained.{in_first}
+use Rattle.c960_rules.proofs.lemmas.Listed.{listed_only, empty_none}
 use Rattle.c960_game.specs.declared.outcome.Outcome.{Outcome}
 use Rattle.c960_game.specs.declared.outcome.Outcome.TheVariants.{Checkmate, Stalemate}
 use Rattle.c960_game.specs.Ends.{outcome_of}
@@ -20,11 +22,11 @@ use Rattle.c960_game.specs.Ends.{outcome_of}
 abbrev outcome_by : List Triple → Bool → Colour → Option Outcome
 outcome_by moves check turn = cond (length moves == 0) (Some (cond check (Checkmate (other turn)) Stalemate)) None
 
--- a move in the list, and there is no outcome
+-- with a move in the list there is no outcome
 none_by : (m : Triple) (moves : List Triple) (check : Bool) (turn : Colour) → outcome_by (m ∷ moves) check turn ≡ None
 none_by m moves check turn = rw (eqb-suc-zero (length moves)) refl
 
--- nor any that is named
+-- nor any particular outcome
 not_by : (m : Triple) (moves : List Triple) (check : Bool) (turn : Colour) (outcome : Outcome)
     → outcome_by (m ∷ moves) check turn ≡ Some outcome → ⊥
 not_by m moves check turn outcome e = let never : None ≡ Some outcome = sym (none_by m moves check turn) ∙ e in cc
@@ -138,3 +140,14 @@ mate_or_stale_by false b c x e = cc
 pub mate_or_stale : (p : Parts) (x : Outcome) → outcome_of p ≡ Some x → (x ≡ Checkmate (other p.turn)) ⊎ (x ≡ Stalemate)
 unfolding outcome_of
 mate_or_stale p x e = mate_or_stale_by (length (legal_list p) == 0) (in_check p.placement p.turn) (other p.turn) x e
+
+-- a position that is neither mate nor stalemate has none
+neither_by : (p : Parts) (o : Option Outcome) → outcome_of p ≡ o → (Mate p → ⊥) → (Stale p → ⊥) → outcome_of p ≡ None
+neither_by p None e no_mate no_stalemate = e
+neither_by p (Some x) e no_mate no_stalemate = elim (mate_or_stale p x e) [
+  | inl mates ↦ absurd (no_mate ((checkmate p (other p.turn)).0 (subst (λ (y : Outcome). outcome_of p ≡ Some y) mates e)).0)
+  | inr stale ↦ absurd (no_stalemate ((stalemate p).0 (subst (λ (y : Outcome). outcome_of p ≡ Some y) stale e)))
+]
+
+pub neither : (p : Parts) → (Mate p → ⊥) → (Stale p → ⊥) → outcome_of p ≡ None
+neither p no_mate no_stalemate = neither_by p (outcome_of p) refl no_mate no_stalemate

@@ -1,16 +1,12 @@
-pub mod OutcomeFacts
-pub mod MoveFacts
-pub mod LogFacts
-pub mod Bounds
-pub mod EndFacts
-pub mod CaptureFacts
-pub mod SameFacts
-pub mod PositionFacts
-pub mod DrawFacts
-pub mod GameFacts
-pub mod ReplayFacts
-pub mod StretchFacts
-pub mod CounterFacts
-pub mod RecentFacts
-pub mod MilestoneFacts
-pub mod KeptFacts
+pub mod lemmas
+mod OutcomeFacts
+mod Bounds
+mod EndFacts
+mod CaptureFacts
+mod SameFacts
+mod PositionFacts
+mod ReplayFacts
+mod StretchFacts
+mod CounterFacts
+mod RecentFacts
+mod MilestoneFacts

@@ -9,9 +9,9 @@ use Rattle.c960_board.specs.declared.parts.Parts.{Parts}
 use Rattle.c960_board.specs.Moves.{Triple}
 use Rattle.c960_board.specs.Start.{start}
 use Rattle.c960_rules.specs.After.{after}
-use Rattle.c960_game.specs.Kept.{AreMilestones}
+use Rattle.c960_game.specs.Inner.KeptPositions.{AreMilestones}
 use Rattle.c960_game.specs.Positions.{last_position}
-use Rattle.c960_game.proofs.LogFacts.{last_more, position_after_none}
+use Rattle.c960_game.proofs.lemmas.LogFacts.{last_more, position_after_none}
 
 -- the first is the start
 pub first_milestone : (n : ℕ) → AreMilestones n [] (start n ∷ [])
@@ -25,7 +25,7 @@ first_milestone n = record {
 lt_or_eq : (k n : ℕ) → k ≤ n → (k < n) ⊎ (k ≡ n)
 lt_or_eq k n h = grind arith
 
--- a milestone that there was is one still
+-- an earlier milestone remains a milestone
 still : (n : ℕ) (l : List Triple) (m : Triple) (milestones later : List Parts) → AreMilestones n l milestones
     → (k : ℕ) → k < length milestones
     → slice_get (milestones ++ later) k ≡ Some (last_position n (take (k * 64) (l ++ m ∷ [])))
@@ -48,7 +48,7 @@ here n l m milestones k full last =
     ap (λ (q : Parts). Some q) there)
     ∙ rw (whole, take-length (l ++ m ∷ []), last_more n l m) refl
 
--- between two milestones there is none more
+-- between two milestones there is no other
 pub no_milestone : (n : ℕ) (l : List Triple) (m : Triple) (milestones : List Parts) → AreMilestones n l milestones
     → (length l + 1) % 64 ≢ 0 → AreMilestones n (l ++ m ∷ []) milestones
 no_milestone n l m milestones kept between = record {
@@ -77,7 +77,7 @@ pub milestone_before : (n : ℕ) (l : List Triple) (milestones : List Parts) (pl
     → place ≤ length l → place / 64 < length milestones
 milestone_before n l milestones place kept within = omega (arith, kept.count)
 
--- and it is the position there
+-- and it is the position at that place
 pub milestone_is : (n : ℕ) (l : List Triple) (milestones : List Parts) (place : ℕ) (p : Parts) → AreMilestones n l milestones
     → place ≤ length l → p ≡ get_or milestones (place / 64) p → p ≡ last_position n (take (place / 64 * 64) l)
 milestone_is n l milestones place p kept within e =

@@ -1,4 +1,4 @@
--- The numbers of outcomes, which no two share.
+-- The numbers of outcomes: no two outcomes share one.
 use Rattle.std.proofs.Common.{◌≡◌, ℕ, Option, Some, None, cond, refl, sym, ap, ◌∙◌}
 use Rattle.std.specs.Prelude.{◌==◌}
 use Rattle.c960_board.specs.declared.piece.Colour.TheVariants.{White, Black}
@@ -34,6 +34,6 @@ found Fifty = refl
 found Fivefold = refl
 found SeventyFive = refl
 
--- a number is that of one outcome, or none
+-- a number belongs to one outcome, or to none
 pub only_outcome : (o : Outcome) (code : ℕ) → outcome_code o ≡ code → decoded code ≡ Some o
 only_outcome o code e = sym (ap decoded e) ∙ found o

@@ -6,7 +6,7 @@ use Rattle.c960_board.specs.Moves.{Triple}
 use Rattle.c960_board.specs.Start.{start}
 use Rattle.c960_rules.specs.After.{after}
 use Rattle.c960_game.specs.Positions.{last_position, position_after, positions, positions_from}
-use Rattle.c960_game.specs.Same.{same}
+use Rattle.c960_game.specs.Tests.Same.{same}
 use Rattle.c960_game.specs.Times.{times}
 
 -- one position more than moves

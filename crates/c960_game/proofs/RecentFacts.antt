@@ -1,5 +1,5 @@
 -- The positions since the half-move counter began to count: before the first move, after one move more, and how often the
--- position then stands among them.
+-- position is then among them.
 use Rattle.std.proofs.Common.{◌≡◌, ◌≢◌, ℕ, ◌+◌, ◌-◌, ◌≤◌, List, [], ◌∷◌, ◌++◌, length, count_by, cond, true, refl, ap, ◌∙◌, arith, length-append, length-drop, inl, inr}
 use Rattle.std.proofs.Math.Seq.{drop-append_seam}
 use Rattle.std.proofs.lemmas.List.{drop-append-le}
@@ -10,11 +10,11 @@ use Rattle.c960_board.specs.Start.{start}
 use Rattle.c960_rules.specs.After.{after}
 use Rattle.c960_game.specs.Game960.{Game960}
 use Rattle.c960_game.specs.Positions.{last_position, positions}
-use Rattle.c960_game.specs.Same.{same}
+use Rattle.c960_game.specs.Tests.Same.{same}
 use Rattle.c960_game.specs.Times.{times, uncounted, recent_positions, recent_times}
 use Rattle.c960_game.proofs.Bounds.{counted, half_moves_bound}
 use Rattle.c960_game.proofs.CounterFacts.{times_recent}
-use Rattle.c960_game.proofs.LogFacts.{game_positions_more, last_more, start_alone}
+use Rattle.c960_game.proofs.lemmas.LogFacts.{game_positions_more, last_more, start_alone}
 use Rattle.c960_game.proofs.PositionFacts.{length_positions}
 use Rattle.c960_game.proofs.SameFacts.{same_from}
 

@@ -6,8 +6,8 @@ use Rattle.c960_board.specs.Moves.{Triple}
 use Rattle.c960_rules.specs.After.{after}
 use Rattle.c960_rules.specs.Legal.{Legal}
 use Rattle.c960_game.specs.Positions.{position_after}
-use Rattle.c960_game.specs.Replay.{AllLegal}
-use Rattle.c960_game.proofs.LogFacts.{position_after_more}
+use Rattle.c960_game.specs.Inner.Replay.{AllLegal}
+use Rattle.c960_game.proofs.lemmas.LogFacts.{position_after_more}
 use Rattle.c960_game.proofs.Bounds.{half_moves_grow, number_grows}
 
 -- the position after one move more

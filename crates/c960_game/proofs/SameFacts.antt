@@ -13,8 +13,9 @@ use Rattle.c960_board.specs.declared.piece.Colour.TheVariants.{White, Black}
 use Rattle.c960_board.specs.declared.rights.CastlingRights.{CastlingRights}
 use Rattle.c960_board.specs.declared.parts.Parts.{Parts}
 use Rattle.c960_board.specs.Pieces.{Cell, same_colour}
-use Rattle.c960_rules.proofs.PieceFacts.{holds_is, is_holds}
-use Rattle.c960_game.specs.Same.{Same, legal_target, same, same_piece, same_rights}
+use Rattle.c960_rules.proofs.lemmas.PieceFacts.{holds_is, is_holds}
+use Rattle.c960_game.specs.Same.{Same}
+use Rattle.c960_game.specs.Tests.Same.{legal_target, same, same_piece, same_rights}
 use Rattle.c960_game.proofs.CaptureFacts.{same_captures, same_targets}
 
 -- the test of two sides

@@ -6,9 +6,9 @@ use Rattle.c960_board.specs.Moves.{Triple}
 use Rattle.c960_board.specs.Start.{start}
 use Rattle.c960_game.specs.Game960.{Game960}
 use Rattle.c960_game.specs.Positions.{last_position, position_after}
-use Rattle.c960_game.specs.Replay.{AllLegal}
+use Rattle.c960_game.specs.Inner.Replay.{AllLegal}
 use Rattle.c960_game.proofs.Bounds.{half_moves_bound, number_bound}
-use Rattle.c960_game.proofs.LogFacts.{prefix, legal_from, position_after_append}
+use Rattle.c960_game.proofs.lemmas.LogFacts.{prefix, legal_from, position_after_append}
 
 -- the log up to a place, a stretch, and what is left
 parts_of : (l : List Triple) (a k : ℕ) → (take a l ++ take k (drop a l)) ++ drop k (drop a l) ≡ l

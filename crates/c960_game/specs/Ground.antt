@@ -1,8 +1,7 @@
 -- The grounds of endings (FIDE Laws, Articles 9.2 and 9.3, for positions on the board; claims with an announced move are left
 -- out).
-use Rattle.std.specs.Prelude.{ℕ, ◌≡◌, ◌≤◌, nat_le, List, Bool, true, ◌&&◌}
+use Rattle.std.specs.Prelude.{ℕ, ◌≡◌, ◌≤◌, List}
 use Rattle.c960_board.specs.Moves.{Triple}
-use Rattle.c960_board.specs.Pieces.{same_colour}
 use Rattle.c960_game.specs.declared.ending.Ending.{Ending}
 use Rattle.c960_game.specs.declared.ending.Ending.TheVariants.{Resigns, Agreed, Abandoned, ClaimThreefold, ClaimFifty}
 use Rattle.c960_game.specs.Positions.{last_position}
@@ -16,12 +15,3 @@ Ground n l (ClaimFifty c) = ((last_position n l).turn ≡ c) × (100 ≤ (last_p
 Ground n l (Resigns c) = Unit {0}
 Ground n l Agreed = Unit {0}
 Ground n l Abandoned = Unit {0}
-
--- ---- The same as a test that computes.
-
-abbrev pub has_ground : ℕ → List Triple → Ending → Bool
-has_ground n l (ClaimThreefold c) = same_colour (last_position n l).turn c && nat_le 3 (times n l)
-has_ground n l (ClaimFifty c) = same_colour (last_position n l).turn c && nat_le 100 (last_position n l).half_moves
-has_ground n l (Resigns c) = true
-has_ground n l Agreed = true
-has_ground n l Abandoned = true

@@ -2,7 +2,6 @@ pub mod Refusal
 pub mod Outcome
 pub mod Ending
 pub mod Limits
-pub mod Moves
 pub mod Positions
 pub mod Same
 pub mod Times
@@ -10,7 +9,7 @@ pub mod Draws
 pub mod Ends
 pub mod Game960
 pub mod Ground
+pub mod GameRecord
 pub mod Record
-pub mod Kept
-pub mod Replay
-pub mod Replaying
+pub mod Tests
+pub mod Inner

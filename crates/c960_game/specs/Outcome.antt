@@ -4,7 +4,7 @@ use Rattle.c960_board.specs.declared.piece.Colour.TheVariants.{White, Black}
 use Rattle.c960_game.specs.declared.outcome.Outcome.{Outcome}
 use Rattle.c960_game.specs.declared.outcome.Outcome.TheVariants.{Checkmate, Stalemate, Resigned, Agreed, Abandoned, Threefold, Fifty, Fivefold, SeventyFive}
 
--- Checkmate names who mates, Resigned who resigned.
+-- Checkmate names the side that mates, Resigned the side that resigned.
 abbrev pub outcome_code : Outcome → ℕ
 outcome_code (Checkmate White) = 1
 outcome_code (Checkmate Black) = 2

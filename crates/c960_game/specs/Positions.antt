@@ -1,4 +1,4 @@
--- The positions of a game, read off its start number and its list of moves. They mean something where each move is legal in
+-- The positions of a game, read off its start number and its list of moves. They are meaningful if each move is legal in
 -- its position and the number is below 960.
 use Rattle.std.specs.Prelude.{ℕ, nat_le, List, [], ◌∷◌, length, take, Option, Some, None, cond}
 use Rattle.c960_board.specs.declared.parts.Parts.{Parts}
@@ -24,6 +24,6 @@ last_position n l = position_after (start n) l
 abbrev pub positions : ℕ → List Triple → List Parts
 positions n l = positions_from (start n) l
 
--- the position after that many of the moves, none where fewer were made
+-- the position after that many of the moves, or none if fewer were made
 unfoldable pub position_at : ℕ → List Triple → ℕ → Option Parts
 position_at n l place = cond (nat_le place (length l)) (Some (last_position n (take place l))) None

@@ -1,4 +1,4 @@
--- What contracts see of a game, and what its moves and endings answer.
+-- The answers to the moves and the endings of a game, and what is true of every game.
 use Rattle.std.specs.Prelude.{ℕ, ◌≡◌, ◌≤◌, ◌⊎◌, ◌==◌, List, [], ◌∷◌, ◌++◌, length, Option, Some, None, is_some, Result, Ok, Err, cond}
 use Rattle.c960_board.specs.Moves.{Triple}
 use Rattle.c960_game.specs.declared.ending.Ending.{Ending}
@@ -8,16 +8,11 @@ use Rattle.c960_game.specs.declared.refusal.Refusal.TheVariants.{GameOver, Illeg
 use Rattle.c960_game.specs.Ending.{named_outcome}
 use Rattle.c960_game.specs.Ends.{own_outcome}
 use Rattle.c960_game.specs.Game960.{Game960}
-use Rattle.c960_game.specs.Ground.{Ground, has_ground}
-use Rattle.c960_game.specs.Moves.{is_legal_move}
+use Rattle.c960_game.specs.Ground.{Ground}
+use Rattle.c960_game.specs.Tests.Ground.{has_ground}
+use Rattle.c960_game.specs.Tests.Moves.{is_legal_move}
 use Rattle.c960_game.specs.Positions.{last_position}
-
--- the number of the start, how many moves the log may have, the moves made, and the outcome once the game is over
-pub record GameRecord : Type 0 where
-  pub start : ℕ
-  pub plies : ℕ
-  pub log : List Triple
-  pub outcome : Option Outcome
+use Rattle.c960_game.specs.GameRecord.{GameRecord}
 
 abbrev pub opened : ℕ → ℕ → GameRecord
 opened n k = record { start = n; plies = k; log = []; outcome = None }
@@ -31,7 +26,7 @@ play_answer g m =
     (cond (length g.log == g.plies) (Err LogFull)
     (cond (is_legal_move (last_position g.start g.log) m) (Ok (own_outcome g.start (g.log ++ m ∷ []))) (Err Illegal)))
 
--- the game with one move more
+-- the game with another move
 abbrev pub with_move : GameRecord → Triple → GameRecord
 with_move g m = record g { log = g.log ++ m ∷ []; outcome = own_outcome g.start (g.log ++ m ∷ []) }
 
@@ -47,7 +42,7 @@ end_answer g e =
 abbrev pub with_outcome : GameRecord → Outcome → GameRecord
 with_outcome g o = record g { outcome = Some o }
 
--- ---- What every game keeps.
+-- ---- What is true of every game.
 
 -- the outcome is the one that the log has by itself, if any; or the log has none, and an ending with its ground names it
 abbrev pub IsOutcome : ℕ → List Triple → Option Outcome → Type 0

@@ -1,42 +1,13 @@
 -- When two positions are the same for a claim (FIDE Laws, Article 9.2).
-use Rattle.std.specs.Prelude.{ℕ, ◌≡◌, ◌↔◌, Bool, ◌&&◌, nat_eq, Option, None, cond}
-use Rattle.std.specs.Bool.{beq}
-use Rattle.std.specs.Cmp.Lexicographic.{pointwise}
-use Rattle.std.specs.List.{list_any}
-use Rattle.std.specs.Option.{option_eq}
+use Rattle.std.specs.Prelude.{◌≡◌, ◌↔◌}
 use Rattle.c960_board.specs.declared.parts.Parts.{Parts}
-use Rattle.c960_board.specs.declared.piece.Piece.{Piece}
-use Rattle.c960_board.specs.declared.rights.CastlingRights.{CastlingRights}
 use Rattle.c960_board.specs.Moves.{Triple}
-use Rattle.c960_board.specs.Pieces.{same_colour, same_kind}
-use Rattle.c960_rules.specs.After.{is_en_passant}
-use Rattle.c960_rules.specs.Legal.{LegalEnPassant, is_legal, all_moves}
+use Rattle.c960_rules.specs.Legal.{LegalEnPassant}
 
 -- The side to move, the placement and the rights are equal, and the same captures en passant are legal. A target on which
--- nothing can legally be captured takes no part.
+-- nothing can legally be captured does not matter.
 pub record Same (p q : Parts) : Type 0 where
   pub turn : p.turn ≡ q.turn
   pub placement : p.placement ≡ q.placement
   pub rights : p.rights ≡ q.rights
   pub captures : (m : Triple) → LegalEnPassant p m ↔ LegalEnPassant q m
-
--- ---- The same as a test that computes.
-
-abbrev pub same_piece : Piece → Piece → Bool
-same_piece a b = same_colour a.colour b.colour && same_kind a.kind b.kind
-
-abbrev pub same_rights : CastlingRights → CastlingRights → Bool
-same_rights a b = pointwise beq a.white b.white && pointwise beq a.black b.black
-
--- a legal capture en passant
-unfoldable pub is_legal_en_passant : Parts → Triple → Bool
-is_legal_en_passant p m = is_en_passant p m && is_legal p m
-
--- the target, where a legal capture en passant exists
-unfoldable pub legal_target : Parts → Option ℕ
-legal_target p = cond (list_any (is_legal_en_passant p) all_moves) p.target None
-
-unfoldable pub same : Parts → Parts → Bool
-same p q =
-    same_colour p.turn q.turn && (pointwise (option_eq same_piece) p.placement q.placement
-    && (same_rights p.rights q.rights && option_eq nat_eq (legal_target p) (legal_target q)))

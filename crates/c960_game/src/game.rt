@@ -7,14 +7,15 @@ ghost use Rattle.c960_rules.specs.Legal.{Legal};
 ghost use Rattle.c960_game.specs.Draws.{draw_of};
 ghost use Rattle.c960_game.specs.Ending.{named_outcome};
 ghost use Rattle.c960_game.specs.Ends.{outcome_of, own_outcome};
-ghost use Rattle.c960_game.specs.Ground.{Ground, has_ground};
-ghost use Rattle.c960_game.specs.Moves.{is_legal_move};
+ghost use Rattle.c960_game.specs.Ground.{Ground};
+ghost use Rattle.c960_game.specs.Tests.Ground.{has_ground};
+ghost use Rattle.c960_game.specs.Tests.Moves.{is_legal_move};
 ghost use Rattle.c960_game.specs.Positions.{last_position, position_at};
 ghost use Rattle.c960_game.specs.Record.{IsGame, end_answer, opened, play_answer, with_move, with_outcome};
 ghost use Rattle.c960_game.specs.Times.{times};
 
 use crate::ending::Ending;
-use crate::kept::{MILE, RECENT, add_milestone, add_recent, count_same, row_of};
+use crate::kept_positions::{MILE, RECENT, add_milestone, add_recent, count_same, row_of};
 use crate::outcome::Outcome;
 use crate::refusal::Refusal;
 use crate::replay::Replaying;
@@ -25,8 +26,8 @@ use std::alloc::Global;
 use std::marker::Model;
 
 /// A game from a numbered start. It keeps its moves, the present position, the positions since the last capture or pawn
-/// move (what was before them cannot come back), and every sixty-fourth position. All its memory is reserved at the opening,
-/// and no row ever grows. Contracts see a `GameRecord`.
+/// move (earlier positions cannot come back), and every sixty-fourth position. All its memory is reserved when it is opened,
+/// and no vector ever grows. Contracts see a `GameRecord`.
 #[derive(Drop)]
 pub struct Game {
     start: u16,
@@ -39,8 +40,8 @@ pub struct Game {
 }
 
 impl Model for Game {
-    ghost use Rattle.c960_game.specs.Kept.{IsKept, record_of};
-    ghost use Rattle.c960_game.specs.Record.{GameRecord};
+    ghost use Rattle.c960_game.specs.Inner.KeptPositions.{IsKept, record_of};
+    ghost use Rattle.c960_game.specs.GameRecord.{GameRecord};
 
     ghost Value = { GameRecord };
 
@@ -60,8 +61,8 @@ fn outcome_of(position: &Lawful) -> Option<Outcome>
     }
 }
 
-/// The draw that comes without a claim (FIDE Laws, Articles 9.6.1 and 9.6.2), if any: of a position that has appeared so often
-/// and has that half-move counter.
+/// The draw that comes without a claim (FIDE Laws, Articles 9.6.1 and 9.6.2), if any, for a position that has appeared this often
+/// and has this half-move counter.
 #[tactic(auto, unfolding(crate::specs::Draws::draw_of))]
 fn draw_of(appearances: usize, half_moves: u16) -> Option<Outcome>
     ensures { result ≡ draw_of appearances half_moves }
@@ -76,7 +77,7 @@ fn draw_of(appearances: usize, half_moves: u16) -> Option<Outcome>
 }
 
 /// The position of a numbered start.
-#[tactic(auto, using(c960_rules::proofs::StartFacts::start_is_lawful, crate::proofs::LogFacts::position_after_none))]
+#[tactic(auto, using(c960_rules::proofs::lemmas::StartFacts::start_is_lawful, crate::proofs::lemmas::LogFacts::position_after_none))]
 fn starting_position(start: u16) -> Option<Lawful>
     ensures some { IsSome result ↔ (start < 960) }
     ensures value { IfSome result (λ position. position ≡ last_position start []) }
@@ -138,7 +139,7 @@ impl Game {
         self.moves.len() as u16
     }
 
-    /// The move at a place of the log, counted from 0: None exactly from the log's length on.
+    /// The move at a place of the log, counted from 0, or None exactly from the log's length on.
     pub fn move_at(&self, place: u16) -> Option<Move>
         ensures { result ≡ slice_get self.now.log place }
     {
@@ -159,7 +160,7 @@ impl Game {
         self.position.position()
     }
 
-    /// The position after that many moves: None exactly where fewer were made.
+    /// The position after that many moves, or None exactly if fewer were made.
     pub fn position_at(&self, place: u16) -> Option<Position>
         ensures { result ≡ position_at self.now.start self.now.log place }
     {
@@ -169,8 +170,8 @@ impl Game {
         }
     }
 
-    /// The position after that many moves, to be worked out without the game: None exactly where fewer were made. Of the present one nothing
-    /// is left to be worked out.
+    /// The position after that many moves, to be worked out without the game, or None exactly if fewer were made. For the present one
+    /// nothing remains to be worked out.
     #[tactic(auto, unfolding(crate::specs::Positions::position_at))]
     pub fn replay_at(&self, place: u16) -> Option<Replaying>
         ensures { result ≡ position_at self.now.start self.now.log place }
@@ -191,7 +192,7 @@ impl Game {
         Replaying::new(&self.position, &[])
     }
 
-    /// The position after that many moves, of which so many were made. It is worked out from the last one before it that is kept.
+    /// The position after that many moves of the log. It is worked out from the last kept position before it.
     fn earlier(&self, place: u16) -> Replaying
         requires { place ≤ length self.now.log }
         ensures { result ≡ last_position self.now.start (take place self.now.log) }
@@ -203,7 +204,7 @@ impl Game {
         )
     }
 
-    /// How often the present position has appeared, itself counted (FIDE Laws, Article 9.2). It looks back no further than
+    /// How often the present position has appeared, including now (FIDE Laws, Article 9.2). The search goes back no further than
     /// to the last capture or pawn move.
     pub fn appearances(&self) -> u16
         ensures { result ≡ times self.now.start self.now.log }
@@ -227,7 +228,7 @@ impl Game {
     }
 
     /// The position after a legal move.
-    #[tactic(auto, using(crate::proofs::KeptFacts::half_moves_room, crate::proofs::KeptFacts::number_room))]
+    #[tactic(auto, using(crate::proofs::lemmas::KeptFacts::half_moves_room, crate::proofs::lemmas::KeptFacts::number_room))]
     fn next(&self, m: Move) -> Option<Lawful>
         ensures legal { IsSome result ↔ Legal (last_position self.now.start self.now.log) m }
         ensures test { is_some result ≡ is_legal_move (last_position self.now.start self.now.log) m }
@@ -236,7 +237,7 @@ impl Game {
         play(&self.position, m)
     }
 
-    /// How often the position after a legal move has then appeared, itself counted.
+    /// How often the position after a legal move has then appeared, including that time.
     fn appearances_after(&self, m: Move, next: &Lawful) -> usize
         requires going { is_some self.now.outcome ≡ false }
         requires room { length self.now.log < self.now.plies }
@@ -268,7 +269,7 @@ impl Game {
         }
     }
 
-    /// Adds a legal move to the log of a game that goes on and has room, with the position after it and its outcome.
+    /// Adds a legal move to the log of a game that goes on and has room, with the position after it and the outcome.
     fn append(&mut self, m: Move, next: Lawful, outcome: Option<Outcome>)
         requires going { is_some self.old.outcome ≡ false }
         requires room { length self.old.log < self.old.plies }
@@ -315,9 +316,9 @@ impl Game {
         outcome
     }
 
-    /// Makes a move, and tells the outcome where it ends the game: by mate or stalemate, or else by a draw that comes without a
-    /// claim, of a position that has appeared five times or after seventy-five moves of each side without a capture and a pawn
-    /// move (FIDE Laws, Articles 5.1.1, 5.2.1 and 9.6). Refused, in this order: `GameOver`; `LogFull` where the log has as many
+    /// Makes a move. Returns the outcome if it ends the game: by mate or stalemate, or else by a draw that comes without a
+    /// claim, for a position that has appeared five times or after seventy-five moves of each side without a capture and a pawn
+    /// move (FIDE Laws, Articles 5.1.1, 5.2.1 and 9.6). Refused, in this order: `GameOver`; `LogFull` if the log has as many
     /// moves as it may have; `Illegal`. A refused move changes nothing.
     #[tactic(auto, unfolding(crate::specs::Record::play_answer))]
     pub fn play(&mut self, m: Move) -> Result<Option<Outcome>, Refusal>
@@ -342,7 +343,7 @@ impl Game {
         Ok(outcome)
     }
 
-    /// Ends the game, and tells the outcome that the ending names. Refused, in this order: `GameOver`; `ClaimRefused` where
+    /// Ends the game. Returns the outcome that the ending names. Refused, in this order: `GameOver`; `ClaimRefused` if
     /// the claimant does not have the move or the claim has no ground (FIDE Laws, Articles 9.2 and 9.3). A refused ending
     /// changes nothing.
     #[tactic(auto, unfolding(crate::specs::Record::end_answer))]

@@ -3,7 +3,7 @@
 
 mod ending;
 mod game;
-mod kept;
+mod kept_positions;
 pub mod laws;
 mod limits;
 mod outcome;

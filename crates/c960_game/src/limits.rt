@@ -39,7 +39,7 @@ impl Model for Limits {
 }
 
 impl Limits {
-    /// The limits, exactly where each number is in its range: 1 to 256 boards, 1 to 1,024 followers a board, queues of 1 to
+    /// The limits, or None exactly if a number is outside its range: 1 to 256 boards, 1 to 1,024 followers a board, queues of 1 to
     /// 1,024 moves, 1 to 16,384 plies a game.
     pub fn new(boards: u16, followers: u16, capacity: u16, plies: u16) -> Option<Limits>
         ensures some { IsSome result ↔ AreLimits (record { boards = boards; followers = followers; capacity = capacity; plies = plies }) }

@@ -48,7 +48,7 @@ impl Outcome {
         }
     }
 
-    /// The outcome of that number: None exactly for 0 and from 12 on.
+    /// The outcome with that number, or None exactly for 0 and from 12 on.
     #[tactic(auto, using(crate::proofs::OutcomeFacts::only_outcome))]
     pub fn of_code(code: u64) -> Option<Outcome>
         ensures some { IsSome result ↔ ((1 ≤ code) × (code ≤ 11)) }

@@ -65,7 +65,7 @@ impl Refusal {
         }
     }
 
-    /// The name of the refusal, as it stands in texts.
+    /// The name of the refusal, as used in texts.
     pub fn name(&self) -> &'static str
         ensures { result.now ≡ refusal_name self.now }
     {

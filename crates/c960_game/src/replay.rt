@@ -1,27 +1,27 @@
-//! Replaying moves, which takes no memory.
+//! Replaying moves, which allocates nothing.
 
 ghost use Rattle.std.specs.Prelude.{◌≡◌, ◌+◌, ◌≤◌, length, take};
 ghost use Rattle.c960_game.specs.Positions.{position_after};
-ghost use Rattle.c960_game.specs.Replay.{AllLegal};
+ghost use Rattle.c960_game.specs.Inner.Replay.{AllLegal};
 
-use crate::kept::MILE;
+use crate::kept_positions::MILE;
 use c960_board::{Move, Position, Square};
 use c960_rules::{Lawful, play};
 use std::marker::Model;
 
-/// A position of a game that is yet to be worked out: one that the game keeps, and the moves behind it. It needs no memory, and the game no
-/// more: whoever is lent a game under a lock works the position out without it. Contracts see the position.
+/// A position of a game that has yet to be worked out: one that the game keeps, and the moves after it. It needs neither memory nor the
+/// game any more: a caller that borrows a game under a lock works the position out without the lock. Contracts see the position.
 #[derive(Drop)]
 pub struct Replaying {
     first: Lawful,
     moves: [Move; MILE],
-    /// How many of them are made. Those behind them fill the row up.
+    /// How many of them were made. Those after them fill up the array.
     made: usize,
 }
 
 impl Model for Replaying {
     ghost use Rattle.c960_board.specs.declared.parts.Parts.{Parts};
-    ghost use Rattle.c960_game.specs.Replaying.{IsReplaying, position_of};
+    ghost use Rattle.c960_game.specs.Inner.Replaying.{IsReplaying, position_of};
 
     ghost Value = { Parts };
 
@@ -31,7 +31,7 @@ impl Model for Replaying {
 }
 
 impl Replaying {
-    /// The position after these legal moves, of which there are no more than lie between two positions that are kept.
+    /// The position after these legal moves, which are no more than lie between two positions that are kept.
     pub(crate) fn new(first: &Lawful, moves: &[Move]) -> Replaying
         requires few { length moves.now ≤ 64 }
         requires legal { AllLegal first.now moves.now }
@@ -54,7 +54,7 @@ impl Replaying {
     }
 }
 
-/// The moves, and behind them as many others as fill the row up.
+/// The moves, followed by as many others as fill up the array.
 fn filled_up(moves: &[Move]) -> [Move; MILE]
     requires { length moves.now ≤ 64 }
     ensures { take (length moves.now) result ≡ moves.now }

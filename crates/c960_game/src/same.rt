@@ -4,19 +4,21 @@ ghost use Rattle.std.specs.Prelude.{◌≡◌, ◌↔◌, IsTrue, nat_eq};
 ghost use Rattle.std.specs.Cmp.Lexicographic.{pointwise};
 ghost use Rattle.std.specs.Option.{option_eq};
 ghost use Rattle.c960_board.specs.Pieces.{same_colour};
-ghost use Rattle.c960_game.specs.Same.{Same, legal_target, same, same_piece, same_rights};
+ghost use Rattle.c960_game.specs.Same.{Same};
+ghost use Rattle.c960_game.specs.Tests.Same.{legal_target, same, same_piece, same_rights};
 
 use c960_board::{CastlingRights, Colour, Position, Square};
 use c960_rules::{Lawful, ep_legal};
 
-/// Whether two sides are one.
+/// Whether two sides are the same.
 pub(crate) fn same_colour(one: Colour, two: Colour) -> bool
     ensures { result ≡ same_colour one two }
 {
     one == two
 }
 
-/// The squares that hold a piece are one word, and differ in most placements that do.
+/// Whether two placements are the same. The occupied squares are compared first: they are one word, and differ in most different
+/// placements.
 fn same_placement(one: &Position, two: &Position) -> bool
     ensures { result ≡ pointwise (option_eq same_piece) one.now.placement two.now.placement }
 {
@@ -41,9 +43,9 @@ fn same_captures(one: &Lawful, two: &Lawful) -> bool
     legal_target(one) == legal_target(two)
 }
 
-/// The test goes from what is cheap and differs most to what is dear: every other position of a game has the other side to
-/// move, and captures en passant are looked for only where all else is equal.
-#[tactic(auto, unfolding(crate::specs::Same::same))]
+/// Whether two positions are the same, by a test that goes from what is cheap and differs most to what is expensive. Every other position
+/// of a game has the other side to move, and captures en passant are looked for only if all else is equal.
+#[tactic(auto, unfolding(crate::specs::Tests::Same::same))]
 fn test_same(one: &Lawful, two: &Lawful) -> bool
     ensures { result ≡ same one.now two.now }
 {

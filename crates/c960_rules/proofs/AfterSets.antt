@@ -12,17 +12,19 @@ use Rattle.c960_board.specs.declared.piece.Kind.TheVariants.{Pawn, Knight, Bisho
 use Rattle.c960_board.specs.declared.parts.Parts.{Parts}
 use Rattle.c960_board.specs.Moves.{Triple, IsMove, is_promotion}
 use Rattle.c960_board.specs.Pieces.{Cell, man, other, same_colour, is_of, holds}
-use Rattle.c960_board.specs.Position.{cell_at, IsPosition}
+use Rattle.c960_board.specs.Position.{IsPosition}
+use Rattle.c960_board.specs.Cells.{cell_at}
 use Rattle.c960_board.specs.Sets.{is_kind, is_occupied, set_of, sets_of}
 use Rattle.c960_rules.specs.After.{landed, cell_moved, cell_after, placement_after}
-use Rattle.c960_rules.specs.Attacks.{AttackedBy, attacks}
+use Rattle.c960_rules.specs.Attacks.{AttackedBy}
+use Rattle.c960_rules.specs.Tests.Attacks.{attacks}
 use Rattle.c960_rules.specs.Reaches.{Reaches}
-use Rattle.c960_rules.proofs.Reached.{passed_pawn}
-use Rattle.c960_rules.specs.Carried.{taken_off, put_on}
+use Rattle.c960_rules.proofs.lemmas.Reached.{passed_pawn}
+use Rattle.c960_rules.specs.Inner.Carried.{taken_off, put_on}
 use Rattle.c960_rules.specs.Check.{InCheck}
-use Rattle.c960_rules.specs.Safety.{is_passed_on, is_occupied_after, is_gone}
-use Rattle.c960_rules.specs.Wheres.{where_set, is_attacker_on, attacks_over}
-use Rattle.c960_rules.proofs.PieceFacts.{piece_on, goes_to_own, no_man, one_colour, one_kind, is_holds, is_own, not_other}
+use Rattle.c960_rules.specs.Inner.Safety.{is_passed_on, is_occupied_after, is_gone}
+use Rattle.c960_rules.specs.Inner.Wheres.{where_set, is_attacker_on, attacks_over}
+use Rattle.c960_rules.proofs.lemmas.PieceFacts.{piece_on, goes_to_own, no_man, one_colour, one_kind, is_holds, is_own, not_other}
 use Rattle.c960_rules.proofs.CountFacts.{only_one}
 use Rattle.c960_rules.proofs.CellFacts.{moved_cases, landing}
 use Rattle.c960_rules.proofs.WhereFacts.{where_none, where_nothing, where_only, where_or, where_and, where_not, where_agree, set_where}
@@ -272,7 +274,7 @@ placed_by test false true ps x y none = none ∙ simp (and-false)
 placed_by test false false true x y none = none ∙ simp (and-false)
 placed_by test false false false x y none = simp (and-false, and-true, or-false)
 
--- the goal, where what lands belongs
+-- the goal, if what lands there belongs
 pub landing_set : (b : Bool) (byte k : ℕ) → k < 64 → byte ≡ bool_byte b → byte * 2 ^ k % 2 ^ 64 ≡ where_set (λ u. b && (u == k))
 landing_set true byte k l e = rw e (where_only k l)
 landing_set false byte k l e =

@@ -8,12 +8,12 @@ use Rattle.c960_board.specs.declared.sets.Sets.{Sets}
 use Rattle.c960_board.specs.Moves.{Triple}
 use Rattle.c960_board.specs.Pieces.{Cell, other, is_of}
 use Rattle.c960_board.specs.Sets.{sets_of, cells_of, parts_of}
-use Rattle.c960_board.proofs.SetCells.{cells_back}
+use Rattle.c960_board.proofs.lemmas.SetCells.{cells_back}
 use Rattle.c960_rules.specs.After.{placement_after, target_after, half_moves_after, number_after, after}
 use Rattle.c960_rules.specs.Castles.{Castles}
 use Rattle.c960_rules.specs.Legal.{Legal}
-use Rattle.c960_rules.proofs.PieceFacts.{piece_on, goes_to_own}
-use Rattle.c960_rules.proofs.AfterFacts.{full_after, all_rights_after}
+use Rattle.c960_rules.proofs.lemmas.PieceFacts.{piece_on, goes_to_own}
+use Rattle.c960_rules.proofs.lemmas.AfterFacts.{full_after, all_rights_after}
 
 -- whether the goal holds a piece of the side, by way of what the code has read
 pub to_own : (p : Parts) (m : Triple) (b : Bool) (c : Colour) (o : Cell) → b ≡ is_of c o → c ≡ p.turn → o ≡ piece_on p m.to
@@ -28,7 +28,7 @@ own_castles p m legal own =
       | inr r ↦ r
     ]
 
--- the sets of the placement after a move tell of it
+-- the sets of the placement after a move describe it
 pub cells_after : (p : Parts) (m : Triple) (s : Sets) → s ≡ sets_of (placement_after p m) → cells_of s ≡ placement_after p m
 cells_after p m s e = ap cells_of e ∙ cells_back (placement_after p m) (full_after p m)
 

@@ -2,7 +2,7 @@
 use Rattle.std.proofs.Common.{◌≡◌, ℕ, zero, suc, ◌+◌, ◌<◌, ◌≤◌, Bool, true, refl, arith}
 use Rattle.std.proofs.lemmas.Grind.{common_steps}
 use Rattle.std.specs.List.{list_any, list_all, range_with_len}
-use Rattle.c960_board.proofs.Ranges.{each_below, some_range, passes_from}
+use Rattle.c960_board.proofs.lemmas.Ranges.{each_below, some_range, passes_from}
 use Rattle.c960_rules.specs.Lines.{squares}
 
 -- a test that every square passes
@@ -18,7 +18,7 @@ all_range_from p a (suc n) h =
     let rest = all_range_from p (a + 1) n (λ u l m. h u (omega arith) (omega arith)) in
     grind (arith, common_steps)
 
--- and back
+-- and the converse
 pub every_square_from : (p : ℕ → Bool) → ((u : ℕ) → u < 64 → p u ≡ true) → list_all p squares ≡ true
 every_square_from p h = all_range_from p 0 64 (λ u l m. h u (omega arith))
 
@@ -26,6 +26,6 @@ every_square_from p h = all_range_from p 0 64 (λ u l m. h u (omega arith))
 pub found_square : (p : ℕ → Bool) → list_any p squares ≡ true → (u : ℕ) × (u < 64) × (p u ≡ true)
 found_square p h = let r = passes_from p 0 64 h in (r.number, omega arith, r.passes)
 
--- and back
+-- and the converse
 pub some_square : (p : ℕ → Bool) (u : ℕ) → u < 64 → p u ≡ true → list_any p squares ≡ true
 some_square p u l e = some_range p 0 64 (record { number = u; from = omega arith; below = omega arith; passes = e })

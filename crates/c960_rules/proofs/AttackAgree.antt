@@ -8,16 +8,17 @@ use Rattle.c960_board.specs.declared.piece.Colour.{Colour}
 use Rattle.c960_board.specs.declared.piece.Kind.{Kind}
 use Rattle.c960_board.specs.declared.piece.Kind.TheVariants.{Pawn, Knight, Bishop, Rook, Queen, King}
 use Rattle.c960_board.specs.Pieces.{Cell, is_of}
-use Rattle.c960_board.specs.Position.{cell_at}
+use Rattle.c960_board.specs.Cells.{cell_at}
 use Rattle.c960_board.specs.Sets.{is_occupied, set_of}
 use Rattle.c960_rules.specs.Lines.{squares, same_rank, same_file, same_diagonal, between}
-use Rattle.c960_rules.specs.Attacks.{Attacks, AttackedBy, is_open_at, clear, attacks_as, attacks_with, attacks, attacked_by}
-use Rattle.c960_rules.specs.Wheres.{where_set, is_free, is_attacker_on, attacks_over, attacks_over_as}
+use Rattle.c960_rules.specs.Attacks.{Attacks, AttackedBy}
+use Rattle.c960_rules.specs.Tests.Attacks.{is_open_at, clear, attacks_as, attacks_with, attacks, attacked_by}
+use Rattle.c960_rules.specs.Inner.Wheres.{where_set, is_free, is_attacker_on, attacks_over, attacks_over_as}
 use Rattle.c960_rules.proofs.AllSquares.{every_square, every_square_from, found_square, some_square}
-use Rattle.c960_rules.proofs.AttackTests.{attacks_tells, attacks_from, attacked_by_tells, attacked_by_from}
+use Rattle.c960_rules.proofs.lemmas.AttackTests.{attacks_tells, attacks_from, attacked_by_tells, attacked_by_from}
 use Rattle.c960_rules.proofs.WhereFacts.{where_and, where_agree, where_none, where_nothing, set_where, in_where}
 
--- two tests that pass together are one
+-- two tests are equal if each one passes whenever the other does
 pub same_tests : (a b : Bool) → (a ≡ true → b ≡ true) → (b ≡ true → a ≡ true) → a ≡ b
 same_tests true b f g = sym (f refl)
 same_tests false true f g = g refl
@@ -34,7 +35,7 @@ closed_bits true None e = refl
 closed_bits true (Some p) e = cc
 closed_bits false o e = refl
 
--- the way is free where each square between is open
+-- the way is free if each square between is open
 pub free_open : (cells : List Cell) (occupied s t : ℕ) → occupied ≡ where_set (λ u. is_occupied (cell_at cells u))
     → is_free occupied s t ≡ list_all (is_open_at cells s t) squares
 unfolding is_free is_open_at
@@ -52,7 +53,7 @@ free_open cells occupied s t e =
     (both ∙ where_nothing (λ u. b u && o u)
     (λ u l. closed_bits (between s u t) (cell_at cells u) (every_square (is_open_at cells s t) h u l))))
 
--- along a line, where the way is free
+-- along a line, if the way is free
 line_bits : (d n f a : Bool) → f ≡ a → elim d as (λ _. Bool) [ true ↦ n && a | false ↦ false ] ≡ ((n && d) && f)
 line_bits true true f a e = sym e
 line_bits true false f a e = refl
@@ -89,7 +90,7 @@ with_over : (cells : List Cell) (occupied : ℕ) (o : Cell) (s t : ℕ)
 with_over cells occupied None s t e = refl
 with_over cells occupied (Some p) s t e = as_over cells occupied p.colour p.kind s t e
 
--- the attack of what stands on s
+-- the attack of the piece on s
 pub attacks_agree : (cells : List Cell) (occupied s t : ℕ) → length cells ≡ 64 → occupied ≡ set_of is_occupied cells
     → attacks cells s t ≡ attacks_over occupied (cell_at cells s) s t
 unfolding attacks
@@ -121,7 +122,7 @@ and_elim : (a b : Bool) → elim a as (λ _. Bool) [ true ↦ b | false ↦ fals
 and_elim true b = refl
 and_elim false b = refl
 
--- no attacker, no attack
+-- if the set of attackers is empty, there is no attack
 pub none_attacked : (cells : List Cell) (by : Colour) (t set : ℕ)
     → set ≡ where_set (λ u. is_of by (cell_at cells u) && attacks cells u t) → set ≡ 0 → AttackedBy cells by t → ⊥
 unfolding attacked_by
@@ -139,7 +140,7 @@ any_or_none test h =
       | false ↦ λ e. absurd (h (λ u l. false_from_ne_true (test u) (λ t. both_ways (list_any test squares) e (some_square test u l t))))
     ] refl
 
--- an attacker, an attack
+-- if the set of attackers is not empty, there is an attack
 pub some_attacked : (cells : List Cell) (by : Colour) (t set : ℕ)
     → set ≡ where_set (λ u. is_of by (cell_at cells u) && attacks cells u t) → set ≢ 0 → AttackedBy cells by t
 unfolding attacked_by

@@ -4,9 +4,9 @@ use Rattle.c960_board.specs.declared.piece.Colour.{Colour}
 use Rattle.c960_board.specs.declared.piece.Kind.{Kind}
 use Rattle.c960_board.specs.declared.piece.Kind.TheVariants.{Pawn}
 use Rattle.c960_board.specs.Pieces.{Cell, man}
-use Rattle.c960_board.specs.Position.{cell_at}
+use Rattle.c960_board.specs.Cells.{cell_at}
 use Rattle.c960_rules.specs.Attacks.{AttacksAs, Attacks, AttackedBy, IsForward}
-use Rattle.c960_rules.proofs.PieceFacts.{one_colour, one_kind}
+use Rattle.c960_rules.proofs.lemmas.PieceFacts.{one_colour, one_kind}
 
 -- a piece attacks as its colour and kind do
 pub attack_way : (cells : List Cell) (c : Colour) (k : Kind) (s t : ℕ) → cell_at cells s ≡ man c k → Attacks cells s t

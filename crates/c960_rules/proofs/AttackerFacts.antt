@@ -9,12 +9,13 @@ use Rattle.c960_board.specs.declared.piece.Kind.TheVariants.{Pawn, Knight, Bisho
 use Rattle.c960_board.specs.Pieces.{Cell, same_colour, same_kind, is_of}
 use Rattle.c960_board.specs.declared.parts.Parts.{Parts}
 use Rattle.c960_board.specs.declared.sets.Sets.{Sets}
-use Rattle.c960_board.specs.Position.{cell_at, IsPosition}
+use Rattle.c960_board.specs.Position.{IsPosition}
+use Rattle.c960_board.specs.Cells.{cell_at}
 use Rattle.c960_board.specs.Sets.{is_kind, sets_of, colour_set, kind_set, is_in}
-use Rattle.c960_board.proofs.SetFacts.{kind_is}
+use Rattle.c960_board.proofs.lemmas.SetFacts.{kind_is}
 use Rattle.c960_board.specs.Squares.{file_of, rank_of}
 use Rattle.c960_rules.specs.Lines.{distance, same_rank, same_file, same_diagonal, within, between}
-use Rattle.c960_rules.specs.Wheres.{where_set, is_free, is_knight_leap, is_king_step, is_pawn_hit, is_rook_line, is_bishop_line, is_leaper_on, is_slider_on, is_attacker_on, attacks_over, attacks_over_as}
+use Rattle.c960_rules.specs.Inner.Wheres.{where_set, is_free, is_knight_leap, is_king_step, is_pawn_hit, is_rook_line, is_bishop_line, is_leaper_on, is_slider_on, is_attacker_on, attacks_over, attacks_over_as}
 use Rattle.c960_rules.proofs.WhereFacts.{where_or, where_agree, set_where, in_where}
 
 -- the set of a side

@@ -1,10 +1,10 @@
--- The table of the squares between, against the definition: checked by computing over all squares.
+-- The table of the squares between, against the definition. This is checked by computation over all squares.
 use Rattle.std.proofs.Common.{◌≡◌, ℕ, ◌+◌, ◌*◌, ◌/◌, ◌%◌, ◌<◌, List, map, get_or, refl, ap, ◌∙◌, zero-add, arith}
 use Rattle.std.proofs.lemmas.List.FromFn.{get_or-map-range_with_len}
 use Rattle.std.specs.List.{range_with_len}
 use Rattle.c960_rules.specs.declared.between.TheConstants.{BETWEEN}
 use Rattle.c960_rules.specs.Lines.{between}
-use Rattle.c960_rules.specs.Wheres.{where_set}
+use Rattle.c960_rules.specs.Inner.Wheres.{where_set}
 
 pub between_table : BETWEEN ≡ map (λ n. where_set (λ u. between (n / 64) u (n % 64))) (range_with_len 0 4096)
 unfolding where_set

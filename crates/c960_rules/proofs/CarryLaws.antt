@@ -11,21 +11,21 @@ use Rattle.c960_rules.specs.Check.{IsLawful}
 use Rattle.c960_rules.specs.Reaches.{Reaches}
 use Rattle.c960_rules.specs.After.{landed, cell_after}
 use Rattle.c960_rules.specs.Effects.{CarriesOne}
-use Rattle.c960_rules.proofs.PieceFacts.{piece_on, goes_to_own, no_man, is_own}
+use Rattle.c960_rules.proofs.lemmas.PieceFacts.{piece_on, goes_to_own, no_man, is_own}
 use Rattle.c960_rules.proofs.CellFacts.{IsPassed, moved_cases, landing}
 use Rattle.c960_rules.proofs.Ordinary.{IsOrdinary}
-use Rattle.c960_rules.proofs.Reached.{ordinary}
+use Rattle.c960_rules.proofs.lemmas.Reached.{ordinary}
 use Rattle.c960_rules.proofs.MoveLaws.{stands_after, not_both}
 
 -- a piece of the colour becomes that piece
 lands_as : (o : Cell) (q : Option Kind) (c : Colour) (j k : Kind) → o ≡ man c j → q ≡ Some k → landed o q ≡ man c k
 lands_as o q c j k e f = rw (e, f) refl
 
--- a piece that becomes no other lands as it is
+-- a piece that is not promoted lands as it is
 lands_same : (o : Cell) (q : Option Kind) → q ≡ None → landed o q ≡ o
 lands_same o q e = rw e refl
 
--- no piece of the mover's stands on the goal
+-- no piece of the mover's is on the goal
 pub goal_free : (p : Parts) (m : Triple) (u : ℕ) (k : Kind) → IsOrdinary p m → piece_on p u ≡ man p.turn k → u ≢ m.to
 goal_free p m u k r is e =
     let here = ap (λ (s : ℕ). piece_on p s) (sym e) ∙ is in
@@ -56,7 +56,7 @@ own_stays p m u k r off is =
       | inr (inr w) ↦ w.holds ∙ is
     ]
 
--- off the goal a piece of the mover's stood where it stands
+-- away from the goal a piece of the mover's was where it is
 own_stood : (p : Parts) (m : Triple) (u : ℕ) (k : Kind) → IsOrdinary p m → u ≢ m.to → cell_after p m u ≡ man p.turn k
     → piece_on p u ≡ man p.turn k
 own_stood p m u k r off is =

@@ -12,15 +12,16 @@ use Rattle.c960_board.specs.declared.parts.Parts.{Parts}
 use Rattle.c960_board.specs.Moves.{Triple}
 use Rattle.c960_board.specs.Squares.{home_square}
 use Rattle.c960_board.specs.Pieces.{Cell, other, is_of, holds}
-use Rattle.c960_board.specs.Position.{cell_at, IsPosition}
+use Rattle.c960_board.specs.Position.{IsPosition}
+use Rattle.c960_board.specs.Cells.{cell_at}
 use Rattle.c960_board.specs.Sets.{is_kind, is_occupied, set_of, sets_of}
 use Rattle.c960_rules.specs.After.{cell_after, placement_after}
-use Rattle.c960_rules.specs.Carried.{taken_off, put_on}
+use Rattle.c960_rules.specs.Inner.Carried.{taken_off, put_on}
 use Rattle.c960_rules.specs.Castles.{is_g_side, king_file, rook_file, king_goal, rook_goal}
 use Rattle.c960_rules.specs.Check.{InCheck}
-use Rattle.c960_rules.specs.Safety.{is_occupied_castled}
-use Rattle.c960_rules.specs.Wheres.{where_set, is_attacker_on, attacks_over}
-use Rattle.c960_rules.proofs.PieceFacts.{piece_on, is_own, is_holds, holds_is}
+use Rattle.c960_rules.specs.Inner.Safety.{is_occupied_castled}
+use Rattle.c960_rules.specs.Inner.Wheres.{where_set, is_attacker_on, attacks_over}
+use Rattle.c960_rules.proofs.lemmas.PieceFacts.{piece_on, is_own, is_holds, holds_is}
 use Rattle.c960_rules.proofs.CountFacts.{only_one}
 use Rattle.c960_rules.proofs.CellFacts.{castled_cases, king_goes}
 use Rattle.c960_rules.proofs.CastlingFacts.{IsCastling, own_rook, king_castled, king_goal_vacant, rook_goal_vacant, king_goal_in, rook_goal_in}

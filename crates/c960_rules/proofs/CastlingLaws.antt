@@ -9,16 +9,17 @@ use Rattle.c960_board.specs.declared.piece.Kind.TheVariants.{Rook, King}
 use Rattle.c960_board.specs.declared.parts.Parts.{Parts}
 use Rattle.c960_board.specs.Squares.{file_of, rank_of, home_rank, home_square}
 use Rattle.c960_board.specs.Pieces.{man}
-use Rattle.c960_board.specs.Position.{rights_of, has_right, AreRights, IsPosition}
+use Rattle.c960_board.specs.Position.{AreRights, IsPosition}
+use Rattle.c960_board.specs.Cells.{rights_of, has_right}
 use Rattle.c960_board.specs.Moves.{Triple, IsMove}
 use Rattle.c960_rules.specs.Castles.{Castles, is_g_side, king_file, rook_file, king_goal, rook_goal}
 use Rattle.c960_rules.specs.After.{cell_after, keeps_right, after}
 use Rattle.c960_rules.specs.Effects.{CastledTo, CastlesRightly}
-use Rattle.c960_rules.proofs.PieceFacts.{piece_on, one_kind}
+use Rattle.c960_rules.proofs.lemmas.PieceFacts.{piece_on, one_kind}
 use Rattle.c960_rules.proofs.CellFacts.{castled_cases, king_goes}
 use Rattle.c960_rules.proofs.RightsKept.{kept}
 use Rattle.c960_rules.proofs.CastlingFacts.{IsCastling, castling, own_rook, king_goal_in, rook_goal_in, file_bound}
-use Rattle.c960_rules.proofs.AfterFacts.{all_rights_after, right_after, width_after}
+use Rattle.c960_rules.proofs.lemmas.AfterFacts.{all_rights_after, right_after, width_after}
 use Rattle.c960_rules.proofs.MoveLaws.{stands_after}
 
 -- two files of a home rank are two squares
@@ -28,7 +29,7 @@ goals_apart White false e = omega arith
 goals_apart Black true e = omega arith
 goals_apart Black false e = omega arith
 
--- the rook stands on its goal
+-- the rook is on its goal
 rook_goes : (p : Parts) (m : Triple) → IsCastling p m → cell_after p m (rook_goal p.turn m) ≡ man p.turn Rook
 rook_goes p m r =
     elim (castled_cases p m (rook_goal p.turn m) (own_rook p m r)) [
@@ -78,7 +79,7 @@ on_home : (c : Colour) (s : ℕ) → rank_of s ≡ home_rank c → s ≡ home_sq
 on_home White s h = omega arith
 on_home Black s h = omega arith
 
--- the king and its rook stand on two files
+-- the king and its rook are on two files
 files_apart : (p : Parts) (m : Triple) → IsPosition p → IsMove m → IsCastling p m → file_of m.from ≢ file_of m.to
 files_apart p m valid move r e =
     let rights : AreRights p.placement p.rights p.turn = valid.rights p.turn in
@@ -97,7 +98,7 @@ sides p m false e apart w =
     let low = ltb-false (file_of m.from) (file_of m.to) e in
     inr (omega arith, w)
 
--- castling goes where it must
+-- castling goes where it should
 pub castled_rightly : (p : Parts) (m : Triple) → IsPosition p → IsMove m → Castles p m → CastlesRightly p m
 castled_rightly p m valid move w =
     let r = castling p m valid w in

@@ -7,21 +7,21 @@ use Rattle.c960_board.specs.Moves.{Triple, IsMove}
 use Rattle.c960_rules.specs.Castles.{king_goal, rook_goal}
 use Rattle.c960_rules.specs.After.{cell_after, after}
 use Rattle.c960_rules.specs.Progress.{weight, progress}
-use Rattle.c960_rules.proofs.PieceFacts.{piece_on, one_kind}
+use Rattle.c960_rules.proofs.lemmas.PieceFacts.{piece_on, one_kind}
 use Rattle.c960_rules.proofs.CellFacts.{castled_cases}
 use Rattle.c960_rules.proofs.CastlingFacts.{IsCastling, own_rook, king_goal_in, rook_goal_in}
 use Rattle.c960_rules.proofs.SquareSums.{only_on, here_or_not, on_it, off_it, sum_on_two}
 use Rattle.c960_rules.proofs.WeightFacts.{weight_bound, weight_of, weight_none}
 use Rattle.c960_rules.proofs.Exchange.{weight_before, weight_then, progress_with}
 
--- the king and its rook stand apart
+-- the king and its rook are on different squares
 castles_apart : (p : Parts) (m : Triple) → IsCastling p m → m.from ≢ m.to
 castles_apart p m r e =
     let here = ap (λ (s : ℕ). piece_on p s) e in
     let kind = one_kind p.turn p.turn King Rook (sym r.castles.king ∙ here ∙ r.rook) in
     cc
 
--- king and rook weigh 7 each before the move, and any square 8 at most
+-- king and rook weigh 7 each before the move, and any square at most 8
 castled_before : (p : Parts) (m : Triple) (u : ℕ) → IsCastling p m → u < 64
     → weight_before p u + (only_on m.from 1 u + only_on m.to 1 u) ≤ 8
 castled_before p m u r l =
@@ -45,7 +45,7 @@ castled_before p m u r l =
       ]
     ]
 
--- both weigh 7 on their goals, and where they leave and neither comes the square is empty
+-- both weigh 7 on their goals, and a square that they leave and neither comes to is empty
 castled_on : (p : Parts) (m : Triple) (u : ℕ) → IsCastling p m → u < 64
     → weight_before p u + (only_on m.from 1 u + only_on m.to 1 u)
     ≤ weight_then p m u + (only_on (king_goal p.turn m) 1 u + only_on (rook_goal p.turn m) 1 u)

@@ -1,4 +1,4 @@
--- What stands on one square after a move, case by case.
+-- What is on one square after a move, case by case.
 use Rattle.std.proofs.Common.{◌≡◌, ◌≢◌, ℕ, Bool, true, false, ◌&&◌, ◌||◌, refl, ◌∙◌, None, ◌⊎◌, inl, inr}
 use Rattle.std.specs.Prelude.{◌==◌}
 use Rattle.std.proofs.lemmas.Bool.{and_parts, and_from, both_ways, or_cases, or_parts, eqb-true, eqb-false, eq-eqb}
@@ -8,11 +8,11 @@ use Rattle.c960_board.specs.Pieces.{Cell, other}
 use Rattle.c960_board.specs.Moves.{Triple}
 use Rattle.c960_rules.specs.Castles.{king_goal, rook_goal}
 use Rattle.c960_rules.specs.After.{landed, is_en_passant, cell_moved, cell_castled, cell_after}
-use Rattle.c960_rules.proofs.PieceFacts.{piece_on, goes_to_own}
+use Rattle.c960_rules.proofs.lemmas.PieceFacts.{piece_on, goes_to_own}
 
 -- ---- The form of both definitions.
 
--- the first value where the first test passes, the second where the second does, else the third
+-- the first value if the first test passes, the second if the second does, otherwise the third
 abbrev choice : Bool → Bool → Cell → Cell → Cell → Cell
 choice p q x y z =
     elim p as (λ _. Cell) [ true ↦ x | false ↦ elim q as (λ _. Cell) [ true ↦ y | false ↦ z ] ]
@@ -96,7 +96,7 @@ moved_cases p m u free =
           }))
     ]
 
--- what stands on the goal
+-- what is on the goal
 pub landing : (p : Parts) (m : Triple) → goes_to_own p m ≡ false
     → cell_after p m m.to ≡ landed (piece_on p m.from) m.promotion
 unfolding cell_moved
@@ -136,7 +136,7 @@ pub record IsBeside (p : Parts) (m : Triple) (u : ℕ) : Type 0 where
 abbrev is_left : Triple → ℕ → Bool
 is_left m u = (u == m.from) || (u == m.to)
 
--- nothing where king or rook leave, else what stood there
+-- nothing where king or rook leave, otherwise what was there
 abbrev left_or : Bool → Cell → Cell
 left_or left cell = elim left as (λ _. Cell) [ true ↦ None | false ↦ cell ]
 
@@ -193,7 +193,7 @@ castled_cases p m u own =
           inr (inr (castled_rest p m u off_king off_rook (e ∙ w.2)))
     ]
 
--- the king stands on its goal
+-- the king is on its goal
 pub king_goes : (p : Parts) (m : Triple) → goes_to_own p m ≡ true
     → cell_after p m (king_goal p.turn m) ≡ piece_on p m.from
 unfolding cell_castled

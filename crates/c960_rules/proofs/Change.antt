@@ -7,7 +7,7 @@ use Rattle.c960_board.specs.declared.parts.Parts.{Parts}
 use Rattle.c960_board.specs.Squares.{rank_of, IsEndRank}
 use Rattle.c960_board.specs.Pieces.{Cell, man, other}
 use Rattle.c960_board.specs.Moves.{Triple}
-use Rattle.c960_rules.proofs.PieceFacts.{piece_on, not_other, same_or_other, king_or_not, one_colour, one_kind}
+use Rattle.c960_rules.proofs.lemmas.PieceFacts.{piece_on, not_other, same_or_other, king_or_not, one_colour, one_kind}
 
 -- one king of the colour, on its square
 pub record HasKing (cell : ℕ → Cell) (c : Colour) : Type 0 where
@@ -22,7 +22,7 @@ pub record Came (p : Parts) (m : Triple) (u : ℕ) (c : Colour) (k : Kind) : Typ
   pub pawn : k ≡ Pawn → IsEndRank (rank_of u) → ⊥
   pub king : k ≡ King → piece_on p m.from ≡ man p.turn King
 
--- Off the two squares of the move all but pawns stay; what stands on a square stood there before or came with the move;
+-- Away from the two squares of the move all but pawns stay; what is on a square was there before or came with the move;
 -- and no king is taken.
 pub record IsChange (p : Parts) (m : Triple) (cell : ℕ → Cell) : Type 0 where
   pub kind : Kind
@@ -34,7 +34,7 @@ pub record IsChange (p : Parts) (m : Triple) (cell : ℕ → Cell) : Type 0 wher
   pub spares_other : piece_on p m.to ≢ man (other p.turn) King
   pub spares_own : kind ≢ King → piece_on p m.to ≢ man p.turn King
 
--- a king is no pawn
+-- a king is not a pawn
 pub king_no_pawn : King ≢ Pawn
 king_no_pawn e = cc
 
@@ -59,7 +59,7 @@ other_king p m cell c w e h =
       ];
     }
 
--- the mover's king stays where another piece moves
+-- the mover's king stays if another piece moves
 own_king : (p : Parts) (m : Triple) (cell : ℕ → Cell) (c : Colour) (w : IsChange p m cell) → c ≡ p.turn → w.kind ≢ King
     → HasKing (piece_on p) c → HasKing cell c
 own_king p m cell c w e officer h =
@@ -81,7 +81,7 @@ own_king p m cell c w e officer h =
       ];
     }
 
--- the mover's king where it moves
+-- the mover's king if it moves
 moved_king : (p : Parts) (m : Triple) (cell : ℕ → Cell) (c : Colour) (w : IsChange p m cell) → c ≡ p.turn
     → w.kind ≡ King → HasKing cell c
 moved_king p m cell c w e is = rw e (w.king is)

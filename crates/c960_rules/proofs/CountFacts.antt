@@ -23,7 +23,7 @@ count_yes p x xs h = count_cons p x xs true h
 count_no : {X : Type 0} (p : X → Bool) (x : X) (xs : List X) → p x ≡ false → count_by p (x ∷ xs) ≡ count_by p xs
 count_no p x xs h = count_cons p x xs false h ∙ zero-add (count_by p xs)
 
--- where the count is 0 no place passes
+-- if the count is 0 no place passes
 none_passes : {X : Type 0} (p : X → Bool) (xs : List X) (d : X) → count_by p xs ≡ 0 → (u : ℕ) → u < length xs
     → p (get_or xs u d) ≡ true → ⊥
 none_passes p [] d h u l e = omega arith
@@ -40,7 +40,7 @@ first_only : {X : Type 0} (p : X → Bool) (x : X) (xs : List X) (d : X) → cou
 first_only p x xs d h zero l e = refl
 first_only p x xs d h (suc u) l e = absurd (none_passes p xs d h u (omega arith) e)
 
--- behind a head that fails the only place is one further
+-- after a head that fails the only place is one further
 later_only : {X : Type 0} (p : X → Bool) (x : X) (xs : List X) (d : X) (k : ℕ) → p x ≡ false →
     ((u : ℕ) → u < length xs → p (get_or xs u d) ≡ true → u ≡ k) → (u : ℕ) → u < length (x ∷ xs)
     → p (get_or (x ∷ xs) u d) ≡ true → u ≡ suc k
@@ -67,7 +67,7 @@ only_one p (x ∷ xs) d h =
           )
     ] refl
 
--- where no place passes the count is 0
+-- if no place passes the count is 0
 none_count : {X : Type 0} (p : X → Bool) (xs : List X) (d : X)
     → ((u : ℕ) → u < length xs → p (get_or xs u d) ≡ true → ⊥) → count_by p xs ≡ 0
 none_count p [] d h = refl

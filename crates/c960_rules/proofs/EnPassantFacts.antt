@@ -14,12 +14,12 @@ use Rattle.c960_board.specs.Moves.{Triple}
 use Rattle.c960_rules.specs.Lines.{same_file}
 use Rattle.c960_rules.specs.Attacks.{Attacks}
 use Rattle.c960_rules.specs.Reaches.{pawn_rank, last_rank}
-use Rattle.c960_rules.specs.Wheres.{is_pawn_hit, is_taker}
+use Rattle.c960_rules.specs.Inner.Wheres.{is_pawn_hit, is_taker}
 use Rattle.c960_rules.specs.Legal.{LegalEnPassant}
 use Rattle.c960_rules.proofs.AttackAgree.{attacks_agree}
-use Rattle.c960_rules.proofs.AttackTests.{attacks_from}
-use Rattle.c960_rules.proofs.PieceFacts.{piece_on, is_holds, one_kind}
-use Rattle.c960_rules.proofs.Reached.{at_target}
+use Rattle.c960_rules.proofs.lemmas.AttackTests.{attacks_from}
+use Rattle.c960_rules.proofs.lemmas.PieceFacts.{piece_on, is_holds, one_kind}
+use Rattle.c960_rules.proofs.lemmas.Reached.{at_target}
 
 -- an option holds one value or none
 none_some : (o : Option ℕ) (t : ℕ) → o ≡ None → o ≡ Some t → ⊥
@@ -65,7 +65,7 @@ on_target p m t valid e h =
     plain h in
     subst (λ (u : ℕ). LegalEnPassant p (capture m.from u)) same unpromoted
 
--- where no square has a capture there is none
+-- if no square has a capture there is none
 pub no_target : (p : Parts) (t : ℕ) → IsPosition p → p.target ≡ Some t
     → ((s : ℕ) → s < 64 → LegalEnPassant p (capture s t) → ⊥) → (m : Triple) × LegalEnPassant p m → ⊥
 no_target p t valid e none h = none h.0.from h.1.legal.move.from (on_target p h.0 t valid e h.1)

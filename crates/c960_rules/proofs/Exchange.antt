@@ -3,13 +3,14 @@ use Rattle.std.proofs.Common.{◌≡◌, ℕ, ◌+◌, ◌-◌, ◌<◌, ◌≤�
 use Rattle.c960_board.specs.declared.piece.Kind.TheVariants.{Pawn}
 use Rattle.c960_board.specs.declared.parts.Parts.{Parts}
 use Rattle.c960_board.specs.Pieces.{Cell, other, is_of}
-use Rattle.c960_board.specs.Position.{cell_at, IsPosition}
+use Rattle.c960_board.specs.Position.{IsPosition}
+use Rattle.c960_board.specs.Cells.{cell_at}
 use Rattle.c960_board.specs.Moves.{Triple, IsMove}
 use Rattle.c960_rules.specs.Lines.{squares}
 use Rattle.c960_rules.specs.Reaches.{GoesAsOfficer, GoesAsPawn}
 use Rattle.c960_rules.specs.After.{landed, cell_after, after}
 use Rattle.c960_rules.specs.Progress.{weight, progress}
-use Rattle.c960_rules.proofs.PieceFacts.{piece_on, own_is}
+use Rattle.c960_rules.proofs.lemmas.PieceFacts.{piece_on, own_is}
 use Rattle.c960_rules.proofs.CellFacts.{moved_cases}
 use Rattle.c960_rules.proofs.Ordinary.{IsOrdinary, landed_plain}
 use Rattle.c960_rules.proofs.CarryLaws.{goal_free}
@@ -34,7 +35,7 @@ progress_with p m a b h =
     sums_with (weight_before p) a (λ u. weight (cell_at (after p m).placement u) u) b
     (λ u l. let same = ap (λ (o : Cell). weight o u) (stands_after p m u l) in let here = h u l in omega arith)
 
--- what the square that is left gains, and what the goal loses at most
+-- what the square that is left gains, and the most that the goal loses
 record Exchanges (p : Parts) (m : Triple) (gain loss : ℕ) : Type 0 where
   pub leaves : weight_before p m.from + gain ≤ 8
   pub lands : weight_before p m.to ≤ weight (landed (piece_on p m.from) m.promotion) m.to + loss
@@ -100,7 +101,7 @@ pawn_rises p m valid move r w =
     let all = exchanged p m (8 - light) (7 - light) move r (record { leaves = omega arith; lands = omega arith }) in
     omega arith
 
--- what another piece weighs where it goes
+-- the weight of another piece on the square where it goes
 officer_lands : (p : Parts) (m : Triple) → GoesAsOfficer p m
     → weight (landed (piece_on p m.from) m.promotion) m.to ≡ 7
 officer_lands p m w =
@@ -119,7 +120,7 @@ officer_keeps p m move r w =
     let all = exchanged p m 1 1 move r (record { leaves = omega arith; lands = omega arith }) in
     omega arith
 
--- and where it takes a piece it adds the difference
+-- and if it takes a piece it adds the difference
 pub officer_takes : (p : Parts) (m : Triple) → IsMove m → IsOrdinary p m → GoesAsOfficer p m
     → is_of (other p.turn) (piece_on p m.to) ≡ true → progress p < progress (after p m)
 officer_takes p m move r w prey =

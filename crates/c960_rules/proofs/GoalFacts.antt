@@ -1,6 +1,6 @@
 -- Where pieces go, as tests of the goal.
 use Rattle.std.proofs.Common.{◌≡◌, ◌≢◌, ℕ, ◌+◌, ◌<◌, Bool, true, false, not, ◌&&◌, ◌||◌, Option, Some, None, refl, ap, sym, ◌∙◌, inl, inr, arith, w64}
-use Rattle.std.specs.Prelude.{◌==◌, is_none, bit_and}
+use Rattle.std.specs.Prelude.{◌==◌, is_none, is_some, bit_and}
 use Rattle.std.specs.Int.{bit_not}
 use Rattle.std.proofs.lemmas.Bool.{and_parts, and_from, both_ways, eqb-true, eq-eqb, or_parts, false_from_ne_true}
 use Rattle.c960_board.specs.declared.piece.Colour.{Colour}
@@ -12,26 +12,28 @@ use Rattle.c960_board.specs.declared.parts.Parts.{Parts}
 use Rattle.c960_board.specs.Squares.{file_of, rank_of, ahead}
 use Rattle.c960_board.specs.Pieces.{Cell, man, other, is_of, holds}
 use Rattle.c960_board.specs.Position.{IsPosition}
+use Rattle.c960_board.specs.Moves.{Triple}
 use Rattle.c960_board.specs.Sets.{is_kind, is_occupied, set_of, is_in}
 use Rattle.c960_rules.specs.Lines.{same_file}
-use Rattle.c960_rules.specs.Attacks.{attacks, is_forward}
-use Rattle.c960_rules.specs.Reaches.{Reaches, pawn_rank, last_rank, is_empty, is_target, promotes_rightly, steps, steps_twice, takes, reaches}
+use Rattle.c960_rules.specs.Tests.Attacks.{attacks, is_forward}
+use Rattle.c960_rules.specs.Reaches.{Reaches, pawn_rank, last_rank, is_target}
+use Rattle.c960_rules.specs.Tests.Reaches.{is_empty, promotes_rightly, steps, steps_twice, takes, reaches}
 use Rattle.c960_rules.specs.Castles.{Castles}
-use Rattle.c960_rules.specs.Legal.{is_legal}
-use Rattle.c960_rules.specs.Listing.{promotes, triple, legal_one, legal_between, pawn_goes, goes_to, NoneGoes}
-use Rattle.c960_rules.specs.Wheres.{where_set, is_way, is_slider, is_pawn_hit, is_free, attacks_over, attacks_over_as}
+use Rattle.c960_rules.specs.Tests.Legal.{is_legal}
+use Rattle.c960_rules.specs.Inner.Listing.{promotes, triple, legal_one, legal_between, pawn_goes, goes_to, NoneGoes}
+use Rattle.c960_rules.specs.Inner.Wheres.{where_set, is_way, is_slider, is_pawn_hit, is_free, attacks_over, attacks_over_as}
 use Rattle.c960_rules.proofs.AttackAgree.{same_tests, attacks_agree}
 use Rattle.c960_rules.proofs.InnerRanks.{IsInner, pawn_inner}
-use Rattle.c960_rules.proofs.MoveTests.{reaches_tells, reaches_from}
-use Rattle.c960_rules.proofs.ListFacts.{none_or_some, goes_by_test, between_one}
-use Rattle.c960_rules.proofs.PieceFacts.{piece_on, is_holds, is_own}
+use Rattle.c960_rules.proofs.lemmas.MoveTests.{reaches_tells, reaches_from}
+use Rattle.c960_rules.proofs.ListFacts.{none_or_some, goes_by_test, between_one, plain_on_last, promoted_elsewhere}
+use Rattle.c960_rules.proofs.lemmas.PieceFacts.{piece_on, is_holds, is_own}
 use Rattle.c960_rules.proofs.WayCandidates.{castle_rook}
 use Rattle.c960_rules.proofs.WhereFacts.{in_where, where_agree, where_and, where_not, only_at, occupied_where}
 use Rattle.c960_rules.proofs.AttackerFacts.{and-false, and-true}
 
 -- ---- Pawns.
 
--- a pawn stands off both end ranks
+-- a pawn is on neither end rank
 pub pawn_in : (p : Parts) (s : ℕ) → IsPosition p → s < 64 → piece_on p s ≡ man p.turn Pawn → IsInner s
 pawn_in p s valid l e = pawn_inner p s valid l (is_holds p.turn Pawn (piece_on p s) e)
 
@@ -81,7 +83,7 @@ step_is p s t inner l =
     ∙ ap (λ (b : Bool). b && is_empty p.placement t) (forward_one p.turn s t inner l)
     ∙ ap (λ (b : Bool). (t == ahead p.turn s) && b) (empty_free (piece_on p t))
 
--- one square where it is empty, as sets that the code has read
+-- one square if it is empty, as sets that the code has read
 pub only_free : {k one occupied : ℕ} (p : Parts) (goal : ℕ) → IsPosition p → k ≡ goal → one ≡ where_set (λ t. t == k)
     → occupied ≡ set_of is_occupied p.placement
     → bit_and one (bit_not w64 occupied) ≡ where_set (λ t. (t == goal) && not (is_occupied (piece_on p t)))
@@ -115,7 +117,7 @@ open_bits true b None (Some q) h f = refl
 open_bits true b (Some q) e h f = cc
 open_bits false b o e h f = cc
 
--- else to the square that is empty
+-- otherwise to the square that is empty
 pub twice_is : (p : Parts) (s t : ℕ) → (rank_of s == pawn_rank p.turn) ≡ true → is_occupied (piece_on p (ahead p.turn s)) ≡ false
     → steps_twice p.placement p.turn s t ≡ ((t == ahead p.turn (ahead p.turn s)) && not (is_occupied (piece_on p t)))
 unfolding steps_twice
@@ -307,6 +309,35 @@ goes_from p s t k w =
     (steps p.placement p.turn s t || (steps_twice p.placement p.turn s t || takes p.placement p.turn p.target s t)) (attacks p.placement s t) k
     (reaches_from p (triple s t k) w)
 
+-- a promotion is named if a pawn reaches its last rank, and only then
+named_by : (p : Parts) (s t : ℕ) (k : Option Kind) (b : Bool) → promotes p s t ≡ b → Reaches p (triple s t k) → is_some k ≡ b
+named_by p s t None true h w = absurd (plain_on_last p s t h (inl w))
+named_by p s t None false h w = refl
+named_by p s t (Some j) true h w = refl
+named_by p s t (Some j) false h w = absurd (promoted_elsewhere p s t j h (inl w))
+
+reached_by : (p : Parts) (s t : ℕ) (k : Option Kind) → goes_to p s t ≡ true → is_some k ≡ promotes p s t → Reaches p (triple s t k)
+reached_by p s t None g e = reaches_plain p s t g (sym e)
+reached_by p s t (Some j) g e = reaches_due p s t j g (sym e)
+
+-- a move goes by its piece's rules if its goal is among the piece's, and it names a promotion if it must
+pub reaches_if : (p : Parts) (m : Triple) (goals : ℕ) → goals ≡ where_set (λ t. goes_to p m.from t) → m.to < 64 → is_in goals m.to ≡ true
+    → is_some m.promotion ≡ promotes p m.from m.to → Reaches p m
+reaches_if p m goals e l h named =
+    reached_by p m.from m.to m.promotion (sym (in_where (λ t. goes_to p m.from t) goals m.to e l) ∙ h) named
+
+-- and only there
+pub reaches_only : (p : Parts) (m : Triple) (goals : ℕ) → goals ≡ where_set (λ t. goes_to p m.from t) → m.to < 64 → Reaches p m
+    → (is_in goals m.to ≡ true) × (is_some m.promotion ≡ promotes p m.from m.to)
+reaches_only p m goals e l w = (
+  in_where (λ t. goes_to p m.from t) goals m.to e l ∙ goes_from p m.from m.to m.promotion w,
+  named_by p m.from m.to m.promotion (promotes p m.from m.to) refl w,
+)
+
+-- off the goals no move goes by its piece's rules
+pub off_goals : (p : Parts) (s t : ℕ) (k : Option Kind) → goes_to p s t ≡ false → Reaches p (triple s t k) → ⊥
+off_goals p s t k h w = both_ways (goes_to p s t) h (goes_from p s t k w)
+
 -- ---- The squares to which nothing goes.
 
 pub no_castle : (p : Parts) (s t set : ℕ) (k : Option Kind) → IsPosition p
@@ -331,7 +362,7 @@ none_goes p s t goals rooks set eg es castle l out =
       castles = λ k w. castle k either.1 w;
     }
 
--- where the piece does not go, castling alone is left
+-- if the piece does not go there, only castling is left
 pub between_off : (p : Parts) (s t : ℕ) → goes_to p s t ≡ false → legal_between p s t ≡ legal_one p (triple s t None)
 between_off p s t h =
     between_one p s t (λ k.

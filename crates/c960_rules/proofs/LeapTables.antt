@@ -1,10 +1,10 @@
--- The tables against the relations between squares: checked by computing over all squares.
+-- The tables against the relations between squares. This is checked by computation over all squares.
 use Rattle.std.proofs.Common.{◌≡◌, ℕ, ◌<◌, List, map, get_or, refl, ap, ◌∙◌, zero-add}
 use Rattle.std.proofs.lemmas.List.FromFn.{get_or-map-range_with_len}
 use Rattle.c960_rules.specs.declared.tables.TheConstants.{KNIGHT, KING, ROOK_LINES, BISHOP_LINES, WHITE_PAWN, BLACK_PAWN}
 use Rattle.c960_board.specs.declared.piece.Colour.TheVariants.{White, Black}
 use Rattle.c960_rules.specs.Lines.{squares}
-use Rattle.c960_rules.specs.Wheres.{where_set, is_knight_leap, is_king_step, is_rook_line, is_bishop_line, is_pawn_hit}
+use Rattle.c960_rules.specs.Inner.Wheres.{where_set, is_knight_leap, is_king_step, is_rook_line, is_bishop_line, is_pawn_hit}
 
 pub knight_table : KNIGHT ≡ map (λ s. where_set (is_knight_leap s)) squares
 unfolding where_set

@@ -1,48 +1,39 @@
-pub mod AllSquares
-pub mod BoolFacts
-pub mod LeapTables
-pub mod BetweenTable
-pub mod WhereFacts
-pub mod BitFacts
-pub mod AttackerFacts
-pub mod AttackAgree
-pub mod AfterSets
-pub mod AfterWords
-pub mod SpanFacts
-pub mod CastledSets
-pub mod PieceFacts
-pub mod AttackWays
-pub mod AttackTests
-pub mod WallFacts
-pub mod CountFacts
-pub mod PawnFacts
-pub mod Change
-pub mod CellFacts
-pub mod Ordinary
-pub mod Reached
-pub mod CastlingFacts
-pub mod RightsKept
-pub mod TargetKept
-pub mod AfterFacts
-pub mod MoveTests
-pub mod WayFacts
-pub mod TableFacts
-pub mod EnPassantFacts
-pub mod GoalFacts
-pub mod InnerRanks
-pub mod MoveLaws
-pub mod CarryLaws
-pub mod CastlingLaws
-pub mod CounterLaws
-pub mod SquareSums
-pub mod WeightFacts
-pub mod Exchange
-pub mod CastlingWeights
-pub mod ProgressLaws
-pub mod ListFacts
-pub mod SetLoops
-pub mod WayCandidates
-pub mod AnyFacts
-pub mod Contained
-pub mod Listed
-pub mod StartFacts
+pub mod lemmas
+mod AllSquares
+mod BoolFacts
+mod LeapTables
+mod BetweenTable
+mod WhereFacts
+mod BitFacts
+mod AttackerFacts
+mod AttackAgree
+mod AfterSets
+mod AfterWords
+mod SpanFacts
+mod CastledSets
+mod AttackWays
+mod WallFacts
+mod CountFacts
+mod PawnFacts
+mod Change
+mod CellFacts
+mod Ordinary
+mod CastlingFacts
+mod RightsKept
+mod TargetKept
+mod WayFacts
+mod TableFacts
+mod EnPassantFacts
+mod GoalFacts
+mod InnerRanks
+mod MoveLaws
+mod CarryLaws
+mod CastlingLaws
+mod SquareSums
+mod WeightFacts
+mod Exchange
+mod CastlingWeights
+mod ListFacts
+mod SetLoops
+mod WayCandidates
+mod AnyFacts

@@ -12,13 +12,16 @@ use Rattle.c960_board.specs.declared.parts.Parts.{Parts}
 use Rattle.c960_board.specs.Squares.{rank_of}
 use Rattle.c960_board.specs.Pieces.{is_of, holds}
 use Rattle.c960_board.specs.Moves.{Triple, IsMove}
-use Rattle.c960_rules.specs.Reaches.{Reaches, last_rank, reaches}
-use Rattle.c960_rules.specs.Castles.{Castles, castles}
-use Rattle.c960_rules.specs.Legal.{Legal, is_legal, all_moves, promotions}
-use Rattle.c960_rules.specs.Listing.{promotes, triple, moves_between, moves_to_below, moves_from, moves_from_below, legal_one, legal_promotions, legal_between, legal_to_below, legal_on}
+use Rattle.c960_rules.specs.Reaches.{Reaches, last_rank}
+use Rattle.c960_rules.specs.Tests.Reaches.{reaches}
+use Rattle.c960_rules.specs.Castles.{Castles}
+use Rattle.c960_rules.specs.Tests.Castles.{castles}
+use Rattle.c960_rules.specs.Legal.{Legal}
+use Rattle.c960_rules.specs.Tests.Legal.{is_legal, all_moves, promotions}
+use Rattle.c960_rules.specs.Inner.Listing.{promotes, triple, moves_between, moves_to_below, moves_from, moves_from_below, legal_one, legal_promotions, legal_between, legal_to_below, legal_on}
 use Rattle.c960_rules.proofs.BoolFacts.{so_parts}
-use Rattle.c960_rules.proofs.PieceFacts.{piece_on, is_own, is_holds, holds_is, one_kind}
-use Rattle.c960_rules.proofs.MoveTests.{leaves_check, reaches_tells, castles_tells, legal_tells, legal_from}
+use Rattle.c960_rules.proofs.lemmas.PieceFacts.{piece_on, is_own, is_holds, holds_is, one_kind}
+use Rattle.c960_rules.proofs.lemmas.MoveTests.{leaves_check, reaches_tells, castles_tells, legal_tells, legal_from}
 
 -- ---- What a move that passes the test must be.
 
@@ -52,7 +55,7 @@ pub none_or_some : {X : Type 0} (o : Option X) → o ≡ None → IsSome o → �
 none_or_some None e h = cc
 none_or_some (Some x) e h = cc
 
--- what is the king is no pawn
+-- a king is not a pawn
 no_king_pawn : King ≡ Pawn → ⊥
 no_king_pawn e = cc
 
@@ -109,7 +112,7 @@ one_fails p m e = rw e
 one_illegal : (p : Parts) (m : Triple) → IsMove m → (Legal p m → ⊥) → legal_one p m ≡ []
 one_illegal p m move h = one_fails p m (false_from_ne_true (is_legal p m) (λ e. h (legal_tells p m move e)))
 
--- behind what was listed before, a legal move is added
+-- after what was listed before, a legal move is added
 pub after_legal : (xs : List Triple) (p : Parts) (m : Triple) → Legal p m → xs ++ m ∷ [] ≡ xs ++ legal_one p m
 after_legal xs p m h = ap (λ (l : List Triple). xs ++ l) (sym (one_legal p m h))
 
@@ -120,7 +123,7 @@ after_illegal xs p m move h =
 
 -- ---- The moves between two squares.
 
--- where no choice passes the test, nothing is listed
+-- if no choice passes the test, nothing is listed
 pub none_passes : (test : Triple → Bool) (s t : ℕ) (ks : List (Option Kind))
     → ((k : Option Kind) → test (triple s t k) ≡ false) → filter test (map (triple s t) ks) ≡ []
 none_passes test s t [] h = refl
@@ -146,7 +149,7 @@ promotions_are p s t =
 four_more : (xs a b c d : List Triple) → (((xs ++ a) ++ b) ++ c) ++ d ≡ xs ++ (a ++ (b ++ (c ++ d)))
 four_more xs a b c d = simp append_assoc
 
--- and behind what was listed before
+-- and after what was listed before
 pub promotions_after : (xs a b c d : List Triple) (p : Parts) (s t : ℕ)
     → a ≡ xs ++ legal_one p (triple s t (Some Knight)) → b ≡ a ++ legal_one p (triple s t (Some Bishop))
     → c ≡ b ++ legal_one p (triple s t (Some Rook))
@@ -171,7 +174,7 @@ pub between_promoted : (p : Parts) (s t : ℕ) → promotes p s t ≡ true → l
 unfolding legal_between moves_between legal_promotions
 between_promoted p s t h = let plain = plain_fails p s t h in rw plain
 
--- where no promotion passes the test, the move without one is all
+-- if no promotion passes the test, the move without one is all
 pub between_one : (p : Parts) (s t : ℕ) → ((k : Kind) → is_legal p (triple s t (Some k)) ≡ false)
     → legal_between p s t ≡ legal_one p (triple s t None)
 unfolding legal_between moves_between legal_one
@@ -182,7 +185,7 @@ between_one p s t h =
     let queen = h Queen in
     rw (knight, bishop, rook, queen)
 
--- so it is where no pawn reaches its last rank
+-- this is so if no pawn reaches its last rank
 pub between_plain : (p : Parts) (s t : ℕ) → promotes p s t ≡ false → legal_between p s t ≡ legal_one p (triple s t None)
 between_plain p s t h =
     between_one p s t (λ k.

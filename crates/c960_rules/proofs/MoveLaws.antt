@@ -5,7 +5,8 @@ use Rattle.c960_board.specs.declared.piece.Kind.{Kind}
 use Rattle.c960_board.specs.declared.piece.Kind.TheVariants.{Pawn, Rook, King}
 use Rattle.c960_board.specs.declared.parts.Parts.{Parts}
 use Rattle.c960_board.specs.Pieces.{man, other}
-use Rattle.c960_board.specs.Position.{cell_at, IsPosition}
+use Rattle.c960_board.specs.Position.{IsPosition}
+use Rattle.c960_board.specs.Cells.{cell_at}
 use Rattle.c960_board.specs.Moves.{Triple}
 use Rattle.c960_rules.specs.Check.{IsLawful}
 use Rattle.c960_rules.specs.After.{cell_after, after}
@@ -13,14 +14,14 @@ use Rattle.c960_rules.specs.Castles.{Castles}
 use Rattle.c960_rules.specs.Reaches.{Reaches}
 use Rattle.c960_rules.specs.Effects.{IsTakenOn}
 use Rattle.c960_rules.specs.Legal.{Legal}
-use Rattle.c960_rules.proofs.PieceFacts.{piece_on, goes_to_own, not_other, no_man, one_colour, one_kind}
+use Rattle.c960_rules.proofs.lemmas.PieceFacts.{piece_on, goes_to_own, not_other, no_man, one_colour, one_kind}
 use Rattle.c960_rules.proofs.CellFacts.{moved_cases}
 use Rattle.c960_rules.proofs.Ordinary.{IsOrdinary}
-use Rattle.c960_rules.proofs.Reached.{at_target, ordinary}
+use Rattle.c960_rules.proofs.lemmas.Reached.{at_target, ordinary}
 use Rattle.c960_rules.proofs.CastlingFacts.{IsCastling, castling, own_rook, stays}
-use Rattle.c960_rules.proofs.AfterFacts.{cells_after, legal_change}
+use Rattle.c960_rules.proofs.lemmas.AfterFacts.{cells_after, legal_change}
 
--- what stands on a square after a move
+-- what is on a square after a move
 pub stands_after : (p : Parts) (m : Triple) (u : ℕ) → u < 64 → cell_at (after p m).placement u ≡ cell_after p m u
 unfolding after
 stands_after p m u l = cells_after p m u l
@@ -67,7 +68,7 @@ other_stays p m valid lawful legal u k l is spared =
       | inr r ↦ stays_castling p m u k (castling p m valid r) is spared
     ]
 
--- a piece of the other side stood where it stands
+-- a piece of the other side was already on its square
 pub other_stood : (p : Parts) (m : Triple) → IsPosition p → IsLawful p → Legal p m → (u : ℕ) (k : Kind) → u < 64
     → cell_at (after p m).placement u ≡ man (other p.turn) k → cell_at p.placement u ≡ man (other p.turn) k
 other_stood p m valid lawful legal u k l is =
@@ -90,7 +91,7 @@ taken_ordinary p m u k r taken is =
       ]
     ]
 
--- castling takes nothing: on its goal stood the mover's rook
+-- castling takes nothing: the mover's rook was on its goal
 taken_castling : (p : Parts) (m : Triple) (u : ℕ) (k : Kind) → IsCastling p m → IsTakenOn p m u
     → piece_on p u ≢ man (other p.turn) k
 taken_castling p m u k r (inl e) is =

@@ -9,7 +9,7 @@ use Rattle.c960_board.specs.declared.parts.Parts.{Parts}
 use Rattle.c960_board.specs.Pieces.{Cell, man, other}
 use Rattle.c960_board.specs.Squares.{ahead}
 use Rattle.c960_rules.specs.After.{landed, is_en_passant, cell_after}
-use Rattle.c960_rules.proofs.PieceFacts.{piece_on, goes_to_own, no_man, one_kind, is_own}
+use Rattle.c960_rules.proofs.lemmas.PieceFacts.{piece_on, goes_to_own, no_man, one_kind, is_own}
 use Rattle.c960_rules.proofs.CellFacts.{IsPassed, moved_cases, landing}
 use Rattle.c960_rules.proofs.Change.{HasKing, Came, IsChange}
 
@@ -28,7 +28,7 @@ pub record IsOrdinary (p : Parts) (m : Triple) : Type 0 where
 pub landed_plain : (o : Cell) (k : Option Kind) → k ≡ None → landed o k ≡ o
 landed_plain o k e = rw e refl
 
--- a pawn taken en passant is no officer
+-- a pawn taken en passant is not an officer
 not_passed : (p : Parts) (m : Triple) (u : ℕ) (c : Colour) (k : Kind) → IsOrdinary p m → IsPassed p m u → k ≢ Pawn
     → piece_on p u ≡ man c k → ⊥
 not_passed p m u c k r w officer is =
@@ -49,7 +49,7 @@ stays p m r u c k officer off_from off_to is =
       | inr (inr w) ↦ w.holds ∙ is
     ]
 
--- what stands on a square stood there or came
+-- what is on a square was there or came
 came : (p : Parts) (m : Triple) (r : IsOrdinary p m) (u : ℕ) (c : Colour) (k : Kind) → cell_after p m u ≡ man c k
     → (piece_on p u ≡ man c k) ⊎ Came p m u c k
 came p m r u c k is =
@@ -59,7 +59,7 @@ came p m r u c k is =
       | inr (inr w) ↦ inl (sym w.holds ∙ is)
     ]
 
--- a king that moves stands on the square that it moved to, and nowhere else
+-- a king that moves is on the square that it moved to, and nowhere else
 king_moved : (p : Parts) (m : Triple) (r : IsOrdinary p m) → HasKing (piece_on p) p.turn → m.from < 64 → r.kind ≡ King
     → HasKing (cell_after p m) p.turn
 king_moved p m r h from_in king =

@@ -8,10 +8,11 @@ use Rattle.c960_board.specs.declared.rights.CastlingRights.{CastlingRights}
 use Rattle.c960_board.specs.declared.parts.Parts.{Parts}
 use Rattle.c960_board.specs.Squares.{home_square}
 use Rattle.c960_board.specs.Pieces.{Cell, man, holds}
-use Rattle.c960_board.specs.Position.{cell_at, rights_of, has_right, AreRights}
+use Rattle.c960_board.specs.Position.{AreRights}
+use Rattle.c960_board.specs.Cells.{cell_at, rights_of, has_right}
 use Rattle.c960_board.specs.Moves.{Triple}
 use Rattle.c960_rules.specs.After.{keeps_right}
-use Rattle.c960_rules.proofs.PieceFacts.{piece_on, is_holds}
+use Rattle.c960_rules.proofs.lemmas.PieceFacts.{piece_on, is_holds}
 use Rattle.c960_rules.proofs.Change.{IsChange}
 use Rattle.c960_rules.proofs.CastlingFacts.{home_in}
 
@@ -37,7 +38,7 @@ kept p m c f h =
       off_to = λ e. eqb-false m.to (home_square c f) (not-true (m.to == home_square c f) off.1) (sym e);
     }
 
--- a rook is no pawn
+-- a rook is not a pawn
 rook_no_pawn : Rook ≢ Pawn
 rook_no_pawn e = cc
 
@@ -47,7 +48,7 @@ pub record IsLeftBy (p : Parts) (m : Triple) (cell : ℕ → Cell) (cells : List
   pub width : (c : Colour) → length (rights_of r c) ≡ 8
   pub files : (c : Colour) (f : ℕ) → f < 8 → has_right r c f ≡ keeps_right p m c f
 
--- where a right is kept, its king stood where it stands
+-- if a right is kept, its king was already on its square
 king_was : (p : Parts) (m : Triple) (cell : ℕ → Cell) (c : Colour) (f s : ℕ) → IsChange p m cell → IsKept p m c f
     → s < 64 → cell s ≡ man c King
     → piece_on p s ≡ man c King

@@ -9,10 +9,10 @@ use Rattle.std.proofs.lemmas.Nat.Bits.{bit_at-zero}
 use Rattle.c960_board.specs.declared.parts.Parts.{Parts}
 use Rattle.c960_board.specs.Moves.{Triple}
 use Rattle.c960_rules.specs.Lines.{squares}
-use Rattle.c960_rules.specs.Legal.{is_legal, legal_list}
-use Rattle.c960_rules.specs.Listing.{moves_between, moves_to_below, moves_from, moves_from_below, legal_between, legal_on, stretches_in}
+use Rattle.c960_rules.specs.Tests.Legal.{is_legal, legal_list}
+use Rattle.c960_rules.specs.Inner.Listing.{moves_between, moves_to_below, moves_from, moves_from_below, legal_between, legal_on, stretches_in}
 use Rattle.c960_board.specs.Sets.{is_in}
-use Rattle.c960_rules.specs.Wheres.{IsWithout}
+use Rattle.c960_rules.specs.Inner.Wheres.{IsWithout}
 use Rattle.c960_rules.proofs.ListFacts.{all_are}
 
 -- sets that agree from a on have the same stretches
@@ -48,7 +48,7 @@ stretches_first f left k rest start (suc n) w least low high within =
           rw (off, off_too) (stretches_first f left k rest (start + 1) n w least (omega arith) (omega arith) (omega arith))
     ]
 
--- behind what was added before
+-- after what was added before
 pub stretches_step : (f : ℕ → List Triple) (all before moved : List Triple) (left k rest : ℕ) → IsWithout left k rest
     → ((i : ℕ) → i < k → bit_at left i ≡ 0)
     → before ++ stretches_in f left squares ≡ all → moved ≡ before ++ f k → moved ++ stretches_in f rest squares ≡ all

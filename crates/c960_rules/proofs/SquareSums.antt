@@ -26,7 +26,7 @@ on_it s c u e = elim (here_or_not s c u) [ inl w ↦ w.1 | inr w ↦ absurd (w.0
 pub off_it : (s c u : ℕ) → u ≢ s → only_on s c u ≡ 0
 off_it s c u off = elim (here_or_not s c u) [ inl w ↦ absurd (off w.0) | inr w ↦ w.1 ]
 
--- it adds nothing behind its square
+-- it adds nothing after its square
 sum_behind : (s c a n : ℕ) → s < a → sum_by (only_on s c) (range_with_len a n) ≡ 0
 sum_behind s c a zero l = refl
 sum_behind s c a (suc n) l =
@@ -70,7 +70,7 @@ sum_both f g a (suc n) =
     let rest = sum_both f g (a + 1) n in
     omega arith
 
--- what is no less square by square is no less in all
+-- sums compare as their terms do, square by square
 sum_below : (f g : ℕ → ℕ) (a n : ℕ) → ((u : ℕ) → a ≤ u → u < a + n → f u ≤ g u)
     → sum_by f (range_with_len a n) ≤ sum_by g (range_with_len a n)
 sum_below f g a zero h = omega arith
@@ -81,7 +81,7 @@ sum_below f g a (suc n) h =
     let rest = sum_below f g (a + 1) n (λ u l m. h u (omega arith) (omega arith)) in
     omega arith
 
--- a sum and another, with further numbers beside each
+-- a sum and another, with further numbers added to each
 pub sums_with : (f a g b : ℕ → ℕ) → ((u : ℕ) → u < 64 → f u + a u ≤ g u + b u)
     → sum_by f squares + sum_by a squares ≤ sum_by g squares + sum_by b squares
 sums_with f a g b h =

@@ -8,12 +8,13 @@ use Rattle.c960_board.specs.declared.piece.Kind.TheVariants.{Pawn}
 use Rattle.c960_board.specs.declared.parts.Parts.{Parts}
 use Rattle.c960_board.specs.Squares.{rank_of, ahead}
 use Rattle.c960_board.specs.Pieces.{Cell, man, other, holds}
-use Rattle.c960_board.specs.Position.{cell_at, target_rank, IsTarget}
+use Rattle.c960_board.specs.Position.{target_rank, IsTarget}
+use Rattle.c960_board.specs.Cells.{cell_at}
 use Rattle.c960_board.specs.Moves.{Triple, IsMove}
 use Rattle.c960_rules.specs.Lines.{rank_distance}
 use Rattle.c960_rules.specs.Reaches.{pawn_rank, last_rank, StepsTwice, GoesAsPawn}
 use Rattle.c960_rules.specs.After.{cell_after, target_after}
-use Rattle.c960_rules.proofs.PieceFacts.{piece_on, goes_to_own, other_other, holds_is}
+use Rattle.c960_rules.proofs.lemmas.PieceFacts.{piece_on, goes_to_own, other_other, holds_is}
 use Rattle.c960_rules.proofs.CellFacts.{moved_cases, landing}
 use Rattle.c960_rules.proofs.PawnFacts.{forward_is_one, double_stops}
 use Rattle.c960_rules.proofs.AttackWays.{pawn_forward}

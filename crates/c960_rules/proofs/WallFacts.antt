@@ -10,16 +10,16 @@ use Rattle.c960_board.specs.declared.piece.Kind.{Kind}
 use Rattle.c960_board.specs.declared.piece.Kind.TheVariants.{Pawn, Knight, Bishop, Rook, Queen, King}
 use Rattle.c960_board.specs.Squares.{rank_of, home_rank}
 use Rattle.c960_board.specs.Pieces.{Cell, man, other}
-use Rattle.c960_board.specs.Position.{cell_at}
+use Rattle.c960_board.specs.Cells.{cell_at}
 use Rattle.c960_rules.specs.Lines.{squares, rank_distance, on_line, between}
 use Rattle.c960_rules.specs.Attacks.{Clear, IsForward, AttacksAs, AttackedBy}
 use Rattle.c960_rules.specs.Check.{InCheck}
 use Rattle.c960_rules.specs.Reaches.{pawn_rank, last_rank}
 use Rattle.c960_rules.proofs.AllSquares.{every_square, found_square}
 use Rattle.c960_rules.proofs.BoolFacts.{implied_tells}
-use Rattle.c960_rules.proofs.PieceFacts.{other_other}
+use Rattle.c960_rules.proofs.lemmas.PieceFacts.{other_other}
 
--- ---- A line from the home rank to the far rank crosses the pawns' rank: checked by computing over all squares.
+-- ---- A line from the home rank to the far rank crosses the pawns' rank: checked by computation over all squares.
 
 -- whether the line from s to t crosses the pawns' rank on u
 unfoldable is_crossing : Colour → ℕ → ℕ → ℕ → Bool
@@ -66,11 +66,11 @@ crossing c s t s_on_board t_on_board home far line =
 
 -- ---- Behind such a rank.
 
--- a rank on which a piece of the side may stand
+-- a rank on which a piece of the side may be
 abbrev pub IsBehind : Colour → Kind → ℕ → Type 0
 IsBehind c k r = (r ≡ home_rank c) ⊎ ((r ≡ pawn_rank c) × (k ≡ Pawn))
 
--- The pawns' rank is full, and every piece of the side stands on its home rank or is a pawn on the pawns' rank.
+-- The pawns' rank is full, and every piece of the side is on its home rank or is a pawn on the pawns' rank.
 pub record IsWalled (cells : List Cell) (c : Colour) : Type 0 where
   pub full : (u : ℕ) → u < 64 → rank_of u ≡ pawn_rank c → cell_at cells u ≢ None
   pub behind : (s : ℕ) (k : Kind) → s < 64 → cell_at cells s ≡ man c k → IsBehind c k (rank_of s)

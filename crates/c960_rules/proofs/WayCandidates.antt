@@ -13,9 +13,9 @@ use Rattle.c960_board.specs.Position.{IsPosition}
 use Rattle.c960_board.specs.Sets.{is_kind}
 use Rattle.c960_rules.specs.Reaches.{Reaches}
 use Rattle.c960_rules.specs.Castles.{Castles}
-use Rattle.c960_rules.specs.Legal.{is_legal, promotions}
-use Rattle.c960_rules.specs.Listing.{triple, moves_between, legal_between, NoneGoes, HasMoveBetween}
-use Rattle.c960_rules.proofs.PieceFacts.{piece_on, one_colour, is_own, own_is}
+use Rattle.c960_rules.specs.Tests.Legal.{is_legal, promotions}
+use Rattle.c960_rules.specs.Inner.Listing.{triple, moves_between, legal_between, NoneGoes, HasMoveBetween}
+use Rattle.c960_rules.proofs.lemmas.PieceFacts.{piece_on, one_colour, is_own, own_is}
 use Rattle.c960_rules.proofs.ListFacts.{none_passes, goes_by_test}
 
 none_goes : (p : Parts) (s t : ℕ) (k : Option Kind) → ((k : Option Kind) → Reaches p (triple s t k) → ⊥)
@@ -23,7 +23,7 @@ none_goes : (p : Parts) (s t : ℕ) (k : Option Kind) → ((k : Option Kind) →
 none_goes p s t k reach castle (inl w) = reach k w
 none_goes p s t k reach castle (inr w) = castle k w
 
--- where no move goes, nothing is listed
+-- if no move goes there, nothing is listed
 pub none_between : (p : Parts) (s t : ℕ) → NoneGoes p s t → legal_between p s t ≡ []
 unfolding legal_between moves_between
 none_between p s t n =

@@ -4,8 +4,9 @@ use Rattle.std.specs.Prelude.{nat_lt, min, max}
 use Rattle.std.proofs.lemmas.Bool.{and_parts, not-true, ltb-false}
 use Rattle.c960_board.specs.declared.parts.Parts.{Parts}
 use Rattle.c960_board.specs.Moves.{Triple}
-use Rattle.c960_rules.specs.Castles.{Castles, king_goal, may_castle, is_vacant, is_safe}
-use Rattle.c960_rules.proofs.MoveTests.{may_castle_tells, may_castle_from, vacant_tells, vacant_from, safe_tells, safe_from}
+use Rattle.c960_rules.specs.Castles.{Castles, king_goal}
+use Rattle.c960_rules.specs.Tests.Castles.{may_castle, is_vacant, is_safe}
+use Rattle.c960_rules.proofs.lemmas.MoveTests.{may_castle_tells, may_castle_from, vacant_tells, vacant_from, safe_tells, safe_from}
 
 -- the squares below the king's way are safe
 pub safe_below : (p : Parts) (m : Triple) (u g : ℕ) → g ≡ king_goal p.turn m → u < min m.from g → is_safe p m u ≡ true

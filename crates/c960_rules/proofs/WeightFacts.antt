@@ -14,9 +14,9 @@ use Rattle.c960_rules.specs.Attacks.{IsForward}
 use Rattle.c960_rules.specs.Reaches.{GoesAsPawn, pawn_rank}
 use Rattle.c960_rules.specs.After.{landed}
 use Rattle.c960_rules.specs.Progress.{ranks_behind, piece_weight, weight}
-use Rattle.c960_rules.proofs.PieceFacts.{piece_on}
+use Rattle.c960_rules.proofs.lemmas.PieceFacts.{piece_on}
 use Rattle.c960_rules.proofs.AttackWays.{pawn_forward}
-use Rattle.c960_rules.proofs.Reached.{officer_only}
+use Rattle.c960_rules.proofs.lemmas.Reached.{officer_only}
 
 -- ---- Bounds.
 
@@ -25,7 +25,7 @@ behind_bound : (c : Colour) (s : ℕ) → s < 64 → ranks_behind c s ≤ 7
 behind_bound White s l = omega arith
 behind_bound Black s l = omega arith
 
--- a piece weighs 7 at most
+-- a piece weighs at most 7
 pub piece_bound : (k : Kind) (c : Colour) (s : ℕ) → s < 64 → piece_weight k c s ≤ 7
 piece_bound Pawn c s l = behind_bound c s l
 piece_bound Knight c s l = omega arith
@@ -34,12 +34,12 @@ piece_bound Rook c s l = omega arith
 piece_bound Queen c s l = omega arith
 piece_bound King c s l = omega arith
 
--- a square weighs 8 at most
+-- a square weighs at most 8
 pub weight_bound : (o : Cell) (s : ℕ) → s < 64 → weight o s ≤ 8
 weight_bound None s l = omega arith
 weight_bound (Some p) s l = let h = piece_bound p.kind p.colour s l in omega arith
 
--- a piece that is no pawn weighs 7
+-- a piece that is not a pawn weighs 7
 pub officer_weight : (k : Kind) (c : Colour) (s : ℕ) → k ≢ Pawn → piece_weight k c s ≡ 7
 officer_weight Pawn c s officer = absurd (officer refl)
 officer_weight Knight c s officer = refl
@@ -69,7 +69,7 @@ twice_adds : (c : Colour) (s t : ℕ) → rank_of s ≡ pawn_rank c → t ≡ ah
 twice_adds White s t h e = omega arith
 twice_adds Black s t h e = omega arith
 
--- off the end ranks a pawn has its last rank still before it
+-- off the end ranks a pawn's last rank is still ahead of it
 below_last : (c : Colour) (s : ℕ) → s < 64 → (IsEndRank (rank_of s) → ⊥) → ranks_behind c s < 7
 below_last White s l h = let ne : rank_of s ≢ 7 = λ e. h (inr e) in omega arith
 below_last Black s l h = let ne : rank_of s ≢ 0 = λ e. h (inl e) in omega arith

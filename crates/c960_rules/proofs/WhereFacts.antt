@@ -1,4 +1,4 @@
--- Sets of squares by a test of each square.
+-- Sets of the squares that a test accepts.
 use Rattle.std.proofs.Common.{◌≡◌, ℕ, ◌-◌, ◌*◌, ◌%◌, ◌^◌, ◌<◌, max, Bool, true, false, not, ◌&&◌, ◌||◌, cond, List, None, length, map, refl, ap, sym, ◌∙◌, inl, inr, arith, w64, zero-add}
 use Rattle.std.proofs.lemmas.Bool.{cases_eq, eqb-true, eq-eqb, ne_eqb}
 use Rattle.std.proofs.lemmas.List.{length-map, get_or-map}
@@ -10,11 +10,12 @@ use Rattle.std.specs.Prelude.{◌==◌, bit_and, bit_or}
 use Rattle.std.specs.Int.{bit_at, bit_not}
 use Rattle.c960_board.specs.declared.parts.Parts.{Parts}
 use Rattle.c960_board.specs.Pieces.{Cell}
-use Rattle.c960_board.specs.Position.{cell_at, IsPosition}
+use Rattle.c960_board.specs.Position.{IsPosition}
+use Rattle.c960_board.specs.Cells.{cell_at}
 use Rattle.c960_board.specs.Sets.{set_of, is_in, is_occupied}
-use Rattle.c960_board.proofs.SetFacts.{or_bits, and_bits}
+use Rattle.c960_board.proofs.lemmas.SetFacts.{or_bits, and_bits}
 use Rattle.c960_rules.specs.Lines.{squares}
-use Rattle.c960_rules.specs.Wheres.{where_set, IsWithout}
+use Rattle.c960_rules.specs.Inner.Wheres.{where_set, IsWithout}
 
 -- a bit
 pub where_bit : (test : ℕ → Bool) (i : ℕ) → i < 64 → bit_at (where_set test) i ≡ cond (test i) 1 0
@@ -49,7 +50,7 @@ bit_of t a i e l = ap (λ (x : ℕ). bit_at x i) e ∙ where_bit t i l
 pub fits_of : (t : ℕ → Bool) (a : ℕ) → a ≡ where_set t → a < 2 ^ 64
 fits_of t a e = rw e (where_fits t)
 
--- joined
+-- the union
 pub where_or : (t u : ℕ → Bool) (a b : ℕ) → a ≡ where_set t → b ≡ where_set u → bit_or a b ≡ where_set (λ s. t s || u s)
 where_or t u a b ea eb =
     where_is (λ s. t s || u s) (bit_or a b) (or_lt 64 a b (fits_of t a ea) (fits_of u b eb))
@@ -58,7 +59,7 @@ where_or t u a b ea eb =
     let q = bit_of u b i eb l in
     bit_at_or a b i ∙ rw (p, q) (or_bits (t i) (u i)))
 
--- met
+-- the intersection
 pub where_and : (t u : ℕ → Bool) (a b : ℕ) → a ≡ where_set t → b ≡ where_set u → bit_and a b ≡ where_set (λ s. t s && u s)
 where_and t u a b ea eb =
     where_is (λ s. t s && u s) (bit_and a b)
@@ -68,7 +69,7 @@ where_and t u a b ea eb =
     let q = bit_of u b i eb l in
     bit_at_and a b i ∙ rw (p, q) (and_bits (t i) (u i)))
 
--- turned round
+-- the complement
 pub where_not : (t : ℕ → Bool) (a : ℕ) → a ≡ where_set t → bit_not w64 a ≡ where_set (λ s. not (t s))
 where_not t a ea =
     let fits = fits_of t a ea in
@@ -89,11 +90,11 @@ where_only k h =
       | inr ne ↦ let f = ne_eqb i k ne in rw f (bit_at-pow_other k i ne)
     ]))
 
--- the set of a square that is known by another name
+-- the set of one square, given by an equal number
 pub only_at : {one j k : ℕ} → j ≡ k → one ≡ where_set (λ s. s == j) → one ≡ where_set (λ s. s == k)
 only_at e is = is ∙ ap (λ (i : ℕ). where_set (λ s. s == i)) e
 
--- a set without two squares
+-- a set with two squares removed
 pub where_but : {a j k one two : ℕ} (test : ℕ → Bool) (s t : ℕ) → a ≡ where_set test → j ≡ s → one ≡ where_set (λ u. u == j)
     → k ≡ t → two ≡ where_set (λ u. u == k)
     → bit_and (bit_and a (bit_not w64 one)) (bit_not w64 two) ≡ where_set (λ u. (test u && not (u == s)) && not (u == t))

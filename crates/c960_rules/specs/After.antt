@@ -9,7 +9,7 @@ use Rattle.c960_board.specs.declared.piece.Kind.TheVariants.{Pawn, King}
 use Rattle.c960_board.specs.declared.parts.Parts.{Parts}
 use Rattle.c960_board.specs.Squares.{home_square, ahead}
 use Rattle.c960_board.specs.Pieces.{Cell, other, is_of, holds}
-use Rattle.c960_board.specs.Position.{cell_at, has_right}
+use Rattle.c960_board.specs.Cells.{cell_at, has_right}
 use Rattle.c960_board.specs.Moves.{Triple}
 use Rattle.c960_rules.specs.Lines.{squares, same_file, rank_distance}
 use Rattle.c960_rules.specs.Reaches.{is_target}
@@ -17,7 +17,7 @@ use Rattle.c960_rules.specs.Castles.{king_goal, rook_goal}
 
 -- ---- The placement, square by square.
 
--- the piece that comes to its goal: the mover, or what a pawn becomes
+-- the piece that arrives on the goal: the mover, or what a pawn is promoted to
 abbrev pub landed : Cell → Option Kind → Cell
 landed cell None = cell
 landed None (Some k) = None
@@ -28,7 +28,7 @@ unfoldable pub is_en_passant : Parts → Triple → Bool
 is_en_passant p m =
     holds p.turn Pawn (cell_at p.placement m.from) && (is_target p.target m.to && not (same_file m.from m.to))
 
--- after an ordinary move; a pawn that is taken en passant stands one square behind the goal, as its taker sees it
+-- after an ordinary move; a pawn that is taken en passant is one square behind the goal, from its taker's point of view
 unfoldable pub cell_moved : Parts → Triple → ℕ → Cell
 cell_moved p m u =
     elim (u == m.to) [
@@ -39,7 +39,7 @@ cell_moved p m u =
       ]
     ]
 
--- after castling: either piece may already stand on its goal
+-- after castling: either piece may already be on its goal
 unfoldable pub cell_castled : Parts → Triple → ℕ → Cell
 cell_castled p m u =
     elim (u == king_goal p.turn m) [
@@ -60,7 +60,7 @@ placement_after p m = map (cell_after p m) squares
 
 -- ---- The rest.
 
--- a right is lost where its king moves, and where a move is from or to the square of its rook
+-- a right is lost if its king moves, and if a move is from or to the square of its rook
 unfoldable pub keeps_right : Parts → Triple → Colour → ℕ → Bool
 keeps_right p m c f =
     has_right p.rights c f && (not (holds c King (cell_at p.placement m.from))
@@ -77,7 +77,7 @@ is_double_step p m = holds p.turn Pawn (cell_at p.placement m.from) && (rank_dis
 unfoldable pub target_after : Parts → Triple → Option ℕ
 target_after p m = elim (is_double_step p m) [ true ↦ Some (ahead p.turn m.from) | false ↦ None ]
 
--- a pawn moves, or a piece is taken (en passant by a pawn, too)
+-- a pawn moves, or a piece is taken (including en passant)
 unfoldable pub half_moves_after : Parts → Triple → ℕ
 half_moves_after p m =
     elim (holds p.turn Pawn (cell_at p.placement m.from) || is_of (other p.turn) (cell_at p.placement m.to)) [

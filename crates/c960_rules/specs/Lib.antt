@@ -7,7 +7,5 @@ pub mod After
 pub mod Legal
 pub mod Effects
 pub mod Progress
-pub mod Listing
-pub mod Wheres
-pub mod Safety
-pub mod Carried
+pub mod Tests
+pub mod Inner

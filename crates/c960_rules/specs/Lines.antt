@@ -26,15 +26,15 @@ same_rank s t = rank_of s == rank_of t
 abbrev pub same_diagonal : ℕ → ℕ → Bool
 same_diagonal s t = file_distance s t == rank_distance s t
 
--- the squares lie on one line
+-- the squares are on one line
 abbrev pub on_line : ℕ → ℕ → Bool
 on_line s t = same_rank s t || (same_file s t || same_diagonal s t)
 
--- b lies strictly between a and c
+-- b is strictly between a and c
 abbrev pub within : ℕ → ℕ → ℕ → Bool
 within a b c = (nat_lt a b && nat_lt b c) || (nat_lt c b && nat_lt b a)
 
--- the square u lies strictly between s and t on their common rank, file or diagonal
+-- the square u is strictly between s and t on their common rank, file or diagonal
 abbrev pub between : ℕ → ℕ → ℕ → Bool
 between s u t =
     (same_rank s u && (same_rank u t && within (file_of s) (file_of u) (file_of t)))

@@ -3,10 +3,10 @@
 ghost use Rattle.std.specs.Prelude.{◌≡◌, ◌<◌, ◌*◌, ◌^◌, ◌%◌, IsFalse, bit_or};
 ghost use mir.Val.{bool_byte};
 ghost use Rattle.c960_board.specs.Pieces.{is_of};
-ghost use Rattle.c960_board.specs.Position.{cell_at};
+ghost use Rattle.c960_board.specs.Cells.{cell_at};
 ghost use Rattle.c960_board.specs.Sets.{sets_of};
 ghost use Rattle.c960_rules.specs.After.{placement_after, keeps_right, rights_after, target_after, half_moves_after, number_after, after};
-ghost use Rattle.c960_rules.specs.Carried.{taken_off, put_on};
+ghost use Rattle.c960_rules.specs.Inner.Carried.{taken_off, put_on};
 ghost use Rattle.c960_rules.specs.Castles.{Castles};
 ghost use Rattle.c960_rules.specs.Check.{IsLawful};
 ghost use Rattle.c960_rules.specs.Legal.{Legal};
@@ -18,7 +18,7 @@ use crate::safety::captured_pawn;
 use crate::sides::{ahead, home_square};
 use c960_board::{CastlingRights, Colour, Kind, Move, Piece, Position, Sets, Square, holds};
 
-/// Whether the right of that file outlives the move.
+/// Whether the right of that file survives the move.
 #[tactic(auto, unfolding(crate::specs::After::keeps_right))]
 fn keeps_right(position: &Position, m: &Move, colour: Colour, file: u8) -> bool
     requires { file < 8 }
@@ -92,7 +92,7 @@ fn with(set: u64, belongs: bool, square: Square) -> u64
     set | (u64::from(belongs) << square.number())
 }
 
-/// The sets without what stands on these squares.
+/// The sets without the pieces on these squares.
 #[inline(always)]
 fn taken_off(sets: &Sets, gone: u64) -> Sets
     ensures { result ≡ taken_off gone sets.now }
@@ -109,7 +109,7 @@ fn taken_off(sets: &Sets, gone: u64) -> Sets
     }
 }
 
-/// The sets with what the cell holds on a square.
+/// The sets with the contents of the cell on a square.
 #[inline(always)]
 fn put_on(sets: &Sets, cell: Option<Piece>, square: Square) -> Sets
     ensures { result ≡ put_on cell square sets.now }

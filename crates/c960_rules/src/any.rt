@@ -1,21 +1,24 @@
 //! Whether there is a legal move.
 
-ghost use Rattle.std.specs.Prelude.{◌≡◌, ◌↔◌, Some, IsTrue};
+ghost use Rattle.std.specs.Prelude.{◌≡◌, ◌↔◌, Some, IsTrue, IsFalse};
 ghost use Rattle.c960_board.specs.Moves.{Triple, is_promotion};
 ghost use Rattle.c960_rules.specs.Legal.{Legal};
-ghost use Rattle.c960_rules.specs.Listing.{triple, promotes, HasMoveBetween, HasMoveFrom};
+ghost use Rattle.c960_rules.specs.Reaches.{Reaches};
+ghost use Rattle.c960_rules.specs.Inner.Listing.{triple, promotes, goes_to, HasMoveBetween, HasMoveFrom};
+ghost use Rattle.c960_rules.specs.Inner.Wheres.{where_set};
 
 use crate::bitset::{lowest, without};
-use crate::goals::candidates;
+use crate::goals::{goals, rooks_to_castle};
 use crate::lawful::Lawful;
-use crate::legal::is_legal_in;
+use crate::legal::{is_legal_castling, is_legal_ordinary};
 use crate::promotion::promotes;
 use crate::sides::squares_of;
-use c960_board::{Kind, Move, Position, Square};
+use c960_board::{Kind, Move, Position, Sets, Square};
 
-/// Whether the move of two squares and a promotion is legal.
+/// Whether the move with two squares and a promotion is legal, for a piece that goes there.
 fn is_legal_at(position: &Position, from: Square, to: Square, promotion: Option<Kind>) -> bool
-    requires { IsTrue (is_promotion promotion) }
+    requires promotion { IsTrue (is_promotion promotion) }
+    requires reaches { Reaches position.now (triple from to promotion) }
     ensures { IsTrue result ↔ Legal position.now (triple from to promotion) }
 {
     let m = Move {
@@ -23,13 +26,14 @@ fn is_legal_at(position: &Position, from: Square, to: Square, promotion: Option<
         to,
         promotion,
     };
-    is_legal_in(position, &m)
+    is_legal_ordinary(position, &m)
 }
 
-/// Whether a pawn that reaches its last rank has a legal move there.
+/// Whether a pawn that goes to its last rank has a legal move there.
 #[tactic(auto, using(crate::proofs::AnyFacts::between_promoted))]
 fn has_promotion(position: &Position, from: Square, to: Square) -> bool
-    requires { IsTrue (promotes position.now from to) }
+    requires goes { IsTrue (goes_to position.now from to) }
+    requires promotes { IsTrue (promotes position.now from to) }
     ensures { IsTrue result ↔ HasMoveBetween position.now from to }
 {
     is_legal_at(position, from, to, Some(Kind::Knight))
@@ -38,9 +42,10 @@ fn has_promotion(position: &Position, from: Square, to: Square) -> bool
         || is_legal_at(position, from, to, Some(Kind::Queen))
 }
 
-/// Whether a move between two squares is legal.
+/// Whether a move between two squares is legal, for a piece that goes from one to the other.
 #[tactic(auto, using(crate::proofs::AnyFacts::between_plain))]
-fn has_move_between(position: &Position, from: Square, to: Square) -> bool
+fn has_move_reached(position: &Position, from: Square, to: Square) -> bool
+    requires { IsTrue (goes_to position.now from to) }
     ensures { IsTrue result ↔ HasMoveBetween position.now from to }
 {
     if promotes(position, from, to) {
@@ -50,22 +55,49 @@ fn has_move_between(position: &Position, from: Square, to: Square) -> bool
     }
 }
 
+/// Whether castling between two squares is legal. Only castling goes between two squares if the piece does not go from one to the other.
+#[tactic(auto, using(crate::proofs::AnyFacts::between_castled))]
+fn has_castling(position: &Position, from: Square, to: Square) -> bool
+    requires { IsFalse (goes_to position.now from to) }
+    ensures { IsTrue result ↔ HasMoveBetween position.now from to }
+{
+    let m = Move {
+        from,
+        to,
+        promotion: None,
+    };
+    is_legal_castling(position, &m)
+}
+
+/// Whether a move between two squares is legal, given the set of the squares to which the piece goes.
+fn has_move_between(position: &Position, goals: u64, from: Square, to: Square) -> bool
+    requires { goals ≡ where_set (λ t. goes_to position.now from t) }
+    ensures { IsTrue result ↔ HasMoveBetween position.now from to }
+{
+    if Sets::is_in(goals, to) {
+        has_move_reached(position, from, to)
+    } else {
+        has_castling(position, from, to)
+    }
+}
+
 /// Whether a move from a square is legal.
 fn has_move_from(position: &Position, from: Square) -> bool
     ensures { IsTrue result ↔ HasMoveFrom position.now from }
 {
-    let mut left = candidates(position, from);
+    let goals = goals(position, from);
+    let mut left = goals | rooks_to_castle(position, from);
     while left != 0 {
         let to = lowest(left);
         left = without(left, to);
-        if has_move_between(position, from, to) {
+        if has_move_between(position, goals, from, to) {
             return true;
         }
     }
     false
 }
 
-/// Whether there is a legal move; it stops at the first and needs no memory.
+/// Whether there is a legal move. It stops at the first one and allocates nothing.
 pub fn any_legal(lawful: &Lawful) -> bool
     ensures { IsTrue result ↔ ((m : Triple) × Legal lawful.now m) }
 {

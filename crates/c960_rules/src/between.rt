@@ -1,4 +1,4 @@
-//! The squares strictly between two squares of a line, as sets: row by row the first square, in each row the second.
+//! The squares strictly between two squares of a line, as sets. The first square selects the row, the second the entry in it.
 
 /// A table of numbers, many to a line.
 macro_rules! table {
@@ -7,8 +7,8 @@ macro_rules! table {
     };
 }
 
-/// The squares strictly between two squares of one rank, file or diagonal, none where they share none: at the index 64 times the
-/// first square plus the second. Bit s is 1 where the square s is one.
+/// The squares strictly between two squares of one rank, file or diagonal, or none if they share none: at the index 64 times the
+/// first square plus the second. Bit s is 1 if the square s is one of them.
 pub static BETWEEN: [u64; 4096] = table! {
     0x0000000000000000 0x0000000000000000 0x0000000000000002 0x0000000000000006 0x000000000000000e 0x000000000000001e 0x000000000000003e 0x000000000000007e
     0x0000000000000000 0x0000000000000000 0x0000000000000000 0x0000000000000000 0x0000000000000000 0x0000000000000000 0x0000000000000000 0x0000000000000000

@@ -3,7 +3,7 @@
 ghost use Rattle.std.specs.Prelude.{◌≡◌, ◌↔◌, IsTrue, IsSome, IfSome, Some, None};
 ghost use Rattle.c960_board.specs.Moves.{Triple};
 ghost use Rattle.c960_rules.specs.Legal.{LegalEnPassant};
-ghost use Rattle.c960_rules.specs.Wheres.{where_set, is_taker};
+ghost use Rattle.c960_rules.specs.Inner.Wheres.{where_set, is_taker};
 
 use crate::bitset::{lowest, without};
 use crate::lawful::Lawful;
@@ -37,7 +37,7 @@ fn takers(position: &Position, target: Square) -> u64
     pawn_hits_on(turn, target) & pawns
 }
 
-/// The en passant target, where a legal capture en passant exists.
+/// The en passant target, if a legal capture en passant exists.
 #[tactic(auto, using(crate::proofs::EnPassantFacts::has_target, crate::proofs::EnPassantFacts::no_target))]
 pub fn ep_legal(lawful: &Lawful) -> Option<Square>
     ensures some { IsSome result ↔ ((m : Triple) × LegalEnPassant lawful.now m) }

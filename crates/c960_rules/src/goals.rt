@@ -1,24 +1,34 @@
-//! Where the pieces of the side to move go, castling and the safety of the king left out: as sets of squares.
+//! Where the pieces of the side to move go, as sets of squares, without castling and without regard to the safety of the king.
 
 ghost use Rattle.std.specs.Prelude.{◌≡◌, ◌≢◌, ◌==◌, ◌<◌, ℕ, Option, Some, false, IsFalse};
 ghost use Rattle.c960_board.specs.declared.piece.Kind.{Kind};
 ghost use Rattle.c960_board.specs.declared.piece.Kind.TheVariants.{Pawn};
 ghost use Rattle.c960_board.specs.Moves.{Triple};
 ghost use Rattle.c960_board.specs.Pieces.{holds, man};
-ghost use Rattle.c960_board.specs.Position.{cell_at};
+ghost use Rattle.c960_board.specs.Cells.{cell_at};
 ghost use Rattle.c960_board.specs.Sets.{is_in};
 ghost use Rattle.c960_board.specs.Squares.{rank_of};
 ghost use Rattle.c960_rules.specs.Castles.{Castles};
-ghost use Rattle.c960_rules.specs.Reaches.{pawn_rank, is_target, steps, steps_twice, takes};
-ghost use Rattle.c960_rules.specs.Listing.{triple, pawn_goes, goes_to, NoneGoes};
-ghost use Rattle.c960_rules.specs.Wheres.{where_set, is_slider};
+ghost use Rattle.c960_rules.specs.Reaches.{pawn_rank, is_target};
+ghost use Rattle.c960_rules.specs.Tests.Reaches.{steps, steps_twice, takes};
+ghost use Rattle.c960_rules.specs.Inner.Listing.{triple, pawn_goes, goes_to};
+ghost use Rattle.c960_rules.specs.Inner.Wheres.{where_set, is_slider};
 
 use crate::attack_sets::free_from;
 use crate::bitset::only;
 use crate::lookups::{pawn_hits, reach_on_empty_board};
-use crate::reaches::pawn_rank;
 use crate::sides::{ahead, squares_of};
 use c960_board::{Colour, Kind, Piece, Position, Sets, Square, holds};
+
+/// The rank on which a side's pawns are at the start, from 0.
+fn pawn_rank(colour: Colour) -> u8
+    ensures { result ≡ pawn_rank colour }
+{
+    match colour {
+        Colour::White => 1,
+        Colour::Black => 6,
+    }
+}
 
 /// The en passant target, as a set.
 #[inline(always)]
@@ -31,7 +41,7 @@ fn target_set(target: Option<Square>) -> u64
     }
 }
 
-/// Whether the square is on the rank where the side's pawns stand at the start.
+/// Whether the square is on the rank where the side's pawns are at the start.
 #[inline(always)]
 fn is_on_pawn_rank(colour: Colour, square: Square) -> bool
     ensures { result ≡ (rank_of square == pawn_rank colour) }
@@ -39,7 +49,7 @@ fn is_on_pawn_rank(colour: Colour, square: Square) -> bool
     square.number() / 8 == pawn_rank(colour)
 }
 
-/// The square in front of a pawn, where it is empty.
+/// The square in front of a pawn, if it is empty.
 #[inline(always)]
 fn single_step(position: &Position, from: Square) -> u64
     requires { cell_at position.now.placement from ≡ man position.now.turn Pawn }
@@ -51,7 +61,7 @@ fn single_step(position: &Position, from: Square) -> u64
     only(step) & !position.occupied()
 }
 
-/// The square two in front of a pawn on its first rank, where both are empty.
+/// The square two in front of a pawn on its first rank, if both are empty.
 #[inline(always)]
 fn double_step(position: &Position, from: Square) -> u64
     requires { cell_at position.now.placement from ≡ man position.now.turn Pawn }
@@ -73,7 +83,7 @@ fn double_step(position: &Position, from: Square) -> u64
     only(goal) & !occupied
 }
 
-/// The squares on which a pawn takes, en passant too.
+/// The squares on which a pawn captures, including en passant.
 #[inline(always)]
 fn prey(position: &Position, from: Square) -> u64
     requires { cell_at position.now.placement from ≡ man position.now.turn Pawn }
@@ -95,7 +105,7 @@ fn pawn_goals(position: &Position, from: Square) -> u64
     single_step(position, from) | (double_step(position, from) | prey(position, from))
 }
 
-/// Whether it is a bishop, a rook or a queen.
+/// Whether the kind is a bishop, a rook or a queen.
 #[inline(always)]
 fn is_slider(kind: Kind) -> bool
     ensures { result ≡ is_slider kind }
@@ -106,7 +116,7 @@ fn is_slider(kind: Kind) -> bool
     }
 }
 
-/// The squares to which a piece of the side to move goes that is no pawn.
+/// The squares to which a piece of the side to move goes that is not a pawn.
 #[inline(always)]
 fn officer_goals(position: &Position, from: Square, piece: Piece) -> u64
     requires there { cell_at position.now.placement from ≡ Some piece }
@@ -143,7 +153,7 @@ pub(crate) fn goals(position: &Position, from: Square) -> u64
     officer_goals(position, from, piece)
 }
 
-/// The squares of own rooks, if the king stands on the square: every legal castling goes to one.
+/// The squares of the side's own rooks, if the king is on the square: every legal castling goes to one.
 #[inline(always)]
 pub(crate) fn rooks_to_castle(position: &Position, from: Square) -> u64
     ensures { (t : ℕ) (k : Option Kind) → t < 64 → is_in result t ≡ false → Castles position.now (triple from t k) → ⊥ }
@@ -155,11 +165,4 @@ pub(crate) fn rooks_to_castle(position: &Position, from: Square) -> u64
     } else {
         0
     }
-}
-
-/// Squares to which a legal move from the square may go, and others.
-pub(crate) fn candidates(position: &Position, from: Square) -> u64
-    ensures { (t : ℕ) → t < 64 → is_in result t ≡ false → NoneGoes position.now from t }
-{
-    goals(position, from) | rooks_to_castle(position, from)
 }

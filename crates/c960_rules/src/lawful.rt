@@ -1,4 +1,4 @@
-//! The positions whose side not to move is not in check: after a legal move there is no other.
+//! The positions in which the side not to move is not in check: a legal move leads only to these.
 
 ghost use Rattle.std.specs.Prelude.{◌≡◌, ◌↔◌, IsOk, MatchResult};
 
@@ -6,7 +6,7 @@ use crate::check::in_check;
 use c960_board::Position;
 use std::marker::Model;
 
-/// A position whose side not to move is not in check, as after every legal move (FIDE Laws, Article 3.9.2). Contracts see
+/// A position in which the side not to move is not in check, as after every legal move (FIDE Laws, Article 3.9.2). Contracts see
 /// the position's `Parts`.
 #[derive(Clone, Copy, PartialEq, Eq, Debug)]
 pub struct Lawful {
@@ -30,7 +30,7 @@ impl Lawful {
     ghost use Rattle.c960_board.specs.Position.{IsPosition};
     ghost use Rattle.c960_rules.specs.Check.{IsLawful};
 
-    /// The lawful position: refuses exactly a position whose side not to move is in check, and gives it back.
+    /// The lawful position. Refuses exactly a position in which the side not to move is in check, and returns it.
     pub fn of(position: Position) -> Result<Lawful, Position>
         ensures ok { IsOk result ↔ IsLawful position }
         ensures value { MatchResult result (λ l. l ≡ position) (λ p. p ≡ position) }
@@ -42,7 +42,7 @@ impl Lawful {
         }
     }
 
-    /// The lawful position of one that is known to be lawful.
+    /// The lawful position made of one that is known to be lawful.
     pub(crate) fn of_position(position: Position) -> Lawful
         requires { IsLawful position }
         ensures { result ≡ position }

@@ -2,22 +2,21 @@
 
 ghost use Rattle.std.specs.Prelude.{◌≡◌, ◌++◌, IfOk, IsTrue, IsFalse};
 ghost use Rattle.c960_board.specs.Moves.{is_promotion};
-ghost use Rattle.c960_rules.specs.Legal.{legal_list};
-ghost use Rattle.c960_rules.specs.Wheres.{where_set};
+ghost use Rattle.c960_rules.specs.Tests.Legal.{legal_list};
+ghost use Rattle.c960_rules.specs.Inner.Wheres.{where_set};
 ghost use Rattle.c960_rules.specs.Reaches.{Reaches};
-ghost use Rattle.c960_rules.specs.Listing.{triple, promotes, legal_one, legal_promotions, legal_between, legal_on, goes_to};
+ghost use Rattle.c960_rules.specs.Inner.Listing.{triple, promotes, legal_one, legal_promotions, legal_between, legal_on, goes_to};
 
 use crate::bitset::{lowest, without};
 use crate::goals::{goals, rooks_to_castle};
 use crate::lawful::Lawful;
-use crate::legal::is_legal_in;
+use crate::legal::{is_legal_castling, is_legal_ordinary};
 use crate::promotion::promotes;
-use crate::safety::exposes_king;
 use crate::sides::squares_of;
 use c960_board::{Kind, Move, Position, Sets, Square};
 use std::alloc::{AllocError, Global};
 
-/// Adds the move of a piece that goes there, if it leaves its own king safe.
+/// Adds the move of a piece that goes there, if it does not expose its own king.
 #[inline(always)]
 fn push_safe(
     moves: &mut Vec<Move>,
@@ -36,15 +35,15 @@ fn push_safe(
         to,
         promotion,
     };
-    // So the proof has what every move keeps: `code` ensures it.
+    // This gives the proof what is true of every move: `code` ensures it.
     prove!(m.code() < 20480);
-    if !exposes_king(position, &m) {
+    if is_legal_ordinary(position, &m) {
         moves.push(m)?;
     }
     Ok(())
 }
 
-/// Adds the legal moves that name a promotion, of a pawn that goes to its last rank.
+/// Adds the legal moves with a promotion, for a pawn that goes to its last rank.
 fn push_promoted(
     moves: &mut Vec<Move>,
     position: &Position,
@@ -62,7 +61,7 @@ fn push_promoted(
     Ok(())
 }
 
-/// Adds the legal moves between two squares, of a piece that goes from one to the other.
+/// Adds the legal moves between two squares, for a piece that goes from one to the other.
 #[inline(always)]
 #[tactic(auto, using(crate::proofs::ListFacts::between_promoted, crate::proofs::ListFacts::between_plain))]
 fn push_reached(
@@ -81,7 +80,7 @@ fn push_reached(
     }
 }
 
-/// Adds castling, if it is legal: no other move goes between two squares where the piece does not go from one to the other.
+/// Adds castling, if it is legal. Only castling goes between two squares if the piece does not go from one to the other.
 fn push_castling(
     moves: &mut Vec<Move>,
     position: &Position,
@@ -96,15 +95,15 @@ fn push_castling(
         to,
         promotion: None,
     };
-    // So the proof has what every move keeps: `code` ensures it.
+    // This gives the proof what is true of every move: `code` ensures it.
     prove!(m.code() < 20480);
-    if is_legal_in(position, &m) {
+    if is_legal_castling(position, &m) {
         moves.push(m)?;
     }
     Ok(())
 }
 
-/// Adds the legal moves between two squares, by the set of the squares to which the piece goes.
+/// Adds the legal moves between two squares, given the set of the squares to which the piece goes.
 #[inline(always)]
 fn push_at(
     moves: &mut Vec<Move>,
@@ -142,13 +141,13 @@ fn push_from(moves: &mut Vec<Move>, position: &Position, from: Square) -> Result
 ///
 /// # Errors
 ///
-/// Where memory runs out.
+/// There was no memory.
 pub fn legal_moves(alloc: Global, lawful: &Lawful) -> Result<Vec<Move>, AllocError>
     ensures { IfOk result (λ moves. moves.items ≡ legal_list lawful.now) }
 {
     let position = lawful.position();
     let turn = position.turn();
-    // Room for 64, since few positions have more legal moves: so the list seldom grows while it is filled.
+    // Room for 64, since few positions have more legal moves: so the list seldom grows while it is being filled.
     let mut moves = Vec::with_capacity(alloc, 64)?;
     let mut left = squares_of(&position, turn);
     while left != 0 {

@@ -1,7 +1,7 @@
-//! The squares that stand in a relation to a square, as sets from tables.
+//! The squares related to a square, as sets from tables.
 
 ghost use Rattle.std.specs.Prelude.{◌≡◌, ◌↔◌, ◌<◌, ℕ, IsTrue};
-ghost use Rattle.c960_rules.specs.Wheres.{where_set, is_knight_leap, is_king_step, is_rook_line, is_bishop_line, is_pawn_hit, is_way};
+ghost use Rattle.c960_rules.specs.Inner.Wheres.{where_set, is_knight_leap, is_king_step, is_rook_line, is_bishop_line, is_pawn_hit, is_way};
 ghost use Rattle.c960_board.specs.declared.piece.Colour.TheVariants.{White, Black};
 ghost use Rattle.c960_rules.specs.Lines.{between};
 
@@ -114,7 +114,7 @@ pub fn reach_on_empty_board(piece: Piece, square: Square) -> u64
     }
 }
 
-/// The squares strictly between two squares of one line; none where they lie on none.
+/// The squares strictly between two squares of one line, or none if they are not on one.
 #[inline(always)]
 pub fn squares_between(from: Square, to: Square) -> u64
     ensures { result ≡ where_set (λ u. between from u to) }

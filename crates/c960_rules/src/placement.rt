@@ -1,12 +1,13 @@
-//! What comes to the goal of a move, and captures en passant.
+//! What arrives on the goal of a move, and captures en passant.
 
 ghost use Rattle.std.specs.Prelude.{◌≡◌};
 ghost use Rattle.c960_rules.specs.After.{landed, is_en_passant};
+ghost use Rattle.c960_rules.specs.Lines.{same_file};
+ghost use Rattle.c960_rules.specs.Reaches.{is_target};
 
-use crate::reaches::{is_same_file, is_target};
-use c960_board::{Kind, Move, Piece, Position, holds};
+use c960_board::{Kind, Move, Piece, Position, Square, holds};
 
-/// The piece that comes to its goal: the mover, or what a pawn becomes.
+/// The piece that arrives on the goal: the mover, or what a pawn is promoted to.
 pub(crate) fn landed(cell: Option<Piece>, promotion: Option<Kind>) -> Option<Piece>
     ensures { result ≡ landed cell promotion }
 {
@@ -15,6 +16,23 @@ pub(crate) fn landed(cell: Option<Piece>, promotion: Option<Kind>) -> Option<Pie
     };
     let Piece { colour, kind: _ } = cell?;
     Some(Piece { colour, kind })
+}
+
+/// Whether both squares are on one file.
+fn is_same_file(from: Square, to: Square) -> bool
+    ensures { result ≡ same_file from to }
+{
+    from.number() % 8 == to.number() % 8
+}
+
+/// Whether the square is the en passant target.
+fn is_target(target: Option<Square>, square: Square) -> bool
+    ensures { result ≡ is_target target square }
+{
+    match target {
+        Some(passed) => passed.number() == square.number(),
+        None => false,
+    }
 }
 
 /// Whether a pawn goes diagonally to the en passant target.

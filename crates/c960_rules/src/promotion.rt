@@ -2,7 +2,7 @@
 
 ghost use Rattle.std.specs.Prelude.{◌≡◌, ◌==◌};
 ghost use Rattle.c960_board.specs.Squares.{rank_of};
-ghost use Rattle.c960_rules.specs.Listing.{promotes};
+ghost use Rattle.c960_rules.specs.Inner.Listing.{promotes};
 ghost use Rattle.c960_rules.specs.Reaches.{last_rank};
 
 use crate::sides::home_rank;
@@ -16,7 +16,7 @@ fn is_on_last_rank(colour: Colour, square: Square) -> bool
     square.number() / 8 == home_rank(colour.other())
 }
 
-/// Whether a pawn of the side to move stands on `from`, and `to` is on its last rank.
+/// Whether a pawn of the side to move is on `from`, and `to` is on its last rank.
 #[inline(always)]
 pub(crate) fn promotes(position: &Position, from: Square, to: Square) -> bool
     ensures { result ≡ promotes position.now from to }

@@ -1,17 +1,17 @@
-//! Whether an ordinary move leaves its own king attacked: by sets, without the board after the move.
+//! Whether an ordinary move leaves its own king attacked: computed with sets, without the board after the move.
 
 ghost use Rattle.std.specs.Prelude.{◌≡◌, ◌≤◌, ◌<◌, ◌↔◌, IsTrue, IsFalse, IfSome, IfNone};
 ghost use Rattle.c960_board.specs.declared.piece.Kind.TheVariants.{King};
 ghost use Rattle.c960_board.specs.Moves.{IsMove};
 ghost use Rattle.c960_board.specs.Pieces.{is_of, man, other};
-ghost use Rattle.c960_board.specs.Position.{cell_at};
+ghost use Rattle.c960_board.specs.Cells.{cell_at};
 ghost use Rattle.c960_board.specs.Squares.{ahead};
 ghost use Rattle.c960_rules.specs.After.{placement_after};
 ghost use Rattle.c960_rules.specs.Castles.{Castles, king_goal, rook_goal};
 ghost use Rattle.c960_rules.specs.Check.{InCheck};
 ghost use Rattle.c960_rules.specs.Reaches.{Reaches};
-ghost use Rattle.c960_rules.specs.Safety.{is_passed_on, is_occupied_after, is_occupied_castled, is_gone};
-ghost use Rattle.c960_rules.specs.Wheres.{where_set};
+ghost use Rattle.c960_rules.specs.Inner.Safety.{is_passed_on, is_occupied_after, is_occupied_castled, is_gone};
+ghost use Rattle.c960_rules.specs.Inner.Wheres.{where_set};
 
 use crate::attack_sets::attackers_over;
 use crate::bitset::{lowest, only};
@@ -19,7 +19,7 @@ use crate::castling::{king_goal, rook_goal};
 use crate::placement::is_en_passant;
 use c960_board::{Colour, Kind, Move, Piece, Position, Square};
 
-/// The square behind another, as the side to move sees it.
+/// The square behind another, from the point of view of the side to move.
 #[inline(always)]
 fn behind(turn: Colour, square: Square) -> Option<Square>
     ensures some { IfSome result (λ s. s ≡ ahead (other turn) square) }
@@ -75,7 +75,7 @@ pub(crate) fn exposes_king(position: &Position, m: &Move) -> bool
     requires { Reaches position.now m.now }
     ensures { IsTrue result ↔ InCheck (placement_after position.now m.now) position.now.turn }
 {
-    // So the proof has what every move keeps: `code` ensures it.
+    // This gives the proof what is true of every move: `code` ensures it.
     prove!(m.code() < 20480);
     let _sets = position.sets();
     let turn = position.turn();
@@ -103,7 +103,7 @@ pub(crate) fn castling_exposes(position: &Position, m: &Move) -> bool
     requires { Castles position.now m.now }
     ensures { IsTrue result ↔ InCheck (placement_after position.now m.now) position.now.turn }
 {
-    // So the proof has what every move keeps: `code` ensures it.
+    // This gives the proof what is true of every move: `code` ensures it.
     prove!(m.code() < 20480);
     let _sets = position.sets();
     let turn = position.turn();

@@ -2,14 +2,14 @@
 
 ghost use Rattle.std.specs.Prelude.{◌≡◌, ◌<◌, ◌≤◌};
 ghost use Rattle.c960_board.specs.Pieces.{is_of};
-ghost use Rattle.c960_board.specs.Position.{cell_at};
+ghost use Rattle.c960_board.specs.Cells.{cell_at};
 ghost use Rattle.c960_board.specs.Squares.{home_rank, home_square, ahead};
-ghost use Rattle.c960_rules.specs.Wheres.{where_set};
+ghost use Rattle.c960_rules.specs.Inner.Wheres.{where_set};
 
 use crate::squares::square_of;
 use c960_board::{Colour, Position, Square};
 
-/// The rank on which a side's pieces stand at the start, from 0.
+/// The rank on which a side's pieces are at the start, from 0.
 pub(crate) fn home_rank(colour: Colour) -> u8
     ensures value { result ≡ home_rank colour }
     ensures bound { result < 8 }
@@ -28,7 +28,7 @@ pub(crate) fn home_square(colour: Colour, file: u8) -> Square
     square_of(8 * home_rank(colour) + file)
 }
 
-/// The square one rank forward, as a side's pawns go, of a square on neither end rank.
+/// The square one rank forward, in the direction of a side's pawns, of a square on neither end rank.
 pub(crate) fn ahead(colour: Colour, square: Square) -> Square
     requires low { 8 ≤ square }
     requires high { square < 56 }

@@ -1,7 +1,7 @@
-//! Tables by the number of a square: each row is the set of the squares that stand in a relation to it. What each table means is
+//! Tables indexed by the number of a square: each entry is the set of the squares related to it. The meaning of each table is
 //! the contract of its function in lookups.rt.
 
-/// The squares that a knight attacks from the square of the index; bit s is 1 where the square s is one.
+/// The squares that a knight attacks from the square of the index; bit s is 1 if the square s is one.
 pub static KNIGHT: [u64; 64] = [
     0x0000000000020400,
     0x0000000000050800,
@@ -69,7 +69,7 @@ pub static KNIGHT: [u64; 64] = [
     0x0020400000000000,
 ];
 
-/// The squares that a king attacks from the square of the index; bit s is 1 where the square s is one.
+/// The squares that a king attacks from the square of the index; bit s is 1 if the square s is one.
 pub static KING: [u64; 64] = [
     0x0000000000000302,
     0x0000000000000705,
@@ -137,7 +137,7 @@ pub static KING: [u64; 64] = [
     0x40c0000000000000,
 ];
 
-/// The squares that a white pawn attacks from the square of the index, none from rank 8; bit s is 1 where the square s is one.
+/// The squares that a white pawn attacks from the square of the index, none from rank 8; bit s is 1 if the square s is one.
 pub static WHITE_PAWN: [u64; 64] = [
     0x0000000000000200,
     0x0000000000000500,
@@ -205,7 +205,7 @@ pub static WHITE_PAWN: [u64; 64] = [
     0x0000000000000000,
 ];
 
-/// The squares that a black pawn attacks from the square of the index, none from rank 1; bit s is 1 where the square s is one.
+/// The squares that a black pawn attacks from the square of the index, none from rank 1; bit s is 1 if the square s is one.
 pub static BLACK_PAWN: [u64; 64] = [
     0x0000000000000000,
     0x0000000000000000,
@@ -273,7 +273,7 @@ pub static BLACK_PAWN: [u64; 64] = [
     0x0040000000000000,
 ];
 
-/// The other squares of the rank and the file of the square of the index; bit s is 1 where the square s is one.
+/// The other squares of the rank and the file of the square of the index; bit s is 1 if the square s is one.
 pub static ROOK_LINES: [u64; 64] = [
     0x01010101010101fe,
     0x02020202020202fd,
@@ -341,7 +341,7 @@ pub static ROOK_LINES: [u64; 64] = [
     0x7f80808080808080,
 ];
 
-/// The other squares of the two diagonals of the square of the index; bit s is 1 where the square s is one.
+/// The other squares of the two diagonals of the square of the index; bit s is 1 if the square s is one.
 pub static BISHOP_LINES: [u64; 64] = [
     0x8040201008040200,
     0x0080402010080500,

@@ -1,10 +1,8 @@
 -- Facts of perft: its sum step by step, its bound, and the counters on the way.
-use Rattle.std.proofs.Common.{ℕ, zero, suc, List, Bool, true, false, None, length, take, get_or, ap, refl, subst, Fits, w64}
-use Rattle.std.proofs.Common.{◌≡◌, ◌||◌, ◌∙◌, ◌+◌, ◌*◌, ◌^◌, ◌<◌, ◌≤◌}
+use Rattle.std.proofs.Common.{ℕ, zero, suc, List, Bool, true, false, None, length, take, get_or, ap, refl, subst, Fits, w64, ◌≡◌, ◌||◌, ◌∙◌, ◌+◌, ◌*◌, ◌^◌, ◌<◌, ◌≤◌}
 use Rattle.std.specs.List.{sum_by, All}
-use Rattle.std.proofs.lemmas.List.Sums.{sum_by-le, length-filter, count_by-le-length}
+use Rattle.std.proofs.lemmas.List.Sums.{sum_by-le, length-filter, count_by-le-length, sum_by_more_le}
 use Rattle.std.proofs.lemmas.List.Elements.{filter_passes, All-get_or, All-from_get_or}
-use Rattle.std.proofs.lemmas.List.Sums.{sum_by_more_le}
 use Rattle.std.proofs.Math.Nat.{pow-succ', pow-zero, mul-le-mul_right, pow-le-pow_right}
 use native.Mathlib.Omega.{arith}
 use Rattle.c960_board.specs.declared.piece.Colour.{Colour}
@@ -12,11 +10,12 @@ use Rattle.c960_board.specs.declared.piece.Colour.TheVariants.{White, Black}
 use Rattle.c960_board.specs.declared.parts.Parts.{Parts}
 use Rattle.c960_board.specs.declared.piece.Kind.TheVariants.{Pawn}
 use Rattle.c960_board.specs.Pieces.{other, is_of, holds}
-use Rattle.c960_board.specs.Position.{cell_at}
+use Rattle.c960_board.specs.Cells.{cell_at}
 use Rattle.c960_board.specs.Moves.{Triple, IsMove}
 use Rattle.c960_rules.specs.After.{after, half_moves_after, number_after}
-use Rattle.c960_rules.specs.Legal.{Legal, legal_list, all_moves, is_legal}
-use Rattle.c960_rules.proofs.MoveTests.{legal_tells}
+use Rattle.c960_rules.specs.Legal.{Legal}
+use Rattle.c960_rules.specs.Tests.Legal.{legal_list, all_moves, is_legal}
+use Rattle.c960_rules.proofs.lemmas.MoveTests.{legal_tells}
 use Rattle.c960_tests.specs.Perft.{perft}
 
 -- there are 20,480 triples
@@ -29,14 +28,14 @@ list_bound : (p : Parts) → length (legal_list p) ≤ 20480
 unfolding legal_list
 list_bound p = omega (arith, length-filter (is_legal p) all_moves, count_by-le-length (is_legal p) all_moves, all_count)
 
--- what stands in the list passes the test of legality
+-- what is in the list passes the test of legality
 listed_passes : (p : Parts) (i : ℕ) (d : Triple) → i < length (legal_list p)
     → is_legal p (get_or (legal_list p) i d) ≡ true
 unfolding legal_list
 listed_passes p i d h =
     All-get_or (λ m. is_legal p m ≡ true) (legal_list p) i d h (filter_passes (is_legal p) all_moves)
 
--- a move that stands in the list is legal
+-- a move in the list is legal
 pub listed_legal : (p : Parts) (i : ℕ) (d : Triple) → i < length (legal_list p)
     → IsMove (get_or (legal_list p) i d) → Legal p (get_or (legal_list p) i d)
 listed_legal p i d h move = legal_tells p (get_or (legal_list p) i d) move (listed_passes p i d h)
@@ -84,12 +83,12 @@ sum_fits n p q i m items sum next small listed below item reached so_far more =
     more ∙ ap (perft n) (reached ∙ ap (after p) item_is) in
     omega (arith, next_fits n p i m small inside, sum_is, next_is)
 
--- what is set to 0 or raised by one rises by one at most
+-- what is set to 0 or raised by one rises by at most one
 at_most_one_more : (b : Bool) (n : ℕ) → elim b [ true ↦ 0 | false ↦ n + 1 ] ≤ n + 1
 at_most_one_more true n = omega arith
 at_most_one_more false n = omega arith
 
--- the half-move counter rises by one at most
+-- the half-move counter rises by at most one
 pub half_moves_bound : (p : Parts) (m : Triple) → half_moves_after p m ≤ p.half_moves + 1
 unfolding half_moves_after
 half_moves_bound p m =
@@ -97,7 +96,7 @@ half_moves_bound p m =
     (holds p.turn Pawn (cell_at p.placement m.from) || is_of (other p.turn) (cell_at p.placement m.to))
     p.half_moves
 
--- the move number rises by one at most
+-- the move number rises by at most one
 pub number_bound : (c : Colour) (n : ℕ) → number_after c n ≤ n + 1
 number_bound White n = omega arith
 number_bound Black n = omega arith

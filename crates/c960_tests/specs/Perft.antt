@@ -3,7 +3,7 @@ use Rattle.std.specs.Prelude.{ℕ, zero, suc}
 use Rattle.std.specs.List.{sum_by}
 use Rattle.c960_board.specs.declared.parts.Parts.{Parts}
 use Rattle.c960_rules.specs.After.{after}
-use Rattle.c960_rules.specs.Legal.{legal_list}
+use Rattle.c960_rules.specs.Tests.Legal.{legal_list}
 
 -- how many sequences of n legal moves begin at p
 unfoldable pub perft : ℕ → Parts → ℕ

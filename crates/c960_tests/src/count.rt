@@ -1,4 +1,4 @@
-//! Perft, the count by which chess programs compare their lists of legal moves.
+//! Perft, the count with which chess programs compare their lists of legal moves.
 
 ghost use Rattle.std.specs.Prelude.{◌≡◌, ◌+◌, ◌<◌, ◌≤◌, IfOk};
 ghost use Rattle.c960_rules.specs.After.{after};
@@ -25,12 +25,12 @@ fn after(lawful: &Lawful, m: Move) -> Lawful
     }
 }
 
-/// How many sequences of so many legal moves begin at the position. At most four plies are counted, and both counters
+/// How many sequences of this many legal moves begin at the position. At most four plies are counted, and both counters
 /// must have room for them.
 ///
 /// # Errors
 ///
-/// Where memory runs out.
+/// There was no memory.
 #[tactic(auto, using(crate::proofs::PerftFacts::listed_legal), unfolding(crate::specs::Perft::perft))]
 pub fn perft(alloc: Global, lawful: &Lawful, plies: u8) -> Result<u64, AllocError>
     requires plies { plies ≤ 4 }
@@ -44,7 +44,7 @@ pub fn perft(alloc: Global, lawful: &Lawful, plies: u8) -> Result<u64, AllocErro
     let moves = legal_moves(alloc, lawful)?;
     let mut sum = 0;
     for m in moves.iter() {
-        // A code tells what each move keeps: its squares are on the board.
+        // `code` promises what is true of every move: its squares are on the board.
         prove!(m.code() < 20480);
         sum += perft(alloc, &after(lawful, *m), plies - 1)?;
     }

@@ -1,5 +1,5 @@
 //! The tests of the chess layer: squares, positions and texts; the rules, with perft; games, with a small proved example of a caller.
-//! They stand in a crate of their own, since a crate with tests is proved twice.
+//! They are in a crate of their own, since a crate with tests is proved twice.
 #![tactic(auto)]
 
 mod count;

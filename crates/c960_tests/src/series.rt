@@ -5,7 +5,7 @@ ghost use Rattle.std.specs.Prelude.{◌≡◌, ◌+◌, length};
 use c960_board::Move;
 use c960_game::Game;
 
-/// Makes two moves of a game, and tells how many were accepted.
+/// Makes two moves of a game. Returns how many were accepted.
 pub fn play_both(game: &mut Game, first: Move, second: Move) -> usize
     ensures { length game.new.log ≡ length game.old.log + result }
 {

@@ -1,4 +1,4 @@
-//! The tests, a module for each crate that is tested.
+//! The tests, one module for each crate that is tested.
 
 mod board;
 mod game;

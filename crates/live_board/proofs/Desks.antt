@@ -1,23 +1,24 @@
--- What makes a seat a desk's, and notes.
+-- When a seat is a desk's, and notes.
 use Rattle.std.proofs.Common.{◌≡◌, ℕ, ◌+◌, ◌-◌, ◌/◌, ◌%◌, ◌<◌, ◌≤◌, ◌≢◌, zero, suc, List, [], ◌∷◌, set, get_or, length, replicate, true, sym, refl, ap, ◌∙◌, cond, eqb, eqb-true, ⊎_elim, arith}
 use Rattle.atomic_table.specs.Seated.{TableId}
 use Rattle.atomic_table.specs.declared.shared.Seat.{Seat}
 use Rattle.atomic_table.proofs.Lists.{at_index, at_set}
 use mathlib.Core.Option.{some, some-ne-none}
 use lib.ListN.{get_elem?}
-use Rattle.live_steps.specs.Limits.{AreBoardLimits}
-use Rattle.live_steps.specs.declared.setup.BoardSetup.{BoardSetup}
-use Rattle.live_steps.specs.declared.note.Note.{Note}
-use Rattle.live_steps.specs.declared.note.Note.TheVariants.{Vacant, Open, Closed}
-use Rattle.live_steps.specs.declared.view.View.{View}
-use Rattle.live_steps.specs.Words.{header_word, joined_noted, note_after, word_count}
-use Rattle.live_steps.specs.Views.{starting}
-use Rattle.live_steps.specs.Sound.{IsSound, Follows}
-use Rattle.live_steps.proofs.Allowed.{table_made}
-use Rattle.live_steps.proofs.Parts.{pick}
-use Rattle.live_steps.proofs.SoundViews.{sound}
+use Rattle.live_board.specs.Limits.{AreBoardLimits}
+use Rattle.live_board.specs.declared.setup.BoardSetup.{BoardSetup}
+use Rattle.live_board.specs.declared.note.Note.{Note}
+use Rattle.live_board.specs.declared.note.Note.TheVariants.{Vacant, Open, Closed}
+use Rattle.live_board.specs.declared.view.View.{View}
+use Rattle.live_board.specs.Words.{header_word, joined_noted, note_after, word_count}
+use Rattle.live_board.specs.Views.{starting}
+use Rattle.live_board.specs.Sound.{IsSound, Follows}
+use Rattle.live_board.proofs.Allowed.{table_made}
+use Rattle.live_board.proofs.lemmas.Cases.{pick}
+use Rattle.live_board.proofs.SoundViews.{sound}
 use Rattle.live_board.specs.Carried.{Carries}
 use Rattle.live_board.specs.Seats.{NoneBefore, IsDesk}
+use Rattle.live_board.proofs.lemmas.Notes.{same_open, vacant_open, closed_open}
 
 pub desk_of : {id : TableId} {key : BoardSetup} {seat : Seat (Unit {0}) View} {setup : BoardSetup} {len least : ℕ} {notes : List Note} {room : ℕ} (v : View) → seat.me.0 ≡ v → seat.table_id ≡ id → id.words ≡ word_count setup.limits → key ≡ setup
     → v.owns ≡ true → v.setup ≡ setup → len ≡ length v.log → notes ≡ v.notes → NoneBefore least notes → least ≤ len → room ≡ setup.limits.followers → seat.me.1 ≡ [] → IsSound seat.me.0
@@ -43,33 +44,11 @@ starting_sound z numbered limits =
     let made = table_made z numbered limits (header_word z.start z.limits.capacity ∷ replicate (z.limits.followers + z.limits.plies + 1) 0) refl in
     sound z made.now _ made.shows 0 (starting z) refl
 
-pub at_within : (l : List Note) (k : ℕ) (n : Note) → get_elem? l k ≡ some n → k < length l
-at_within [] k n e = absurd (some-ne-none n (sym e))
-at_within (x ∷ xs) zero n e = omega arith
-at_within (x ∷ xs) (suc k) n e = omega (arith, at_within xs k n e)
-
-pub same_open : (i j x y : ℕ) → Open i x ≡ Open j y → x ≡ y
-same_open i j x y e = cc
-
-pub vacant_open : (j b : ℕ) → Vacant ≡ Open j b → ⊥
-vacant_open j b e = cc
-
-pub closed_open : (c j b : ℕ) → Closed c ≡ Open j b → ⊥
-closed_open c j b e = cc
-
--- the word of a cursor that is noted open
-pub open_back : (n : Note) (r j b : ℕ) → note_after n r ≡ Open j b → (r / 4294967296 ≡ 1) × (r % 4294967296 ≡ b)
-open_back n r j b = pick (λ (x : Note). x ≡ Open j b → (r / 4294967296 ≡ 1) × (r % 4294967296 ≡ b)) (eqb r 0) Vacant (cond (eqb (r / 4294967296) 1) (Open (joined_noted n) (r % 4294967296)) (Closed (r / 4294967296 - 2)))
-    (λ _ e. absurd (vacant_open j b e))
-    (λ _. pick (λ (x : Note). x ≡ Open j b → (r / 4294967296 ≡ 1) × (r % 4294967296 ≡ b)) (eqb (r / 4294967296) 1) (Open (joined_noted n) (r % 4294967296)) (Closed (r / 4294967296 - 2))
-    (λ q e. (eqb-true (r / 4294967296) 1 q, same_open (joined_noted n) j (r % 4294967296) b e))
-    (λ _ e. absurd (closed_open (r / 4294967296 - 2) j b e)))
-
 -- the note that a step at the cursor k sets
 pub set_at : (l : List Note) (k : ℕ) (n m : Note) → n ≡ m → set l k n ≡ set l (k + 2 - 2) m
 set_at l k n m e = let here : k ≡ k + 2 - 2 = omega arith in λ i. set l (here i) (e i)
 
--- the note that a load sets, where x was noted
+-- the note that a load sets, if x was noted
 pub noted_is : (l : List Note) (k r : ℕ) (x : Note) → get_or l k Vacant ≡ x → set l k (note_after x r) ≡ set l (k + 2 - 2) (note_after (get_or l (k + 2 - 2) Vacant) r)
 noted_is l k r x is = let here : k ≡ k + 2 - 2 = omega arith in λ i. set l (here i) (note_after ((sym is ∙ ap (λ (j : ℕ). get_or l j Vacant) here) i) r)
 
@@ -82,7 +61,7 @@ noted_there {notes = notes} i k n v is inside found =
     ap (λ (u : View). get_elem? u.notes k) (sym is)
     ∙ ap (λ (l : List Note). get_elem? l k) (sym i.notes_are) ∙ at_index notes k n low found
 
--- the place of a part that a desk carries
+-- the slot of a part that a desk carries
 pub carried_inside : {id : TableId} {key : BoardSetup} {seat : Seat (Unit {0}) View} {setup : BoardSetup} {len least : ℕ} {notes : List Note} {room : ℕ} → IsDesk id key seat setup len least notes room → (v : View) (k : ℕ) → seat.me.0 ≡ v → Carries v k
     → k < v.setup.limits.followers
 carried_inside i v k is c =
@@ -98,12 +77,12 @@ same_followers i v is = ap (λ (z : BoardSetup). z.limits.followers) (sym i.setu
 none_before_zero : (l : List Note) → NoneBefore 0 l
 none_before_zero l k j b e = omega arith
 
--- a note is set that is of no open follower before the place
+-- a note is set that is not of an open follower before the place
 pub none_before_set : (least k : ℕ) (l : List Note) (m : Note) → NoneBefore least l → ((j b : ℕ) → m ≡ Open j b → least ≤ b) → NoneBefore least (set l k m)
 none_before_set least k l m all mine i j b e =
     ⊎_elim (λ (x : (i ≡ k) × (m ≡ Open j b)). mine j b x.1) (λ (x : (i ≢ k) × (get_elem? l i ≡ some (Open j b))). all i j b x.1) (at_set l k i m (Open j b) e)
 
--- what follows on a note is noted at no place before it
+-- what follows from a note is noted at no place before it
 follows_later : (least : ℕ) (n m : Note) → ((j b : ℕ) → n ≡ Open j b → least ≤ b) → Follows n m → (j b : ℕ) → m ≡ Open j b → least ≤ b
 follows_later least Vacant m low f j b e = absurd (vacant_open j b (sym f ∙ e))
 follows_later least (Open joined next) m low f j b e =
@@ -116,7 +95,7 @@ follows_later least (Closed c) m low f j b e =
 pub none_before_noted : (least k : ℕ) (l : List Note) (n m : Note) → NoneBefore least l → get_elem? l k ≡ some n → Follows n m → NoneBefore least (set l k m)
 none_before_noted least k l n m all there f = none_before_set least k l m all (follows_later least n m (λ j b e. all k j b (there ∙ ap some e)) f)
 
--- the notes of a desk once the cursor k was loaded
+-- the notes of a desk after the cursor k was loaded
 pub none_before_loaded : {id : TableId} {key : BoardSetup} {seat : Seat (Unit {0}) View} {setup : BoardSetup} {len least : ℕ} {notes : List Note} {room : ℕ} → IsDesk id key seat setup len least notes room → (k : ℕ) (n m : Note) → get_elem? seat.me.0.notes k ≡ some n
     → Follows n m → NoneBefore least (set notes k m)
 none_before_loaded {notes = notes} i k n m there f = none_before_noted _ k notes n m i.least_is (ap (λ (l : List Note). get_elem? l k) i.notes_are ∙ there) f

@@ -3,9 +3,10 @@ use Rattle.std.proofs.Common.{◌≡◌, Option, Some, None, Ok, refl, sym, ap, 
 use Rattle.c960_board.specs.Moves.{Triple}
 use Rattle.c960_game.specs.declared.ending.Ending.{Ending}
 use Rattle.c960_game.specs.declared.outcome.Outcome.{Outcome}
-use Rattle.c960_game.specs.Record.{GameRecord, play_answer, end_answer}
+use Rattle.c960_game.specs.Record.{play_answer, end_answer}
+use Rattle.c960_game.specs.GameRecord.{GameRecord}
 
--- a move is accepted, or an ending, only while there is no outcome
+-- a move or an ending is accepted only while there is no outcome
 pub play_going : (g : GameRecord) (m : Triple) (o : Option Outcome) → play_answer g m ≡ Ok o → g.outcome ≡ None
 unfolding play_answer
 play_going g m o e = by g.outcome refl e

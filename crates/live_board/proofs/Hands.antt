@@ -1,12 +1,12 @@
--- Views once a part is handed out, or taken in.
+-- Views after a part was handed out or taken in.
 use Rattle.std.proofs.Common.{◌≡◌, ℕ, zero, suc, ◌+◌, ◌-◌, ◌%◌, ◌<◌, List, [], ◌∷◌, true≢false, None, sym, ◌∙◌, arith}
 use mathlib.Core.Option.{some, some-ne-none}
 use lib.ListN.{get_elem?}
-use Rattle.live_steps.specs.declared.view.Part.{Part}
-use Rattle.live_steps.specs.declared.view.View.{View}
-use Rattle.live_steps.specs.Words.{place_in, cursor_of}
-use Rattle.live_steps.specs.Views.{first_of, others, kept_part, given_part, followed}
-use Rattle.live_steps.specs.Sound.{IsSound}
+use Rattle.live_board.specs.declared.view.Part.{Part}
+use Rattle.live_board.specs.declared.view.View.{View}
+use Rattle.live_board.specs.Words.{place_in, cursor_of}
+use Rattle.live_board.specs.Views.{first_of, others, kept_part, given_part, followed}
+use Rattle.live_board.specs.Sound.{IsSound}
 
 others_at : (ps : List Part) (i : ℕ) (x : Part) → get_elem? (others ps) i ≡ some x → get_elem? ps (suc i) ≡ some x
 others_at [] i x e = absurd (some-ne-none x (sym e))

@@ -1,10 +1,27 @@
+pub mod lemmas
+mod SharedFollowers
+mod EventFacts
+mod Stretches
+mod Codes
+mod Notes
+mod Parts
+mod EachStep
+mod Taking
+mod Leaving
+mod Checking
+mod Looking
+mod Publishing
+mod Handing
+mod Opening
+mod SoundViews
+mod Allowed
 mod Steps
-pub mod Desks
+mod Desks
 mod Followers
 mod Hands
-pub mod Tries
-pub mod Orders
+mod Orders
 mod Games
 mod Carrying
 mod Meetings
-pub mod Headlines
+mod Headlines
+mod Rules

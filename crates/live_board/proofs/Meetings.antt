@@ -1,25 +1,25 @@
--- What a board and a follower know once the follower's part was taken in, the status and its cursor loaded, and the part handed out.
+-- What a board and a follower know after the follower's part was taken in, the status and its cursor loaded, and the part handed out.
 use Rattle.std.proofs.Common.{◌≡◌, ℕ, ◌+◌, ◌-◌, ◌/◌, ◌%◌, ◌<◌, ◌≤◌, [], ◌∷◌, length, Option, Some, None, true, sym, refl, ap, ◌∙◌, subst, arith, cond, eqb, lt-ltb}
 use Rattle.std.proofs.lemmas.Option.{none-some}
 use mathlib.Core.Logic.{dite}
 use mathlib.Core.Option.{some}
 use native.Mathlib.Decide.{ℕ_discrete}
 use lib.ListN.{get_elem?}
-use Rattle.live_steps.proofs.Stretches.{is_stretch}
-use Rattle.live_steps.specs.declared.setup.BoardSetup.{BoardSetup}
-use Rattle.live_steps.specs.declared.note.Note.{Note}
-use Rattle.live_steps.specs.declared.note.Note.TheVariants.{Vacant, Open, Closed}
-use Rattle.live_steps.specs.declared.view.Part.{Part}
-use Rattle.live_steps.specs.declared.view.View.{View}
-use Rattle.live_steps.specs.Words.{length_in, outcome_in, closing_in, joined_noted, note_after}
-use Rattle.live_steps.specs.Views.{next_of, carrying, taking_in, each_part, sees, learns, noted, kept_part}
-use Rattle.live_steps.specs.Sound.{Agrees, IsSound}
-use Rattle.live_steps.proofs.Checking.{note_there}
-use Rattle.live_steps.proofs.Parts.{pick}
+use Rattle.live_board.proofs.Stretches.{is_stretch}
+use Rattle.live_board.specs.declared.setup.BoardSetup.{BoardSetup}
+use Rattle.live_board.specs.declared.note.Note.{Note}
+use Rattle.live_board.specs.declared.note.Note.TheVariants.{Vacant, Open, Closed}
+use Rattle.live_board.specs.declared.view.Part.{Part}
+use Rattle.live_board.specs.declared.view.View.{View}
+use Rattle.live_board.specs.Words.{length_in, outcome_in, closing_in, joined_noted, note_after}
+use Rattle.live_board.specs.Views.{next_of, carrying, taking_in, each_part, sees, learns, noted, kept_part}
+use Rattle.live_board.specs.Sound.{Agrees, IsSound}
+use Rattle.live_board.proofs.lemmas.Notes.{note_there}
+use Rattle.live_board.proofs.lemmas.Cases.{pick}
 use Rattle.live_board.specs.Meeting.{Met, closing_noted}
 use Rattle.live_board.specs.Takes.{HasSeenNoLess}
 use Rattle.live_board.proofs.Followers.{only_is}
-use Rattle.live_board.proofs.Tries.{loaded_note, noted_long}
+use Rattle.live_board.proofs.lemmas.Tries.{loaded_note, noted_long}
 
 same_closed : (c d : ℕ) → Closed c ≡ Closed d → c ≡ d
 same_closed c d e = cc
@@ -30,7 +30,7 @@ vacant_closed c e = cc
 open_closed : (j b c : ℕ) → Open j b ≡ Closed c → ⊥
 open_closed j b c e = cc
 
--- a cursor that says no closing is not noted as closed but at 0
+-- a cursor without a closing is not noted as closed except at 0
 closed_at_none : (x : Note) (n c : ℕ) → note_after x n ≡ Closed c → closing_in n ≡ None → c ≡ 0
 closed_at_none x n c is none = pick (λ (m : Note). m ≡ Closed c → c ≡ 0) (eqb n 0) Vacant (cond (eqb (n / 4294967296) 1) (Open (joined_noted x) (n % 4294967296)) (Closed (n / 4294967296 - 2)))
     (λ _ e. absurd (vacant_closed c e))
@@ -41,7 +41,7 @@ closed_at_none x n c is none = pick (λ (m : Note). m ≡ Closed c → c ≡ 0) 
     absurd (none-some (n / 4294967296 - 2) (sym none ∙ ap (λ b. cond b (Some (n / 4294967296 - 2)) None) (lt-ltb 1 (n / 4294967296) more))))))
     is
 
--- the board's view that has taken in the part, then the status that was loaded, then the part's cursor
+-- the board's view after it took in the part, then loaded the status, then the part's cursor
 abbrev pub joined_in : View → BoardSetup → Part → View
 joined_in v z p = taking_in v (carrying z (p ∷ []))
 
@@ -51,16 +51,16 @@ looked_in v z p r = each_part (sees r) (joined_in v z p)
 abbrev pub checked_in : View → BoardSetup → Part → ℕ → ℕ → ℕ → View
 checked_in v z p r k n = noted (k + 2) n (looked_in v z p r)
 
--- the part that was taken in lies at one of the board's cursors, and has the board's setup
-pub looked_inside : (w v : View) (z : BoardSetup) (p : Part) (r : ℕ) → w ≡ looked_in v z p r → v.owns ≡ true → IsSound w → (p.place < v.setup.limits.followers) × (p.setup ≡ v.setup)
+-- the part that was taken in is at one of the board's cursors, and has the board's setup
+pub looked_inside : (w v : View) (z : BoardSetup) (p : Part) (r : ℕ) → w ≡ looked_in v z p r → v.owns ≡ true → IsSound w → (p.slot < v.setup.limits.followers) × (p.setup ≡ v.setup)
 looked_inside w v z p r is owns sound =
     let b = sound.board (ap (λ (u : View). u.owns) is ∙ owns) in
     let x = b.inside 0 (sees r p) (ap (λ (u : View). get_elem? u.parts 0) is) in
     let setup = ap (λ (u : View). u.setup) is in
-    (subst (λ (y : BoardSetup). p.place < y.limits.followers) setup x.0, x.1 ∙ setup)
+    (subst (λ (y : BoardSetup). p.slot < y.limits.followers) setup x.0, x.1 ∙ setup)
 
 module _ (v : View) (z : BoardSetup) (p : Part) (k r n : ℕ) where
-  pub meets : p.place ≡ k → v.owns ≡ true → IsSound (checked_in v z p r k n) → length_in r ≡ length v.log → outcome_in r ≡ v.outcome → HasSeenNoLess p (learns n (sees r p)) → Met v p (kept_part (checked_in v z p r k n)) (learns n (sees r p))
+  pub meets : p.slot ≡ k → v.owns ≡ true → IsSound (checked_in v z p r k n) → length_in r ≡ length v.log → outcome_in r ≡ v.outcome → HasSeenNoLess p (learns n (sees r p)) → Met v p (kept_part (checked_in v z p r k n)) (learns n (sees r p))
   meets here owns sound len over no-less =
       let w = checked_in v z p r k n in
       let q = learns n (sees r p) in
@@ -71,8 +71,8 @@ module _ (v : View) (z : BoardSetup) (p : Part) (k r n : ℕ) where
       let low : k < length v.notes = let x = inside.0 in let y = b.noted in omega (arith, x, y, long, here) in
       let old = note_there v.notes k low in
       let note : Note = note_after old.0 n in
-      let at-place : get_elem? w.notes p.place ≡ some note = ap (get_elem? w.notes) here ∙ loaded_note (looked_in v z p r) k n old.0 old.1 in
-      let agreed : Agrees w note q = b.agree 0 q first note at-place in
+      let at-slot : get_elem? w.notes p.slot ≡ some note = ap (get_elem? w.notes) here ∙ loaded_note (looked_in v z p r) k n old.0 old.1 in
+      let agreed : Agrees w note q = b.agree 0 q first note at-slot in
       let within = next_within note agreed in
       record {
         setup = refl;
@@ -86,7 +86,7 @@ module _ (v : View) (z : BoardSetup) (p : Part) (k r n : ℕ) where
         within = within;
         has_stretch = is_stretch p.taken v.log p.joined (b.stretch 0 q first) within;
         note = note;
-        noted = at-place;
+        noted = at-slot;
         there = λ e. subst (λ (m : Note). Agrees w m q) e agreed;
         closing = known old.0 (let c = b.limits.some_capacity in c) note refl agreed;
       }

@@ -2,12 +2,12 @@
 use Rattle.std.proofs.Common.{◌≡◌, ℕ, zero, suc, ◌+◌, ◌-◌, inl, inr, List, [], ◌∷◌, ◌++◌, append_assoc, sym, refl, ap, ◌∙◌, arith}
 use Rattle.std.proofs.lemmas.List.{append-nil}
 use Rattle.c960_board.specs.Moves.{Triple}
-use Rattle.live_steps.specs.declared.step.BoardStep.{BoardStep}
-use Rattle.live_steps.specs.declared.step.BoardStep.TheVariants.{CursorLoaded, CursorExchanged, MoveStored, StatusStored}
-use Rattle.live_steps.specs.declared.view.View.{View}
+use Rattle.live_board.specs.declared.step.BoardStep.{BoardStep}
+use Rattle.live_board.specs.declared.step.BoardStep.TheVariants.{CursorLoaded, CursorExchanged, MoveStored, StatusStored}
+use Rattle.live_board.specs.declared.view.View.{View}
 use Rattle.live_board.specs.Desk.{Tried, TriedBelow, Submitted}
 use Rattle.live_board.specs.Order.{DoneAt, DoneBelow, SubmittedInOrder}
-use Rattle.live_board.proofs.Tries.{by_try}
+use Rattle.live_board.proofs.lemmas.Tries.{by_try}
 
 -- the steps of a try at the cursor k
 abbrev Done : View → ℕ → View → Type 0

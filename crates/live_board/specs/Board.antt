@@ -1,14 +1,18 @@
--- What a board is, beside its game.
+-- What a board is, apart from its game.
 use Rattle.std.specs.Prelude.{ℕ, ◌≡◌, ◌≤◌, ◌+◌, ◌<◌, Option, unwrap_or, length}
 use Rattle.c960_game.specs.Limits.{LimitNumbers}
-use Rattle.c960_game.specs.Record.{GameRecord, IsGame}
-use Rattle.live_steps.specs.declared.setup.BoardSetup.{BoardSetup}
-use Rattle.live_steps.specs.declared.view.View.{View}
-use Rattle.live_steps.specs.Sound.{IsSound}
+use Rattle.c960_game.specs.Record.{IsGame}
+use Rattle.c960_game.specs.GameRecord.{GameRecord}
+use Rattle.live_board.specs.declared.setup.BoardSetup.{BoardSetup}
+use Rattle.live_board.specs.declared.view.View.{View}
+use Rattle.live_board.specs.Sound.{IsSound}
 use Rattle.live_board.specs.Seats.{BoardSeat}
 
 abbrev pub setup_of : ℕ → LimitNumbers → BoardSetup
-setup_of start limits = record { start = start; limits = record { followers = limits.followers; capacity = limits.capacity; plies = limits.plies } }
+setup_of start limits = record {
+  start = start;
+  limits = record { followers = limits.followers; capacity = limits.capacity; plies = limits.plies };
+}
 
 -- the game that a board's view shows
 abbrev pub game_of : View → GameRecord
@@ -27,7 +31,7 @@ pub record IsBoard (desk : BoardSeat) (game : GameRecord) : Type 0 where
 
 -- ---- Following.
 
--- the place from which a follower takes: the log's length where it names none
+-- the place from which a follower takes: the log's length if it names none
 abbrev pub from_place : View → Option ℕ → ℕ
 from_place v from = unwrap_or from (length v.log)
 

@@ -1,3 +1,14 @@
+pub mod Limits
+pub mod SharedBoard
+pub mod Events
+pub mod Laws
+pub mod Words
+pub mod Views
+pub mod Shows
+pub mod Rule
+pub mod Sound
+pub mod KindViews
+pub mod Kinds
 pub mod Seats
 pub mod Desk
 pub mod Order

@@ -1,18 +1,18 @@
--- What contracts see of a board and of a follower, and what ties the fields of each to the view of its seat.
+-- What contracts see of a board and of a follower, and how the fields of each relate to the view of its seat.
 use Rattle.std.specs.Prelude.{◌≡◌, ℕ, ◌≤◌, List, [], ◌∷◌, length, Option, None, true}
 use Rattle.atomic_table.specs.Seated.{TableId}
 use Rattle.atomic_table.specs.declared.shared.Seat.{Seat}
 use Rattle.c960_game.specs.declared.outcome.Outcome.{Outcome}
-use Rattle.live_steps.specs.declared.setup.BoardSetup.{BoardSetup}
+use Rattle.live_board.specs.declared.setup.BoardSetup.{BoardSetup}
 use mathlib.Core.Option.{some}
 use lib.ListN.{get_elem?}
-use Rattle.live_steps.specs.declared.note.Note.{Note}
-use Rattle.live_steps.specs.declared.note.Note.TheVariants.{Open}
-use Rattle.live_steps.specs.declared.view.Part.{Part}
-use Rattle.live_steps.specs.declared.view.View.{View}
-use Rattle.live_steps.specs.Words.{word_count}
-use Rattle.live_steps.specs.Views.{carrying, part}
-use Rattle.live_steps.specs.Sound.{IsSoundPart, IsSound}
+use Rattle.live_board.specs.declared.note.Note.{Note}
+use Rattle.live_board.specs.declared.note.Note.TheVariants.{Open}
+use Rattle.live_board.specs.declared.view.Part.{Part}
+use Rattle.live_board.specs.declared.view.View.{View}
+use Rattle.live_board.specs.Words.{word_count}
+use Rattle.live_board.specs.Views.{carrying}
+use Rattle.live_board.specs.Sound.{IsSoundPart, IsSound}
 
 -- a table, and what a seat at it knows: a board's, or one of a follower that left
 pub record BoardSeat : Type 0 where
@@ -24,8 +24,20 @@ pub record FollowerSeat : Type 0 where
   pub table : TableId
   pub part : Part
 
+-- a placeholder for no part
 abbrev nobody : BoardSetup → Part
-nobody z = part z 0 0 [] [] 0 None 0 None None
+nobody setup = record {
+  setup = setup;
+  slot = 0;
+  joined = 0;
+  before = [];
+  taken = [];
+  seen = 0;
+  outcome = None;
+  loads = 0;
+  loaded = None;
+  closing = None;
+}
 
 abbrev first_part : Part → List Part → Part
 first_part d [] = d
@@ -39,9 +51,10 @@ part_of v = first_part (nobody v.setup) v.parts
 abbrev pub NoneBefore : ℕ → List Note → Type 0
 NoneBefore least notes = (k joined next : ℕ) → get_elem? notes k ≡ some (Open joined next) → least ≤ next
 
--- Of a board: the table's identity and key, the seat, and the fields beside it. After the opening and after each call the notes have room
--- for each follower, and for no more; of memory that a call asks for and gives back within itself this says nothing.
-pub record IsDesk (id : TableId) (key : BoardSetup) (seat : Seat (Unit {0}) View) (setup : BoardSetup) (len least : ℕ) (notes : List Note) (room : ℕ) : Type 0 where
+-- Of a board: the table's identity and key, the seat, and the fields besides. After the opening and after each call the notes have room
+-- for each follower, and for no more. This says nothing about memory that a call allocates and frees itself.
+pub record IsDesk (id : TableId) (key : BoardSetup) (seat : Seat (Unit {0}) View) (setup : BoardSetup) (len least : ℕ)
+    (notes : List Note) (room : ℕ) : Type 0 where
   pub table : seat.table_id ≡ id
   pub words : id.words ≡ word_count setup.limits
   pub key_is : key ≡ setup
@@ -55,15 +68,16 @@ pub record IsDesk (id : TableId) (key : BoardSetup) (seat : Seat (Unit {0}) View
   pub none_held : seat.me.1 ≡ []
   pub sound : IsSound seat.me.0
 
--- of a follower: likewise
-pub record IsFollower (id : TableId) (key : BoardSetup) (seat : Seat (Unit {0}) View) (setup : BoardSetup) (place joined taken seen : ℕ) (outcome : Option Outcome) (closing : Option ℕ) : Type 0 where
+-- of a follower, likewise
+pub record IsFollower (id : TableId) (key : BoardSetup) (seat : Seat (Unit {0}) View) (setup : BoardSetup)
+    (slot joined taken seen : ℕ) (outcome : Option Outcome) (closing : Option ℕ) : Type 0 where
   pub table : seat.table_id ≡ id
   pub words : id.words ≡ word_count setup.limits
   pub key_is : key ≡ setup
   pub one : seat.me.0 ≡ carrying setup (part_of seat.me.0 ∷ [])
   pub none_held : seat.me.1 ≡ []
   pub setup_is : (part_of seat.me.0).setup ≡ setup
-  pub place_is : place ≡ (part_of seat.me.0).place
+  pub slot_is : slot ≡ (part_of seat.me.0).slot
   pub joined_is : joined ≡ (part_of seat.me.0).joined
   pub taken_is : taken ≡ length (part_of seat.me.0).taken
   pub seen_is : seen ≡ (part_of seat.me.0).seen

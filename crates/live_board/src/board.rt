@@ -1,19 +1,19 @@
 //! A live board: a game, and its log on a table that its followers read.
 
-ghost use Rattle.std.specs.Prelude.{◌≡◌, ◌↔◌, ℕ, ◌+◌, ◌<◌, ◌≤◌, ◌⊎◌, [], ◌∷◌, ◌++◌, length, slice_get, Some, None, Err, IfOk, IfErr, IfSome, IsSome, OnErr, OnOk, MatchOption};
+ghost use Rattle.std.specs.Prelude.{◌≡◌, ◌↔◌, ℕ, ◌+◌, ◌<◌, ◌≤◌, ◌⊎◌, true, [], ◌∷◌, ◌++◌, length, slice_get, Some, None, Err, IfOk, IfErr, IfSome, IsSome, OnErr, OnOk, MatchOption};
 ghost use mathlib.Core.Option.{some};
 ghost use lib.ListN.{get_elem?};
 ghost use Rattle.c960_game.specs.Ending.{named_outcome};
 ghost use Rattle.c960_game.specs.Ends.{own_outcome};
 ghost use Rattle.c960_game.specs.Positions.{last_position, position_at};
 ghost use Rattle.c960_game.specs.Record.{end_answer, play_answer};
-ghost use Rattle.relay_core.specs.Inner.Boards.{with_place};
+ghost use Rattle.relay_core.specs.BoardAnswers.{with_place};
 ghost use Rattle.relay_core.specs.Replies.{taken_of};
-ghost use Rattle.live_steps.specs.Sound.{IsSound, IsSoundPart};
-ghost use Rattle.live_steps.specs.declared.note.Note.TheVariants.{Vacant};
-ghost use Rattle.live_steps.specs.Views.{each_part, finished, followed, left_at, newcomer, sees, starting};
+ghost use Rattle.live_board.specs.Sound.{IsSound, IsSoundPart};
+ghost use Rattle.live_board.specs.declared.note.Note.TheVariants.{Vacant};
+ghost use Rattle.live_board.specs.Views.{each_part, finished, followed, left_at, newcomer, sees, starting};
 ghost use Rattle.live_board.specs.Accounts.{account_of};
-ghost use Rattle.live_board.specs.Carried.{Carries, CarriesAt, cut_at, due_at, TookAt};
+ghost use Rattle.live_board.specs.Carried.{Carries, CarriesAt, closing_at, due_at, TookAt};
 ghost use Rattle.live_board.specs.Board.{from_place, game_of, IsLegalGame, IsNotYet, IsTooFarBack, setup_of};
 ghost use Rattle.live_board.specs.Desk.{Joined, LoadedBelow, NoneVacant, NoneVacantBelow, Searched, Submitted};
 ghost use Rattle.live_board.specs.Meeting.{Met};
@@ -21,14 +21,14 @@ ghost use Rattle.live_board.specs.Order.{SubmittedInOrder};
 
 use crate::desk::Desk;
 use crate::follower::Follower;
+use crate::{BoardLimits, BoardSetup};
 use c960_board::{Move, Position};
 use c960_game::{Ending, Game, Limits, Outcome, Refusal, Replaying};
-use live_steps::{BoardLimits, BoardSetup};
-use relay_core::{Account, Taken};
+use relay_core::{Account, Taken, may_join_at, without_move};
 use std::alloc::Global;
 use std::marker::Model;
 
-/// A game that one thread plays while its followers take in the moves. To a contract it is its table and what its seat there knows.
+/// A game that one thread plays while its followers take the moves. To a contract it is its table and what its seat there knows.
 #[derive(Drop)]
 pub struct Board {
     /// The board's side of its table.
@@ -49,8 +49,8 @@ impl Model for Board {
 }
 
 impl Board {
-    /// A board with the game of a numbered start. All memory of the board is reserved here. `follow` asks for none, though its
-    /// contract leaves it `OutOfMemory`: it answers that only where the table has as many owners as can be counted.
+    /// A board with the game of a numbered start. All memory of the board is reserved here. `follow` allocates nothing, although its
+    /// contract allows `OutOfMemory`: it answers that only if the table has as many owners as can be counted.
     /// Refused: `BadStart` exactly from 960 on, and `OutOfMemory`.
     pub fn open(alloc: Global, start: u16, limits: Limits) -> Result<Board, Refusal>
         ensures bad_start { (result ≡ Err Refusal.BadStart) ↔ (960 ≤ start) }
@@ -94,7 +94,7 @@ impl Board {
         self.desk.capacity() as u16
     }
 
-    /// The move at a place of the log, counted from 0: None exactly from the log's length on.
+    /// The move at a place of the log, counted from 0, or None exactly from the log's length on.
     pub fn move_at(&self, place: u16) -> Option<Move>
         ensures value { result ≡ slice_get self.now.knows.log place }
         ensures valid { IsLegalGame self.now.knows }
@@ -110,7 +110,7 @@ impl Board {
         self.game.position()
     }
 
-    /// The position after that many moves: None exactly where fewer were made.
+    /// The position after that many moves, or None exactly if fewer were made.
     pub fn position_at(&self, place: u16) -> Option<Position>
         ensures value { result ≡ position_at self.now.knows.setup.start self.now.knows.log place }
         ensures valid { IsLegalGame self.now.knows }
@@ -118,7 +118,7 @@ impl Board {
         self.game.position_at(place)
     }
 
-    /// The position after that many moves, to be worked out without the board: None exactly where fewer were made.
+    /// The position after that many moves, to be worked out without the board, or None exactly if fewer were made.
     pub fn replay_at(&self, place: u16) -> Option<Replaying>
         ensures value { result ≡ position_at self.now.knows.setup.start self.now.knows.log place }
         ensures valid { IsLegalGame self.now.knows }
@@ -134,17 +134,17 @@ impl Board {
         self.game.outcome()
     }
 
-    /// The word at a place of the board's table, as it stands just now; docs/LIVE.md has what the words say. None exactly where the table
-    /// ends: it has the header, the status, a word for each follower and one for each ply. It is for those who look on: no other call
-    /// goes by it, and the answer says nothing of what the board's seat knows.
-    pub fn word(&self, place: u64) -> Option<u64>
-        ensures { IsSome result ↔ (place < self.now.knows.setup.limits.followers + 2 + self.now.knows.setup.limits.plies) }
+    /// The word of this number of the table at this moment; docs/LIVE.md says what the words mean. It is None exactly from the table's
+    /// end on: the table has the header, the status, a word for each follower and one for each ply. This is for observers: no other call
+    /// uses it, and the answer says nothing about what the board's seat knows.
+    pub fn word(&self, number: u64) -> Option<u64>
+        ensures { IsSome result ↔ (number < self.now.knows.setup.limits.followers + 2 + self.now.knows.setup.limits.plies) }
     {
-        self.desk.word(place)
+        self.desk.word(number)
     }
 
-    /// Makes a move: its place in the log, and the outcome where it ends the game. Refused as by `Game::play`, and then nothing has
-    /// changed. Each follower that is open and a capacity behind is closed first, in the order of their places; then the move is stored,
+    /// Makes a move. Returns its place in the log, and the outcome if it ends the game. Refused as by `Game::play`, and then nothing has
+    /// changed. Each follower that is open and a capacity behind is closed first, in the order of their slots. Then the move is stored,
     /// and then the status.
     pub fn submit(&mut self, m: Move) -> Result<(u16, Option<Outcome>), Refusal>
         ensures answer { result ≡ with_place (length self.old.knows.log) (play_answer (game_of self.old.knows) m) }
@@ -178,10 +178,10 @@ impl Board {
         Ok(outcome)
     }
 
-    /// A follower that takes from the place `from` of the log, or from the log's present length. Refused, in this order: `NotYet`
-    /// where the log has not reached the place; `TooFarBack` where the log goes more than a capacity beyond it; `TooManyFollowers`
-    /// only where each cursor was loaded in this call and none is noted vacant; `OutOfMemory` only where one is. A refused call makes
-    /// no step but loads of cursors.
+    /// A follower that takes from the place `from` of the log, or else from the log's present length. Refused, in this order: `NotYet`
+    /// if the log has not reached the place; `TooFarBack` if the log goes more than a capacity beyond it; `TooManyFollowers`
+    /// only if each cursor was loaded in this call and none is noted vacant; `OutOfMemory` only if one is. A refused call makes
+    /// no steps except loads of cursors.
     pub fn follow(&mut self, from: Option<u16>) -> Result<Follower, Refusal>
         ensures table { self.new.table ≡ self.old.table }
         ensures not_yet { (result ≡ Err Refusal.NotYet) ↔ IsNotYet self.old.knows (from_place self.old.knows from) }
@@ -190,8 +190,8 @@ impl Board {
         ensures too_many { (result ≡ Err Refusal.TooManyFollowers) → LoadedBelow self.old.knows.setup.limits.followers self.old.knows self.new.knows × NoneVacant self.new.knows }
         ensures memory { (result ≡ Err Refusal.OutOfMemory) → (k : ℕ) × (get_elem? self.new.knows.notes k ≡ some Vacant) }
         ensures refused { OnErr result (Searched self.old.knows self.new.knows) }
-        ensures follower { IfOk result (λ f. (f.table ≡ self.old.table) × (f.part ≡ newcomer f.part.place (from_place self.old.knows from) self.old.knows)) }
-        ensures knows { IfOk result (λ f. Joined f.part.place (from_place self.old.knows from) self.old.knows self.new.knows) }
+        ensures follower { IfOk result (λ f. (f.table ≡ self.old.table) × (f.part ≡ newcomer f.part.slot (from_place self.old.knows from) self.old.knows)) }
+        ensures knows { IfOk result (λ f. Joined f.part.slot (from_place self.old.knows from) self.old.knows self.new.knows) }
         ensures log { self.new.knows.log ≡ self.old.knows.log }
         ensures outcome { self.new.knows.outcome ≡ self.old.knows.outcome }
         ensures closings { self.new.knows.closings ≡ self.old.knows.closings }
@@ -201,12 +201,7 @@ impl Board {
     {
         let len = self.game.len();
         let place = from.unwrap_or(len);
-        if len < place {
-            return Err(Refusal::NotYet);
-        }
-        if u64::from(len - place) > self.desk.capacity() {
-            return Err(Refusal::TooFarBack);
-        }
+        may_join_at(len, place, self.desk.capacity() as u16)?;
         let outcome = self.game.outcome();
         let Some(cursor) = self.desk.find_vacant() else {
             return Err(Refusal::TooManyFollowers);
@@ -217,73 +212,80 @@ impl Board {
     }
 }
 
-/// For a keeper that holds all of a board's followers at the board's own seat, so that one thread steps for the board and for each of
-/// them. A follower is known by its cursor place here, and no seat is handed out.
+/// For a keeper that holds all followers of a board at the board's own seat, so that one thread makes the steps of the board and of all
+/// of them. Here a follower is known by its slot, and no seat is handed out.
 impl Board {
-    /// The first cursor place that is noted vacant.
-    pub fn vacant_place(&self) -> Option<u64>
-        ensures place { MatchOption result (NoneVacant self.now.knows) (λ k. (k < self.now.knows.setup.limits.followers) × (get_elem? self.now.knows.notes k ≡ some Vacant)) }
+    /// The first slot that is noted vacant.
+    pub fn vacant_slot(&self) -> Option<u64>
+        ensures slot { MatchOption result (NoneVacant self.now.knows) (λ k. (k < self.now.knows.setup.limits.followers) × (get_elem? self.now.knows.notes k ≡ some Vacant)) }
         ensures first { IfSome result (λ k. NoneVacantBelow k self.now.knows) }
         ensures valid { IsLegalGame self.now.knows }
     {
         self.desk.vacant()
     }
 
-    /// A follower joins at a vacant cursor place, and takes from the place `from` of the log. It takes no memory.
-    pub fn seat_at(&mut self, cursor_place: u64, from: u16)
-        requires inside { cursor_place < self.old.knows.setup.limits.followers }
-        requires vacant { get_elem? self.old.knows.notes cursor_place ≡ some Vacant }
+    /// Adds a follower in a vacant slot. It takes from the place `from` of the log. It allocates nothing.
+    pub fn join_at(&mut self, slot: u64, from: u16)
+        requires inside { slot < self.old.knows.setup.limits.followers }
+        requires vacant { get_elem? self.old.knows.notes slot ≡ some Vacant }
         requires from { (from ≤ length self.old.knows.log) × (length self.old.knows.log ≤ from + self.old.knows.setup.limits.capacity) }
         ensures table { self.new.table ≡ self.old.table }
-        ensures knows { self.new.knows ≡ followed cursor_place from self.old.knows }
+        ensures knows { self.new.knows ≡ followed slot from self.old.knows }
         ensures valid { IsLegalGame self.new.knows }
         ensures sound { IsSound self.new.knows }
     {
-        self.desk.seat_at(cursor_place, u64::from(from));
+        self.desk.join_at(slot, u64::from(from));
     }
 
-    /// Takes for the follower at the cursor place, which takes the move at the place `next` of the log next. It takes no memory.
-    pub fn take_at(&mut self, cursor_place: u64, next: u16) -> Taken
-        requires { CarriesAt self.old.knows cursor_place next }
-        ensures answer { result ≡ taken_of next self.old.knows.outcome (cut_at self.old.knows cursor_place) (due_at self.old.knows cursor_place next) }
+    /// Takes for the follower in the slot, whose next move is the one at the place `next` of the log. It allocates nothing.
+    pub fn take_at(&mut self, slot: u64, next: u16) -> Taken
+        requires { CarriesAt self.old.knows slot next }
+        ensures answer { result ≡ taken_of next self.old.knows.outcome (closing_at self.old.knows slot) (due_at self.old.knows slot next) }
         ensures table { self.new.table ≡ self.old.table }
-        ensures knows { TookAt cursor_place result self.old.knows self.new.knows }
+        ensures knows { TookAt slot result self.old.knows self.new.knows }
         ensures valid { IsLegalGame self.new.knows }
         ensures sound { IsSound self.new.knows }
     {
-        if self.desk.closing_at(cursor_place) == Some(u64::from(next)) {
+        let closing = self.desk.closing_at(slot);
+        let place = u64::from(next);
+        let len = u64::from(self.game.len());
+        let answer = without_move(closing, place, len, self.game.outcome());
+        if is_cut(&answer) {
             return Taken::Cut;
         }
         self.desk.look();
-        if next < self.game.len() {
-            let m = self.desk.gain_at(cursor_place, u64::from(next));
-            return Taken::Move(next, m);
-        }
-        match self.game.outcome() {
-            Some(outcome) => Taken::Over(outcome),
-            None => Taken::Nothing,
+        match answer {
+            Some(answer) => answer,
+            None => Taken::Move(next, self.desk.gain_at(slot, place)),
         }
     }
 
-    /// The follower at the cursor place leaves, and the place is noted vacant. Tells the length at which it was closed, if it was. It
-    /// takes no memory.
-    pub fn leave_at(&mut self, place: u64) -> Option<u64>
-        requires { Carries self.old.knows place }
-        ensures closing { result ≡ cut_at self.old.knows place }
+    /// Removes the follower in the slot, which is then noted vacant. Returns the length at which it was closed, if it was. It
+    /// allocates nothing.
+    pub fn leave_at(&mut self, slot: u64) -> Option<u64>
+        requires { Carries self.old.knows slot }
+        ensures closing { result ≡ closing_at self.old.knows slot }
         ensures table { self.new.table ≡ self.old.table }
-        ensures knows { (status cursor : ℕ) × (self.new.knows ≡ left_at (place + 2) cursor (each_part (sees status) self.old.knows)) }
+        ensures knows { (status cursor : ℕ) × (self.new.knows ≡ left_at (slot + 2) cursor (each_part (sees status) self.old.knows)) }
         ensures valid { IsLegalGame self.new.knows }
         ensures sound { IsSound self.new.knows }
     {
-        let closing = self.desk.closing_at(place);
+        let closing = self.desk.closing_at(slot);
         self.desk.look();
-        self.desk.leave_at(place);
+        self.desk.leave_at(slot);
         closing
     }
 }
 
-/// The board and one of its followers compare what they know: the follower sees the board's length and outcome, and its closing if it
-/// was closed. The account is what it would be told if it left now.
+/// Whether a take is answered `Cut`.
+fn is_cut(answer: &Option<Taken>) -> bool
+    ensures { (result ≡ true) ↔ (answer.now ≡ Some Taken.Cut) }
+{
+    matches!(answer, Some(Taken::Cut))
+}
+
+/// The board and one of its followers compare what they know. The follower sees the board's length and outcome, and its closing if it
+/// was closed. The account is the one that it would get if it left now.
 pub fn meet(board: &mut Board, follower: &mut Follower) -> Account
     requires { follower.old.table ≡ board.old.table }
     ensures table { (board.new.table ≡ board.old.table) × (follower.new.table ≡ follower.old.table) }

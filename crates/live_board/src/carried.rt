@@ -1,50 +1,50 @@
-//! What a board does at its own seat for a follower whose part it carries there. No seat is handed out, so that one thread steps for
-//! the board and for all of its followers.
+//! What a board does at its own seat for a follower whose part it carries there. No seat is handed out, so that one thread makes the steps
+//! of the board and of all its followers.
 
 ghost use Rattle.std.specs.Prelude.{◌≡◌, ℕ, ◌+◌, ◌<◌, ◌≤◌, true, length, Some};
 ghost use mathlib.Core.Option.{some};
 ghost use lib.ListN.{get_elem?};
-ghost use Rattle.live_steps.specs.Board.{move_at};
-ghost use Rattle.live_steps.specs.declared.note.Note.TheVariants.{Vacant};
-ghost use Rattle.live_steps.specs.declared.view.Part.{Part};
-ghost use Rattle.live_steps.specs.Sound.{IsSound};
-ghost use Rattle.live_steps.specs.Views.{each_part, finds, followed, gains, left_at, next_of, only_at, sees};
-ghost use Rattle.live_steps.specs.Words.{length_in, move_word_at, outcome_in};
-ghost use Rattle.live_board.specs.Carried.{Carries, cut_at};
+ghost use Rattle.live_board.specs.SharedBoard.{move_at};
+ghost use Rattle.live_board.specs.declared.note.Note.TheVariants.{Vacant};
+ghost use Rattle.live_board.specs.declared.view.Part.{Part};
+ghost use Rattle.live_board.specs.Sound.{IsSound};
+ghost use Rattle.live_board.specs.Views.{each_part, finds, followed, gains, left_at, next_of, only_at, sees};
+ghost use Rattle.live_board.specs.Words.{length_in, move_word_at, outcome_in};
+ghost use Rattle.live_board.specs.Carried.{Carries, closing_at};
 
+use crate::Note;
 use crate::desk::Desk;
+use crate::kinds::{Follow, Leave, Look, Read, Take};
+use crate::words::{STATUS, cursor_at, move_word_at, open_cursor};
 use c960_board::Move;
-use live_steps::Note;
-use live_steps::plays::{Follow, Leave, Look, Read, Take};
-use live_steps::words::{STATUS, cursor_at, move_word_at, open_cursor};
 
 impl Desk {
-    /// The closing of the follower at the place.
-    pub(crate) fn closing_at(&self, place: u64) -> Option<u64>
-        requires { Carries self.now.knows place }
-        ensures closing { result ≡ cut_at self.now.knows place }
+    /// The closing of the follower in the slot.
+    pub(crate) fn closing_at(&self, slot: u64) -> Option<u64>
+        requires { Carries self.now.knows slot }
+        ensures closing { result ≡ closing_at self.now.knows slot }
         ensures sound { IsSound self.now.knows }
         ensures owns { self.now.knows.owns ≡ true }
     {
-        match self.notes[place as usize] {
+        match self.notes[slot as usize] {
             Note::Closed(closing) => Some(closing),
             _ => None,
         }
     }
 
-    /// A follower joins at a vacant cursor place, and takes from the place `from` of the log. Its part stays here.
-    pub(crate) fn seat_at(&mut self, cursor_place: u64, from: u64)
-        requires inside { cursor_place < self.old.knows.setup.limits.followers }
-        requires vacant { get_elem? self.old.knows.notes cursor_place ≡ some Vacant }
+    /// Adds a follower in a vacant slot. It takes from the place `from` of the log. Its part stays here.
+    pub(crate) fn join_at(&mut self, slot: u64, from: u64)
+        requires inside { slot < self.old.knows.setup.limits.followers }
+        requires vacant { get_elem? self.old.knows.notes slot ≡ some Vacant }
         requires from { (from ≤ length self.old.knows.log) × (length self.old.knows.log ≤ from + self.old.knows.setup.limits.capacity) }
         ensures table { self.new.table ≡ self.old.table }
-        ensures knows { self.new.knows ≡ followed cursor_place from self.old.knows }
+        ensures knows { self.new.knows ≡ followed slot from self.old.knows }
         ensures sound { IsSound self.new.knows }
     {
         let shared = &self.table.shared;
         let cursor = open_cursor(from);
-        shared.store::<Follow>(&mut self.seat, cursor_at(cursor_place), cursor);
-        self.notes[cursor_place as usize] = Note::Open {
+        shared.store::<Follow>(&mut self.seat, cursor_at(slot), cursor);
+        self.notes[slot as usize] = Note::Open {
             joined: from,
             next: from,
         };
@@ -61,14 +61,14 @@ impl Desk {
         let _status = shared.load::<Look>(&mut self.seat, STATUS);
     }
 
-    /// Takes the move at the place `next` of the log for the follower at the cursor place, whose part has seen a length beyond it.
-    pub(crate) fn gain_at(&mut self, cursor_place: u64, next: u64) -> Move
-        requires part { (i : ℕ) × (p : Part) × (get_elem? self.old.knows.parts i ≡ some p) × (p.place ≡ cursor_place) × (next_of p ≡ next)
+    /// Takes the move at the place `next` of the log for the follower in the slot. Its part has seen a length beyond `next`.
+    pub(crate) fn gain_at(&mut self, slot: u64, next: u64) -> Move
+        requires part { (i : ℕ) × (p : Part) × (get_elem? self.old.knows.parts i ≡ some p) × (p.slot ≡ slot) × (next_of p ≡ next)
             × (next_of p < p.seen) × ((c : ℕ) → p.closing ≡ Some c → next_of p < c) }
         requires within { next < length self.old.knows.log }
         ensures table { self.new.table ≡ self.old.table }
         ensures move_is { result ≡ move_at self.old.knows.log next }
-        ensures knows { (cursor : ℕ) × (self.new.knows ≡ each_part (only_at (cursor_place + 2) (gains cursor)) (each_part (finds (move_word_at self.old.knows.setup.limits next) result) self.old.knows)) }
+        ensures knows { (cursor : ℕ) × (self.new.knows ≡ each_part (only_at (slot + 2) (gains cursor)) (each_part (finds (move_word_at self.old.knows.setup.limits next) result) self.old.knows)) }
         ensures sound { IsSound self.new.knows }
     {
         let word = move_word_at(self.setup.limits, next);
@@ -77,19 +77,19 @@ impl Desk {
         let Some(m) = Move::of_code(code) else {
             unreachable!();
         };
-        let _cursor = shared.fetch_add::<Take>(&mut self.seat, cursor_at(cursor_place), 1);
+        let _cursor = shared.fetch_add::<Take>(&mut self.seat, cursor_at(slot), 1);
         m
     }
 
-    /// The follower at the place leaves, and the place is noted vacant.
-    pub(crate) fn leave_at(&mut self, place: u64)
-        requires { Carries self.old.knows place }
+    /// Removes the follower in the slot, which is then noted vacant.
+    pub(crate) fn leave_at(&mut self, slot: u64)
+        requires { Carries self.old.knows slot }
         ensures table { self.new.table ≡ self.old.table }
-        ensures knows { (cursor : ℕ) × (self.new.knows ≡ left_at (place + 2) cursor self.old.knows) }
+        ensures knows { (cursor : ℕ) × (self.new.knows ≡ left_at (slot + 2) cursor self.old.knows) }
         ensures sound { IsSound self.new.knows }
     {
         let shared = &self.table.shared;
-        let _cursor = shared.swap::<Leave>(&mut self.seat, cursor_at(place), 0);
-        self.notes[place as usize] = Note::Vacant;
+        let _cursor = shared.swap::<Leave>(&mut self.seat, cursor_at(slot), 0);
+        self.notes[slot as usize] = Note::Vacant;
     }
 }

@@ -1,13 +1,13 @@
-//! What the board notes of a cursor, once its word was loaded.
+//! What the board notes of a cursor after loading its word.
 
 ghost use Rattle.std.specs.Prelude.{◌≡◌, ℕ, ◌<◌};
-ghost use Rattle.live_steps.specs.declared.note.Note.TheVariants.{Open};
-ghost use Rattle.live_steps.specs.Words.{joined_noted, note_after};
+ghost use Rattle.live_board.specs.declared.note.Note.TheVariants.{Open};
+ghost use Rattle.live_board.specs.Words.{joined_noted, note_after};
 
-use live_steps::Note;
-use live_steps::words::{closing_in, is_open, place_in};
+use crate::Note;
+use crate::words::{closing_in, is_open, place_in};
 
-/// The joining place that is noted, 0 where none is.
+/// The joining place that is noted, or 0 if there is none.
 fn joined_noted(note: Note) -> u64
     ensures { result ≡ joined_noted note }
 {
@@ -17,8 +17,8 @@ fn joined_noted(note: Note) -> u64
     }
 }
 
-/// Makes a note what it becomes where the cursor says this, and tells it. What most cursors say is asked first: that their place is vacant
-/// still, where nothing is written, or that the follower may have taken on.
+/// Updates a note with what the cursor says, and returns it. The commonest cases are tested first: the slot is still
+/// vacant, and nothing is written; or the follower is open and may have taken more moves.
 pub fn renew(note: &mut Note, word: u64) -> Note
     ensures note { note.new ≡ note_after note.old word }
     ensures result { result ≡ note_after note.old word }
@@ -35,7 +35,7 @@ pub fn renew(note: &mut Note, word: u64) -> Note
     *note
 }
 
-/// What the note of a cursor becomes where the cursor says this.
+/// What a cursor's note becomes when the cursor says this.
 pub fn note_after(note: Note, word: u64) -> Note
     ensures { result ≡ note_after note word }
 {

@@ -1,5 +1,5 @@
-//! A board's side of its table: the seat, and what the board keeps of the seat's view. It knows no rules of chess; the game stands
-//! beside it, so that while a move is being stored the game may be one move ahead of the view.
+//! A board's side of its table: the seat, and what the board keeps of the seat's view. It knows no rules of chess. The game is kept
+//! separately, so that while a move is being stored the game may be one move ahead of the view.
 
 ghost use Rattle.std.specs.Prelude.{◌≡◌, ◌↔◌, false, true, ℕ, ◌+◌, ◌<◌, ◌≤◌, ◌++◌, ◌∷◌, [], length, Some, None, IfOk, IfErr, IfSome, IsSome, MatchOption};
 ghost use mathlib.Core.Option.{some};
@@ -9,25 +9,25 @@ ghost use Rattle.c960_game.specs.Ending.{named_outcome};
 ghost use Rattle.c960_game.specs.Ends.{own_outcome};
 ghost use Rattle.c960_game.specs.Ground.{Ground};
 ghost use Rattle.c960_game.specs.Positions.{last_position};
-ghost use Rattle.live_steps.specs.Limits.{AreBoardLimits};
-ghost use Rattle.live_steps.specs.declared.note.Note.TheVariants.{Open, Vacant};
-ghost use Rattle.live_steps.specs.Sound.{IsSound, IsSoundPart};
-ghost use Rattle.live_steps.specs.Views.{finished, followed, kept_part, newcomer, published, starting, storing};
+ghost use Rattle.live_board.specs.Limits.{AreBoardLimits};
+ghost use Rattle.live_board.specs.declared.note.Note.TheVariants.{Open, Vacant};
+ghost use Rattle.live_board.specs.Sound.{IsSound, IsSoundPart};
+ghost use Rattle.live_board.specs.Views.{finished, followed, kept_part, newcomer, published, starting, storing};
 ghost use Rattle.live_board.specs.Desk.{Asked, Checked, CheckedBelow, Exchanged, FreeBelow, IsNotedFull, LoadedBelow, MayBeFull, NoneVacant, NoneVacantBelow, Searched, Tried, TriedBelow, Unmoved};
 ghost use Rattle.live_board.specs.Meeting.{Met};
 ghost use Rattle.live_board.specs.Seats.{NoneBefore};
 
 use crate::cursor::{note_after, renew};
 use crate::follower::Follower;
-use atomic_table::{Seat, Table};
-use c960_board::Move;
-use c960_game::{Ending, Outcome};
-use live_steps::plays::{Check, Cut, Finish, Hand, Look, Publish, Spare, Store};
-use live_steps::words::{
+use crate::kinds::{Check, Close, Finish, Hand, Look, Publish, Spare, Store};
+use crate::words::{
     STATUS, closed_cursor, closing_in, cursor_at, header, length_in, move_word_at, open_cursor,
     outcome_in, status, word_count,
 };
-use live_steps::{BoardSetup, LiveRule, Note, View};
+use crate::{BoardSetup, LiveRule, Note, View};
+use atomic_table::{Seat, Table};
+use c960_board::Move;
+use c960_game::{Ending, Outcome};
 use std::alloc::{AllocError, Global};
 use std::marker::Model;
 use std::mem::swap;
@@ -45,9 +45,9 @@ pub struct Desk {
     pub(crate) seat: Seat<(), View>,
     /// The number of its start, and its limits.
     pub(crate) setup: BoardSetup,
-    /// The length of the log: how many moves were published.
+    /// The length of the log: the number of moves published.
     pub(crate) len: u64,
-    /// What is noted of each cursor place, by its number.
+    /// What is noted of each slot, indexed by its number.
     pub(crate) notes: Vec<Note>,
     /// No open follower is noted at a place of the log before this one, which is at most the length. So none can be full while the log
     /// is less than a capacity beyond it.
@@ -95,7 +95,7 @@ impl Desk {
         })
     }
 
-    /// Stores a legal move, and then the length with the outcome that the game has by itself.
+    /// Stores a legal move, then the new length with the outcome that the game has by itself.
     pub fn publish(&mut self, m: Move, outcome: Option<Outcome>)
         requires going { self.old.knows.outcome ≡ None }
         requires within { length self.old.knows.log < self.old.knows.setup.limits.plies }
@@ -131,101 +131,96 @@ impl Desk {
 }
 
 impl Desk {
-    /// Loads the cursor at the place, and notes what it says: the new note.
-    pub fn check(&mut self, place: u64) -> Note
-        requires { place < self.old.knows.setup.limits.followers }
-        ensures note { get_elem? self.new.knows.notes place ≡ some result }
+    /// Loads the cursor of the slot and notes what it says. Returns the new note.
+    pub fn check(&mut self, slot: u64) -> Note
+        requires { slot < self.old.knows.setup.limits.followers }
+        ensures note { get_elem? self.new.knows.notes slot ≡ some result }
         ensures next { (joined next : ℕ) → result ≡ Open joined next → next < 4294967296 }
         ensures table { self.new.table ≡ self.old.table }
-        ensures knows { Checked self.old.knows place self.new.knows }
+        ensures knows { Checked self.old.knows slot self.new.knows }
         ensures before { IsSound self.old.knows }
         ensures sound { IsSound self.new.knows }
     {
         let shared = &self.table.shared;
-        let word = shared.load::<Check>(&mut self.seat, cursor_at(place));
-        renew(&mut self.notes[place as usize], word)
+        let word = shared.load::<Check>(&mut self.seat, cursor_at(slot));
+        renew(&mut self.notes[slot as usize], word)
     }
 
-    /// Closes the follower at the place, whose cursor was open at `next` when it was last loaded, if it still is.
-    fn exchange(&mut self, cursor_place: u64, next: u64)
-        requires inside { cursor_place < self.old.knows.setup.limits.followers }
-        requires full { IsNotedFull self.old.knows cursor_place next }
+    /// Closes the follower in the slot if its cursor is still open at `next`, as it was when it was last loaded.
+    fn exchange(&mut self, slot: u64, next: u64)
+        requires inside { slot < self.old.knows.setup.limits.followers }
+        requires full { IsNotedFull self.old.knows slot next }
         ensures table { self.new.table ≡ self.old.table }
-        ensures knows { Exchanged self.old.knows cursor_place next self.new.knows }
+        ensures knows { Exchanged self.old.knows slot next self.new.knows }
         ensures sound { IsSound self.new.knows }
     {
         let len = self.len;
         let open = open_cursor(next);
         let closed = closed_cursor(next, len);
         let shared = &self.table.shared;
-        let word = shared.compare_exchange::<Cut>(
-            &mut self.seat,
-            cursor_at(cursor_place),
-            open,
-            closed,
-        );
+        let word = shared.compare_exchange::<Close>(&mut self.seat, cursor_at(slot), open, closed);
         let note = if word == open {
             Note::Closed(len)
         } else {
-            note_after(self.notes[cursor_place as usize], word)
+            note_after(self.notes[slot as usize], word)
         };
-        self.notes[cursor_place as usize] = note;
+        self.notes[slot as usize] = note;
     }
 
-    /// Whether the follower at the place may be full, by what is noted of it.
-    fn may_be_full(&self, place: u64) -> bool
-        requires { place < self.now.knows.setup.limits.followers }
-        ensures full { (result ≡ true) ↔ MayBeFull self.now.knows place }
+    /// Whether the follower in the slot may be full, according to its note.
+    fn may_be_full(&self, slot: u64) -> bool
+        requires { slot < self.now.knows.setup.limits.followers }
+        ensures full { (result ≡ true) ↔ MayBeFull self.now.knows slot }
         ensures sound { IsSound self.now.knows }
     {
         let capacity = self.setup.limits.capacity;
-        match self.notes[place as usize] {
+        match self.notes[slot as usize] {
             Note::Open { next, .. } => capacity <= self.len && next <= self.len - capacity,
             _ => false,
         }
     }
 
-    /// Loads the cursor at the place, and closes the follower there if it is full.
-    fn ask(&mut self, place: u64)
-        requires { place < self.old.knows.setup.limits.followers }
+    /// Loads the cursor of the slot, and closes the follower there if it is full.
+    fn ask(&mut self, slot: u64)
+        requires { slot < self.old.knows.setup.limits.followers }
         ensures table { self.new.table ≡ self.old.table }
-        ensures knows { Asked self.old.knows place self.new.knows }
+        ensures knows { Asked self.old.knows slot self.new.knows }
         ensures before { IsSound self.old.knows }
         ensures sound { IsSound self.new.knows }
     {
-        if let Note::Open { next, .. } = self.check(place) {
+        if let Note::Open { next, .. } = self.check(slot) {
             if next + self.setup.limits.capacity == self.len {
-                self.exchange(place, next);
+                self.exchange(slot, next);
             }
         }
     }
 
-    /// Closes the follower at the place if it is full. Its cursor is loaded only where it may be.
-    fn close_at(&mut self, place: u64)
-        requires { place < self.old.knows.setup.limits.followers }
+    /// Closes the follower in the slot if it is full. Its cursor is loaded only if it may be.
+    fn close_at(&mut self, slot: u64)
+        requires { slot < self.old.knows.setup.limits.followers }
         ensures table { self.new.table ≡ self.old.table }
-        ensures knows { Tried self.old.knows place self.new.knows }
+        ensures knows { Tried self.old.knows slot self.new.knows }
         ensures before { IsSound self.old.knows }
         ensures sound { IsSound self.new.knows }
     {
-        if self.may_be_full(place) {
-            self.ask(place);
+        if self.may_be_full(slot) {
+            self.ask(slot);
         }
     }
 
-    /// The place that is noted of an open follower there, else the log's length.
-    fn noted_at(&self, place: u64) -> u64
-        requires { place < self.now.knows.setup.limits.followers }
-        ensures open { (joined next : ℕ) → get_elem? self.now.knows.notes place ≡ some (Open joined next) → result ≡ next }
-        ensures unopened { ((joined next : ℕ) → get_elem? self.now.knows.notes place ≡ some (Open joined next) → ⊥) → result ≡ length self.now.knows.log }
+    /// The noted place of an open follower there, or else the log's length.
+    fn noted_at(&self, slot: u64) -> u64
+        requires { slot < self.now.knows.setup.limits.followers }
+        ensures open { (joined next : ℕ) → get_elem? self.now.knows.notes slot ≡ some (Open joined next) → result ≡ next }
+        ensures unopened { ((joined next : ℕ) → get_elem? self.now.knows.notes slot ≡ some (Open joined next) → ⊥) → result ≡ length self.now.knows.log }
     {
-        match self.notes[place as usize] {
+        match self.notes[slot as usize] {
             Note::Open { next, .. } => next,
             _ => self.len,
         }
     }
 
-    /// Closes each full follower, in the order of their places: a place of the log before which no open follower is noted then.
+    /// Closes each full follower, in the order of their slots. Returns a place of the log before which no open follower is then noted.
     fn close_each(&mut self) -> u64
         ensures table { self.new.table ≡ self.old.table }
         ensures knows { TriedBelow self.old.knows.setup.limits.followers self.old.knows self.new.knows }
@@ -238,15 +233,15 @@ impl Desk {
         ensures low { result ≤ length self.new.knows.log }
     {
         let mut least = self.len;
-        for place in 0..self.setup.limits.followers {
-            self.close_at(place);
-            least = least.min(self.noted_at(place));
+        for slot in 0..self.setup.limits.followers {
+            self.close_at(slot);
+            least = least.min(self.noted_at(slot));
         }
         least
     }
 
-    /// Closes each full follower, in the order of their places. While nobody can be full, it looks at no place.
-    #[tactic(auto, using(crate::proofs::Tries::tried_none))]
+    /// Closes each full follower, in the order of their slots. As long as no follower can be full, it looks at no slot.
+    #[tactic(auto, using(crate::proofs::lemmas::Tries::tried_none))]
     pub fn close_full(&mut self)
         ensures table { self.new.table ≡ self.old.table }
         ensures knows { TriedBelow self.old.knows.setup.limits.followers self.old.knows self.new.knows }
@@ -261,7 +256,7 @@ impl Desk {
         }
     }
 
-    /// Whether anybody can be full: where not, each open follower is noted less than a capacity behind.
+    /// Whether any follower can be full. If not, each open follower is noted less than a capacity behind.
     fn can_be_full(&self) -> bool
         ensures free { result ≡ false → FreeBelow self.now.knows.setup.limits.followers self.now.knows }
         ensures sound { IsSound self.now.knows }
@@ -279,32 +274,32 @@ impl Desk {
         self.setup.limits.capacity
     }
 
-    /// The word at a place of the table, as it stands just now: None exactly where the table ends.
-    pub fn word(&self, place: u64) -> Option<u64>
-        ensures { IsSome result ↔ (place < self.now.knows.setup.limits.followers + 2 + self.now.knows.setup.limits.plies) }
+    /// The word of this number in the table at this moment, or None exactly from the table's end on.
+    pub fn word(&self, number: u64) -> Option<u64>
+        ensures { IsSome result ↔ (number < self.now.knows.setup.limits.followers + 2 + self.now.knows.setup.limits.plies) }
     {
-        if place < word_count(self.setup.limits) {
-            Some(self.table.shared.peek(place as usize))
+        if number < word_count(self.setup.limits) {
+            Some(self.table.shared.peek(number as usize))
         } else {
             None
         }
     }
 
-    /// The first place that is noted vacant.
+    /// The first slot that is noted vacant.
     pub fn vacant(&self) -> Option<u64>
-        ensures place { MatchOption result (NoneVacant self.now.knows) (λ k. (k < self.now.knows.setup.limits.followers) × (get_elem? self.now.knows.notes k ≡ some Vacant)) }
+        ensures slot { MatchOption result (NoneVacant self.now.knows) (λ k. (k < self.now.knows.setup.limits.followers) × (get_elem? self.now.knows.notes k ≡ some Vacant)) }
         ensures first { IfSome result (λ k. NoneVacantBelow k self.now.knows) }
         ensures sound { IsSound self.now.knows }
     {
-        for place in 0..self.notes.len() {
-            if let Note::Vacant = self.notes[place] {
-                return Some(place as u64);
+        for slot in 0..self.notes.len() {
+            if let Note::Vacant = self.notes[slot] {
+                return Some(slot as u64);
             }
         }
         None
     }
 
-    /// Loads each cursor once, in the order of their places, and notes what they say.
+    /// Loads each cursor once, in the order of their slots, and notes what they say.
     fn check_all(&mut self)
         ensures table { self.new.table ≡ self.old.table }
         ensures knows { CheckedBelow self.old.knows.setup.limits.followers self.old.knows self.new.knows }
@@ -313,43 +308,38 @@ impl Desk {
         ensures before { IsSound self.old.knows }
         ensures sound { IsSound self.new.knows }
     {
-        for place in 0..self.setup.limits.followers {
-            self.check(place);
+        for slot in 0..self.setup.limits.followers {
+            self.check(slot);
         }
     }
 
-    /// A place that is noted vacant: none only where each cursor was loaded now and then none is noted vacant.
+    /// A slot that is noted vacant. It is None only if each cursor was loaded now and none is noted vacant after that.
     pub fn find_vacant(&mut self) -> Option<u64>
         ensures table { self.new.table ≡ self.old.table }
         ensures knows { Searched self.old.knows self.new.knows }
         ensures kept { Unmoved self.old.knows self.new.knows }
-        ensures place { MatchOption result (LoadedBelow self.old.knows.setup.limits.followers self.old.knows self.new.knows × NoneVacant self.new.knows)
+        ensures slot { MatchOption result (LoadedBelow self.old.knows.setup.limits.followers self.old.knows self.new.knows × NoneVacant self.new.knows)
             (λ k. (k < self.new.knows.setup.limits.followers) × (get_elem? self.new.knows.notes k ≡ some Vacant)) }
         ensures before { IsSound self.old.knows }
         ensures sound { IsSound self.new.knows }
     {
-        if let Some(place) = self.vacant() {
-            return Some(place);
+        if let Some(slot) = self.vacant() {
+            return Some(slot);
         }
         self.check_all();
         self.vacant()
     }
 
-    /// A follower joins at a vacant cursor place, and takes from the place `from` of the log. None where the table has too many
-    /// owners; then nothing has changed.
-    pub fn sit(
-        &mut self,
-        cursor_place: u64,
-        from: u64,
-        outcome: Option<Outcome>,
-    ) -> Option<Follower>
-        requires inside { cursor_place < self.old.knows.setup.limits.followers }
-        requires vacant { get_elem? self.old.knows.notes cursor_place ≡ some Vacant }
+    /// Adds a follower in a vacant slot. It takes from the place `from` of the log. It is None if the table has too many
+    /// owners, and then nothing has changed.
+    pub fn sit(&mut self, slot: u64, from: u64, outcome: Option<Outcome>) -> Option<Follower>
+        requires inside { slot < self.old.knows.setup.limits.followers }
+        requires vacant { get_elem? self.old.knows.notes slot ≡ some Vacant }
         requires from { (from ≤ length self.old.knows.log) × (length self.old.knows.log ≤ from + self.old.knows.setup.limits.capacity) }
         requires outcome { outcome ≡ self.old.knows.outcome }
         ensures table { self.new.table ≡ self.old.table }
         ensures answer { MatchOption result (self.new ≡ self.old)
-            (λ f. (self.new.knows ≡ kept_part (followed cursor_place from self.old.knows)) × (f.table ≡ self.old.table) × (f.part ≡ newcomer cursor_place from self.old.knows)) }
+            (λ f. (self.new.knows ≡ kept_part (followed slot from self.old.knows)) × (f.table ≡ self.old.table) × (f.part ≡ newcomer slot from self.old.knows)) }
         ensures sound { IsSound self.new.knows }
         ensures sound_part { IfSome result (λ f. IsSoundPart f.part) }
     {
@@ -358,14 +348,14 @@ impl Desk {
         };
         let seen = self.len;
         let setup = self.setup;
-        self.seat_at(cursor_place, from);
+        self.join_at(slot, from);
         let shared = &self.table.shared;
         let seat = shared.split_seat::<Hand>(&mut self.seat);
         Some(Follower {
             table,
             seat,
             setup,
-            place: cursor_place,
+            slot,
             joined: from,
             taken: 0,
             seen,
@@ -374,7 +364,7 @@ impl Desk {
         })
     }
 
-    /// The follower's part joins the board's, sees the status and its cursor, and goes on in a seat of its own.
+    /// The follower's part joins the board's, sees the status and its cursor, and continues in a seat of its own.
     pub fn meet(&mut self, follower: &mut Follower)
         requires { follower.old.table ≡ self.old.table }
         ensures table { (self.new.table ≡ self.old.table) × (follower.new.table ≡ follower.old.table) }
@@ -382,8 +372,8 @@ impl Desk {
         ensures sound { IsSound self.new.knows }
         ensures sound_part { IsSoundPart follower.new.part }
     {
-        let place = follower.place as usize;
-        let word = cursor_at(follower.place);
+        let slot = follower.slot as usize;
+        let word = cursor_at(follower.slot);
         let shared = &self.table.shared;
         let mut seat = shared.split_seat::<Spare>(&mut self.seat);
         swap(&mut seat, &mut follower.seat);
@@ -395,7 +385,7 @@ impl Desk {
         follower.seen = length_in(status);
         follower.outcome = outcome_in(status);
         follower.closing = closing_in(cursor);
-        let note = self.notes[place];
-        self.notes[place] = note_after(note, cursor);
+        let note = self.notes[slot];
+        self.notes[slot] = note_after(note, cursor);
     }
 }

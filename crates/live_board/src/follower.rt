@@ -1,29 +1,29 @@
-//! Who takes a board's moves.
+//! A follower, which takes a board's moves.
 
 ghost use Rattle.std.specs.Prelude.{◌≡◌, ◌≢◌, ℕ, ◌+◌, ◌<◌, ◌≤◌, [], ◌∷◌, length, Some, None, unwrap_or, is_some};
-ghost use Rattle.live_steps.specs.declared.view.Part.{Part};
-ghost use Rattle.live_steps.specs.Sound.{IsSoundPart};
-ghost use Rattle.live_steps.specs.Views.{gains, holding, learns, next_of, sees};
-ghost use Rattle.live_steps.specs.Words.{closing_in, length_in, outcome_in};
+ghost use Rattle.live_board.specs.declared.view.Part.{Part};
+ghost use Rattle.live_board.specs.Sound.{IsSoundPart};
+ghost use Rattle.live_board.specs.Views.{gains, holding, learns, next_of, sees};
+ghost use Rattle.live_board.specs.Words.{closing_in, length_in, outcome_in};
 ghost use Rattle.live_board.specs.Accounts.{account_of};
 ghost use Rattle.live_board.specs.Takes.{HasSeenNoLess, Stays, StaysKnown, Took, TookOfGame};
 
 use crate::desk::LiveTable;
 use crate::gone::Gone;
+use crate::kinds::{Leave, Look, Read, Take};
+use crate::words::{STATUS, closing_in, cursor_at, length_in, move_word_at, outcome_in};
+use crate::{BoardSetup, View};
 use atomic_table::Seat;
 use c960_board::Move;
 use c960_game::Outcome;
-use live_steps::plays::{Leave, Look, Read, Take};
-use live_steps::words::{STATUS, closing_in, cursor_at, length_in, move_word_at, outcome_in};
-use live_steps::{BoardSetup, View};
-use relay_core::{Account, Taken};
+use relay_core::{Account, Taken, without_move};
 use std::alloc::Global;
 use std::marker::Model;
 use std::sync::Arc;
 
-/// Who takes the moves of one board, from the place of its log at which it joined, each once and in their order. It may move into
-/// another thread. To a contract it is its table and its part of what the seats there know. One that is dropped without `leave`
-/// keeps its place on the board taken.
+/// A follower takes the moves of one board, from the place of its log at which it joined, each once and in order. It may be moved to
+/// another thread. To a contract it is its table and its part of what the seats there know. If it is dropped without `leave`,
+/// its slot on the board stays taken.
 #[derive(Drop)]
 pub struct Follower {
     /// The words of its board.
@@ -32,8 +32,8 @@ pub struct Follower {
     pub(crate) seat: Seat<(), View>,
     /// The number of its board's start, and the board's limits.
     pub(crate) setup: BoardSetup,
-    /// Its cursor place.
-    pub(crate) place: u64,
+    /// Its slot.
+    pub(crate) slot: u64,
     /// The place of the log at which it joined.
     pub(crate) joined: u64,
     /// How many moves it has taken.
@@ -54,11 +54,11 @@ impl Model for Follower {
 
     ghost view = { λ f. record { table = f.seat.table_id; part = part_of f.seat.me.0 } };
 
-    ghost invariant = { λ f. IsFollower (arc_value f.table).shared.table_id (arc_value f.table).shared.key f.seat f.setup f.place f.joined f.taken f.seen f.outcome f.closing };
+    ghost invariant = { λ f. IsFollower (arc_value f.table).shared.table_id (arc_value f.table).shared.key f.seat f.setup f.slot f.joined f.taken f.seen f.outcome f.closing };
 }
 
-/// What a follower that joined there and has taken so many moves has had, where it was closed at that length if it was, and has
-/// seen the log at that length.
+/// What a follower has had that joined there and has taken this many moves. It was closed at that length, if it was, and has
+/// seen the log at the length `seen`.
 pub(crate) fn account(joined: u64, taken: u64, seen: u64, closing: Option<u64>) -> Account
     requires joined { joined < 65536 }
     requires taken { taken < 65536 }
@@ -92,7 +92,7 @@ impl Follower {
         self.taken as u16
     }
 
-    /// What it has had so far, by what it knows.
+    /// What it has had so far, as far as it knows.
     pub(crate) fn account(&self) -> Account
         ensures { result ≡ account_of self.now.part }
     {
@@ -135,13 +135,13 @@ impl Follower {
         let Some(m) = Move::of_code(code) else {
             unreachable!()
         };
-        let cursor = shared.fetch_add::<Take>(&mut self.seat, cursor_at(self.place), 1);
+        let cursor = shared.fetch_add::<Take>(&mut self.seat, cursor_at(self.slot), 1);
         self.taken += 1;
         self.closing = closing_in(cursor);
         m
     }
 
-    /// Takes where all that was seen has been taken: by the status, which it loads.
+    /// Makes a take when all moves seen have been taken: it loads the status and answers by that.
     #[inline(never)]
     #[tactic(auto, using(crate::proofs::Headlines::took_of_game))]
     fn take_unseen(&mut self) -> Taken
@@ -154,22 +154,19 @@ impl Follower {
     {
         let place = self.next();
         self.look();
-        if place < self.seen {
-            return Taken::Move(place as u16, self.gain());
-        }
-        match self.outcome {
-            Some(outcome) => Taken::Over(outcome),
-            None => Taken::Nothing,
+        match without_move(self.closing, place, self.seen, self.outcome) {
+            Some(answer) => answer,
+            None => Taken::Move(place as u16, self.gain()),
         }
     }
 
-    /// Takes the next move of the board; or tells that there is none yet, that the game is over, or that the follower was closed.
+    /// Takes the next move of the board, or reports that there is none yet, that the game is over, or that the follower was closed.
     ///
-    /// `Cut` where it knows of its closing and stands there. Else it takes the move where the next place lies below the length that it
-    /// has seen. Else it loads the status, once: where the next place lies below the length that it sees now, it takes the move; else it
-    /// answers `Over` or `Nothing` by that status.
+    /// It answers `Cut` if it knows of its closing and stands there. Otherwise, if the next place lies below the length that it
+    /// has seen, it takes the move. Otherwise it loads the status, once. If the next place lies below the length that it now sees, it
+    /// takes the move; if not, it answers `Over` or `Nothing` by that status.
     ///
-    /// So the moves that it has taken are, each once and in order, the stretch of the board's log from its joining place on, and the
+    /// Thus the moves that it has taken are, each once and in order, the stretch of the board's log from its joining place on, and the
     /// log is a legal game from its numbered start (`headline`).
     #[tactic(auto, using(crate::proofs::Headlines::took_of_game))]
     pub fn take(&mut self) -> Taken
@@ -180,16 +177,15 @@ impl Follower {
         ensures sound { IsSoundPart self.new.part }
     {
         let next = self.next();
-        if self.closing == Some(next) {
-            return Taken::Cut;
+        match without_move(self.closing, next, self.seen, self.outcome) {
+            None => Taken::Move(next as u16, self.gain()),
+            Some(Taken::Cut) => Taken::Cut,
+            // No move is left in what it has seen, so it looks again.
+            Some(_) => self.take_unseen(),
         }
-        if next < self.seen {
-            return Taken::Move(next as u16, self.gain());
-        }
-        self.take_unseen()
     }
 
-    /// Gives its place on the board back: loads the status, then swaps its cursor for a vacant one. The account has its closing, as
+    /// Gives up its slot on the board: loads the status, then swaps its cursor for a vacant one. The account has its closing, as
     /// the swap shows it, or else the length that it loaded: no less than it had seen, and a closing that it knew is in the account. So the
     /// place that it would take next is not beyond the limit. What the part that left had taken is a stretch of the log of a legal game.
     pub fn leave(self) -> (Account, Gone)
@@ -206,14 +202,14 @@ impl Follower {
             table,
             mut seat,
             setup: _,
-            place,
+            slot,
             joined,
             taken,
             seen,
             outcome: _,
             closing: _,
         } = follower;
-        let cursor = table.shared.swap::<Leave>(&mut seat, cursor_at(place), 0);
+        let cursor = table.shared.swap::<Leave>(&mut seat, cursor_at(slot), 0);
         (
             account(joined, taken, seen, closing_in(cursor)),
             Gone { seat },

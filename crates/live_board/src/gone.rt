@@ -1,7 +1,7 @@
-//! What is left of a follower that left.
+//! What remains of a follower that left.
 
+use crate::View;
 use atomic_table::Seat;
-use live_steps::View;
 use std::marker::Model;
 
 /// The seat of a follower that left, kept for its view alone. It has no calls.

@@ -6,6 +6,7 @@ import sys
 
 sys.path.append(str(pathlib.Path(__file__).resolve().parents[3] / "tools"))
 
+import devices
 import games
 import limits
 import messages
@@ -19,11 +20,11 @@ import words
 
 def main():
     count = 0
-    for table in (starts, games, scripts, messages, relays, limits, words, streams):
+    for table in (starts, games, scripts, messages, relays, limits, words, streams, devices):
         for run in table.RUNS:
             run.try_it()
         count += len(table.RUNS)
-    count += streams.closed_outputs() + streams.unreadable_inputs() + services.all_services()
+    count += streams.closed_outputs() + streams.unreadable_inputs() + devices.all_devices() + services.all_services()
     print(f"crates/relay960/replays: {count} runs replayed")
 
 

@@ -1,10 +1,10 @@
--- What was done with the connections that were asked for.
+-- What was done with the connections that were requested.
 use Rattle.std.specs.Prelude.{◌≡◌, ◌+◌, ◌≤◌, Bool, ⊤, true, false}
 use Rattle.relay960_words.specs.declared.order.Connections.{Connections}
 use Rattle.relay960_words.specs.declared.order.Connections.TheVariants.{Count, Forever}
 use Rattle.relay_server.specs.declared.serving.ServeEnd.{ServeEnd}
 
--- So many were met with as were asked for: they were served, or that failed. Where serving might end with the input, at most so many.
+-- As many were met as were requested: they were served, or that failed. If serving might end with the input, at most that many.
 abbrev pub MeetsWith : Connections → Bool → ServeEnd → Type 0
 MeetsWith (Count n) false end = end.served + end.failed ≡ n
 MeetsWith (Count n) true end = end.served + end.failed ≤ n

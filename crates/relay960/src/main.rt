@@ -1,4 +1,4 @@
-//! The program `relay960`: it reads its words and does what they ask for.
+//! The program `relay960`: it reads its arguments and does what they ask for.
 #![tactic(auto)]
 
 mod program;

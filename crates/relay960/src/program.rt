@@ -1,4 +1,4 @@
-//! What the program does for its words, and the status that it ends with.
+//! What the program does for its arguments, and its exit status.
 
 ghost use Rattle.std.specs.Prelude.{◌≡◌, MatchResult, cond};
 ghost use Rattle.relay960.specs.Statuses.{Ends, EndsSomehow, fault_status};
@@ -12,7 +12,7 @@ use std::convert::AsStr;
 use std::io;
 use std::io::{Read, Write};
 
-/// What became of the words.
+/// The result of reading the arguments.
 #[derive(Clone, Copy, PartialEq, Eq, Debug)]
 pub enum Course {
     /// What they ask for is done, with this status.
@@ -21,7 +21,7 @@ pub enum Course {
     Serves(Service),
 }
 
-/// Does what the words ask for and gives the status, unless they ask to serve. The first word is the program's name.
+/// Does what the arguments ask for and returns the status, unless they ask to serve. The first argument is the program's name.
 pub fn course_of<R: Input + Print + Eprint, S: AsStr>(
     rt: &R,
     alloc: Global,
@@ -34,8 +34,8 @@ pub fn course_of<R: Input + Print + Eprint, S: AsStr>(
     }
 }
 
-/// Does the job over the program's own streams, and gives the status. What these hold they do not tell, so what was read and written
-/// stands at `status_of_job`.
+/// Does the job over the program's own streams, and returns the status. These streams do not show what they hold, so what was read and
+/// written is stated at `status_of_job`.
 fn status_over_streams<R: Input + Print + Eprint>(rt: &R, alloc: Global, job: &Job<'_>) -> Status
     ensures { EndsSomehow job.now result }
 {
@@ -44,8 +44,8 @@ fn status_over_streams<R: Input + Print + Eprint>(rt: &R, alloc: Global, job: &J
     status_of_job(rt, alloc, job, &mut reader, &mut writer)
 }
 
-/// Does the job over any reader and writer, tells of a fault on standard error, and gives the status. The bounds of `play` and
-/// `script` are the greatest.
+/// Does the job over any reader and writer, reports a fault on standard error, and returns the status. The bounds of `play` and
+/// `script` are the greatest ones.
 pub fn status_of_job<E: Eprint, R: Read, W: Write>(
     err: &E,
     alloc: Global,
@@ -71,7 +71,7 @@ pub fn status_of_job<E: Eprint, R: Read, W: Write>(
     }
 }
 
-/// The status of a run: whether its argument was good, or the fault, which it tells of on standard error.
+/// The status of a run: whether its argument was good, or the fault, which it reports on standard error.
 fn status_of_run<R: Eprint>(rt: &R, ran: Result<bool, RunFault>) -> Status
     ensures { MatchResult ran (λ good. result ≡ cond good Status.Done Status.Refused) (λ fault. result ≡ fault_status fault) }
 {
@@ -82,7 +82,7 @@ fn status_of_run<R: Eprint>(rt: &R, ran: Result<bool, RunFault>) -> Status
     }
 }
 
-/// The status of a line that cannot be refused: it is done, or a fault ended it, which is told on standard error.
+/// The status of a line that cannot be refused: it is done, or a fault ended it, which is reported on standard error.
 fn status_of_line<R: Eprint>(rt: &R, ran: Result<(), RunFault>) -> Status
     ensures { MatchResult ran (λ _. result ≡ Status.Done) (λ fault. result ≡ fault_status fault) }
 {
@@ -92,7 +92,7 @@ fn status_of_line<R: Eprint>(rt: &R, ran: Result<(), RunFault>) -> Status
     }
 }
 
-/// The status of a run over lines, however many there were: it is done, or a fault ended it, which is told on standard error.
+/// The status of a run over lines, however many there were: it is done, or a fault ended it, which is reported on standard error.
 fn status_of_lines<R: Eprint>(rt: &R, ran: Result<u64, RunFault>) -> Status
     ensures { MatchResult ran (λ count. result ≡ Status.Done) (λ fault. result ≡ fault_status fault) }
 {
@@ -102,7 +102,7 @@ fn status_of_lines<R: Eprint>(rt: &R, ran: Result<u64, RunFault>) -> Status
     }
 }
 
-/// Tells of the fault on standard error and gives the status. Of a start that was refused the output has told.
+/// Reports the fault on standard error and returns the status. If a start was refused, the output has already said so.
 pub fn status_of_fault<R: Eprint>(rt: &R, fault: RunFault) -> Status
     ensures { result ≡ fault_status fault }
 {

@@ -1,4 +1,4 @@
-//! Serving on a port of the own machine, over the program's runtime.
+//! Serving on a port of the local machine, over the program's runtime.
 
 mod fault;
 mod service;

@@ -7,8 +7,8 @@ use Rattle.c960_board.specs.Fen.Text.{FenText}
 use Rattle.c960_board.specs.Moves.{Triple}
 use Rattle.c960_rules.specs.Check.{IsLawful}
 use Rattle.c960_rules.specs.Legal.{Legal, Mate, Stale}
-use Rattle.c960_rules.specs.declared.outcome.State.{State}
-use Rattle.c960_rules.specs.declared.outcome.State.TheVariants.{Going, Checkmate, Stalemate}
+use Rattle.c960_rules.specs.declared.side_to_move.State.{State}
+use Rattle.c960_rules.specs.declared.side_to_move.State.TheVariants.{Going, Checkmate, Stalemate}
 use Rattle.relay960_engines.specs.declared.fault.RunFault.{RunFault}
 use Rattle.relay960_engines.specs.declared.fault.RunFault.TheVariants.{Read, Write, TooLong, OutOfMemory, BadStart}
 use Rattle.relay960_engines.specs.Moves.{IsAnswer, Answered, Failed, FailedText, Listed, moves_lines, unlawful_line}
@@ -36,7 +36,7 @@ pub answered : (fen : List ℕ) (good : Bool) (bytes : List ℕ) (a b : Option (
     → Appends a b bytes → Answered fen good a b
 answered fen good bytes a b is written = record { bytes = bytes; answer = is; written = written }
 
--- a fault at a lawful position leaves a part of its lines, or nothing
+-- a fault with a lawful position leaves a part of its lines, or nothing
 pub failed : (fen : List ℕ) (bytes : List ℕ) (e : RunFault) (a b : Option (List ℕ)) → Listed fen bytes
     → FailedText bytes e a b → Failed fen e a b
 failed fen bytes Write a b is part = record { good = true; bytes = bytes; answer = is; written = part }
@@ -45,7 +45,7 @@ failed fen bytes Read a b is none = absurd none
 failed fen bytes TooLong a b is none = absurd none
 failed fen bytes BadStart a b is none = absurd none
 
--- a fault at a position that is not lawful leaves a part of its line
+-- a fault with a position that is not lawful leaves a part of its line
 pub failed_unlawful : (fen : List ℕ) (e : RunFault) (a b : Option (List ℕ)) → IsAnswer fen false unlawful_line
     → e ≡ Write → AppendsPart a b unlawful_line → Failed fen e a b
 failed_unlawful fen Write a b is same part = record { good = false; bytes = unlawful_line; answer = is; written = part }

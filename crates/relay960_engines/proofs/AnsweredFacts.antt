@@ -7,7 +7,7 @@ use Rattle.std.specs.Io.KnownBytes.{Appends}
 use Rattle.relay960_engines.specs.Lines.{Giving, Answers, Between}
 use Rattle.relay960_engines.specs.Runs.{Known, Wrote, WrotePart}
 
--- some lines and more behind them
+-- some lines followed by more
 pub Answers-append : {S : Type 0} (gives : Giving S) (s t u : S) (ls ms : List (List ℕ)) (xs ys : List ℕ)
     → Answers gives s ls xs t → Answers gives t ms ys u → Answers gives s (ls ++ ms) (xs ++ ys) u
 unfolding Answers
@@ -66,7 +66,7 @@ Wrote-part gives s t u ls ms a b c first second =
       );
     }
 
--- the same of lines that are answered as their first 1,025 bytes are
+-- the same for lines that are answered as their first 1,025 bytes are
 pub Wrote-whole : {S : Type 0} (gives : Giving S) (s t : S) (ls : List (List ℕ)) (a b : Known)
     → IsCut gives
     → Wrote (Between gives s t) (map (take 1025) ls) a b → Wrote (Between gives s t) ls a b

@@ -6,7 +6,7 @@ use Rattle.std.proofs.lemmas.List.{take-append-le, length-take, length-append, g
 use Rattle.relay960_engines.specs.Lines.{whole_lines, last_piece, last_line, lines_of}
 use Rattle.relay960_engines.specs.Inner.Taking.{IsPlain, kept_behind, kept_with, kept_lines, kept_piece}
 
--- the lines of some bytes and of more behind them
+-- the lines of some bytes followed by more
 pub kept_lines-append : (line xs ys : List ℕ)
     → kept_lines line (xs ++ ys) ≡ kept_lines line xs ++ kept_lines (kept_piece line xs) ys
 unfolding kept_lines kept_piece
@@ -38,7 +38,7 @@ pub kept_piece-end : (line : List ℕ) (b : ℕ) → b ≡ 10 → kept_piece lin
 unfolding kept_piece
 kept_piece-end line b is_end = rw is_end refl
 
--- ---- Bytes with no line feed.
+-- ---- Bytes without a line feed.
 
 tail_plain : (x : ℕ) (xs : List ℕ) → IsPlain (x ∷ xs) → IsPlain xs
 tail_plain x xs plain = λ k below. plain (suc k) (omega arith)
@@ -62,7 +62,7 @@ behind_at false line x xs e =
     let none : 1025 - length line ≡ 0 = omega (arith, long) in
     ap (λ n. line ++ take n xs) none ∙ sym (ap (λ n. line ++ take n (x ∷ xs)) none)
 
--- they stand behind the line, as far as they are kept
+-- they come after the line, as far as they are kept
 pub kept_piece-plain : (line xs : List ℕ) → IsPlain xs → kept_piece line xs ≡ kept_behind line xs
 unfolding kept_piece
 kept_piece-plain line [] plain = sym (ap (λ l. line ++ l) (take_all (1025 - length line) [] (omega arith)) ∙ append-nil line)
@@ -70,7 +70,7 @@ kept_piece-plain line (x ∷ xs) plain =
     ap (λ is_end. cond is_end (kept_piece [] xs) (kept_piece (kept_with line x) xs)) (ne_eqb x 10 (plain 0 (omega arith)))
     ∙ kept_piece-plain (kept_with line x) xs (tail_plain x xs plain) ∙ behind_at _ line x xs refl
 
--- a line feed behind them ends a line
+-- a line feed after them ends a line
 pub kept_lines-ended : (line xs : List ℕ) → IsPlain xs → kept_lines line (xs ++ 10 ∷ []) ≡ kept_behind line xs ∷ []
 kept_lines-ended line xs plain =
     kept_lines-append line xs (10 ∷ [])
@@ -107,7 +107,7 @@ kept_at false begun b e =
     let long : 1025 ≤ length begun = omega (arith, length-take 1025 begun) in
     sym (take-append-le 1025 begun (b ∷ []) long)
 
--- one more byte is kept where it is one of the first
+-- one more byte is kept if it is one of the first
 pub kept_with-take : (begun : List ℕ) (b : ℕ) → kept_with (take 1025 begun) b ≡ take 1025 (begun ++ b ∷ [])
 kept_with-take begun b = kept_at _ begun b refl
 
@@ -135,17 +135,17 @@ kept_piece-take begun (b ∷ bs) =
       | false ↦ ap (λ l. kept_piece l bs) (kept_with-take begun b) ∙ kept_piece-take (begun ++ b ∷ []) bs
     ]
 
--- a last piece is empty where nothing of it is kept
+-- a last piece is empty if nothing of it is kept
 pub last_line-take : (piece : List ℕ) → last_line (take 1025 piece) ≡ map (take 1025) (last_line piece)
 last_line-take [] = refl
 last_line-take (b ∷ bs) = refl
 
--- an empty piece is no line
+-- an empty piece is not a line
 pub last_line-none : (line : List ℕ) → length line ≡ 0 → last_line line ≡ []
 last_line-none [] none = refl
 last_line-none (b ∷ bs) none = absurd (omega arith)
 
--- where nothing of it is kept there is none
+-- if nothing of it is kept there is none
 pub piece_none : (piece : List ℕ) → take 1025 piece ≡ [] → piece ≡ []
 piece_none [] none = refl
 piece_none (b ∷ bs) none = absurd (omega (arith, ap length none, length-take 1025 (b ∷ bs)))
@@ -160,7 +160,7 @@ pub last_line-whole : (line : List ℕ) → (length line == 0) ≡ false → las
 last_line-whole [] more = cc
 last_line-whole (b ∷ bs) more = refl
 
--- ---- The lines of bytes and of more behind them.
+-- ---- The lines of bytes followed by more.
 
 whole_lines-append : (begun xs ys : List ℕ)
     → whole_lines begun (xs ++ ys) ≡ whole_lines begun xs ++ whole_lines (last_piece begun xs) ys

@@ -1,7 +1,6 @@
 -- Lemmas on the answers to the lines of a live game.
-use Rattle.std.proofs.Common.{◌≡◌, ℕ, List, [], ◌∷◌, ◌++◌}
-use Rattle.std.proofs.Common.{Option, Some, refl, sym, ap, ◌∙◌, append_assoc}
-use Rattle.c960_game.specs.Record.{GameRecord}
+use Rattle.std.proofs.Common.{◌≡◌, ℕ, List, [], ◌∷◌, ◌++◌, Option, Some, refl, sym, ap, ◌∙◌, append_assoc}
+use Rattle.c960_game.specs.GameRecord.{GameRecord}
 use Rattle.relay960_engines.specs.Lines.{Giving, Answers}
 use Rattle.relay960_engines.specs.Play.{line_answer, game_after, line_answers}
 use Rattle.relay960_engines.specs.Inner.PlayCut.{IsAnswer}

@@ -1,18 +1,17 @@
--- A whole run over a live game: what the line engine did, said of the game.
-use Rattle.std.proofs.Common.{◌≡◌, ℕ, ◌<◌, List, ◌++◌}
-use Rattle.std.proofs.Common.{sym, ap, ◌∙◌, inl, refl}
-use Rattle.std.proofs.Common.{Result, Ok, Err, IfOk, IfErr}
-use Rattle.c960_game.specs.Record.{GameRecord, opened}
+-- A whole run over a live game: what the line engine did, in terms of the game.
+use Rattle.std.proofs.Common.{◌≡◌, ℕ, ◌<◌, List, ◌++◌, sym, ap, ◌∙◌, inl, refl, Result, Ok, Err, IfOk, IfErr}
+use Rattle.c960_game.specs.Record.{opened}
+use Rattle.c960_game.specs.GameRecord.{GameRecord}
 use Rattle.relay960_engines.specs.declared.bounds.Bounds.{Bounds}
 use Rattle.relay960_engines.specs.declared.fault.RunFault.{RunFault}
 use Rattle.relay960_engines.specs.declared.fault.RunFault.TheVariants.{Read, Write, TooLong, OutOfMemory, BadStart}
 use Rattle.relay960_engines.specs.Lines.{Giving, Answers, Before, Between}
 use Rattle.relay960_engines.specs.Play.{line_answers, most_plies, Plays, PlaysBefore, Played, PlayStopped}
-use Rattle.relay960_engines.specs.Runs.{Known, Done, Stopped}
+use Rattle.relay960_engines.specs.Runs.{Known, Done, RunStopped}
 use Rattle.relay960_engines.proofs.PlayFacts.{IsGiven, given_answers, answers_before}
 use Rattle.relay960_engines.proofs.StopFacts.{Extends, done_said, reading_said, writing_within, past_said, memory_said, not_begun}
 
--- the answers to lines begin those to more lines
+-- the answers to lines are the beginning of those to more lines
 play_extends : (n : ℕ) → Extends (Plays n)
 play_extends n ls ms text given =
     let (rest, same) = answers_before (opened n most_plies) ls ms in (rest, ap (λ t. t ++ rest) given ∙ sym same)
@@ -31,7 +30,7 @@ module _ {S : Type 0} (gives : Giving S) (game : S → GameRecord) (law : IsGive
   played (Ok count) done = (numbered, done_said _ (Plays n) (plays t) bounds old_input new_input a b count done)
 
   pub play_stopped : (ran : Result ℕ RunFault)
-      → IfErr ran (λ fault. Stopped (Between gives s t) (Before gives s t) bounds old_input new_input a b fault)
+      → IfErr ran (λ fault. RunStopped (Between gives s t) (Before gives s t) bounds old_input new_input a b fault)
       → IfErr ran (λ fault. PlayStopped n bounds old_input new_input a b fault)
   play_stopped (Ok count) stopped = tt
   play_stopped (Err Read) stopped = (numbered, reading_said _ (Plays n) (plays t) bounds old_input new_input a b stopped)

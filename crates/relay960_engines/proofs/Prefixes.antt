@@ -1,4 +1,4 @@
--- Lemmas on prefixes of a text that was written in part.
+-- Lemmas on prefixes of a text that was partly written.
 use Rattle.std.proofs.Common.{Result, Ok, Err, OnErr, ◌≡◌, ℕ, ◌+◌, ◌-◌, List, ◌++◌, length, take, drop, Option}
 use Rattle.std.proofs.Common.{sym, ap, ◌∙◌, subst, append_assoc, take-append-drop}
 use lib.Seq.{take-append_seam}
@@ -33,17 +33,17 @@ part_behind a b c front back p (n, q) =
     let joined : Appends a c (front ++ take n back) = Appends-trans a b c front (take n back) p q in
     part_of a c (front ++ back) (front ++ take n back) (drop n back) split joined
 
--- the same of a second writing, where that ends in a fault
+-- the same for a second write, if that ends in a fault
 pub on_err_behind : {T E : Type 0} (r : Result T E) (a b c : Option (List ℕ)) (front back : List ℕ) → Appends a b front
     → OnErr r (AppendsPart b c back) → OnErr r (AppendsPart a c (front ++ back))
 on_err_behind r a b c front back p q = on_err_weaker r (part_behind a b c front back p) q
 
--- what is known holds where there is an error too
+-- what is known also holds if there is an error
 pub on_err_known : {T E P : Type 0} (r : Result T E) → P → OnErr r P
 on_err_known (Ok x) p = tt
 on_err_known (Err e) p = p
 
--- one more write, of m bytes of the slice behind the n that were written
+-- one more write, of m bytes of the slice after the n that were written
 pub written_more : (a b c : Option (List ℕ)) (text : List ℕ) (n m : ℕ) → Appends a b (take n text)
     → Appends b c (take m (take (length text - n) (drop n text))) → Appends a c (take (n + m) text)
 written_more a b c text n m p q =

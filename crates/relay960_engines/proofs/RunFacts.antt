@@ -1,4 +1,4 @@
--- Lemmas on a whole run: what was kept of the lines stands for the lines.
+-- Lemmas on a whole run: what was kept of the lines represents the lines.
 use Rattle.std.proofs.Common.{◌≡◌, ℕ, ◌+◌, ◌≤◌, List, [], ◌++◌, length, take, map}
 use Rattle.std.proofs.Common.{◌∷◌, None, refl, sym, ap, ◌∙◌, subst, inl, inr, arith, append-nil}
 use Rattle.std.proofs.Common.{Result, Ok, Err, OnOk, IfOk, IfErr}
@@ -9,14 +9,14 @@ use Rattle.relay960_engines.specs.declared.fault.RunFault.{RunFault}
 use Rattle.relay960_engines.specs.declared.fault.RunFault.TheVariants.{Read, Write, TooLong, OutOfMemory, BadStart}
 use Rattle.relay960_engines.specs.declared.progress.Progress.{Progress}
 use Rattle.relay960_engines.specs.Lines.{Giving, Answers, Before, whole_lines, last_piece, last_line, lines_of, Between}
-use Rattle.relay960_engines.specs.Runs.{Known, Wrote, WrotePart, Done, Stopped, IsPast}
-use Rattle.relay960_engines.specs.Inner.Sending.{settled, Sent}
+use Rattle.relay960_engines.specs.Runs.{Known, Wrote, WrotePart, Done, RunStopped, IsPast}
+use Rattle.relay960_engines.specs.Inner.Sending.{settled, SentAnswers}
 use Rattle.relay960_engines.specs.Inner.Taking.{kept_lines, kept_piece, Within, IsWithin, LastFits, TakenAll, Halted, Unwritten, StopsReading}
 use Rattle.relay960_engines.proofs.LineFacts.{kept_lines-take, kept_piece-take, last_line-take, lines_ended, piece_none}
 use Rattle.relay960_engines.proofs.TakingFacts.{last_fits}
 use Rattle.relay960_engines.proofs.StopFacts.{not_begun}
 use Rattle.relay960_engines.proofs.AnsweredFacts.{IsCut, Wrote-trans, Wrote-part, Wrote-whole, WrotePart-whole}
-use Rattle.relay960_engines.proofs.SendingFacts.{Sent-wrote, SentPart-wrote, halted_behind}
+use Rattle.relay960_engines.proofs.SendingFacts.{SentAnswers-wrote, SentPart-wrote, halted_behind}
 
 -- ---- The lines of a run.
 
@@ -39,7 +39,7 @@ kept_all line piece bytes new left =
 kept_number : (line bytes : List ℕ) → line ≡ [] → length (kept_lines line bytes) ≡ length (whole_lines [] bytes)
 kept_number line bytes new = ap length (kept_whole line bytes new) ∙ length-map (whole_lines [] bytes) (take 1025)
 
--- bytes of whose last piece nothing is kept end with a line feed
+-- bytes whose last piece keeps nothing end with a line feed
 ended_whole : (line bytes : List ℕ) → line ≡ [] → kept_piece line bytes ≡ [] → last_piece [] bytes ≡ []
 ended_whole line bytes new none =
     piece_none (last_piece [] bytes)
@@ -87,7 +87,7 @@ at_line gives s t lines a b cut halted =
     let whole = map_split (take 1025) lines halted.before halted.stopped halted.split in
     let wrote = Wrote-whole gives s halted.mid whole.front a b cut
     (subst (λ ls. Wrote (Between gives s halted.mid) ls a b) (sym whole.images)
-    (Sent-wrote gives s halted.mid halted.before a b halted.sent)) in
+    (SentAnswers-wrote gives s halted.mid halted.before a b halted.sent)) in
     record {
       before = whole.front;
       stopped = whole.last;
@@ -105,12 +105,12 @@ at_line gives s t lines a b cut halted =
 
 module _ {S : Type 0} (gives : Giving S) (cut : IsCut gives) (s : S) (p : Progress) (bounds : Bounds)
     (old_input new_input a : Known) (line : p.line ≡ []) (answered : p.answered ≡ 0) (taken : p.taken ≡ 0) where
-  whole : (t : S) (b : Known) (seen : List ℕ) → Sent (Between gives s t) (kept_lines p.line seen) (settled a) (settled b)
+  whole : (t : S) (b : Known) (seen : List ℕ) → SentAnswers (Between gives s t) (kept_lines p.line seen) (settled a) (settled b)
       → Wrote (Between gives s t) (whole_lines [] seen) a b
   whole t b seen sent =
       Wrote-whole gives s t (whole_lines [] seen) a b cut
       (subst (λ ls. Wrote (Between gives s t) ls a b) (kept_whole p.line seen line)
-      (Sent-wrote gives s t (kept_lines p.line seen) a b sent))
+      (SentAnswers-wrote gives s t (kept_lines p.line seen) a b sent))
 
   -- the lines of bytes that leave room for the last of them
   all_fit : (seen : List ℕ) → LastFits bounds p seen → length (lines_of seen) ≤ bounds.lines
@@ -131,7 +131,7 @@ module _ {S : Type 0} (gives : Giving S) (cut : IsCut gives) (s : S) (p : Progre
   -- it stopped within the bytes of the reader
   pub stopped : (t : S) (b : Known) (fault : RunFault)
       → StopsReading gives s t p bounds old_input new_input a b fault
-      → Stopped (Between gives s t) (Before gives s t) bounds old_input new_input a b fault
+      → RunStopped (Between gives s t) (Before gives s t) bounds old_input new_input a b fault
   stopped t b Read stops = elim stops.stop [
     | inl within ↦ absurd within.0.stop
     | inr at_read ↦ record {
@@ -222,7 +222,7 @@ module _ {S : Type 0} (gives : Giving S) (cut : IsCut gives) (s : S) (p : Progre
         ∙ length-map (lines_of took.input) (take 1025)
 
     taken_wrote : Wrote (Between gives s t) (kept_lines p.line took.input) a b
-    taken_wrote = Sent-wrote gives s t (kept_lines p.line took.input) a b took.took.sent
+    taken_wrote = SentAnswers-wrote gives s t (kept_lines p.line took.input) a b took.took.sent
 
     pub done : Within bounds q → (ran : Result ℕ RunFault) → OnOk ran (Wrote (Between gives t u) (last_line q.line) b c)
         → IfOk ran (λ n. n ≡ q.answered + length (last_line q.line)) → IfOk ran (λ n. n ≤ bounds.lines)
@@ -246,9 +246,9 @@ module _ {S : Type 0} (gives : Giving S) (cut : IsCut gives) (s : S) (p : Progre
     short : Within bounds q → length took.input ≤ bounds.bytes
     short within = omega (arith, within.taken_within, took.took.total)
 
-    -- the answer to the last line was not written whole
+    -- the answer to the last line was not written completely
     pub stopped_last : Within bounds q → (ran : Result ℕ RunFault) → IfErr ran (λ fault. Unwritten gives t u (last_line q.line) (settled b) (settled c) fault)
-        → IfErr ran (λ fault. Stopped (Between gives s u) (Before gives s u) bounds old_input new_input a c fault)
+        → IfErr ran (λ fault. RunStopped (Between gives s u) (Before gives s u) bounds old_input new_input a c fault)
     stopped_last within (Ok n) part = tt
     stopped_last within (Err Write) part = record {
       seen = took.input;
@@ -292,7 +292,7 @@ module _ {S : Type 0} (gives : Giving S) (cut : IsCut gives) (s : S) (p : Progre
 
 -- there was no memory for the line: nothing was read
 pub stopped_before : {S : Type 0} (gives : Giving S) (s : S) (bounds : Bounds) (input output : Known)
-    → Stopped (Between gives s s) (Before gives s s) bounds input input output output OutOfMemory
+    → RunStopped (Between gives s s) (Before gives s s) bounds input input output output OutOfMemory
 unfolding Answers
 stopped_before gives s bounds input output =
     not_begun (Between gives s s) (Before gives s s) bounds input output (refl, refl)

@@ -22,7 +22,7 @@ use Rattle.relay960_engines.specs.Script.{answer_to, history_after, answers_to, 
 use Rattle.relay960_engines.specs.Inner.ScriptSteps.{ScriptGives, LeadsTo}
 use Rattle.relay960_engines.specs.Writing.{line}
 
--- ---- Answers that tell of no want of memory are the ones that the lines ask for.
+-- ---- Answers that do not report lack of memory are the ones that the lines require.
 
 abbrev IsAsked : LimitNumbers → History → List ℕ → Answer → History → Type 0
 IsAsked limits h l answer g = (answer ≡ answer_to limits h (decoded l)) × (g ≡ history_after limits h (decoded l))
@@ -82,7 +82,7 @@ pub are_answers : (limits : LimitNumbers) (ls : List (List ℕ)) (answers : List
 are_answers limits ls answers g answered =
     record { history = g; answered = answered; exact = all_asked limits [] ls answers g answered }
 
--- ---- More lines behind others.
+-- ---- More lines after others.
 
 asked_is_answered : (limits : LimitNumbers) (h : History) (l : List ℕ) (said : Result Step MessageFault) → said ≡ decoded l
     → AnswersLine limits h l (answer_to limits h said) (history_after limits h said)
@@ -115,7 +115,7 @@ answer_lines-append (x ∷ xs) ys =
     ap (λ text. line (answer_text x) ++ text) (answer_lines-append xs ys)
     ∙ sym (append_assoc (line (answer_text x)) (answer_lines xs) (answer_lines ys))
 
--- answers to lines, with answers to more lines behind them
+-- answers to lines, followed by answers to more lines
 pub record WithMore (limits : LimitNumbers) (ls ms : List (List ℕ)) (answers : List Answer) : Type 0 where
   pub all : List Answer
   pub given : ScriptAnswers limits (ls ++ ms) all
@@ -137,7 +137,7 @@ with_more limits ls ms answers given =
 
 -- ---- What the answerer of a script gives.
 
--- the lines' answers, and where the relay stands behind them
+-- the lines' answers, and the history at which the relay stands after them
 pub record Told (limits : LimitNumbers) (h : History) (ls : List (List ℕ)) (bytes : List ℕ) (r : RelayRecord) : Type 0 where
   pub answers : List Answer
   pub history : History

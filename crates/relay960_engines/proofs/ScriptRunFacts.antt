@@ -1,4 +1,4 @@
--- A whole run over a script: what the line engine did, said of the commands' answers.
+-- A whole run over a script: what the line engine did, in terms of the commands' answers.
 use Rattle.std.proofs.Common.{◌≡◌, ℕ, List, [], ◌++◌}
 use Rattle.std.proofs.Common.{None, sym, ap, ◌∙◌, refl}
 use Rattle.std.proofs.Common.{Result, Ok, Err, IfOk, IfErr}
@@ -10,12 +10,12 @@ use Rattle.relay960_engines.specs.declared.bounds.Bounds.{Bounds}
 use Rattle.relay960_engines.specs.declared.fault.RunFault.{RunFault}
 use Rattle.relay960_engines.specs.declared.fault.RunFault.TheVariants.{Read, Write, TooLong, OutOfMemory, BadStart}
 use Rattle.relay960_engines.specs.Lines.{Giving, Answers, Before, Between}
-use Rattle.relay960_engines.specs.Runs.{Known, Done, Stopped}
+use Rattle.relay960_engines.specs.Runs.{Known, Done, RunStopped}
 use Rattle.relay960_engines.specs.Script.{ScriptAnswers, Scripts, ScriptsBefore, Ran, ScriptStopped, answer_lines, AnswersLines}
 use Rattle.relay960_engines.proofs.ScriptFacts.{IsGivenBy, are_answers, lines_told, one_told, with_more}
 use Rattle.relay960_engines.proofs.StopFacts.{Extends, done_said, reading_said, writing_within, past_said, memory_said, not_begun}
 
--- answers, spelt one after another
+-- answers, spelled one after another
 spelt_answers : (limits : LimitNumbers) (ls : List (List ℕ)) (answers : List Answer) (text : List ℕ)
     → ScriptAnswers limits ls answers → text ≡ answer_lines answers → Scripts limits ls text
 spelt_answers limits ls answers text given spelt = record {
@@ -25,7 +25,7 @@ spelt_answers limits ls answers text given spelt = record {
   exact = λ had. spelt ∙ ap answer_lines (given.exact had);
 }
 
--- the answers to lines begin answers to more lines
+-- the answers to lines are the beginning of answers to more lines
 script_extends : (limits : LimitNumbers) → Extends (Scripts limits)
 script_extends limits ls ms text given =
     let more = with_more limits ls ms given.answers given.given in (
@@ -34,7 +34,7 @@ script_extends limits ls ms text given =
           (ap (λ t. t ++ more.rest) given.spelt ∙ sym more.spelt),
     )
 
--- ---- The end of a run over a relay that stands at no history.
+-- ---- The end of a run over a relay that stands at the empty history.
 
 module _ {S : Type 0} (gives : Giving S) (relay : S → RelayRecord) (law : IsGivenBy gives relay) (s t : S) (limits : LimitNumbers)
     (bounds : Bounds) (begun : Stands limits (relay s) []) (old_input new_input a b : Known) where
@@ -69,7 +69,7 @@ module _ {S : Type 0} (gives : Giving S) (relay : S → RelayRecord) (law : IsGi
   ran (Ok count) done = done_said _ (Scripts limits) (scripts t) bounds old_input new_input a b count done
 
   pub script_stopped : (result : Result ℕ RunFault)
-      → IfErr result (λ fault. Stopped (Between gives s t) (Before gives s t) bounds old_input new_input a b fault)
+      → IfErr result (λ fault. RunStopped (Between gives s t) (Before gives s t) bounds old_input new_input a b fault)
       → IfErr result (λ fault. ScriptStopped limits bounds old_input new_input a b fault)
   script_stopped (Ok count) stopped = tt
   script_stopped (Err Read) stopped = reading_said _ (Scripts limits) (scripts t) bounds old_input new_input a b stopped

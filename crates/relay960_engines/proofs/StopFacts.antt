@@ -1,4 +1,4 @@
--- What a run has done, said of another relation between lines and answers.
+-- What a run has done, in terms of another relation between lines and answers.
 use Rattle.std.proofs.Common.{◌≡◌, ℕ, List, [], ◌++◌}
 use Rattle.std.proofs.Common.{sym, ap, ◌∙◌, subst, inl, inr, append-nil}
 use Rattle.std.proofs.KnownBytes.{Keeps-refl}
@@ -13,11 +13,11 @@ use Rattle.relay960_engines.proofs.Prefixes.{part_before}
 abbrev pub Implies : Answering → Answering → Type 0
 Implies A B = (ls : List (List ℕ)) (text : List ℕ) → A ls text → B ls text
 
--- the same of lines before a line for whose answer there was no memory
+-- the same for lines before a line for whose answer there was no memory
 abbrev pub ImpliesBefore : Halting → Halting → Type 0
 ImpliesBefore H K = (ls : List (List ℕ)) (text l : List ℕ) → H ls text l → K ls text l
 
--- the answers to lines begin those to these lines and more
+-- the answers to lines are the beginning of those to these lines and more
 abbrev pub Extends : Answering → Type 0
 Extends A = (ls ms : List (List ℕ)) (text : List ℕ) → A ls text → (rest : List ℕ) × A (ls ++ ms) (text ++ rest)
 

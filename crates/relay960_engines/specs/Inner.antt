@@ -1,4 +1,4 @@
--- Definitions that serve the code alone: no promise of an engine names them.
+-- Definitions that only the code uses: no promise of an engine names them.
 pub mod Sending
 pub mod Taking
 pub mod PlayCut

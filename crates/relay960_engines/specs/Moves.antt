@@ -1,4 +1,4 @@
--- The lines of a text in FEN: its legal moves and its state, or why it has none.
+-- The lines for a text in FEN: its legal moves and its state, or why it has none.
 use Rattle.std.specs.Prelude.{ℕ, ◌≡◌, ◌⊎◌, ◌↔◌, Bool, true, false, List, [], ◌∷◌, ◌++◌, Option, codes}
 use Rattle.std.specs.List.{flat_map}
 use Rattle.std.specs.Io.KnownBytes.{Appends, Keeps}
@@ -6,11 +6,13 @@ use Rattle.c960_board.specs.declared.fen.fault.FenFault.{FenFault}
 use Rattle.c960_board.specs.declared.parts.Parts.{Parts}
 use Rattle.c960_board.specs.Fen.Faults.{IsFault, fen_fault_code, fen_fault_name}
 use Rattle.c960_board.specs.Fen.Text.{FenText}
-use Rattle.c960_board.specs.Moves.{Triple, move_text}
+use Rattle.c960_board.specs.Moves.{Triple}
+use Rattle.c960_board.specs.MoveTexts.{move_text}
 use Rattle.c960_rules.specs.Check.{IsLawful}
-use Rattle.c960_rules.specs.Legal.{Legal, legal_list, Mate, Stale}
-use Rattle.c960_rules.specs.declared.outcome.State.{State}
-use Rattle.c960_rules.specs.declared.outcome.State.TheVariants.{Going, Checkmate, Stalemate}
+use Rattle.c960_rules.specs.Legal.{Legal, Mate, Stale}
+use Rattle.c960_rules.specs.Tests.Legal.{legal_list}
+use Rattle.c960_rules.specs.declared.side_to_move.State.{State}
+use Rattle.c960_rules.specs.declared.side_to_move.State.TheVariants.{Going, Checkmate, Stalemate}
 use Rattle.relay960_engines.specs.declared.fault.RunFault.{RunFault}
 use Rattle.relay960_engines.specs.declared.fault.RunFault.TheVariants.{Read, Write, TooLong, OutOfMemory, BadStart}
 use Rattle.relay960_engines.specs.Writing.{AppendsPart, line, numbered_line}
@@ -69,7 +71,7 @@ pub record Listed (fen bytes : List ℕ) : Type 0 where
   pub is_state : IsState state position
   pub text : bytes ≡ moves_lines position state
 
--- the bytes are the answer to the text, which is true where they list the moves
+-- the bytes are the answer to the text; the answer is true if they list the moves
 abbrev pub IsAnswer : List ℕ → Bool → List ℕ → Type 0
 IsAnswer fen true bytes = Listed fen bytes
 IsAnswer fen false bytes = Refused fen bytes ⊎ Unlawful fen bytes
@@ -93,8 +95,8 @@ pub record Unanswered (fen : List ℕ) (old new : Option (List ℕ)) : Type 0 wh
   pub answer : Listed fen bytes
   pub kept : Keeps old new
 
--- what is written at a fault: a part of the answer where a write failed, and nothing where there was no memory, which
--- lawful positions alone take
+-- what is written before a fault: a part of the answer if a write failed, and nothing if there was no memory, which
+-- only lawful positions need
 abbrev pub Failed : List ℕ → RunFault → Option (List ℕ) → Option (List ℕ) → Type 0
 Failed fen Write old new = PartlyAnswered fen old new
 Failed fen OutOfMemory old new = Unanswered fen old new
@@ -102,7 +104,7 @@ Failed fen Read old new = ⊥
 Failed fen TooLong old new = ⊥
 Failed fen BadStart old new = ⊥
 
--- the same of a text that is to be written
+-- the same for a text that is to be written
 abbrev pub FailedText : List ℕ → RunFault → Option (List ℕ) → Option (List ℕ) → Type 0
 FailedText text Write old new = AppendsPart old new text
 FailedText text OutOfMemory old new = Keeps old new

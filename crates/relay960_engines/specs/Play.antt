@@ -5,12 +5,14 @@ use Rattle.std.specs.Io.KnownBytes.{Appends, Keeps}
 use Rattle.c960_board.specs.declared.moves.fault.MoveFault.{MoveFault}
 use Rattle.c960_board.specs.Fen.Canonical.{canonical}
 use Rattle.c960_board.specs.MoveReading.{move_read}
-use Rattle.c960_board.specs.Moves.{Triple, move_fault_code, move_fault_name}
+use Rattle.c960_board.specs.Moves.{Triple}
+use Rattle.c960_board.specs.MoveTexts.{move_fault_code, move_fault_name}
 use Rattle.c960_game.specs.declared.outcome.Outcome.{Outcome}
 use Rattle.c960_game.specs.declared.refusal.Refusal.{Refusal}
 use Rattle.c960_game.specs.Outcome.{outcome_text}
 use Rattle.c960_game.specs.Positions.{last_position}
-use Rattle.c960_game.specs.Record.{GameRecord, opened, play_answer, with_move}
+use Rattle.c960_game.specs.Record.{opened, play_answer, with_move}
+use Rattle.c960_game.specs.GameRecord.{GameRecord}
 use Rattle.c960_game.specs.Refusal.{refusal_code, refusal_name}
 use Rattle.relay960_engines.specs.declared.bounds.Bounds.{Bounds}
 use Rattle.relay960_engines.specs.declared.fault.RunFault.{RunFault}
@@ -35,7 +37,7 @@ abbrev pub over_line : Option Outcome → List ℕ
 over_line None = []
 over_line (Some o) = concat (codes "over " ∷ outcome_text o ∷ codes "\n" ∷ [])
 
--- the FEN after an accepted move and, where it ends the game, the outcome; else the refusal
+-- the FEN after an accepted move and, if it ends the game, the outcome; or else the refusal
 abbrev pub played_lines : GameRecord → Triple → Result (Option Outcome) Refusal → List ℕ
 played_lines g m (Ok outcome) = line (canonical (last_position g.start (g.log ++ m ∷ []))) ++ over_line outcome
 played_lines g m (Err r) = refused_line r
@@ -77,13 +79,13 @@ play_answers n ls = line_answers (opened n most_plies) ls
 abbrev pub play_output : ℕ → List ℕ → List ℕ
 play_output n bytes = play_answers n (lines_of bytes)
 
--- ---- What a run does, from what the reader holds and the writer was given before it to what they are after it.
+-- ---- What a run does: from what the reader holds and the writer was given before it, to what they are after it.
 
 -- which bytes answer which lines in the game of start n
 abbrev pub Plays : ℕ → List (List ℕ) → List ℕ → Type 0
 Plays n ls bytes = bytes ≡ play_answers n ls
 
--- the same before a line for whose answer there was no memory: the game has gone on by it all the same
+-- the same before a line for whose answer there was no memory: even so, the game has gone on with it
 abbrev pub PlaysBefore : ℕ → List (List ℕ) → List ℕ → List ℕ → Type 0
 PlaysBefore n ls bytes l = Plays n ls bytes
 

@@ -1,5 +1,5 @@
--- What a run over lines does, from what the reader holds and the writer was given before it to what they are after it. It is said of
--- any relation that tells which bytes answer which lines; each engine has its own.
+-- What a run over lines does: from what the reader holds and the writer was given before it, to what they are after it. It is said of
+-- any relation that says which bytes answer which lines; each engine has its own.
 use Rattle.std.specs.Prelude.{ℕ, ◌≡◌, ◌<◌, ◌≤◌, ◌⊎◌, List, [], ◌∷◌, ◌++◌, length, Option}
 use Rattle.std.specs.Io.KnownBytes.{Appends, Consumes, IsAtEnd, Keeps}
 use Rattle.relay960_engines.specs.declared.bounds.Bounds.{Bounds}
@@ -8,7 +8,7 @@ use Rattle.relay960_engines.specs.declared.fault.RunFault.TheVariants.{Read, Wri
 use Rattle.relay960_engines.specs.Lines.{lines_of, last_piece, whole_lines}
 use Rattle.relay960_engines.specs.Writing.{AppendsPart}
 
--- what a reader still holds and what a writer holds, where they tell it
+-- what a reader still holds and what a writer holds, if they show it
 abbrev pub Known : Type 0
 Known = Option (List ℕ)
 
@@ -16,7 +16,7 @@ Known = Option (List ℕ)
 abbrev pub Answering : Type 1
 Answering = List (List ℕ) → List ℕ → Type 0
 
--- which bytes answer some lines, where there was no memory for the answer to the line behind them
+-- which bytes answer some lines, when there was no memory for the answer to the line after them
 abbrev pub Halting : Type 1
 Halting = List (List ℕ) → List ℕ → List ℕ → Type 0
 
@@ -51,12 +51,12 @@ pub record StoppedReading (answering : Answering) (bounds : Bounds) (old_input n
   pub bytes_within : length input ≤ bounds.bytes
   pub wrote : Wrote answering (whole_lines [] input) old_output new_output
 
--- how many bytes one read asks for: so many may be read that are not looked at
+-- how many bytes one read asks for: at most this many may have been read but not looked at
 abbrev pub one_read : ℕ
 one_read = 4096
 
 -- a write failed: of the bytes read, all but those of the last read were seen, within both bounds, and a prefix of the answers to
--- the lines that end within them was written; or all were seen, no byte is behind them, and the last line was being answered
+-- the lines that end within them was written; or all were seen, no byte comes after them, and the last line was being answered
 pub record StoppedWriting (answering : Answering) (bounds : Bounds) (old_input new_input old_output new_output : Known) : Type 0 where
   pub seen : List ℕ
   pub unseen : List ℕ
@@ -67,7 +67,7 @@ pub record StoppedWriting (answering : Answering) (bounds : Bounds) (old_input n
       ⊎ ((unseen ≡ []) × IsAtEnd new_input × (length (lines_of seen) ≤ bounds.lines)
       × WrotePart answering (lines_of seen) old_output new_output)
 
--- a bound stands in the way of one more byte
+-- a bound rules out one more byte
 abbrev pub IsPast : Bounds → List ℕ → Type 0
 IsPast bounds seen = (bounds.lines ≤ length (whole_lines [] seen)) ⊎ (bounds.bytes ≤ length seen)
 
@@ -90,8 +90,8 @@ pub record NotBegun (answering : Answering) (old_input new_input old_output new_
   pub unread : Keeps old_input new_input
   pub unwritten : Keeps old_output new_output
 
--- there was no memory for the answer to a line: the lines before it were answered, all of them, and neither it nor one behind it was;
--- it ends within both bounds, and no more was read behind it than the last read gave
+-- there was no memory for the answer to a line: all the lines before it were answered, and neither it nor any line after it was;
+-- it ends within both bounds, and no more was read after it than the last read gave
 pub record HaltedAtLine (halting : Halting) (bounds : Bounds) (old_input new_input old_output new_output : Known) : Type 0 where
   pub seen : List ℕ
   pub unseen : List ℕ
@@ -100,7 +100,7 @@ pub record HaltedAtLine (halting : Halting) (bounds : Bounds) (old_input new_inp
   pub before : List (List ℕ)
   pub stopped : List ℕ
   pub lines : lines_of seen ≡ before ++ stopped ∷ []
-  -- by its line feed, or with the input
+  -- with its line feed, or with the input
   pub ended : (last_piece [] seen ≡ []) ⊎ ((unseen ≡ []) × IsAtEnd new_input)
   pub lines_within : length (lines_of seen) ≤ bounds.lines
   pub bytes_within : length seen ≤ bounds.bytes
@@ -108,25 +108,25 @@ pub record HaltedAtLine (halting : Halting) (bounds : Bounds) (old_input new_inp
   pub given : halting before answers stopped
   pub written : Appends old_output new_output answers
 
--- there was no memory, to begin or for the answer to a line
+-- there was no memory to begin or for the answer to a line
 abbrev pub StoppedWithoutMemory : Answering → Halting → Bounds → Known → Known → Known → Known → Type 0
 StoppedWithoutMemory answering halting bounds old_input new_input old_output new_output =
     NotBegun answering old_input new_input old_output new_output
     ⊎ HaltedAtLine halting bounds old_input new_input old_output new_output
 
 -- what a run that ends with a fault has done
-abbrev pub Stopped : Answering → Halting → Bounds → Known → Known → Known → Known → RunFault → Type 0
-Stopped answering halting bounds old_input new_input old_output new_output Read =
+abbrev pub RunStopped : Answering → Halting → Bounds → Known → Known → Known → Known → RunFault → Type 0
+RunStopped answering halting bounds old_input new_input old_output new_output Read =
     StoppedReading answering bounds old_input new_input old_output new_output
-Stopped answering halting bounds old_input new_input old_output new_output Write =
+RunStopped answering halting bounds old_input new_input old_output new_output Write =
     StoppedWriting answering bounds old_input new_input old_output new_output
-Stopped answering halting bounds old_input new_input old_output new_output TooLong =
+RunStopped answering halting bounds old_input new_input old_output new_output TooLong =
     StoppedPast answering bounds old_input new_input old_output new_output
-Stopped answering halting bounds old_input new_input old_output new_output OutOfMemory =
+RunStopped answering halting bounds old_input new_input old_output new_output OutOfMemory =
     StoppedWithoutMemory answering halting bounds old_input new_input old_output new_output
-Stopped answering halting bounds old_input new_input old_output new_output BadStart = ⊥
+RunStopped answering halting bounds old_input new_input old_output new_output BadStart = ⊥
 
--- a write failed, and where the answers to lines begin those to more lines: what was written is a prefix of the answers to all
+-- a write failed, and the answers to lines are the beginning of those to more lines: what was written is a prefix of the answers to all
 -- lines of the bytes read
 pub record StoppedWithin (answering : Answering) (bounds : Bounds) (old_input new_input old_output new_output : Known) : Type 0 where
   pub stopped : StoppedWriting answering bounds old_input new_input old_output new_output

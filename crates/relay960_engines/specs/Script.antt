@@ -20,14 +20,14 @@ use Rattle.relay960_engines.specs.Lines.{lines_of}
 use Rattle.relay960_engines.specs.Runs.{Known, Done, StoppedReading, StoppedWithin, StoppedPast, StoppedWithoutMemory}
 use Rattle.relay960_engines.specs.Writing.{line}
 
--- ---- The answers where there is memory for all.
+-- ---- The answers if there is memory for all.
 
--- what answers a line that says this, from the history of the lines before it
+-- the answer to a line that says this, from the history of the lines before it
 abbrev pub answer_to : LimitNumbers → History → Result Step MessageFault → Answer
 answer_to limits h (Ok step) = Reply (reply_to limits h step)
 answer_to limits h (Err fault) = Fault fault
 
--- the history after it, to which a line that gives no command adds nothing
+-- the history after it; a line that gives no command adds nothing to it
 abbrev pub history_after : LimitNumbers → History → Result Step MessageFault → History
 history_after limits h (Ok step) = (step, reply_to limits h step) ∷ h
 history_after limits h (Err fault) = h
@@ -42,26 +42,26 @@ unfoldable pub answer_lines : List Answer → List ℕ
 answer_lines [] = []
 answer_lines (a ∷ more) = line (answer_text a) ++ answer_lines more
 
--- what a whole run writes for the bytes that it reads, where there is memory for all
+-- what a whole run writes for the bytes that it reads, if there is memory for all
 abbrev pub script_output : LimitNumbers → List ℕ → List ℕ
 script_output limits bytes = answer_lines (answers_to limits [] (lines_of bytes))
 
--- ---- The answers where memory may be wanting: for reading a line, or for an Open or a Follow.
+-- ---- The answers when memory may be lacking: for reading a line, or for an Open or a Follow.
 
--- from history h the line is answered so, which leads to history g
+-- from history h the line gets this answer, which leads to history g
 abbrev pub AnswersLine : LimitNumbers → History → List ℕ → Answer → History → Type 0
 AnswersLine limits h l (Fault fault) g = IsDecoding l (Err fault) × (g ≡ h)
 AnswersLine limits h l (Reply reply) g =
     (step : Step) × IsDecoding l (Ok step) × IsAllowed limits h step reply × (g ≡ (step, reply) ∷ h)
 
--- from history h the lines are answered so, one after another, which leads to history g
+-- from history h the lines get these answers, one after another, which leads to history g
 unfoldable pub AnswersLines : LimitNumbers → History → List (List ℕ) → List Answer → History → Type 0
 AnswersLines limits h [] answers g = (answers ≡ []) × (g ≡ h)
 AnswersLines limits h (l ∷ ls) answers g =
     (answer : Answer) × (mid : History) × (more : List Answer)
     × (answers ≡ answer ∷ more) × AnswersLine limits h l answer mid × AnswersLines limits mid ls more g
 
--- an answer that tells of want of memory
+-- an answer that reports lack of memory
 abbrev pub is_want : Answer → Bool
 is_want (Reply (Refused refusals.OutOfMemory)) = true
 is_want (Reply _) = false
@@ -69,14 +69,14 @@ is_want (Fault faults.OutOfMemory) = true
 is_want (Fault _) = false
 
 -- The answers to the lines of a script: each is the fault of its line, or the reply that the history of the lines before it
--- asks for, or tells of want of memory; where none does, they are the answers that the lines ask for.
+-- requires, or reports lack of memory. If none does, they are the answers that the lines require.
 pub record ScriptAnswers (limits : LimitNumbers) (lines : List (List ℕ)) (answers : List Answer) : Type 0 where
   pub history : History
   pub answered : AnswersLines limits [] lines answers history
   pub exact : list_any is_want answers ≡ false → answers ≡ answers_to limits [] lines
 
--- The bytes answer the lines of a script: they are such answers, each on a line; where none tells of want of memory, they are those
--- that the lines ask for.
+-- The bytes answer the lines of a script: they are such answers, each on a line. If none reports lack of memory, they are those
+-- that the lines require.
 pub record Scripts (limits : LimitNumbers) (lines : List (List ℕ)) (bytes : List ℕ) : Type 0 where
   pub answers : List Answer
   pub given : ScriptAnswers limits lines answers
@@ -84,7 +84,7 @@ pub record Scripts (limits : LimitNumbers) (lines : List (List ℕ)) (bytes : Li
   pub exact : list_any is_want answers ≡ false → bytes ≡ answer_lines (answers_to limits [] lines)
 
 -- The bytes answer the lines before a line for whose answer there was no memory. That line was read, and the step that it commands was
--- made: an answer to it there is, and it tells of no want of memory.
+-- made: it has an answer, and that answer does not report lack of memory.
 pub record ScriptsBefore (limits : LimitNumbers) (lines : List (List ℕ)) (bytes l : List ℕ) : Type 0 where
   pub scripts : Scripts limits lines bytes
   pub answer : Answer
@@ -92,7 +92,7 @@ pub record ScriptsBefore (limits : LimitNumbers) (lines : List (List ℕ)) (byte
   pub answered : AnswersLine limits scripts.given.history l answer history
   pub no_want : is_want answer ≡ false
 
--- ---- What a run does, from what the reader holds and the writer was given before it to what they are after it.
+-- ---- What a run does: from what the reader holds and the writer was given before it, to what they are after it.
 
 -- the input was read to its end, its lines were answered, and there are n of them, within both bounds
 abbrev pub Ran : LimitNumbers → Bounds → Known → Known → Known → Known → ℕ → Type 0

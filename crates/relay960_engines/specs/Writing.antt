@@ -11,6 +11,6 @@ AppendsPart old new text = (n : ℕ) × Appends old new (take n text)
 abbrev pub line : List ℕ → List ℕ
 line text = text ++ 10 ∷ []
 
--- the line of a number and a name behind a word, `fault 1 Length` and the like
+-- the line of a number and a name after a word, `fault 1 Length` and the like
 abbrev pub numbered_line : List ℕ → ℕ → List ℕ → List ℕ
 numbered_line word number name = concat (word ∷ decimal number ∷ codes " " ∷ name ∷ codes "\n" ∷ [])

@@ -1,4 +1,4 @@
-//! What answers the lines of a run.
+//! Answerers, which answer the lines of a run.
 
 ghost use Rattle.std.specs.Prelude.{ℕ, List, take, Option, Some, None, IfOk, OnErr};
 ghost use Rattle.std.specs.Cow.{cow_slice_items};
@@ -6,22 +6,22 @@ ghost use Rattle.std.specs.Cow.{cow_slice_items};
 use std::alloc::{AllocError, Global};
 use std::borrow::CowSlice;
 
-/// It answers a line, and goes from one state to the next by it. No answer depends on what stands behind the first
+/// It answers lines, each of which leads from one state to the next. No answer depends on what comes after the first
 /// 1,025 bytes of its line.
 pub trait Answerer {
-    /// From a state a line is answered by these bytes, or by none where there was no memory for them, which leads to a state.
+    /// In a state a line is answered by these bytes, or by none if there was no memory for them, which leads to a state.
     ghost gives: { Self → List ℕ → Option (List ℕ) → Self → Type 0 };
 
     /// The bytes of the answer, with its line feeds.
     ///
     /// # Errors
     ///
-    /// There was no memory for the bytes of an answer: the state is the one behind it all the same.
+    /// There was no memory for the bytes of an answer. Even so, the state is the one after it.
     fn answer(&mut self, alloc: Global, line: &[u8]) -> Result<CowSlice<'static, u8>, AllocError>
         ensures given { IfOk result (λ text. gives self.old line.now (Some (cow_slice_items text)) self.new) }
         ensures unanswered { OnErr result (gives self.old line.now None self.new) };
 
-    /// Where there was no memory for the bytes, there are bytes all the same that would have been the answer.
+    /// Even if there was no memory for the bytes, some bytes exist that would have been the answer.
     ghost spelt: { (s : Self) (l : List ℕ) (t : Self) → gives s l None t → (bytes : List ℕ) × gives s l (Some bytes) t };
 
     /// A line is answered as its first 1,025 bytes are.

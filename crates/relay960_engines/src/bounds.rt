@@ -1,4 +1,4 @@
-//! How much input a run takes.
+//! How much input a run accepts.
 
 /// How many lines and how many bytes an input may have.
 #[derive(Clone, Copy, PartialEq, Eq, Debug)]

@@ -1,6 +1,6 @@
 //! What a run reads from and writes to.
 //!
-//! A device may count how often it has failed. So a contract can say that a run ends with the fault of a device exactly where that
+//! A device may count how often it has failed. So a contract can say that a run ends with the fault of a device exactly if that
 //! device has failed. The readers and writers of the standard library are devices that do not count.
 
 ghost use Rattle.std.specs.Prelude.{◌≡◌, ℕ, List, Option, None};
@@ -11,15 +11,15 @@ ghost use Rattle.relay960_engines.specs.Failures.{failures_of_read, failures_of_
 use std::io;
 use std::io::{Read, Write};
 
-/// A reader, as the standard `Read` is one, which may count its failures.
+/// A reader, like the standard `Read`, which may count its failures.
 pub trait ReadDevice {
-    /// The bytes that reads will give from here on, where they are known.
+    /// The bytes that reads will give from here on, if they are known.
     ghost remaining: { Self → Option (List ℕ) };
 
-    /// How many reads have failed, where the device counts them.
+    /// How many reads have failed, if the device counts them.
     ghost failures: { Self → Option ℕ };
 
-    /// Reads some bytes into the front of the buffer and gives their number, which is 0 at the end alone, or where the buffer is
+    /// Reads some bytes into the front of the buffer and returns their number, which is 0 only at the end, or if the buffer is
     /// empty.
     ///
     /// # Errors
@@ -41,15 +41,15 @@ impl<R: Read> ReadDevice for R {
     }
 }
 
-/// A writer, as the standard `Write` is one, which may count its failures.
+/// A writer, like the standard `Write`, which may count its failures.
 pub trait WriteDevice {
-    /// The bytes that the writer holds, where they are known.
+    /// The bytes that the writer holds, if they are known.
     ghost contents: { Self → Option (List ℕ) };
 
-    /// How many writes have failed, where the device counts them.
+    /// How many writes have failed, if the device counts them.
     ghost failures: { Self → Option ℕ };
 
-    /// Writes some of the buffer's first bytes and gives their number. To take no byte of some is a failure.
+    /// Writes some of the buffer's first bytes and returns their number. To take no byte of a non-empty buffer is a failure.
     ///
     /// # Errors
     ///

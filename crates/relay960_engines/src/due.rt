@@ -1,10 +1,10 @@
-//! The answers that are due to a writer: those of one read go out together.
+//! The answers that are due to a writer: those of one read are written together.
 
 ghost use Rattle.std.specs.Prelude.{◌≡◌, ◌++◌, [], OnOk, OnErr, IfErr};
 ghost use Rattle.std.specs.Io.KnownBytes.{Appends};
 ghost use Rattle.relay960_engines.specs.Failures.{writes_failed};
 ghost use Rattle.relay960_engines.specs.Writing.{AppendsPart};
-ghost use Rattle.relay960_engines.specs.Inner.Sending.{Sends, outlet};
+ghost use Rattle.relay960_engines.specs.Inner.Sending.{Sends, output_of};
 
 use crate::devices::WriteDevice;
 use crate::fault::RunFault;
@@ -12,11 +12,11 @@ use crate::writing::write_whole;
 use arrayvec::ArrayVec;
 use std::marker::Model;
 
-/// For how many bytes there is room.
+/// How many bytes there is room for.
 const ROOM: usize = 8192;
 
-/// The bytes that are due: they answer lines that were read, and are not written yet. They take no memory. Contracts see the list of
-/// the bytes.
+/// The bytes that are due: they answer lines that were read, and have not been written yet. They allocate nothing. Contracts see the list
+/// of the bytes.
 #[derive(Drop)]
 pub struct Due {
     bytes: ArrayVec<u8, ROOM>,
@@ -53,11 +53,11 @@ impl Due {
         Ok(())
     }
 
-    /// Adds a text behind what is due. Where there is no room for it, what was due is written first, and then a text that has more
+    /// Adds a text after what is due. If there is no room for it, what was due is written first, and then the text itself if it has more
     /// bytes than there is ever room for.
     pub fn add<W: WriteDevice>(&mut self, writer: &mut W, text: &[u8]) -> Result<(), RunFault>
-        ensures sent { OnOk result (Sends (outlet (W.contents writer.old) self.old)
-            (outlet (W.contents writer.new) self.new) text.now) }
+        ensures sent { OnOk result (Sends (output_of (W.contents writer.old) self.old)
+            (output_of (W.contents writer.new) self.new) text.now) }
         ensures part { OnErr result (AppendsPart (W.contents writer.old) (W.contents writer.new) (self.old ++ text.now)) }
         ensures fault { IfErr result (λ fault. fault ≡ RunFault.Write) }
         ensures writes_counted { W.failures writer.new ≡ writes_failed result (W.failures writer.old) }

@@ -1,4 +1,4 @@
-//! What ends a run before its end.
+//! What ends a run early.
 
 ghost use Rattle.std.specs.Prelude.{◌≡◌};
 ghost use Rattle.relay960_engines.specs.Faults.{run_fault_code, run_fault_name};
@@ -11,9 +11,9 @@ use thiserror::Error;
 pub enum RunFault {
     /// The device refused a read.
     Read,
-    /// The device refused a write, or took no byte of it.
+    /// The device refused a write, or took no byte.
     Write,
-    /// The input has more lines or more bytes than a run takes.
+    /// The input has more lines or more bytes than a run accepts.
     TooLong,
     /// There was no memory.
     OutOfMemory,

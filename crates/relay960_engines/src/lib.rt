@@ -1,6 +1,6 @@
 //! The engines of the program `relay960`: the lines of a start number, of a position and of the version, a live game over lines, a
-//! script over a relay, and the line engine below these two. They read from any reader and write to any writer, and know no words of a
-//! command line.
+//! script over a relay, and the line engine on which these two are built. They read from any reader and write to any writer, and know
+//! nothing of a command line.
 #![tactic(auto)]
 
 mod answerer;
@@ -8,7 +8,7 @@ mod bounds;
 mod devices;
 mod due;
 mod fault;
-mod kept;
+mod kept_line;
 mod limits;
 mod lines;
 mod listing;

@@ -13,7 +13,7 @@ const GREATEST: Bounds = Bounds {
     bytes: 1_073_741_824,
 };
 
-/// The limits of a relay where none are named: 16 boards, 64 followers a board, queues of 64 moves and 1,024 plies a game.
+/// The limits of a relay by default: 16 boards, 64 followers a board, queues of 64 moves and 1,024 plies a game.
 pub fn default_limits() -> Limits
     ensures { result ≡ record { boards = 16; followers = 64; capacity = 64; plies = 1024 } }
 {
@@ -44,7 +44,7 @@ impl Model for ScriptLimits {
 }
 
 impl ScriptLimits {
-    /// The bounds, exactly where each number is in its range: 1 to 1,000,000 lines, 1 to 1,073,741,824 bytes.
+    /// The bounds, or None exactly if a number is outside its range: 1 to 1,000,000 lines, 1 to 1,073,741,824 bytes.
     pub fn new(limits: Limits, lines: u64, bytes: u64) -> Option<ScriptLimits>
         ensures some { IsSome result ↔ AreBounds (record { lines = lines; bytes = bytes }) }
         ensures value { IfSome result (λ l. l ≡ record { limits = limits; bounds = record { lines = lines; bytes = bytes } }) }

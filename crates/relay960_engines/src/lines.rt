@@ -3,7 +3,7 @@
 ghost use Rattle.std.specs.Prelude.{◌≡◌, ◌+◌, ◌≤◌, length, IfOk, IfErr, OnOk};
 ghost use Rattle.relay960_engines.specs.Failures.{reads_failed, writes_failed};
 ghost use Rattle.relay960_engines.specs.Lines.{Before, Between, last_line};
-ghost use Rattle.relay960_engines.specs.Runs.{Done, Stopped, Wrote};
+ghost use Rattle.relay960_engines.specs.Runs.{Done, RunStopped, Wrote};
 ghost use Rattle.relay960_engines.specs.Inner.Sending.{settled};
 ghost use Rattle.relay960_engines.specs.Inner.Taking.{StopsReading, TakenAll, Unwritten, Within};
 
@@ -15,10 +15,10 @@ use crate::fault::RunFault;
 use crate::progress::{Progress, answer_line, take_chunk};
 use std::alloc::Global;
 
-/// How many bytes are asked for by one read.
+/// How many bytes one read asks for.
 const CHUNK: usize = 4096;
 
-/// Takes all bytes of the reader. Each error of a read is the fault, and none is tried again.
+/// Takes all bytes of the reader. Any error of a read is the fault; no read is retried.
 fn take_all<R: ReadDevice, A: Answerer, W: WriteDevice>(
     alloc: Global,
     reader: &mut R,
@@ -50,7 +50,7 @@ fn take_all<R: ReadDevice, A: Answerer, W: WriteDevice>(
     }
 }
 
-/// Answers the last line, which has no line feed, where there is one, and gives the number of all lines.
+/// Answers the last line, which has no line feed, if there is one, and returns the number of all lines.
 fn answer_last<A: Answerer, W: WriteDevice>(
     alloc: Global,
     answerer: &mut A,
@@ -76,16 +76,16 @@ fn answer_last<A: Answerer, W: WriteDevice>(
     Ok(progress.answered + 1)
 }
 
-/// Answers each line of the reader on the writer, and gives the number of lines. A line ends with a line feed; a last
-/// piece without one is a line where it is not empty. Of a line the answerer is given the first 1,025 bytes. At most
-/// as many lines are answered and as many bytes taken as the bounds say.
+/// Answers each line of the reader on the writer, and returns the number of lines. A line ends with a line feed; a last
+/// piece without one is a line if it is not empty. The answerer is given the first 1,025 bytes of a line. At most
+/// as many lines are answered and as many bytes taken as the bounds allow.
 ///
 /// # Errors
 ///
-/// `Read` where a read failed: the lines that ended before were answered. `Write` where a write failed: a prefix of the
-/// answers was written. `TooLong` where there is a byte behind the lines or behind the bytes that the bounds allow: the lines that end
-/// within both bounds were answered. `OutOfMemory` where there was no memory to begin, and nothing was read; or for the answer to a
-/// line: all lines before it were answered, and neither it nor one behind it was.
+/// `Read` if a read failed: the lines that ended before were answered. `Write` if a write failed: a prefix of the
+/// answers was written. `TooLong` if there is a byte after the lines or the bytes that the bounds allow: the lines that end
+/// within both bounds were answered. `OutOfMemory` if there was no memory to begin, and nothing was read; or for the answer to a
+/// line: all lines before it were answered, and neither it nor any line after it was.
 pub fn run_lines<R: ReadDevice, A: Answerer, W: WriteDevice>(
     alloc: Global,
     reader: &mut R,
@@ -95,7 +95,7 @@ pub fn run_lines<R: ReadDevice, A: Answerer, W: WriteDevice>(
 ) -> Result<u64, RunFault>
     ensures done { IfOk result (λ n. Done (Between A.gives answerer.old answerer.new) bounds (R.remaining reader.old)
         (R.remaining reader.new) (W.contents writer.old) (W.contents writer.new) n) }
-    ensures failed { IfErr result (λ fault. Stopped (Between A.gives answerer.old answerer.new)
+    ensures failed { IfErr result (λ fault. RunStopped (Between A.gives answerer.old answerer.new)
         (Before A.gives answerer.old answerer.new) bounds (R.remaining reader.old) (R.remaining reader.new) (W.contents writer.old) (W.contents writer.new) fault) }
     ensures reads_counted { R.failures reader.new ≡ reads_failed result (R.failures reader.old) }
     ensures writes_counted { W.failures writer.new ≡ writes_failed result (W.failures writer.old) }

@@ -21,8 +21,8 @@ fn write_spaced<W: WriteDevice>(writer: &mut W, moves: &[Move]) -> Result<(), Ru
     ensures fault { IfErr result (λ fault. fault ≡ RunFault.Write) }
     ensures writes_counted { W.failures writer.new ≡ writes_failed result (W.failures writer.old) }
 {
-    for chess_move in moves {
-        let text = move_bytes(*chess_move);
+    for m in moves {
+        let text = move_bytes(*m);
         write_pieces(writer, &[b" ", text.as_slice()])?;
     }
     Ok(())
@@ -46,7 +46,7 @@ fn write_first<W: WriteDevice>(
     write_spaced(writer, others)
 }
 
-/// Writes the texts of the moves with single spaces between them, and nothing where there is no move.
+/// Writes the texts of the moves with single spaces between them, or nothing if there is no move.
 fn write_parted<W: WriteDevice>(writer: &mut W, moves: &[Move]) -> Result<(), RunFault>
     ensures whole { OnOk result (Appends (W.contents writer.old) (W.contents writer.new) (parted moves.now)) }
     ensures part { OnErr result (AppendsPart (W.contents writer.old) (W.contents writer.new) (parted moves.now)) }

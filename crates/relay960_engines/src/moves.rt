@@ -1,4 +1,4 @@
-//! The lines of a text in FEN: its legal moves and its state.
+//! The lines for a text in FEN: its legal moves and its state.
 
 ghost use Rattle.std.specs.Prelude.{◌≡◌, ◌++◌, IfOk, IfErr, OnOk, OnErr};
 ghost use Rattle.std.specs.Io.KnownBytes.{Appends};
@@ -39,7 +39,7 @@ fn write_lines<W: WriteDevice>(writer: &mut W, moves: &[Move], state: State) -> 
     write_line(writer, state_name(state).as_bytes())
 }
 
-/// Writes the lines of a lawful position of that state. All memory is taken before the first write.
+/// Writes the lines of a lawful position with that state. All memory is allocated before the first write.
 fn write_lawful<W: WriteDevice>(
     alloc: Global,
     lawful: &Lawful,
@@ -58,13 +58,13 @@ fn write_lawful<W: WriteDevice>(
     }
 }
 
-/// Writes the answer to a text in Shredder-FEN: the line of its first fault, or `unlawful` where the side not to move is
-/// in check, or one line with the legal moves and one with the state, `going`, `checkmate` or `stalemate`, which are
-/// those of the position alone, whatever its counters. It answers whether the text is a lawful position's.
+/// Writes the answer to a text in Shredder-FEN: the line of its first fault; or `unlawful` if the side not to move is
+/// in check; or one line with the legal moves and one with the state, `going`, `checkmate` or `stalemate`. These depend
+/// on the position alone, whatever its counters. It returns whether the text is a lawful position's.
 ///
 /// # Errors
 ///
-/// `Write` where the writer failed: a prefix of the answer was written. `OutOfMemory` where there was no memory for the
+/// `Write` if the writer failed: a prefix of the answer was written. `OutOfMemory` if there was no memory for the
 /// list of a lawful position's moves: nothing was written.
 pub fn moves_run<W: WriteDevice>(
     alloc: Global,

@@ -1,4 +1,4 @@
-//! A live game over lines: each line is a move, and its answer is the position after it or why there is none.
+//! A live game over lines: each line is a move, and its answer is the position after it or the reason why there is none.
 
 ghost use Rattle.std.specs.Prelude.{◌≡◌, IfOk, IfErr};
 ghost use Rattle.c960_game.specs.Record.{play_answer};
@@ -25,17 +25,17 @@ pub struct Player {
 }
 
 impl Player {
-    /// Makes a move, and gives the answer to it.
+    /// Makes a move, and returns the answer to it.
     ///
     /// # Errors
     ///
     /// There was no memory for the answer.
-    fn play(&mut self, alloc: Global, chess_move: Move) -> Result<Vec<u8>, AllocError>
+    fn play(&mut self, alloc: Global, m: Move) -> Result<Vec<u8>, AllocError>
         ensures text { IfOk result (λ text. text.items
-            ≡ played_lines self.old.game chess_move (play_answer self.old.game chess_move)) }
-        ensures game { self.new.game ≡ game_played self.old.game chess_move (play_answer self.old.game chess_move) }
+            ≡ played_lines self.old.game m (play_answer self.old.game m)) }
+        ensures game { self.new.game ≡ game_played self.old.game m (play_answer self.old.game m) }
     {
-        match self.game.play(chess_move) {
+        match self.game.play(m) {
             Ok(outcome) => played_text(alloc, &self.game.position(), outcome),
             Err(refusal) => refused_text(alloc, refusal),
         }
@@ -57,24 +57,24 @@ impl Answerer for Player {
     #[tactic(auto, unfolding(crate::specs::Play::line_answer, crate::specs::Play::game_after))]
     fn answer(&mut self, alloc: Global, line: &[u8]) -> Result<CowSlice<'static, u8>, AllocError> {
         let text = match read_move(line) {
-            Ok(chess_move) => self.play(alloc, chess_move)?,
+            Ok(m) => self.play(alloc, m)?,
             Err(fault) => fault_text(alloc, fault)?,
         };
         Ok(CowSlice::Owned(text))
     }
 }
 
-/// Plays a live game from start `number`: it reads a move a line and writes, at the latest before it reads on, the position
-/// after the move in Shredder-FEN, and where the move ends the game a line with the outcome; or the line of the refusal
-/// or of the text's fault, after which the game goes on. It gives the number of lines.
+/// Plays a live game from start `number`. It reads one move a line and writes, at the latest before the next read, the position
+/// after the move in Shredder-FEN and, if the move ends the game, a line with the outcome; or the line of the refusal
+/// or of the text's fault, after which the game goes on. It returns the number of lines.
 ///
 /// # Errors
 ///
-/// `BadStart` from 960 on: nothing was read, and the refusal was written. `Read` where a read failed: the lines that ended
-/// before were answered. `Write` where a write failed: a prefix of the answers was written, or of the refusal. `TooLong`
-/// where there is a byte behind the lines or bytes that the limits allow: the lines that end within both were answered.
-/// `OutOfMemory` where there was no memory for the game, and nothing was read; or for an answer: all lines before its line were
-/// answered, and neither it nor one behind it was.
+/// `BadStart` from 960 on: nothing was read, and the refusal was written. `Read` if a read failed: the lines that ended
+/// before were answered. `Write` if a write failed: a prefix of the answers was written, or of the refusal. `TooLong`
+/// if there is a byte after the lines or bytes that the limits allow: the lines that end within both were answered.
+/// `OutOfMemory` if there was no memory for the game, and nothing was read; or for an answer: all lines before its line were
+/// answered, and neither it nor any line after it was.
 pub fn play_run<R: ReadDevice, W: WriteDevice>(
     alloc: Global,
     number: u16,

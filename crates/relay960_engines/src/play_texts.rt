@@ -11,8 +11,8 @@ use c960_board::{MoveFault, Position, write_fen};
 use c960_game::{Outcome, Refusal};
 use std::alloc::{AllocError, Global};
 
-/// For how many bytes the text after a move has room from the start: the longest position's line and outcome's line fit, so that memory is
-/// taken once.
+/// How many bytes are reserved for the text after a move: the longest position's line and outcome's line fit, so that memory is
+/// allocated once.
 const ROOM: usize = 128;
 
 /// Adds the pieces to the text, one after the other.
@@ -25,7 +25,7 @@ fn add_pieces(text: &mut Vec<u8>, pieces: &[&[u8]]) -> Result<(), AllocError>
     Ok(())
 }
 
-/// Adds the line of the outcome, where the game is over.
+/// Adds the line of the outcome, if the game is over.
 fn add_outcome(text: &mut Vec<u8>, outcome: Option<Outcome>) -> Result<(), AllocError>
     ensures { OnOk result (text.new.items ≡ text.old.items ++ over_line outcome) }
 {
@@ -35,7 +35,7 @@ fn add_outcome(text: &mut Vec<u8>, outcome: Option<Outcome>) -> Result<(), Alloc
     }
 }
 
-/// The line of the position after a move, and behind it the line of the outcome where the move ends the game.
+/// The line of the position after a move, followed by the line of the outcome if the move ends the game.
 pub fn played_text(
     alloc: Global,
     position: &Position,
@@ -49,14 +49,14 @@ pub fn played_text(
     Ok(text)
 }
 
-/// The line of a number and a name behind a word.
+/// The line of a number and a name after a word.
 fn numbered_text(alloc: Global, word: &[u8], number: u64, name: &str) -> Result<Vec<u8>, AllocError>
     ensures { IfOk result (λ text. text.items ≡ numbered_line word.now number name.now) }
 {
     let mut text = Vec::new(alloc);
     match write_numbered(&mut text, word, number, name) {
         Ok(()) => Ok(text),
-        // A vector refuses a write for want of memory alone.
+        // A vector refuses a write only for lack of memory.
         Err(_) => Err(AllocError),
     }
 }
@@ -68,7 +68,7 @@ pub fn refused_text(alloc: Global, refusal: Refusal) -> Result<Vec<u8>, AllocErr
     numbered_text(alloc, b"refused ", refusal.code(), refusal.name())
 }
 
-/// The line of a text that is no move: `fault 1 Length` and the like.
+/// The line of a text that is not a move: `fault 1 Length` and the like.
 pub fn fault_text(alloc: Global, fault: MoveFault) -> Result<Vec<u8>, AllocError>
     ensures { IfOk result (λ text. text.items ≡ move_fault_line fault) }
 {

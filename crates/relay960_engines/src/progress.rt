@@ -1,22 +1,22 @@
-//! How the bytes of a stream are taken, a line at a time: each line is answered as soon as its line feed is seen, and the answers to
-//! the lines of one read go out together.
+//! How the bytes of a stream are taken, a line at a time. Each line is answered as soon as its line feed is seen, and the answers to
+//! the lines of one read are written together.
 
 ghost use Rattle.std.specs.Prelude.{◌≡◌, ◌<◌, ◌≤◌, ◌∷◌, [], length, take, IfOk, IfErr, OnOk};
 ghost use Rattle.relay960_engines.specs.Failures.{writes_failed};
 ghost use Rattle.relay960_engines.specs.Lines.{Between};
-ghost use Rattle.relay960_engines.specs.Inner.Sending.{Sent, outlet, settled};
-ghost use Rattle.relay960_engines.specs.Inner.Taking.{StopsIn, Taken, Unwritten, Within, kept_behind};
+ghost use Rattle.relay960_engines.specs.Inner.Sending.{SentAnswers, output_of, settled};
+ghost use Rattle.relay960_engines.specs.Inner.Taking.{StopsIn, TookBytes, Unwritten, Within, kept_behind};
 
 use crate::answerer::Answerer;
 use crate::bounds::Bounds;
 use crate::devices::WriteDevice;
 use crate::due::Due;
 use crate::fault::RunFault;
-use crate::kept::{KEPT, KeptLine};
+use crate::kept_line::{KEPT, KeptLine};
 use crate::pieces::{front, line_end};
 use std::alloc::{AllocError, Global};
 
-/// How far a run has come.
+/// How far a run has got.
 #[derive(Drop)]
 pub struct Progress {
     /// What is kept of the line that is being read.
@@ -46,7 +46,7 @@ impl Progress {
     }
 }
 
-/// Adds the answer to a line behind what is due. Where there is no memory for it, what was due is written.
+/// Adds the answer to a line after what is due. If there is no memory for it, what was due is written.
 pub fn answer_line<A: Answerer, W: WriteDevice>(
     alloc: Global,
     answerer: &mut A,
@@ -54,10 +54,10 @@ pub fn answer_line<A: Answerer, W: WriteDevice>(
     writer: &mut W,
     line: &[u8],
 ) -> Result<(), RunFault>
-    ensures sent { OnOk result (Sent (Between A.gives answerer.old answerer.new) (line.now ∷ [])
-        (outlet (W.contents writer.old) due.old) (outlet (W.contents writer.new) due.new)) }
+    ensures sent { OnOk result (SentAnswers (Between A.gives answerer.old answerer.new) (line.now ∷ [])
+        (output_of (W.contents writer.old) due.old) (output_of (W.contents writer.new) due.new)) }
     ensures failed { IfErr result (λ fault. Unwritten A.gives answerer.old answerer.new (line.now ∷ [])
-        (outlet (W.contents writer.old) due.old) (settled (W.contents writer.new)) fault) }
+        (output_of (W.contents writer.old) due.old) (settled (W.contents writer.new)) fault) }
     ensures writes_counted { W.failures writer.new ≡ writes_failed result (W.failures writer.old) }
 {
     match answerer.answer(alloc, line) {
@@ -70,7 +70,7 @@ pub fn answer_line<A: Answerer, W: WriteDevice>(
 }
 
 /// Adds the answer to the line that was begun and that the piece ends, and begins the next line. A line of which nothing was begun is
-/// answered where it stands, with no copy.
+/// answered in place, without a copy.
 fn answer_ended<A: Answerer, W: WriteDevice>(
     alloc: Global,
     answerer: &mut A,
@@ -80,10 +80,10 @@ fn answer_ended<A: Answerer, W: WriteDevice>(
     piece: &[u8],
 ) -> Result<(), RunFault>
     ensures none { OnOk result (begun.new ≡ []) }
-    ensures sent { OnOk result (Sent (Between A.gives answerer.old answerer.new) (kept_behind begun.old piece.now ∷ [])
-        (outlet (W.contents writer.old) due.old) (outlet (W.contents writer.new) due.new)) }
+    ensures sent { OnOk result (SentAnswers (Between A.gives answerer.old answerer.new) (kept_behind begun.old piece.now ∷ [])
+        (output_of (W.contents writer.old) due.old) (output_of (W.contents writer.new) due.new)) }
     ensures failed { IfErr result (λ fault. Unwritten A.gives answerer.old answerer.new (kept_behind begun.old piece.now ∷ [])
-        (outlet (W.contents writer.old) due.old) (settled (W.contents writer.new)) fault) }
+        (output_of (W.contents writer.old) due.old) (settled (W.contents writer.new)) fault) }
     ensures writes_counted { W.failures writer.new ≡ writes_failed result (W.failures writer.old) }
 {
     if begun.is_empty() {
@@ -95,8 +95,8 @@ fn answer_ended<A: Answerer, W: WriteDevice>(
     Ok(())
 }
 
-/// Takes the front of the bytes, up to the first line feed and with it, where both bounds allow it, and gives the number of its bytes:
-/// a line feed ends the line, which is answered, and the other bytes belong to it. Before any fault what was due is written.
+/// Takes the front of the bytes, up to and including the first line feed, as far as both bounds allow, and returns the number of its bytes.
+/// A line feed ends the line, which is answered; the other bytes belong to it. Before any fault what was due is written.
 fn take_front<A: Answerer, W: WriteDevice>(
     alloc: Global,
     answerer: &mut A,
@@ -110,10 +110,10 @@ fn take_front<A: Answerer, W: WriteDevice>(
     requires some { 0 < length bytes.now }
     ensures count { IfOk result (λ n. (0 < n) × (n ≤ length bytes.now)) }
     ensures within { OnOk result (Within bounds progress.new) }
-    ensures took { IfOk result (λ n. Taken A.gives answerer.old answerer.new progress.old progress.new (take n bytes.now)
-        (outlet (W.contents writer.old) due.old) (outlet (W.contents writer.new) due.new)) }
+    ensures took { IfOk result (λ n. TookBytes A.gives answerer.old answerer.new progress.old progress.new (take n bytes.now)
+        (output_of (W.contents writer.old) due.old) (output_of (W.contents writer.new) due.new)) }
     ensures failed { IfErr result (λ fault. StopsIn A.gives answerer.old answerer.new progress.old bounds
-        bytes.now (outlet (W.contents writer.old) due.old) (settled (W.contents writer.new)) fault) }
+        bytes.now (output_of (W.contents writer.old) due.old) (settled (W.contents writer.new)) fault) }
     ensures writes_counted { W.failures writer.new ≡ writes_failed result (W.failures writer.old) }
 {
     let end = line_end(bytes);
@@ -139,7 +139,7 @@ fn take_front<A: Answerer, W: WriteDevice>(
     Ok(count)
 }
 
-/// Takes the bytes, as far as both bounds allow it. Before any fault what was due is written.
+/// Takes the bytes, as far as both bounds allow. Before any fault what was due is written.
 fn take_bytes<A: Answerer, W: WriteDevice>(
     alloc: Global,
     answerer: &mut A,
@@ -151,10 +151,10 @@ fn take_bytes<A: Answerer, W: WriteDevice>(
 ) -> Result<(), RunFault>
     requires { Within bounds progress.old }
     ensures within { OnOk result (Within bounds progress.new) }
-    ensures took { OnOk result (Taken A.gives answerer.old answerer.new progress.old progress.new chunk.now
-        (outlet (W.contents writer.old) due.old) (outlet (W.contents writer.new) due.new)) }
+    ensures took { OnOk result (TookBytes A.gives answerer.old answerer.new progress.old progress.new chunk.now
+        (output_of (W.contents writer.old) due.old) (output_of (W.contents writer.new) due.new)) }
     ensures failed { IfErr result (λ fault. StopsIn A.gives answerer.old answerer.new progress.old bounds
-        chunk.now (outlet (W.contents writer.old) due.old) (settled (W.contents writer.new)) fault) }
+        chunk.now (output_of (W.contents writer.old) due.old) (settled (W.contents writer.new)) fault) }
     ensures writes_counted { W.failures writer.new ≡ writes_failed result (W.failures writer.old) }
 {
     let mut taken = 0;
@@ -172,7 +172,7 @@ fn take_bytes<A: Answerer, W: WriteDevice>(
     Ok(())
 }
 
-/// Takes the bytes of one read, as far as both bounds allow it, and writes the answers to their lines together.
+/// Takes the bytes of one read, as far as both bounds allow, and writes the answers to their lines together.
 pub fn take_chunk<A: Answerer, W: WriteDevice>(
     alloc: Global,
     answerer: &mut A,
@@ -185,10 +185,10 @@ pub fn take_chunk<A: Answerer, W: WriteDevice>(
     requires { Within bounds progress.old }
     ensures within { OnOk result (Within bounds progress.new) }
     ensures none { OnOk result (due.new ≡ []) }
-    ensures took { OnOk result (Taken A.gives answerer.old answerer.new progress.old progress.new chunk.now
-        (outlet (W.contents writer.old) due.old) (settled (W.contents writer.new))) }
+    ensures took { OnOk result (TookBytes A.gives answerer.old answerer.new progress.old progress.new chunk.now
+        (output_of (W.contents writer.old) due.old) (settled (W.contents writer.new))) }
     ensures failed { IfErr result (λ fault. StopsIn A.gives answerer.old answerer.new progress.old bounds
-        chunk.now (outlet (W.contents writer.old) due.old) (settled (W.contents writer.new)) fault) }
+        chunk.now (output_of (W.contents writer.old) due.old) (settled (W.contents writer.new)) fault) }
     ensures writes_counted { W.failures writer.new ≡ writes_failed result (W.failures writer.old) }
 {
     take_bytes(alloc, answerer, due, writer, progress, bounds, chunk)?;

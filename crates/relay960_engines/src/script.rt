@@ -22,7 +22,7 @@ use std::borrow::CowSlice;
 /// The answerer of a script, over any kind of relay.
 #[derive(Drop)]
 pub struct Script<S: Stepper> {
-    /// The relay that the commands so far have led to.
+    /// The relay after the commands so far.
     pub relay: S,
     /// What decodes the lines.
     pub decoder: Decoder,
@@ -55,7 +55,7 @@ fn made_line(alloc: Global, answer: &Answer) -> Result<Vec<u8>, AllocError>
     Ok(text.into_bytes())
 }
 
-/// The line of an answer. That of one which tells of want of memory takes none, so that it can always be written.
+/// The line of an answer. An answer that reports lack of memory takes no memory itself, so that it can always be written.
 fn line_of(alloc: Global, answer: &Answer) -> Result<CowSlice<'static, u8>, AllocError>
     ensures line { IfOk result (λ text. cow_slice_items text ≡ line (answer_text answer.now)) }
     ensures no_want { OnErr result (is_want answer.now ≡ false) }
@@ -71,16 +71,16 @@ fn line_of(alloc: Global, answer: &Answer) -> Result<CowSlice<'static, u8>, Allo
     }
 }
 
-/// Runs a script over a relay that has no board yet: it reads a command a line and writes, at the latest before it reads on, its
-/// answer. It gives the number of lines. Where a line could not be read for want of memory, or an Open or a Follow was
-/// refused for it, the answer says so, and the run goes on.
+/// Runs a script over a relay that has no board yet. It reads one command a line and writes its answer, at the latest before the next
+/// read. It returns the number of lines. If a line could not be read for lack of memory, or an Open or a Follow was
+/// refused for that reason, the answer says so, and the run goes on.
 ///
 /// # Errors
 ///
-/// `Read` where a read failed: the lines that ended before were answered. `Write` where a write failed: a prefix of the
-/// answers was written. `TooLong` where there is a byte behind the lines or bytes that the limits allow: the lines that end
-/// within both were answered. `OutOfMemory` where there was no memory for the relay, and nothing was read; or for the text of an
-/// answer, which tells of no want of memory: all lines before its line were answered, and neither it nor one behind it was.
+/// `Read` if a read failed: the lines that ended before were answered. `Write` if a write failed: a prefix of the
+/// answers was written. `TooLong` if there is a byte after the lines or bytes that the limits allow: the lines that end
+/// within both were answered. `OutOfMemory` if there was no memory for the relay, and nothing was read; or for the text of an
+/// answer that does not itself report lack of memory: all lines before its line were answered, and neither it nor any line after it was.
 pub fn script_run<R: ReadDevice, W: WriteDevice>(
     alloc: Global,
     reader: &mut R,

@@ -21,8 +21,8 @@ pub fn refuse<W: WriteDevice>(writer: &mut W) -> Result<(), RunFault>
     write_line(writer, b"refused 3 BadStart")
 }
 
-/// Writes the line of start `number`: its FEN, or `refused 3 BadStart` from 960 on. It answers whether there is such a
-/// start. On a fault, which comes of the writer alone, a prefix of the line was written.
+/// Writes the line of start `number`: its FEN, or `refused 3 BadStart` from 960 on. It returns whether there is such a
+/// start. On a fault, which only the writer can cause, a prefix of the line was written.
 pub fn start_run<W: WriteDevice>(number: u16, writer: &mut W) -> Result<bool, RunFault>
     ensures answer { IfOk result (λ good. IsTrue good ↔ (number < 960)) }
     ensures whole { OnOk result (Appends (W.contents writer.old) (W.contents writer.new) (start_line number)) }

@@ -10,7 +10,7 @@ use crate::devices::WriteDevice;
 use crate::fault::RunFault;
 use crate::writing::write_pieces;
 
-/// Writes the line of the program's name and this version. On a fault, which comes of the writer alone, a prefix of it was written.
+/// Writes the line of the program's name and this version. On a fault, which only the writer can cause, a prefix of it was written.
 pub fn version_run<W: WriteDevice>(version: &str, writer: &mut W) -> Result<(), RunFault>
     ensures whole { OnOk result (Appends (W.contents writer.old) (W.contents writer.new) (version_line version.now)) }
     ensures part { OnErr result (AppendsPart (W.contents writer.old) (W.contents writer.new) (version_line version.now)) }

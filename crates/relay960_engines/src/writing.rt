@@ -1,6 +1,6 @@
 //! Whole lines on any writer, without memory.
 //!
-//! The standard `write_all` tries an interrupted write again and says nothing of what was written before an error. Here
+//! The standard `write_all` retries an interrupted write, and does not say what was written before an error. Here
 //! each failed write is the fault, and what was written is a prefix.
 
 ghost use Rattle.std.specs.Prelude.{◌≡◌, OnOk, OnErr, IfErr};
@@ -59,7 +59,7 @@ pub fn write_pieces<W: WriteDevice>(writer: &mut W, pieces: &[&[u8]]) -> Result<
     Ok(())
 }
 
-/// Writes the line of a number and a name behind a word, or on a fault a prefix of it.
+/// Writes the line of a number and a name after a word, or on a fault a prefix of it.
 pub fn write_numbered<W: WriteDevice>(
     writer: &mut W,
     word: &[u8],

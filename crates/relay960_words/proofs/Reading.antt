@@ -1,4 +1,4 @@
--- What a command keeps of its arguments, what a number that was read says of its entry, and which command the words name.
+-- What a command keeps of its arguments, what a number that was read says about its entry, and which command the arguments name.
 use Rattle.std.proofs.Common.{ℕ, List, Bool, MatchBool, true, false, not, ◌&&◌, ◌≡◌, ◌≢◌, ◌∙◌, ◌∷◌, [], Option, Some, None, option_and_then, option_map, find, codes, inl, inr, refl, ap, subst, sym}
 use Rattle.std.specs.Str.{bytes_eq}
 use Rattle.std.specs.Str.Parse.{IsNumeral, digits_value, false_text, true_text, without_leading_plus}
@@ -42,7 +42,7 @@ source-rows f id = go (find (λ (e : Entry). bytes_eq e.0.now id) f.entries.item
     go None = refl
     go (Some e) = refl
 
--- the program's command and the script's are such that `clap` tells their matches exactly
+-- the program's command and the script's are such that `clap` determines their matches exactly
 pub program_is_simple : is_simple program ≡ true
 unfolding clap_on_literals
 program_is_simple = refl
@@ -75,13 +75,13 @@ pub script_asks : (words : List Text) (order : Order) (rows : List Row) → subc
 script_asks words order rows none given asks = inr (subst (λ (o : Option (Text × List Row)). CommandAsksFor o words order) (sym none)
     (subst (λ (r : List Row). AsksFor (codes "script") r order) given asks))
 
--- where the parse failed because the version was asked for, the words ask for it
+-- if the parse failed because the version was asked for, the arguments ask for it
 pub version_asks : (words : List Text) (e : Error) → HasKind (fault_of program words) e → kind_of e ≡ DisplayVersion
     → WordsAskFor words (Run Version)
 version_asks words e (inl memory) version = absurd cc
 version_asks words e (inr among) version = inl (refl, subst (λ (k : ErrorKind). IsAmong k (fault_of program words)) version among)
 
--- where the version is all that is asked for, an error that is not it wants memory
+-- if the version is all that is asked for, any other error is lack of memory
 pub only_memory : (words : List Text) (e : Error) → HasKind (fault_of program words) e → AskForVersion words → kind_of e ≢ DisplayVersion
     → kind_of e ≡ OutOfMemory
 only_memory words e kinds asked other = among (subst (λ (ks : Kinds). HasKind ks e) asked kinds)

@@ -1,5 +1,5 @@
--- The words of the command line: which commands and options the program has, and what each list of words asks for. A command's
--- reading of words is `clap`'s (`App`, `matches_of`, `subcommand_of`).
+-- The command-line arguments: which commands and options the program has, and what each list of arguments asks for. How a command reads its
+-- arguments is `clap`'s matter (`App`, `matches_of`, `subcommand_of`).
 use Rattle.std.specs.Prelude.{ℕ, Bool, ◌≡◌, ◌≢◌, ◌⊎◌, if◌then◌else◌, List, [], ◌∷◌, find, Option, Some, None, option_and_then, pos, true, false, codes}
 use Rattle.std.specs.Str.{bytes_eq}
 use Rattle.std.specs.Str.Parse.{IsNumeral, digits_value, without_leading_plus}
@@ -21,15 +21,15 @@ use Rattle.relay960_words.specs.declared.order.WatchPort.{WatchPort}
 
 -- ---- the commands
 
--- a start's number, which has to be given
+-- a start's number, which is required
 abbrev pub number_rule : Rule
 number_rule = record (new_rule (codes "N")) { action = Some Set; parser = Some (Signed (pos 0) (pos 65535)); required = true }
 
--- the text of a position, which has to be given
+-- the text of a position, which is required
 abbrev pub fen_rule : Rule
 fen_rule = record (new_rule (codes "FEN")) { action = Some Set; required = true }
 
--- `--name NUMBER`, from least to most, with the number that it has where it is not given
+-- `--name NUMBER`, from least to most, with the number that it has by default
 abbrev pub option_rule : Text → ℕ → ℕ → Text → Rule
 option_rule name least most default = record (new_rule name) {
   long = Some name;
@@ -54,7 +54,7 @@ with_limits a = with_rule (with_rule (with_rule (with_rule a
     (option_rule (codes "capacity") 1 1024 (codes "64")))
     (option_rule (codes "plies") 1 16384 (codes "1024"))
 
--- a command with the options of a service, but for those of its limits
+-- a command with the options of a service, except those of its limits
 abbrev pub with_service : App → App
 with_service a = with_rule (with_rule (with_rule (with_rule (with_rule (with_rule (with_rule (with_rule (with_rule (with_rule a
     (option_rule (codes "port") 1 65535 (codes "9600")))
@@ -91,7 +91,7 @@ abbrev pub program : App
 program = with_subcommand (with_subcommand (with_subcommand (with_subcommand (with_subcommand versioned
     start_command.top) moves_command.top) play_command.top) script_command.top) serve_command.top
 
--- ---- what they ask for
+-- ---- what the arguments ask for
 
 -- the number whose numeral the entry of that name has
 abbrev pub HasNumber : List Row → Text → ℕ → Type 0
@@ -102,11 +102,11 @@ HasNumber rows name n = (t : Text) × (one_of name rows ≡ Some t) × IsNumeral
 abbrev pub HasFlag : List Row → Text → Bool → Type 0
 HasFlag rows name b = one_of name rows ≡ Some (if b then codes "true" else codes "false")
 
--- where the entry of that name comes from: the words, or its default
+-- where the entry of that name comes from: the arguments, or its default
 abbrev pub source_of : List Row → Text → Option ValueSource
 source_of rows name = option_and_then (λ r. r.source) (find (λ r. bytes_eq r.id name) rows)
 
--- the count of connections is that of `--connections`, or there is none: by `--forever`, with no `--connections` beside it
+-- the number of connections is that of `--connections`, or there is none: with `--forever`, and without `--connections`
 abbrev pub HasConnections : List Row → Connections → Type 0
 HasConnections rows (Count n) = HasFlag rows (codes "forever") false × HasNumber rows (codes "connections") n
 HasConnections rows Forever = HasFlag rows (codes "forever") true × (source_of rows (codes "connections") ≢ Some CommandLine)
@@ -117,7 +117,7 @@ pub record HasLimits (rows : List Row) (l : LimitNumbers) : Type 0 where
   pub capacity : HasNumber rows (codes "capacity") l.capacity
   pub plies : HasNumber rows (codes "plies") l.plies
 
--- a watch port: its address is the one that the text of `--watch` writes, and its numbers are those of its two other options
+-- a watch port: its address is in the text of `--watch`, and its numbers are those of its two other options
 pub record HasWatchPort (rows : List Row) (w : WatchPort) : Type 0 where
   pub text : Text
   pub given : first_of (codes "watch") rows ≡ Some text
@@ -125,7 +125,7 @@ pub record HasWatchPort (rows : List Row) (w : WatchPort) : Type 0 where
   pub threads : HasNumber rows (codes "watch-threads") w.threads
   pub most : HasNumber rows (codes "watch-most") w.most
 
--- there is a watch port where `--watch` is given, and else none
+-- there is a watch port if `--watch` is given, and otherwise none
 abbrev pub HasWatch : List Row → Option WatchPort → Type 0
 HasWatch rows None = first_of (codes "watch") rows ≡ None
 HasWatch rows (Some w) = HasWatchPort rows w
@@ -149,16 +149,16 @@ AsksFor name rows (Run (Script limits)) = (name ≡ codes "script") × HasLimits
 AsksFor name rows (Run Version) = ⊥
 AsksFor name rows (Serve s) = (name ≡ codes "serve") × HasService rows s
 
--- the order is what is asked for: by a command with its entries, or by words that name none
+-- the order is what is asked for: by a command with its entries, or by arguments that name none
 abbrev pub CommandAsksFor : Option (Text × List Row) → List Text → Order → Type 0
 CommandAsksFor (Some command) words order = AsksFor command.0 command.1 order
 CommandAsksFor None words order = AsksFor (codes "script") (matches_of script_command words) order
 
--- the words ask for the version, and have no other fault
+-- the arguments ask for the version, and have no other fault
 abbrev pub AskForVersion : List Text → Type 0
 AskForVersion words = fault_of program words ≡ DisplayVersion ∷ []
 
--- the words ask for the order: for the version, or by the command that they name, and where they name none, as those of a script
+-- the arguments ask for the order: for the version, or by the command that they name, or, if they name none, as those of a script
 abbrev pub WordsAskFor : List Text → Order → Type 0
 WordsAskFor words order = ((order ≡ Run Version) × IsAmong DisplayVersion (fault_of program words))
     ⊎ CommandAsksFor (subcommand_of program words) words order

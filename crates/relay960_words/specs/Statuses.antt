@@ -1,4 +1,4 @@
--- The statuses with which the program ends, and those of words that ask for nothing that can be done.
+-- The exit statuses of the program, and those for arguments that ask for nothing that can be done.
 use Rattle.std.specs.Prelude.{ℕ, ◌≡◌, ◌⊎◌}
 use Rattle.relay960_words.specs.declared.status.Status.{Status}
 use Rattle.relay960_words.specs.declared.status.Status.TheVariants.{Done, Refused, FaultyWords, DeviceFailed, OutOfMemory}
@@ -10,6 +10,6 @@ status_code FaultyWords = 2
 status_code DeviceFailed = 3
 status_code OutOfMemory = 4
 
--- faulty words or help, or there was no memory
+-- faulty arguments or help, or there was no memory
 abbrev pub IsFault : Status → Type 0
 IsFault s = (s ≡ FaultyWords) ⊎ (s ≡ OutOfMemory)

@@ -1,4 +1,4 @@
-//! Words that ask for nothing that can be done: what standard error is told, and the status.
+//! Arguments that ask for nothing that can be done: the message on standard error, and the status.
 
 ghost use Rattle.std.specs.Prelude.{◌≡◌, ◌≢◌};
 ghost use Rattle.clap.specs.Words.{kind_of};
@@ -10,7 +10,7 @@ use clap::Error;
 use clap::error::ErrorKind;
 use std::alloc::Global;
 
-/// Prints the text of an error of the words on standard error, for help too, and gives the status.
+/// Prints the text of an argument error on standard error, also for help, and returns the status.
 pub(crate) fn status_of_error<R: Eprint>(rt: &R, error: &Error) -> Status
     ensures memory { kind_of error.now ≡ ErrorKind.OutOfMemory → result ≡ Status.OutOfMemory }
     ensures words { kind_of error.now ≢ ErrorKind.OutOfMemory → result ≡ Status.FaultyWords }
@@ -18,19 +18,19 @@ pub(crate) fn status_of_error<R: Eprint>(rt: &R, error: &Error) -> Status
     if error.kind() == ErrorKind::OutOfMemory {
         return status_without_memory(rt);
     }
-    // The status tells of the error, also where standard error is closed.
+    // The status reports the error even if standard error is closed.
     let _ = rt.eprint(error);
     Status::FaultyWords
 }
 
-/// Tells on standard error of words that are no text in UTF-8, and gives the status.
+/// Reports on standard error that an argument is not text in UTF-8, and returns the status.
 pub fn status_of_no_text<R: Eprint>(rt: &R, alloc: Global) -> Status
     ensures { IsFault result }
 {
     status_of_error(rt, &not_utf8(alloc))
 }
 
-/// Tells on standard error that there was no memory, and gives the status.
+/// Reports on standard error that there was no memory, and returns the status.
 pub fn status_without_memory<R: Eprint>(rt: &R) -> Status
     ensures { result ≡ Status.OutOfMemory }
 {

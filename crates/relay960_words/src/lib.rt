@@ -1,4 +1,4 @@
-//! The words of the command line of `relay960`: what they ask for, read by `clap`, and what standard error is told of faulty ones.
+//! The command-line arguments of `relay960`: what they ask for, as `clap` reads them, and the messages about faulty ones.
 #![tactic(auto)]
 
 mod fault;

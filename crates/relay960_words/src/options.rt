@@ -88,7 +88,7 @@ pub(crate) fn with_limits<'a>(
         .arg(number_option(alloc, "plies", plies, 1, u32::from(MOST_PLIES), "1024"))
 }
 
-/// The command with the options of a service, but for those of its limits.
+/// The command with the options of a service, except those of its limits.
 pub(crate) fn with_service<'a>(
     alloc: Global,
     command: Command<'a>,

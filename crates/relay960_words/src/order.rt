@@ -1,9 +1,9 @@
-//! What words ask for.
+//! What the arguments ask for.
 
 use c960_game::Limits;
 use std::net::SocketAddr;
 
-/// What the words ask for.
+/// What the arguments ask for.
 #[derive(Clone, Copy, PartialEq, Eq, Debug)]
 pub enum Order<'a> {
     /// To do a job over the program's own streams.
@@ -12,14 +12,14 @@ pub enum Order<'a> {
     Serve(Service),
 }
 
-/// A job over a reader and a writer.
+/// A job with a reader and a writer.
 #[derive(Clone, Copy, PartialEq, Eq, Debug)]
 pub enum Job<'a> {
-    /// To print the starting position of that number.
+    /// To print the starting position with that number.
     Start(u16),
-    /// To print the legal moves and the state of the position of that text.
+    /// To print the legal moves and the state of the position with that text.
     Moves(&'a str),
-    /// To play the game of the start of that number over lines.
+    /// To play over lines the game of the start with that number.
     Play(u16),
     /// To run a script over a relay with these limits.
     Script(Limits),
@@ -36,11 +36,11 @@ pub struct Service {
     pub connections: Connections,
     /// Whether serving ends when standard input does, if it has not ended before.
     pub until_input_ends: bool,
-    /// How many seconds a board waits for its operator to come back, where that has a key.
+    /// How many seconds a board waits for its operator to come back, if that has a key.
     pub grace: u16,
-    /// How many seconds a peer that owns and follows nothing may send nothing, or 0 where it always may.
+    /// How many seconds a peer that owns and follows nothing may send nothing, or 0 if it always may.
     pub idle: u32,
-    /// Whether standard error is told what happens to boards.
+    /// Whether what happens to boards is written to standard error.
     pub log: bool,
     /// The limits of the relay.
     pub limits: Limits,
@@ -62,7 +62,7 @@ pub struct WatchPort {
 /// How many connections are accepted before serving ends.
 #[derive(Clone, Copy, PartialEq, Eq, Debug)]
 pub enum Connections {
-    /// So many.
+    /// This many.
     Count(u32),
     /// As many as come: serving does not end by itself.
     Forever,

@@ -1,16 +1,16 @@
-//! With what the program ends.
+//! The exit status of the program.
 
 ghost use Rattle.std.specs.Prelude.{◌≡◌};
 ghost use Rattle.relay960_words.specs.Statuses.{status_code};
 
-/// With what the program ends.
+/// The exit status of the program.
 #[derive(Clone, Copy, PartialEq, Eq, Debug)]
 pub enum Status {
-    /// What was asked for is done; refused and faulty lines of `play` and `script` do not change that.
+    /// What was asked for is done; refused and faulty lines of `play` and `script` do not matter for this.
     Done,
     /// `start`, `moves` or `play` refused its argument.
     Refused,
-    /// The words are faulty or ask for help.
+    /// The arguments are faulty or ask for help.
     FaultyWords,
     /// A device failed, or the input was too long.
     DeviceFailed,
@@ -19,7 +19,7 @@ pub enum Status {
 }
 
 impl Status {
-    /// The number that the system is told, 0 to 4 in the order above.
+    /// The exit code, 0 to 4 in the order above.
     pub fn code(&self) -> u8
         ensures { result ≡ status_code self.now }
     {

@@ -1,4 +1,4 @@
-//! The words of the command line, read by `clap`.
+//! The command-line arguments, read by `clap`.
 
 ghost use Rattle.std.specs.Prelude.{◌≡◌, false, IfErr, IfOk, List, MatchResult, ℕ, Ok, Some, codes, map};
 ghost use Rattle.std.specs.Net.Grammar.{IsSocketText};
@@ -91,11 +91,12 @@ fn program_command<'a>(alloc: Global) -> Result<Command<'a>, AllocError>
         .subcommand(serve_command(alloc)?)
 }
 
-/// What the words ask for, of which the first is the program's name.
+/// What the arguments ask for. The first of them is the program's name.
 ///
 /// # Errors
 ///
-/// The status, where they ask for help or for nothing that can be done: `FaultyWords`, or `OutOfMemory`. Standard error has been told.
+/// The status, if they ask for help or for nothing that can be done: `FaultyWords`, or `OutOfMemory`. A message was written to standard
+/// error.
 pub fn order_of<'a, R: Eprint, S: AsStr>(
     rt: &R,
     alloc: Global,
@@ -112,7 +113,7 @@ pub fn order_of<'a, R: Eprint, S: AsStr>(
     }
 }
 
-/// What the words ask for; else `clap`'s error, whose text is for the user. Words that ask for help are such an error too.
+/// What the arguments ask for, or `clap`'s error, whose text is for the user. Asking for help is such an error too.
 fn read_order<'a, S: AsStr>(alloc: Global, words: &'a [S]) -> Result<Order<'a>, Error>
     ensures order { IfOk result (line.WordsAskFor (map S.text words.now)) }
     ensures version { line.AskForVersion (map S.text words.now)
@@ -125,7 +126,7 @@ fn read_order<'a, S: AsStr>(alloc: Global, words: &'a [S]) -> Result<Order<'a>, 
     }
 }
 
-/// What the words ask for that have these matches.
+/// What arguments with these matches ask for.
 fn given_order<'a, S: AsStr>(
     alloc: Global,
     words: &'a [S],
@@ -136,7 +137,7 @@ fn given_order<'a, S: AsStr>(
 {
     match matches.subcommand() {
         Some((name, given)) => command_order(alloc, name, given),
-        // With the program's name alone, a script has its defaults.
+        // With the program's name alone, a script runs with its defaults.
         None => {
             let given = script_command(alloc)?.try_get_matches_from(words)?;
             command_order(alloc, "script", &given)
@@ -144,7 +145,7 @@ fn given_order<'a, S: AsStr>(
     }
 }
 
-/// What the command of that name asks for, with what was given to it.
+/// What the command of that name asks for, with the options given to it.
 fn command_order<'a>(alloc: Global, name: &str, given: &ArgMatches<'a>) -> Result<Order<'a>, Error>
     ensures { IfOk result (line.AsksFor name.now (rows_of (found_of given.now))) }
 {
@@ -154,7 +155,7 @@ fn command_order<'a>(alloc: Global, name: &str, given: &ArgMatches<'a>) -> Resul
         "play" => Ok(Order::Run(Job::Play(value_of(alloc, given, "N")?))),
         "script" => Ok(Order::Run(Job::Script(limits_of(alloc, given)?))),
         "serve" => Ok(Order::Serve(service_of(alloc, given)?)),
-        // `clap` has seen to it that it is one of these.
+        // `clap` has made sure that it is one of these.
         _ => Err(program_error(
             alloc,
             ErrorKind::InvalidSubcommand,
@@ -163,13 +164,13 @@ fn command_order<'a>(alloc: Global, name: &str, given: &ArgMatches<'a>) -> Resul
     }
 }
 
-/// The text that is given under this name.
+/// The text that is given for this name.
 fn text_of<'a>(alloc: Global, given: &ArgMatches<'a>, name: &str) -> Result<&'a str, Error>
     ensures { IfOk result (λ text. first_value (found_of given.now) name.now ≡ Some text.now) }
 {
     match given.get_str(name) {
         Some(text) => Ok(text),
-        // `clap` has seen to it that there is one.
+        // `clap` has made sure that there is one.
         None => Err(program_error(
             alloc,
             ErrorKind::MissingRequiredArgument,
@@ -178,7 +179,7 @@ fn text_of<'a>(alloc: Global, given: &ArgMatches<'a>, name: &str) -> Result<&'a 
     }
 }
 
-/// The value that is given under this name, or that stands for it by default.
+/// The value that is given for this name, or its default.
 fn value_of<T: FromStr>(alloc: Global, given: &ArgMatches, name: &str) -> Result<T, Error>
 where
     T::Err: Drop,
@@ -186,7 +187,7 @@ where
 {
     match given.get_one::<T>(name) {
         Some(value) => Ok(value),
-        // `clap` has seen to it that there is one.
+        // `clap` has made sure that there is one.
         None => Err(program_error(
             alloc,
             ErrorKind::MissingRequiredArgument,
@@ -202,7 +203,7 @@ fn flag_of(alloc: Global, given: &ArgMatches, name: &str) -> Result<bool, Error>
     value_of::<bool>(alloc, given, name)
 }
 
-/// The count of connections that is given, or that there is none. Both at once are refused.
+/// The number of connections that is given, or that there is none. Giving both is refused.
 fn connections_of(alloc: Global, given: &ArgMatches) -> Result<Connections, Error>
     ensures { IfOk result (line.HasConnections (rows_of (found_of given.now))) }
 {
@@ -251,7 +252,7 @@ fn watch_of(alloc: Global, given: &ArgMatches) -> Result<Option<WatchPort>, Erro
     }))
 }
 
-/// The address and port that the text of `--watch` writes.
+/// The address and port in the text of `--watch`.
 fn address_of(alloc: Global, text: &str) -> Result<SocketAddr, Error>
     ensures { IfOk result (IsSocketText text.now) }
 {
@@ -266,7 +267,7 @@ fn address_of(alloc: Global, text: &str) -> Result<SocketAddr, Error>
     }
 }
 
-/// An error of the command `serve`, with its usage; or that there was no memory to make it.
+/// An error of the command `serve`, with its usage, or the error that there was no memory for it.
 fn serve_error(alloc: Global, kind: ErrorKind, message: &str) -> Error {
     made(try_serve_error(alloc, kind, message))
 }
@@ -277,7 +278,7 @@ fn try_serve_error(alloc: Global, kind: ErrorKind, message: &str) -> Result<Erro
         .error(kind, message)
 }
 
-/// An error of the program, with its usage; or that there was no memory to make it.
+/// An error of the program, with its usage, or the error that there was no memory for it.
 fn program_error(alloc: Global, kind: ErrorKind, message: &str) -> Error {
     made(try_program_error(alloc, kind, message))
 }
@@ -286,7 +287,7 @@ fn try_program_error(alloc: Global, kind: ErrorKind, message: &str) -> Result<Er
     program_command(alloc)?.error(kind, message)
 }
 
-/// The error that was made; or that there was no memory to make it.
+/// The error that was made, or the error that there was no memory for it.
 fn made(error: Result<Error, AllocError>) -> Error {
     match error {
         Ok(error) => error,
@@ -306,7 +307,7 @@ fn limits_of(alloc: Global, given: &ArgMatches) -> Result<Limits, Error>
     );
     match limits {
         Some(limits) => Ok(limits),
-        // `clap` has tried each against its range, so they make limits.
+        // `clap` has checked each against its range, so they make limits.
         None => Err(program_error(
             alloc,
             ErrorKind::ValueValidation,
@@ -315,7 +316,7 @@ fn limits_of(alloc: Global, given: &ArgMatches) -> Result<Limits, Error>
     }
 }
 
-/// The error for a word that is no text in UTF-8.
+/// The error for an argument that is not text in UTF-8.
 pub(crate) fn not_utf8(alloc: Global) -> Error {
     program_error(
         alloc,

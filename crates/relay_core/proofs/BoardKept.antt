@@ -1,10 +1,10 @@
--- A take keeps who follows what.
+-- A take does not change which spectator follows which board.
 use Rattle.std.proofs.Common.{◌≡◌, ℕ, nat_eq, List, [], ◌∷◌, Some, refl}
 use Rattle.std.specs.Map.{lookup, set_value}
 use Rattle.c960_board.specs.Moves.{Triple}
-use Rattle.relay_core.specs.Inner.Followers.{popped, popped_from, boards_of}
-use Rattle.relay_core.specs.Inner.Held.{HeldFollower}
-use Rattle.relay_core.proofs.Lists.{set_value-map}
+use Rattle.relay_core.specs.Held.Followers.{popped, popped_from, boards_of}
+use Rattle.relay_core.specs.Held.{HeldFollower}
+use Rattle.relay_core.proofs.lemmas.Lists.{set_value-map}
 
 pub board_kept : (items : List Triple) (f : HeldFollower) → (popped_from items f).board ≡ f.board
 board_kept [] f = refl

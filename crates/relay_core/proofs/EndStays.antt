@@ -11,9 +11,9 @@ use Rattle.relay_core.specs.declared.reply.Reply.{Reply}
 use Rattle.relay_core.specs.History.{History, is_accepted, opened, start_of, log, named, end_of, or_else}
 use Rattle.relay_core.specs.Name.{same_name}
 use Rattle.relay_core.specs.Replies.{IsAllowed, LawfulHistory}
-use Rattle.relay_core.proofs.Grounds.{end_fine, submit_fine}
-use Rattle.relay_core.proofs.Lists.{first_some, lookup-push}
-use Rattle.relay_core.proofs.NameFacts.{same_name_is}
+use Rattle.relay_core.proofs.lemmas.Grounds.{end_fine, submit_fine}
+use Rattle.relay_core.proofs.lemmas.Lists.{first_some, lookup-push}
+use Rattle.relay_core.proofs.lemmas.Names.{same_name_is}
 
 -- the board, its log and what was named stay over one step
 pub record IsSame (h : History) (s : Step) (r : Reply) (b : List ℕ) : Type 0 where
@@ -23,7 +23,7 @@ pub record IsSame (h : History) (s : Step) (r : Reply) (b : List ℕ) : Type 0 w
 
 module _ (limits : LimitNumbers) (h : History) (b : List ℕ) (n : ℕ) (outcome : Outcome) (at : start_of h b ≡ Some n)
     (over : end_of h n b ≡ Some outcome) where
-  -- a step that was accepted where the game goes on alone was not of this board
+  -- a step that is accepted only if the game goes on was not of this board
   other : (to : List ℕ) (r : Reply) → (is_accepted r ≡ true → start_of h to ≡ Some n → is_some (end_of h n to) ≡ false)
       → (is_accepted r && same_name to b) ≡ false
   other to r fine = by (is_accepted r) (same_name to b) fine (same_name_is to b)

@@ -1,4 +1,4 @@
--- What holds of every lawful history, in the form in which it is kept from step to step.
+-- What holds for every lawful history, in the form in which it is preserved from step to step.
 use Rattle.std.proofs.Common.{◌≡◌, ℕ, ◌+◌, ◌≤◌, nat_eq, length, List, [], Some, None}
 use Rattle.std.specs.List.{IsDistinct}
 use Rattle.std.specs.Map.{keys_of}

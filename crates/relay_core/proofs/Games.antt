@@ -8,19 +8,20 @@ use Rattle.c960_game.specs.Ends.{own_outcome}
 use Rattle.c960_game.specs.Game960.{Game960, MayFollow}
 use Rattle.c960_game.specs.Limits.{LimitNumbers}
 use Rattle.c960_game.specs.Positions.{last_position}
-use Rattle.c960_game.proofs.LogFacts.{no_move, one_move_more}
-use Rattle.c960_game.proofs.MoveFacts.{legal_move_tells}
+use Rattle.c960_game.proofs.lemmas.DrawFacts.{tells_going}
+use Rattle.c960_game.proofs.lemmas.LogFacts.{no_move, one_move_more}
+use Rattle.c960_game.proofs.lemmas.MoveFacts.{legal_move_tells}
 use Rattle.relay_core.specs.declared.step.Step.TheVariants.{Open, Submit, End, Follow, Take, Leave}
 use Rattle.relay_core.specs.declared.reply.Reply.{Reply}
 use Rattle.relay_core.specs.History.{History, is_accepted, opened, start_of, log, named, or_else}
 use Rattle.relay_core.specs.Name.{same_name}
 use Rattle.relay_core.specs.Replies.{IsAllowed, LawfulHistory}
-use Rattle.relay_core.proofs.Grounds.{open_new, submit_fine}
+use Rattle.relay_core.proofs.lemmas.Grounds.{open_new, submit_fine}
 use Rattle.relay_core.proofs.Lawful.{facts}
-use Rattle.relay_core.proofs.Lists.{first_some, lookup-push}
-use Rattle.relay_core.proofs.NameFacts.{same_name_is}
+use Rattle.relay_core.proofs.lemmas.Lists.{first_some, lookup-push}
+use Rattle.relay_core.proofs.lemmas.Names.{same_name_is}
 
--- where neither of two outcomes is one, the second is none
+-- if neither of two outcomes exists, the second is none
 neither : (a b : Option Outcome) → is_some (or_else a b) ≡ false → b ≡ None
 neither (Some x) b e = absurd (true≢false e)
 neither None (Some x) e = absurd (true≢false e)
@@ -36,7 +37,7 @@ may_follow : (limits : LimitNumbers) (h : History) (b : List ℕ) (m : Triple) (
 may_follow limits h b m r n ok took at =
     let w = submit_fine limits h b m r n ok took at in
     record {
-      going = neither (named h b) (own_outcome n (log h b)) w.0;
+      going = tells_going n (log h b) (neither (named h b) (own_outcome n (log h b)) w.0);
       legal = legal_move_tells (last_position n (log h b)) m w.2;
     }
 

@@ -1,4 +1,4 @@
--- What holds of every lawful history.
+-- What holds for every lawful history.
 use Rattle.std.proofs.Common.{◌≡◌, ℕ, ◌+◌, ◌==◌, eqb, nat_eq, ◌≤◌, Bool, true, false, ◌&&◌, cond, List, [], ◌∷◌, ◌++◌, length, length-append, Option, Some, None, unwrap_or, refl, sym, ap, ◌∙◌, arith}
 use Rattle.std.specs.Map.{lookup, keys_of, remove_entry}
 use Rattle.std.specs.List.{IsDistinct}
@@ -16,16 +16,16 @@ use Rattle.relay_core.specs.declared.step.Step.TheVariants.{Open, Submit, End, F
 use Rattle.relay_core.specs.declared.reply.Reply.{Reply}
 use Rattle.relay_core.specs.declared.reply.Reply.TheVariants.{Opened, Played, Ended, Following, Took, Left, Refused}
 use Rattle.relay_core.specs.declared.reply.Taken.TheVariants.{Move, Nothing, Over, Cut}
-use Rattle.relay_core.specs.Following.{following, board_of, place_of, joined, taken, after_take, next, cut_at, limit, due, stretch}
+use Rattle.relay_core.specs.Following.{following, board_of, place_of, joined, taken, after_take, next, closing_of, limit, due, stretch}
 use Rattle.relay_core.specs.History.{History, is_accepted, opened, start_of, log, named}
 use Rattle.relay_core.specs.Name.{same_name}
 use Rattle.relay_core.specs.Replies.{IsAllowed, LawfulHistory, taken_of, reply_to_take, over_of}
 use Rattle.relay_core.specs.Stretch.{placed}
 use Rattle.relay_core.proofs.Facts.{Facts, IsWithin}
-use Rattle.relay_core.proofs.Grounds.{sure, submit_known, end_known, submit_room, follow_new}
-use Rattle.relay_core.proofs.Lists.{lookup-push, first_some, first_none, keys-push, absent, distinct-remove}
-use Rattle.relay_core.proofs.NameFacts.{same_name_is}
-use Rattle.relay_core.proofs.Stretches.{before_new, empty_here, grown, placed-append, stretch_length}
+use Rattle.relay_core.proofs.lemmas.Grounds.{sure, submit_known, end_known, submit_room, follow_new}
+use Rattle.relay_core.proofs.lemmas.Lists.{lookup-push, first_some, first_none, keys-push, absent, distinct-remove}
+use Rattle.relay_core.proofs.lemmas.Names.{same_name_is}
+use Rattle.relay_core.proofs.lemmas.Stretches.{before_new, empty_here, grown, placed-append, stretch_length}
 
 -- ---- Open.
 
@@ -51,7 +51,7 @@ open_facts limits h b n r f = record {
 
 -- ---- Submit and End.
 
--- a step that is accepted on opened boards alone is not of a board that is not opened
+-- a step that is accepted only on opened boards is not of a board that is not opened
 of_opened : (h : History) (b q : List ℕ) (took : Bool) → (took ≡ true → start_of h b ≡ None → ⊥) → start_of h q ≡ None
     → (took && same_name b q) ≡ false
 of_opened h b q false known none = refl
@@ -108,7 +108,7 @@ end_facts limits h b e r ok f = record {
 
 -- ---- Follow.
 
--- who joins at this place follows nothing, and the place is one of the log, no further back than a queue holds
+-- a spectator that joins at this place follows nothing, and the place is one of the log, no further back than a queue holds
 abbrev IsNew : LimitNumbers → History → ℕ → List ℕ → ℕ → Bool → Type 0
 IsNew limits h who b place took = took ≡ true
     → (board_of h who ≡ None) × (place ≤ length (log h b)) × (length (log h b) ≤ place + limits.capacity)
@@ -140,9 +140,9 @@ follow_facts limits h who b from r ok f = record {
         → nat_eq q who ≡ mine
         → lookup (nat_eq q) (cond took (following h ++ (who, b) ∷ []) (following h)) ≡ Some to
         → (cond (took && mine) (place_of h b from) (joined h q) + length (cond (took && mine) [] (taken h q)) ≤ unwrap_or
-        (cond (took && mine) None (cut_at limits.capacity h q)) (length (log h to)))
-        × (unwrap_or (cond (took && mine) None (cut_at limits.capacity h q)) (length (log h to)) ≤ length (log h to))
-        × (unwrap_or (cond (took && mine) None (cut_at limits.capacity h q)) (length (log h to)) ≤ cond (took && mine)
+        (cond (took && mine) None (closing_of limits.capacity h q)) (length (log h to)))
+        × (unwrap_or (cond (took && mine) None (closing_of limits.capacity h q)) (length (log h to)) ≤ length (log h to))
+        × (unwrap_or (cond (took && mine) None (closing_of limits.capacity h q)) (length (log h to)) ≤ cond (took && mine)
         (place_of h b from) (joined h q) + length (cond (took && mine) [] (taken h q)) + limits.capacity)
         × (cond (took && mine) [] (taken h q)
         ≡ placed (cond (took && mine) (place_of h b from) (joined h q))
@@ -196,7 +196,7 @@ counted had place over (Some closing) [] = omega arith
 counted had place (Some outcome) None [] = omega arith
 counted had place None None [] = omega arith
 
--- what was taken stays the log up to the next place
+-- what was taken remains the log up to the next place
 taken_more : (j k : ℕ) (l : List Triple) (had : List (ℕ × Triple)) (over : Option Outcome) (cut : Option ℕ) (items : List Triple)
     → stretch (j + length had) k l ≡ items → j + length had ≤ length l → had ≡ placed j (stretch j (j + length had) l)
     → after_take true had (Took (taken_of (j + length had) over cut items))
@@ -231,7 +231,7 @@ take_facts limits h who r ok f = record {
 }
   where
     answer : (q : ℕ) (to : List ℕ) → board_of h q ≡ Some to → who ≡ q
-        → r ≡ Took (taken_of (next h q) (over_of h to (start_of h to)) (cut_at limits.capacity h q) (due limits.capacity h q to))
+        → r ≡ Took (taken_of (next h q) (over_of h to (start_of h to)) (closing_of limits.capacity h q) (due limits.capacity h q to))
     answer q to at e =
         sure limits h (Take who) r refl ok ∙ ap (λ x. reply_to_take limits h x (board_of h x)) e
         ∙ ap (reply_to_take limits h q) at
@@ -244,7 +244,7 @@ take_facts limits h who r ok f = record {
         let w = f.within q to at in
         rw (answer q to at (same refl))
         (taken_more (joined h q) (limit limits.capacity h q to) (log h to) (taken h q) (over_of h to (start_of h to))
-        (cut_at limits.capacity h q)
+        (closing_of limits.capacity h q)
         (due limits.capacity h q to) refl (omega (arith, w.reached, w.ends)) w.had)
 
     few : (q : ℕ) (to : List ℕ) → board_of h q ≡ Some to → (mine : Bool)
@@ -258,7 +258,7 @@ take_facts limits h who r ok f = record {
     reached q to at true same =
         let most : length (after_take true (taken h q) r) ≤ length (taken h q) + length (due limits.capacity h q to) =
         rw (answer q to at (same refl)) (counted (taken h q) (next h q) (over_of h to (start_of h to))
-        (cut_at limits.capacity h q) (due limits.capacity h q to)) in
+        (closing_of limits.capacity h q) (due limits.capacity h q to)) in
         let w = f.within q to at in
         let all : next h q + length (due limits.capacity h q to) ≡ limit limits.capacity h q to =
         stretch_length (next h q) (limit limits.capacity h q to) (log h to) w.reached w.ends in

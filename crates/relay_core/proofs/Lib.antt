@@ -1,22 +1,12 @@
-pub mod NameFacts
-pub mod NameText
-pub mod Lists
-pub mod BoardKept
-pub mod Grounds
-pub mod Facts
-pub mod Stretches
-pub mod Lawful
-pub mod Standing
-pub mod Refused
-pub mod Queue
-pub mod Submitted
-pub mod Submits
-pub mod Ended
-pub mod Opened
-pub mod Followed
-pub mod Takes
-pub mod Leaves
-pub mod Whole
-pub mod EndStays
-pub mod Games
-pub mod Lived
+pub mod lemmas
+mod NameFacts
+mod NameText
+mod BoardKept
+mod Facts
+mod Lawful
+mod Queue
+mod Submitted
+mod Whole
+mod EndStays
+mod Games
+mod Lived

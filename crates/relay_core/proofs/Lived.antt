@@ -1,4 +1,4 @@
--- A history that goes on, and what is promised of it.
+-- A history that is extended, and what is promised of it.
 use Rattle.std.proofs.Common.{◌≡◌, ℕ, ◌+◌, ◌<◌, ◌≤◌, List, [], ◌∷◌, ◌++◌, length, length-take, take, get_or, refl, ap, subst, ◌∙◌, arith}
 use Rattle.std.proofs.lemmas.List.{take_all, take_more}
 use Rattle.c960_game.specs.Limits.{LimitNumbers}
@@ -13,7 +13,7 @@ use Rattle.relay_core.proofs.EndStays.{end_stays}
 use Rattle.relay_core.proofs.Games.{games}
 use Rattle.relay_core.proofs.Whole.{is_stretch}
 
--- ---- One step more.
+-- ---- One more step.
 
 lived-push : (h : History) (xs : List Step) (rs : List Reply) (s : Step) (r : Reply) → length xs ≡ length rs
     → lived h (xs ++ s ∷ []) (rs ++ r ∷ []) ≡ (s, r) ∷ lived h xs rs

@@ -4,21 +4,21 @@ use Rattle.std.proofs.lemmas.List.{take-append-le, drop-append-le}
 use Rattle.std.proofs.Math.Seq.{take-length}
 use Rattle.std.proofs.lemmas.Bool.Decides.{nat_tests}
 use Rattle.c960_board.specs.Moves.{Triple}
-use Rattle.relay_core.specs.Inner.Held.{HeldFollower}
+use Rattle.relay_core.specs.Held.{HeldFollower}
 
 -- the first of two cuts
 abbrev pub cut_by : Option ℕ → Bool → ℕ → Option ℕ
 cut_by (Some cut) behind place = Some cut
 cut_by None behind place = cond behind (Some place) None
 
--- what is due of a log
+-- what is due from a log
 abbrev pub due_of : ℕ → Option ℕ → List Triple → List Triple
 due_of from cut l = drop from (take (unwrap_or cut (length l)) l)
 
 ahead : (a n c : ℕ) → n ≤ a → eqb (a - n) c ≡ eqb a (n + c)
 ahead a n c h = grind (arith, nat_tests)
 
--- the queue is full where the log is a capacity ahead
+-- the queue is full if the log is a capacity ahead
 full_test : (from capacity : ℕ) (l : List Triple) → from ≤ length l
     → eqb (length (due_of from None l)) capacity ≡ eqb (length l) (from + capacity)
 full_test from capacity l h = rw (take-length l, length-drop from l) (ahead (length l) from capacity h)

@@ -7,27 +7,27 @@ use Rattle.c960_game.specs.declared.refusal.Refusal.{Refusal}
 use Rattle.c960_game.specs.declared.refusal.Refusal.TheVariants.{GameOver, LogFull, Illegal}
 use Rattle.c960_game.specs.Ends.{own_outcome}
 use Rattle.c960_game.specs.Limits.{LimitNumbers}
-use Rattle.c960_game.specs.Moves.{is_legal_move}
+use Rattle.c960_game.specs.Tests.Moves.{is_legal_move}
 use Rattle.c960_game.specs.Positions.{last_position}
-use Rattle.c960_game.specs.Record.{GameRecord, play_answer, with_move}
+use Rattle.c960_game.specs.Record.{play_answer, with_move}
+use Rattle.c960_game.specs.GameRecord.{GameRecord}
 use Rattle.relay_core.specs.declared.step.Step.TheVariants.{Submit}
 use Rattle.relay_core.specs.declared.reply.Reply.{Reply}
 use Rattle.relay_core.specs.declared.reply.Reply.TheVariants.{Played, Refused}
-use Rattle.relay_core.specs.Inner.Followers.{offered, published, closed_at, queued}
-use Rattle.relay_core.specs.Following.{board_of, joined, taken, next, cut_at, first_cut, is_behind}
-use Rattle.relay_core.specs.Inner.Held.{HeldFollower, Held}
+use Rattle.relay_core.specs.Held.Followers.{offered, published, closed_at, queued}
+use Rattle.relay_core.specs.Following.{board_of, joined, taken, next, closing_of, first_closing, is_behind}
+use Rattle.relay_core.specs.Held.{HeldFollower, Held, turned}
 use Rattle.relay_core.specs.History.{History, start_of, log, end_of, named, or_else}
-use Rattle.relay_core.specs.Inner.Kept.{HeldStands, held_follower_of}
+use Rattle.relay_core.specs.Held.Stands.{HeldStands, held_follower_of}
 use Rattle.relay_core.specs.Name.{same_name}
 use Rattle.relay_core.specs.Replies.{reply_to_submit}
 use Rattle.relay_core.specs.Stands.{game_of}
 use Rattle.relay_core.proofs.Facts.{Facts, IsWithin}
-use Rattle.relay_core.proofs.Lists.{lookup-map, shown-shown, shown-same}
-use Rattle.relay_core.proofs.NameFacts.{same_name_is}
+use Rattle.relay_core.proofs.lemmas.Lists.{lookup-map, shown-shown, shown-same}
+use Rattle.relay_core.proofs.lemmas.Names.{same_name_is}
 use Rattle.relay_core.proofs.Queue.{cut_by, due_of, shape, one_more}
-use Rattle.relay_core.proofs.Refused.{turned}
 
--- the reply that a game's answer makes
+-- the reply that follows from a game's answer
 abbrev pub reply_of_play : ℕ → Result (Option Outcome) Refusal → Reply
 reply_of_play place (Ok outcome) = Played place outcome
 reply_of_play place (Err refusal) = Refused refusal
@@ -48,7 +48,7 @@ reply_to_play limits h b m n =
     by false false true = refl
     by false false false = refl
 
--- the game of a board where a move joins its log or not
+-- the game of a board, whose log a move joins or not
 abbrev game_by : LimitNumbers → History → List ℕ → Triple → Bool → ℕ → GameRecord
 game_by limits h q m joins start = record {
   start = start;
@@ -70,7 +70,7 @@ board_after limits h b q m n place outcome at going = by (same_name b q) (same_n
     by false one_name = refl
     by true one_name = let e = one_name refl in rw (← e, at, going) refl
 
--- a follower with this cut, where a move joins its board's log or not
+-- a follower with this cut, whose board's log a move joins or not
 abbrev follower_by : LimitNumbers → History → ℕ → List ℕ → Triple → Bool → Option ℕ → HeldFollower
 follower_by limits h who to m joins cut = shape to (joined h who) (length (taken h who)) limits.capacity (next h who) m cut
     (due_of (next h who) cut (cond joins (log h to ++ m ∷ []) (log h to)))
@@ -84,14 +84,14 @@ follower_after : (limits : LimitNumbers) (h : History) (b : List ℕ) (m : Tripl
 follower_after limits h b m outcome who to at w =
     subst (λ t. offered b (length (log h b)) m (held_follower_of limits h who to)
     ≡ follower_by limits h who to m (same_name b to) t)
-    (same_cut (cut_at limits.capacity h who))
+    (same_cut (closing_of limits.capacity h who))
     (one_more to (joined h who) (length (taken h who)) limits.capacity (next h who) m (same_name b to)
-    (cut_at limits.capacity h who)
+    (closing_of limits.capacity h who)
     (same_name b to && eqb (length (log h b)) (next h who + limits.capacity)) (length (log h b)) (log h to)
     (λ e. ap (λ q. length (log h q)) (same_name_is b to e)) refl w.reached w.ends)
   where
     same_cut : (cut : Option ℕ) → cut_by cut (same_name b to && eqb (length (log h b)) (next h who + limits.capacity))
-        (length (log h b)) ≡ first_cut limits.capacity h who b cut
+        (length (log h b)) ≡ first_closing limits.capacity h who b cut
     same_cut (Some c) = refl
     same_cut None = ap (λ o. cond (is_behind limits.capacity h who b o) (Some (length (log h b))) None) (sym at)
 
@@ -104,7 +104,7 @@ same_board b place m f = by (same_name b f.board && not (is_some f.cut)) (length
     by true true = refl
     by true false = refl
 
--- a game that takes a move has no outcome named
+-- a game that accepts a move has no outcome named
 going : (limits : LimitNumbers) (h : History) (b : List ℕ) (m : Triple) (n : ℕ) (outcome : Option Outcome)
     → play_answer (game_of limits h b n) m ≡ Ok outcome → named h b ≡ None
 unfolding play_answer

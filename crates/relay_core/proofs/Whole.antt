@@ -8,9 +8,9 @@ use Rattle.relay_core.specs.Replies.{LawfulHistory}
 use Rattle.relay_core.specs.Stretch.{IsStretch, placed}
 use Rattle.relay_core.proofs.Facts.{IsWithin}
 use Rattle.relay_core.proofs.Lawful.{facts}
-use Rattle.relay_core.proofs.Stretches.{joined_stretches, placed-append, stretch_length}
+use Rattle.relay_core.proofs.lemmas.Stretches.{joined_stretches, placed-append, stretch_length}
 
--- two stretches with their places, one behind the other
+-- two stretches with their places, one after the other
 two_stretches : (j n k : ℕ) (l : List Triple) → j ≤ n → n ≤ k → k ≤ length l
     → placed j (stretch j n l) ++ placed n (stretch n k l) ≡ placed j (stretch j k l)
 two_stretches j n k l low high short =

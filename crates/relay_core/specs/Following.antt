@@ -11,10 +11,8 @@ use Rattle.relay_core.specs.declared.reply.Taken.TheVariants.{Move}
 use Rattle.relay_core.specs.History.{History, is_accepted, log}
 use Rattle.relay_core.specs.Name.{same_name}
 
--- ---- Who follows what.
-
--- the spectators who follow, each with its board, in the order of joining: in a lawful history, those whose last accepted
--- follow is of that board and after whom no accepted leave came
+-- the spectators who follow, each with its board, in the order of joining. In a lawful history they are those whose last
+-- accepted follow is of that board, with no accepted leave after it
 abbrev pub following_after : List (ℕ × List ℕ) → Step → Reply → List (ℕ × List ℕ)
 following_after all (Follow who board from) reply = cond (is_accepted reply) (all ++ (who, board) ∷ []) all
 following_after all (Leave who) reply = cond (is_accepted reply) (remove_entry (nat_eq who) all) all
@@ -32,7 +30,7 @@ board_of h who = lookup (nat_eq who) (following h)
 abbrev pub crowd : History → List ℕ → ℕ
 crowd h board = count_by (λ e. same_name board e.1) (following h)
 
--- ---- What a follower has had. (What is said here of who does not follow means nothing.)
+-- ---- What a follower has had. (For a spectator that does not follow, these definitions mean nothing.)
 
 -- where a follow joins: at the place that it names, else at the log's length
 abbrev pub place_of : History → List ℕ → Option ℕ → ℕ
@@ -40,14 +38,15 @@ place_of h board from = unwrap_or from (length (log h board))
 
 -- where the spectator's last accepted follow joined
 abbrev pub joined_after : History → ℕ → ℕ → Step → Reply → ℕ
-joined_after h who place (Follow by board from) reply = cond (is_accepted reply && nat_eq by who) (place_of h board from) place
+joined_after h who place (Follow by board from) reply =
+    cond (is_accepted reply && nat_eq by who) (place_of h board from) place
 joined_after h who place _ reply = place
 
 abbrev pub joined : History → ℕ → ℕ
 joined [] who = 0
 joined (e ∷ h) who = joined_after h who (joined h who) e.0 e.1
 
--- the places and moves that the spectator's takes since then were answered
+-- the places and moves in the answers to the spectator's takes since then
 abbrev pub with_move : Bool → List (ℕ × Triple) → Taken → List (ℕ × Triple)
 with_move mine had (Move place m) = cond mine (had ++ (place, m) ∷ []) had
 with_move mine had _ = had
@@ -69,31 +68,30 @@ taken (e ∷ h) who = taken_after who (taken h who) e.0 e.1
 abbrev pub next : History → ℕ → ℕ
 next h who = joined h who + length (taken h who)
 
--- ---- When a follower is closed.
-
--- whether the spectator follows the board, which is a whole capacity ahead of it
+-- whether the spectator follows the board and is a whole capacity behind it
 abbrev pub is_behind : ℕ → History → ℕ → List ℕ → Option (List ℕ) → Bool
 is_behind capacity h who board None = false
-is_behind capacity h who board (Some followed) = same_name board followed && (length (log h board) == next h who + capacity)
+is_behind capacity h who board (Some followed) =
+    same_name board followed && (length (log h board) == next h who + capacity)
 
--- the log's length just before the first accepted submit to its board at which, since its follow, the spectator was a whole
--- capacity behind
-abbrev pub first_cut : ℕ → History → ℕ → List ℕ → Option ℕ → Option ℕ
-first_cut capacity h who board (Some cut) = Some cut
-first_cut capacity h who board None = cond (is_behind capacity h who board (board_of h who)) (Some (length (log h board))) None
+-- the log's length just before the first accepted submit since its follow at which the spectator was a whole capacity behind
+abbrev pub first_closing : ℕ → History → ℕ → List ℕ → Option ℕ → Option ℕ
+first_closing capacity h who board (Some cut) = Some cut
+first_closing capacity h who board None =
+    cond (is_behind capacity h who board (board_of h who)) (Some (length (log h board))) None
 
-abbrev pub cut_after : ℕ → History → ℕ → Option ℕ → Step → Reply → Option ℕ
-cut_after capacity h who cut (Follow by board from) reply = cond (is_accepted reply && nat_eq by who) None cut
-cut_after capacity h who cut (Submit board m) reply = cond (is_accepted reply) (first_cut capacity h who board cut) cut
-cut_after capacity h who cut _ reply = cut
+abbrev pub closing_after : ℕ → History → ℕ → Option ℕ → Step → Reply → Option ℕ
+closing_after capacity h who cut (Follow by board from) reply = cond (is_accepted reply && nat_eq by who) None cut
+closing_after capacity h who cut (Submit board m) reply = cond (is_accepted reply) (first_closing capacity h who board cut) cut
+closing_after capacity h who cut _ reply = cut
 
-abbrev pub cut_at : ℕ → History → ℕ → Option ℕ
-cut_at capacity [] who = None
-cut_at capacity (e ∷ h) who = cut_after capacity h who (cut_at capacity h who) e.0 e.1
+abbrev pub closing_of : ℕ → History → ℕ → Option ℕ
+closing_of capacity [] who = None
+closing_of capacity (e ∷ h) who = closing_after capacity h who (closing_of capacity h who) e.0 e.1
 
 -- where the stretch of a spectator of a board ends: where it was closed, else at the present
 abbrev pub limit : ℕ → History → ℕ → List ℕ → ℕ
-limit capacity h who board = unwrap_or (cut_at capacity h who) (length (log h board))
+limit capacity h who board = unwrap_or (closing_of capacity h who) (length (log h board))
 
 -- the moves at the places from a to b - 1
 abbrev pub stretch : ℕ → ℕ → List Triple → List Triple

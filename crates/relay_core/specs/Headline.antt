@@ -9,9 +9,9 @@ use Rattle.relay_core.specs.Stands.{Stands}
 use Rattle.relay_core.specs.State.{RelayRecord}
 use Rattle.relay_core.specs.Stretch.{IsStretch}
 
--- The relay stands at the history. There each board's log is a legal game from its numbered start; at each earlier history the
+-- The relay stands at the history. There each board's log is a legal game from its numbered start. At each earlier history the
 -- moves that a follower had taken, then those that it had queued, were the stretch of that log from its joining place to the
--- present or its closing; and a game that had ended at an earlier history has the same start, log and outcome now.
+-- present or its closing. A game that had ended at an earlier history has the same start, log and outcome now.
 pub record Headline (limits : LimitNumbers) (r : RelayRecord) (now : History) : Type 0 where
   pub stands : Stands limits r now
   pub games : (board : List ℕ) (n : ℕ) → start_of now board ≡ Some n → Game960 n (log now board)

@@ -1,5 +1,4 @@
--- What a list of steps and their replies says of the boards. Nothing here speaks of a queue, a running count or a flag: all
--- is read off the whole history.
+-- What steps and their replies say of the boards. Nothing here mentions a queue, a count or a flag: all is read off the whole history.
 use Rattle.std.specs.Prelude.{ℕ, Bool, true, false, ◌&&◌, cond, List, [], ◌∷◌, ◌++◌, Option, Some, None}
 use Rattle.std.specs.Map.{lookup}
 use Rattle.c960_board.specs.Moves.{Triple}
@@ -16,7 +15,7 @@ use Rattle.relay_core.specs.Name.{same_name}
 abbrev pub History : Type 0
 History = List (Step × Reply)
 
--- a step is accepted where its reply is no refusal
+-- a step is accepted if its reply is not a refusal
 abbrev pub is_accepted : Reply → Bool
 is_accepted (Refused refusal) = false
 is_accepted _ = true
@@ -30,7 +29,7 @@ abbrev pub opened : History → List (List ℕ × ℕ)
 opened [] = []
 opened (e ∷ h) = opened_after (opened h) e.0 e.1
 
--- the start of a board, where it was opened
+-- the start of a board, if it was opened
 abbrev pub start_of : History → List ℕ → Option ℕ
 start_of h board = lookup (same_name board) (opened h)
 
@@ -45,7 +44,8 @@ log (e ∷ h) board = log_after board (log h board) e.0 e.1
 
 -- the outcome that an accepted end of a board names
 abbrev pub named_after : List ℕ → Option Outcome → Step → Reply → Option Outcome
-named_after board named (End of ending) reply = cond (is_accepted reply && same_name of board) (Some (named_outcome ending)) named
+named_after board named (End of ending) reply =
+    cond (is_accepted reply && same_name of board) (Some (named_outcome ending)) named
 named_after board named _ reply = named
 
 abbrev pub named : History → List ℕ → Option Outcome
@@ -57,12 +57,12 @@ abbrev pub or_else : Option Outcome → Option Outcome → Option Outcome
 or_else (Some outcome) next = Some outcome
 or_else None next = next
 
--- how the game of a board with this start ended: as an accepted end named it, else as its log ends by itself, by mate, by stalemate
+-- how the game of a board with this start ended: as an accepted end named it, or else as its log ends by itself, by mate, by stalemate
 -- or by a draw that needs no claim
 abbrev pub end_of : History → ℕ → List ℕ → Option Outcome
 end_of h start board = or_else (named h board) (own_outcome start (log h board))
 
--- the history after these steps, one after another, got these replies
+-- the history extended by these steps with these replies, one after another
 abbrev pub lived : History → List Step → List Reply → History
 lived h [] replies = h
 lived h (s ∷ steps) [] = h

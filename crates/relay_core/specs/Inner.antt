@@ -1,9 +1,4 @@
--- What serves the code and its proofs alone: what a relay holds beside what its contracts show, and what its parts answer. Who reads
--- what is promised needs none of it.
+-- What only this crate's code and proofs need. Neither readers of its promises nor other crates need any of it.
 pub mod NameFields
-pub mod Boards
-pub mod Held
-pub mod Room
-pub mod Next
-pub mod Followers
-pub mod Kept
+pub mod Maps
+pub mod HoldingsFields

@@ -7,6 +7,7 @@ use Rattle.relay_core.specs.History.{History}
 use Rattle.relay_core.specs.Stands.{Stands}
 use Rattle.relay_core.specs.State.{RelayRecord}
 
--- where the one stands at a history, the other stands at that history with the step and its reply
+-- if the first relay stands at a history, the second stands at that history with the step and its reply
 abbrev pub Leads : RelayRecord → RelayRecord → Step → Reply → Type 0
-Leads old later step reply = (limits : LimitNumbers) (h : History) → Stands limits old h → Stands limits later ((step, reply) ∷ h)
+Leads old later step reply =
+    (limits : LimitNumbers) (h : History) → Stands limits old h → Stands limits later ((step, reply) ∷ h)

@@ -1,10 +1,14 @@
 pub mod Name
 pub mod History
 pub mod Following
+pub mod Refusals
 pub mod Replies
+pub mod Takes
 pub mod State
 pub mod Stands
 pub mod Leads
 pub mod Stretch
 pub mod Headline
+pub mod BoardAnswers
+pub mod Held
 pub mod Inner

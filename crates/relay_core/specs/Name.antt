@@ -6,7 +6,8 @@ use Rattle.std.specs.List.{list_all}
 -- A to Z, a to z, 0 to 9, _ or -
 abbrev pub is_name_byte : ℕ → Bool
 is_name_byte b =
-    (nat_le 65 b && nat_le b 90) || ((nat_le 97 b && nat_le b 122) || ((nat_le 48 b && nat_le b 57) || ((b == 95) || (b == 45))))
+    (nat_le 65 b && nat_le b 90)
+    || ((nat_le 97 b && nat_le b 122) || ((nat_le 48 b && nat_le b 57) || ((b == 95) || (b == 45))))
 
 -- 1 to 32 such bytes
 abbrev pub is_name : List ℕ → Bool
@@ -16,10 +17,10 @@ is_name text = nat_le 1 (length text) && (nat_le (length text) 32 && list_all is
 abbrev pub IsName : List ℕ → Type 0
 IsName text = IsTrue (is_name text)
 
--- the text with zeros behind it, 32 bytes for a name
+-- the text padded with zeros, to 32 bytes for a name
 abbrev pub filled : List ℕ → List ℕ
 filled text = text ++ replicate (32 - length text) 0
 
--- whether two names are the same: as long, and alike byte by byte
+-- whether two names are the same: of equal length, and equal byte by byte
 abbrev pub same_name : List ℕ → List ℕ → Bool
 same_name a b = (length a == length b) && pointwise nat_eq (filled a) (filled b)

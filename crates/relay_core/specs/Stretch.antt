@@ -4,7 +4,7 @@ use Rattle.c960_board.specs.Moves.{Triple}
 use Rattle.relay_core.specs.Following.{joined, taken, next, limit, stretch, due}
 use Rattle.relay_core.specs.History.{History, log}
 
--- moves with their places, of which the first is given
+-- the moves with their places, counted from the given one
 abbrev pub placed : ℕ → List Triple → List (ℕ × Triple)
 placed place [] = []
 placed place (m ∷ ms) = (place, m) ∷ placed (place + 1) ms

@@ -3,13 +3,10 @@
 ghost use Rattle.std.specs.Prelude.{◌≡◌, ◌≤◌, ◌<◌, ◌+◌, ℕ, List, None, is_some, length, option_copied, option_map, cond, IfOk, OnErr, OnOk, [], ◌∷◌, ◌++◌};
 ghost use Rattle.std.specs.Map.{lookup};
 ghost use Rattle.c960_game.specs.Record.{with_move};
-ghost use Rattle.relay_core.specs.Inner.Boards.{end_answer_at, ended_by, length_at, outcome_at, play_answer_at};
+ghost use Rattle.relay_core.specs.BoardAnswers.{end_answer_at, ended_by, length_at, outcome_at, play_answer_at};
 ghost use Rattle.relay_core.specs.Name.{same_name};
-ghost use Rattle.relay_core.specs.Inner.Next.{take_answer};
 
-use crate::follower::Next;
 use crate::name::BoardName;
-use crate::reply::Taken;
 use c960_board::Move;
 use c960_game::{Ending, Game, Outcome, Refusal};
 use indexmap::IndexMap;
@@ -24,7 +21,7 @@ pub(crate) struct Boards {
 
 impl Model for Boards {
     ghost use Rattle.std.specs.HashMap.{spare};
-    ghost use Rattle.relay_core.specs.Inner.Held.{HeldBoards};
+    ghost use Rattle.relay_core.specs.Inner.Maps.{HeldBoards};
 
     ghost Value = { HeldBoards };
 
@@ -35,7 +32,7 @@ impl Model for Boards {
 }
 
 impl Boards {
-    /// No board, with room for so many.
+    /// An empty set of boards, with room for `most` of them.
     pub(crate) fn with_capacity(alloc: Global, most: u16) -> Result<Boards, AllocError>
         ensures none { IfOk result (λ boards. boards.entries ≡ []) }
         ensures room { IfOk result (λ boards. most ≤ boards.room) }
@@ -67,13 +64,13 @@ impl Boards {
     }
 
     /// The outcome of a board's game, once it is over.
-    fn outcome_of(&self, board: BoardName) -> Option<Outcome>
+    pub(crate) fn outcome_of(&self, board: BoardName) -> Option<Outcome>
         ensures { result ≡ outcome_at (lookup (same_name board) self.now.entries) }
     {
         self.get(board)?.outcome()
     }
 
-    /// The length of a board's log, 0 without that board.
+    /// The length of a board's log, or 0 if there is no such board.
     pub(crate) fn length_of(&self, board: BoardName) -> u16
         ensures { result ≡ length_at (lookup (same_name board) self.now.entries) }
     {
@@ -83,7 +80,7 @@ impl Boards {
         }
     }
 
-    /// Makes a move on a board, and tells its place and the outcome that it makes. It takes no memory.
+    /// Makes a move on a board. Returns its place and the outcome that it brings about, if any. It allocates nothing.
     #[tactic(auto, using(std::proofs::lemmas::Map::Steps::set_value_same))]
     pub(crate) fn play(
         &mut self,
@@ -106,7 +103,7 @@ impl Boards {
         Ok((place, outcome))
     }
 
-    /// Ends the game of a board, and tells the outcome that the ending names. It takes no memory.
+    /// Ends the game of a board. Returns the outcome that the ending names. It allocates nothing.
     #[tactic(auto, using(std::proofs::lemmas::Map::Steps::set_value_same))]
     pub(crate) fn end(&mut self, board: BoardName, ending: Ending) -> Result<Outcome, Refusal>
         ensures answer { result ≡ end_answer_at ending (lookup (same_name board) self.old.entries) }
@@ -133,19 +130,5 @@ impl Boards {
         let Ok(_) = self.games.insert(board, game) else {
             unreachable!();
         };
-    }
-
-    /// What a take answers to one who meets this.
-    pub(crate) fn answer(&self, next: Next) -> Taken
-        ensures { result ≡ take_answer self.now.entries next }
-    {
-        match next {
-            Next::Waiting(place, m) => Taken::Move(place, m),
-            Next::Closed => Taken::Cut,
-            Next::Idle(board) => match self.outcome_of(board) {
-                Some(outcome) => Taken::Over(outcome),
-                None => Taken::Nothing,
-            },
-        }
     }
 }

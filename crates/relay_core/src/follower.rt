@@ -1,20 +1,21 @@
 //! One follower of a board: where it joined, how many moves it took, where it was closed, and the moves that wait for it.
 
 ghost use Rattle.std.specs.Prelude.{◌≡◌, ◌+◌, ◌-◌, ◌≤◌, ◌<◌, ◌^◌, [], length, drop, IfOk};
-ghost use Rattle.relay_core.specs.Inner.Followers.{account_of, joining, offered, popped};
-ghost use Rattle.relay_core.specs.Inner.Next.{next_of};
+ghost use Rattle.relay_core.specs.Held.Followers.{HasPlaces, account_of, joining, offered, popped};
+ghost use Rattle.relay_core.specs.Replies.{taken_of};
 
 use crate::name::BoardName;
-use crate::reply::Account;
+use crate::reply::{Account, Taken};
+use crate::take::without_move;
 use c960_board::Move;
-use c960_game::Game;
+use c960_game::{Game, Outcome};
 use circular_buffer::HeapCircularBuffer;
 use std::alloc::{AllocError, Global};
 use std::marker::Model;
 
 /// A follower. Contracts see a `HeldFollower`.
 #[derive(Drop)]
-pub(crate) struct Follower {
+pub(crate) struct QueueFollower {
     board: BoardName,
     joined: u16,
     taken: u16,
@@ -22,8 +23,8 @@ pub(crate) struct Follower {
     queue: HeapCircularBuffer<Move>,
 }
 
-impl Model for Follower {
-    ghost use Rattle.relay_core.specs.Inner.Held.{HeldFollower};
+impl Model for QueueFollower {
+    ghost use Rattle.relay_core.specs.Held.{HeldFollower};
 
     ghost Value = { HeldFollower };
 
@@ -37,18 +38,7 @@ impl Model for Follower {
     } };
 }
 
-/// What a follower meets at a take.
-#[derive(Clone, Copy, PartialEq, Eq, Debug)]
-pub(crate) enum Next {
-    /// A move waited, the one at this place of the log.
-    Waiting(u16, Move),
-    /// None waits, and the follower was closed.
-    Closed,
-    /// None waits yet on this board.
-    Idle(BoardName),
-}
-
-/// Puts the moves of a game from a place on into an empty queue that holds them.
+/// Copies the moves of a game, from a place on, into an empty queue that has room for them.
 fn fill(queue: &mut HeapCircularBuffer<Move>, game: &Game, place: u16)
     requires empty { queue.old.items ≡ [] }
     requires room { length game.now.log - place ≤ queue.old.capacity }
@@ -63,21 +53,21 @@ fn fill(queue: &mut HeapCircularBuffer<Move>, game: &Game, place: u16)
     }
 }
 
-impl Follower {
-    /// One who joins at a place of a game's log, with its whole queue reserved and the moves from there on in it.
+impl QueueFollower {
+    /// A follower that joins at a place of a game's log. Its whole queue is reserved and holds the moves from there on.
     pub(crate) fn new(
         alloc: Global,
         board: BoardName,
         place: u16,
         game: &Game,
         capacity: u16,
-    ) -> Result<Follower, AllocError>
+    ) -> Result<QueueFollower, AllocError>
         requires { length game.now.log - place ≤ capacity }
         ensures { IfOk result (λ follower. follower ≡ joining board place game.now.log capacity) }
     {
         let mut queue = HeapCircularBuffer::with_capacity(alloc, usize::from(capacity))?;
         fill(&mut queue, game, place);
-        Ok(Follower {
+        Ok(QueueFollower {
             board,
             joined: place,
             taken: 0,
@@ -93,7 +83,7 @@ impl Follower {
         self.board
     }
 
-    /// Queues a move made on its board at a place, or closes the follower where its queue is full.
+    /// Queues a move made on its board at a place, or closes the follower if its queue is full.
     pub(crate) fn offer(&mut self, board: BoardName, place: u16, m: Move)
         ensures { self.new ≡ offered board place m self.old }
     {
@@ -107,24 +97,26 @@ impl Follower {
         }
     }
 
-    /// Takes the first move that waits, if any.
-    pub(crate) fn take(&mut self) -> Next
-        requires { self.old.joined + self.old.taken + length self.old.queue < 2 ^ 16 }
-        ensures next { result ≡ next_of self.old }
+    /// Takes the first move that waits, or tells why none does, where its board's game has this outcome.
+    pub(crate) fn take(&mut self, outcome: Option<Outcome>) -> Taken
+        requires { HasPlaces self.old }
+        ensures answer { result ≡ taken_of (self.old.joined + self.old.taken) outcome self.old.cut self.old.queue }
         ensures after { self.new ≡ popped self.old }
     {
-        let place = self.joined + self.taken;
-        match self.queue.pop_front() {
-            Some(m) => {
-                self.taken += 1;
-                Next::Waiting(place, m)
-            }
-            None if self.cut.is_some() => Next::Closed,
-            None => Next::Idle(self.board),
+        let next = self.joined + self.taken;
+        let end = next + self.queue.len() as u16;
+        let closing = self.cut.map(u64::from);
+        if let Some(answer) = without_move(closing, u64::from(next), u64::from(end), outcome) {
+            return answer;
         }
+        let Some(m) = self.queue.pop_front() else {
+            unreachable!();
+        };
+        self.taken += 1;
+        Taken::Move(next, m)
     }
 
-    /// What it has had, where its board's log has this length.
+    /// What it has had, given that its board's log has this length.
     pub(crate) fn account(&self, present: u16) -> Account
         ensures { result ≡ account_of present self.now }
     {

@@ -2,15 +2,16 @@
 
 ghost use Rattle.std.specs.Prelude.{◌≡◌, ◌+◌, ◌-◌, ◌≤◌, ◌<◌, ◌^◌, ℕ, nat_eq, is_some, length, cond, option_map, count_by, IfNone, IfSome, OnOk, OnErr, None, [], ◌∷◌, ◌++◌};
 ghost use Rattle.std.specs.Map.{lookup, remove_entry};
-ghost use Rattle.relay_core.specs.Inner.Followers.{boards_of, joining, popped, published};
+ghost use Rattle.relay_core.specs.Held.Followers.{HasPlaces, boards_of, joining, popped, published};
 ghost use Rattle.relay_core.specs.Name.{same_name};
-ghost use Rattle.relay_core.specs.Inner.Next.{next_of};
+ghost use Rattle.relay_core.specs.Replies.{taken_of};
 
-use crate::follower::{Follower, Next};
+use crate::follower::QueueFollower;
 use crate::name::BoardName;
+use crate::reply::Taken;
 use crate::step::Spectator;
 use c960_board::Move;
-use c960_game::Game;
+use c960_game::{Game, Outcome};
 use indexmap::IndexMap;
 use std::alloc::{AllocError, Global};
 use std::marker::Model;
@@ -18,12 +19,12 @@ use std::marker::Model;
 /// The spectators who follow a board, in the order of joining. Contracts see a `HeldFollowers`.
 #[derive(Drop)]
 pub(crate) struct Followers {
-    seats: IndexMap<Spectator, Follower>,
+    seats: IndexMap<Spectator, QueueFollower>,
 }
 
 impl Model for Followers {
     ghost use Rattle.std.specs.HashMap.{spare};
-    ghost use Rattle.relay_core.specs.Inner.Held.{HeldFollowers};
+    ghost use Rattle.relay_core.specs.Inner.Maps.{HeldFollowers};
 
     ghost Value = { HeldFollowers };
 
@@ -34,7 +35,7 @@ impl Model for Followers {
 }
 
 impl Followers {
-    /// Nobody follows.
+    /// No followers.
     pub(crate) fn new(alloc: Global) -> Followers
         ensures { result.entries ≡ [] }
     {
@@ -50,7 +51,7 @@ impl Followers {
         self.seats.contains_key(&who)
     }
 
-    /// How many follow a board.
+    /// How many spectators follow a board.
     pub(crate) fn count(&self, board: BoardName) -> usize
         ensures { result ≡ count_by (λ e. same_name board e.1.board) self.now.entries }
     {
@@ -60,7 +61,7 @@ impl Followers {
             .count()
     }
 
-    /// Offers a move made on a board at a place to each follower. It takes no memory.
+    /// Offers a move made on a board at a place to each follower. It allocates nothing.
     pub(crate) fn publish(&mut self, board: BoardName, place: u16, m: Move)
         ensures entries { self.new.entries ≡ published board place m self.old.entries }
         ensures room { self.new.room ≡ self.old.room }
@@ -71,11 +72,18 @@ impl Followers {
         }
     }
 
-    /// Takes the first move that waits for a spectator, if it follows a board. It takes no memory.
+    /// The board that a spectator follows.
+    pub(crate) fn board_of(&self, who: Spectator) -> Option<BoardName>
+        ensures { result ≡ option_map (λ f. f.board) (lookup (nat_eq who) self.now.entries) }
+    {
+        Some(self.seats.get(&who)?.board())
+    }
+
+    /// Makes a take for a spectator, if it follows a board; the outcome is that of the game there. It allocates nothing.
     #[tactic(auto, using(crate::proofs::BoardKept::boards_kept))]
-    pub(crate) fn take(&mut self, who: Spectator) -> Option<Next>
-        requires { IfSome (lookup (nat_eq who) self.old.entries) (λ f. f.joined + f.taken + length f.queue < 2 ^ 16) }
-        ensures next { result ≡ option_map next_of (lookup (nat_eq who) self.old.entries) }
+    pub(crate) fn take(&mut self, who: Spectator, outcome: Option<Outcome>) -> Option<Taken>
+        requires { IfSome (lookup (nat_eq who) self.old.entries) HasPlaces }
+        ensures answer { result ≡ option_map (λ f. taken_of (f.joined + f.taken) outcome f.cut f.queue) (lookup (nat_eq who) self.old.entries) }
         ensures updates { (q : ℕ) → lookup (nat_eq q) self.new.entries
             ≡ cond (nat_eq who q) (option_map popped (lookup (nat_eq who) self.old.entries))
             (lookup (nat_eq q) self.old.entries) }
@@ -84,10 +92,10 @@ impl Followers {
         ensures room { self.new.room ≡ self.old.room }
     {
         let follower = self.seats.get_mut(&who)?;
-        Some(follower.take())
+        Some(follower.take(outcome))
     }
 
-    /// Lets a spectator who follows none join a board at a place of its game's log.
+    /// Makes a spectator that follows no board a follower of this one, from a place of its game's log on.
     pub(crate) fn admit(
         &mut self,
         alloc: Global,
@@ -102,13 +110,13 @@ impl Followers {
         ensures ok { OnOk result (self.new.entries ≡ self.old.entries ++ (who, joining board place game.now.log capacity) ∷ []) }
         ensures err { OnErr result (self.new.entries ≡ self.old.entries) }
     {
-        let follower = Follower::new(alloc, board, place, game, capacity)?;
+        let follower = QueueFollower::new(alloc, board, place, game, capacity)?;
         self.seats.insert(who, follower)?;
         Ok(())
     }
 
-    /// Lets a spectator go. The room does not shrink: of a removal the map tells no more.
-    pub(crate) fn remove(&mut self, who: Spectator) -> Option<Follower>
+    /// Removes a spectator. The room does not shrink: the map's contract says no more about a removal.
+    pub(crate) fn remove(&mut self, who: Spectator) -> Option<QueueFollower>
         ensures value { result ≡ lookup (nat_eq who) self.old.entries }
         ensures updates { (q : ℕ) → lookup (nat_eq q) self.new.entries
             ≡ cond (nat_eq who q) None (lookup (nat_eq q) self.old.entries) }

@@ -1,5 +1,5 @@
-//! What a relay on one thread holds, and each step on it, with the room that is left. It stands apart from `Relay`, so that the clauses
-//! of the steps can speak of that room and those of a relay need not.
+//! What a relay on one thread holds, and each step on it, with the room that is left. It is separate from `Relay`, so that the clauses
+//! of the steps can mention that room and those of a relay need not.
 
 ghost use Rattle.std.specs.Prelude.{◌≡◌, ◌≤◌, [], false, IfOk};
 ghost use Rattle.c960_game.specs.Limits.{LimitNumbers};
@@ -7,10 +7,11 @@ ghost use Rattle.relay_core.specs.History.{History, is_accepted};
 ghost use Rattle.relay_core.specs.Leads.{Leads};
 ghost use Rattle.relay_core.specs.Replies.{may_grow, reply_to};
 ghost use Rattle.relay_core.specs.Stands.{Stands};
-ghost use Rattle.relay_core.specs.Inner.Room.{KeepsRoom};
+ghost use Rattle.relay_core.specs.Held.Room.{KeepsRoom};
 
 use crate::boards::Boards;
 use crate::followers::Followers;
+use crate::grounds::{may_follow, may_open};
 use crate::name::BoardName;
 use crate::reply::Reply;
 use crate::step::{Spectator, Step};
@@ -28,8 +29,9 @@ pub(crate) struct Holdings {
 }
 
 impl Model for Holdings {
-    ghost use Rattle.relay_core.specs.Inner.Kept.{HasRoom, IsKept, held_of, holding_of};
-    ghost use Rattle.relay_core.specs.Inner.Room.{Holding};
+    ghost use Rattle.relay_core.specs.Inner.HoldingsFields.{HasRoom, held_of, holding_of};
+    ghost use Rattle.relay_core.specs.Held.Stands.{IsKept};
+    ghost use Rattle.relay_core.specs.Held.Room.{Holding};
 
     ghost Value = { Holding };
 
@@ -39,7 +41,7 @@ impl Model for Holdings {
 }
 
 impl Holdings {
-    /// No board, with room for as many as the limits allow.
+    /// Holdings without boards, with room for as many as the limits allow.
     pub(crate) fn new(alloc: Global, limits: Limits) -> Result<Holdings, AllocError>
         ensures stands { IfOk result (λ h. Stands limits h.shown []) }
     {
@@ -55,14 +57,9 @@ impl Holdings {
         ensures stands { Leads self.old.shown self.new.shown (Step.Open board start) result }
         ensures refused { is_accepted result ≡ false → self.new.shown ≡ self.old.shown }
     {
-        if self.boards.contains(board) {
-            return Reply::Refused(Refusal::BoardExists);
-        }
-        if start >= 960 {
-            return Reply::Refused(Refusal::BadStart);
-        }
-        if self.boards.len() >= usize::from(self.limits.boards()) {
-            return Reply::Refused(Refusal::TooManyBoards);
+        let is_named = self.boards.contains(board);
+        if let Err(refusal) = may_open(is_named, start, self.boards.len(), self.limits.boards()) {
+            return Reply::Refused(refusal);
         }
         let Ok(game) = Game::open(alloc, start, self.limits.plies()) else {
             return Reply::Refused(Refusal::OutOfMemory);
@@ -102,7 +99,7 @@ impl Holdings {
 
     /// Lets a spectator follow a board from a place of its log on, or from now on. Refused: `NoSuchBoard`, `FollowerExists`,
     /// `NotYet`, `TooFarBack`, `TooManyFollowers`, `OutOfMemory`.
-    #[tactic(auto, using(c960_game::proofs::LogFacts::position_made))]
+    #[tactic(auto, using(c960_game::proofs::lemmas::LogFacts::position_made))]
     fn follow(
         &mut self,
         alloc: Global,
@@ -116,19 +113,12 @@ impl Holdings {
         let Some(game) = self.boards.get(board) else {
             return Reply::Refused(Refusal::NoSuchBoard);
         };
-        if self.followers.contains(who) {
-            return Reply::Refused(Refusal::FollowerExists);
-        }
+        let follows = self.followers.contains(who);
         let joined = from.unwrap_or(game.len());
-        if joined > game.len() {
-            return Reply::Refused(Refusal::NotYet);
-        }
         let capacity = self.limits.capacity();
-        if game.len() - joined > capacity {
-            return Reply::Refused(Refusal::TooFarBack);
-        }
-        if self.followers.count(board) >= usize::from(self.limits.followers()) {
-            return Reply::Refused(Refusal::TooManyFollowers);
+        let is_full = self.followers.count(board) >= usize::from(self.limits.followers());
+        if let Err(refusal) = may_follow(follows, game.len(), joined, capacity, is_full) {
+            return Reply::Refused(refusal);
         }
         let Some(position) = game.position_at(joined) else {
             unreachable!();
@@ -148,12 +138,16 @@ impl Holdings {
         ensures refused { is_accepted result ≡ false → self.new.shown ≡ self.old.shown }
         ensures room { self.new.room ≡ self.old.room }
     {
-        // So the places of a log fit 16 bits.
+        // Hence the places of a log fit in 16 bits.
         prove!(self.limits.plies() <= 16384);
-        let Some(next) = self.followers.take(who) else {
+        let Some(board) = self.followers.board_of(who) else {
             return Reply::Refused(Refusal::NoSuchFollower);
         };
-        Reply::Took(self.boards.answer(next))
+        let outcome = self.boards.outcome_of(board);
+        let Some(taken) = self.followers.take(who, outcome) else {
+            unreachable!();
+        };
+        Reply::Took(taken)
     }
 
     /// Ends a spectator's following. Refused: `NoSuchFollower`.
@@ -170,7 +164,7 @@ impl Holdings {
         Reply::Left(follower.account(present))
     }
 
-    /// Makes one step, as `Relay::step` promises it. An Open and a Follow alone are handed what memory is asked of.
+    /// Makes one step, as `Relay::step` promises. Only an Open and a Follow are given the allocator.
     pub(crate) fn step(&mut self, alloc: Global, step: Step) -> Reply
         ensures stands { Leads self.old.shown self.new.shown step result }
         ensures exact { may_grow step ≡ false → (limits : LimitNumbers) (h : History) → Stands limits self.old.shown h

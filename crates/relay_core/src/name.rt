@@ -24,7 +24,7 @@ impl Model for BoardName {
 
     ghost view = { λ n. take n.length n.bytes };
 
-    // The bytes behind the name are zeros, so that equal names have equal fields.
+    // The bytes after the name are zeros, so that equal names have equal fields.
     ghost invariant = { λ n. (n.length ≤ 32) × IsName (take n.length n.bytes) × (n.bytes ≡ filled (take n.length n.bytes)) };
 
     ghost inverse = { λ text. record { length = length_of text; bytes = filled text } };
@@ -36,7 +36,7 @@ impl Model for BoardName {
 }
 
 impl BoardName {
-    /// The name of these bytes, exactly where they make one.
+    /// The name with these bytes, or None if they are not a name.
     #[tactic(auto, using(crate::proofs::NameFacts::fields_of_name))]
     pub fn new(text: &[u8]) -> Option<BoardName>
         ensures some { IsSome result ↔ IsName text.now }
@@ -79,7 +79,7 @@ impl fmt::Display for BoardName {
     }
 }
 
-/// The text with zeros behind it.
+/// The text, padded with zeros.
 #[tactic(auto, using(crate::proofs::NameFacts::zeros_behind))]
 fn with_zeros(text: &[u8]) -> [u8; 32]
     requires { length text.now ≤ 32 }
@@ -97,14 +97,14 @@ fn is_name(text: &[u8]) -> bool
     (1..=32).contains(&text.len()) && are_name_bytes(text)
 }
 
-/// Whether each byte may stand in a name.
+/// Whether each byte may occur in a name.
 fn are_name_bytes(text: &[u8]) -> bool
     ensures value { result ≡ list_all is_in_names text.now }
 {
     text.iter().all(|&byte| is_name_byte(byte))
 }
 
-/// Whether the byte may stand in a name.
+/// Whether the byte may occur in a name.
 fn is_name_byte(byte: u8) -> bool
     ensures value { result ≡ is_in_names byte }
 {

@@ -1,4 +1,5 @@
-//! The relay on one thread.
+//! The relay on one thread. No program runs it. It is the reference, simple enough to be compared with what a history requires. The tests
+//! give the same steps to it and to the relay over live boards.
 
 ghost use Rattle.std.specs.Prelude.{◌≡◌, [], ◌∷◌, false, length, OnErr, IfOk};
 ghost use Rattle.c960_game.specs.Limits.{LimitNumbers};
@@ -41,8 +42,8 @@ impl Relay {
         })
     }
 
-    /// Makes one step. Its reply is the one that the whole history asks for: the first refusal whose ground holds, in the
-    /// order in which `reply_to` names them, else the accepted reply. An Open or a Follow that nothing else refuses may be refused for want of
+    /// Makes one step. Its reply is the one that the whole history requires: the first refusal whose ground holds, in the order
+    /// in which `reply_to` names them, else the accepted reply. An Open or a Follow that nothing else refuses may be refused for lack of
     /// memory. A refused step changes nothing.
     pub fn step(&mut self, step: Step) -> Reply
         ensures stands { (limits : LimitNumbers) (h : History) → Stands limits self.old h
@@ -58,7 +59,7 @@ impl Relay {
     /// numbered start, and the moves that a follower has taken, then those it has queued, are, each once and in order, the
     /// stretch of that log from its joining place to the present or its closing; no move follows a game's end.
     ///
-    /// It makes the steps in order and gives one reply for each. Their vector is reserved before the first step, so that want
+    /// It makes the steps in order and gives one reply for each. Their vector is reserved before the first step, so that running out
     /// of memory means that no step was made.
     pub fn run(&mut self, steps: &[Step]) -> Result<Vec<Reply>, AllocError>
         ensures headline { IfOk result (λ replies. (limits : LimitNumbers) (h : History) → Stands limits self.old h

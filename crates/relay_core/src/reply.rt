@@ -16,14 +16,14 @@ pub enum Taken {
     Cut,
 }
 
-/// What a follower has had, told as it leaves.
+/// What a follower has had, reported when it leaves.
 #[derive(Clone, Copy, PartialEq, Eq, Debug)]
 pub struct Account {
     /// The place of the log at which it joined.
     pub joined: u16,
     /// How many moves it has taken.
     pub taken: u16,
-    /// The log's length at which it was closed, else the log's length at the leave.
+    /// The log's length at which it was closed, or else the log's length at the leave.
     pub limit: u16,
     /// Whether it was closed.
     pub cut: bool,
@@ -34,21 +34,21 @@ pub struct Account {
 pub enum Reply {
     /// The board was opened.
     Opened,
-    /// The move was played at this place of the log, and ended the game where an outcome is told.
+    /// The move was played at this place of the log. It ended the game if there is an outcome.
     Played {
         place: u16,
         outcome: Option<Outcome>,
     },
     /// The game was ended.
     Ended(Outcome),
-    /// The spectator follows, from this place of the log on, where the game stood like this.
+    /// The spectator now follows from this place of the log on. With it comes the game's position there.
     Following {
         joined: u16,
         position: Position,
     },
     /// What the take found.
     Took(Taken),
-    /// The spectator follows no longer.
+    /// The spectator no longer follows.
     Left(Account),
     /// The step was refused, and changed nothing.
     Refused(Refusal),

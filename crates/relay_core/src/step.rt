@@ -4,7 +4,7 @@ use crate::name::BoardName;
 use c960_board::Move;
 use c960_game::Ending;
 
-/// The number of a spectator, chosen by who follows.
+/// The number of a spectator, chosen by whoever follows.
 pub type Spectator = u32;
 
 /// One step.
@@ -16,7 +16,7 @@ pub enum Step {
     Submit(BoardName, Move),
     /// Ends the game of a board.
     End(BoardName, Ending),
-    /// Lets a spectator follow a board, from this place of the log on; without one, from the log's present length on.
+    /// Makes a spectator follow a board from this place of the log on; without a place, from the log's present length on.
     Follow(Spectator, BoardName, Option<u16>),
     /// Takes the spectator's next move.
     Take(Spectator),

@@ -1,4 +1,4 @@
-//! What makes the steps of a relay, and how a list of them is made.
+//! The trait of whatever makes the steps of a relay, and how a list of steps is made.
 
 ghost use Rattle.std.specs.Prelude.{◌≡◌, length, OnErr, IfOk};
 ghost use Rattle.c960_game.specs.Limits.{LimitNumbers};
@@ -11,8 +11,8 @@ use crate::reply::{Reply, Taken};
 use crate::step::Step;
 use std::alloc::{AllocError, Global};
 
-/// Whatever answers each step by the whole history before it, as a relay does. To a contract it is a `RelayRecord`, so that what is
-/// written over a stepper runs, proved once, over each kind of relay.
+/// Anything that answers each step by the whole history before it, as a relay does. To a contract it is a `RelayRecord`, so that code
+/// over a stepper is proved once and runs over each kind of relay.
 pub trait Stepper {
     ghost use Rattle.std.specs.Prelude.{◌≡◌, ◌∷◌, false};
     ghost use Rattle.c960_game.specs.Limits.{LimitNumbers};
@@ -24,8 +24,8 @@ pub trait Stepper {
     // The boards, the followers and the limits.
     ghost record_of: { Self → RelayRecord };
 
-    /// Makes one step. Its reply is the one that the whole history asks for: the first refusal whose ground holds, in the
-    /// order in which `reply_to` names them, else the accepted reply. An Open or a Follow that nothing else refuses may be refused for want of
+    /// Makes one step. Its reply is the one that the whole history requires: the first refusal whose ground holds, in the order
+    /// in which `reply_to` names them, else the accepted reply. An Open or a Follow that nothing else refuses may be refused for lack of
     /// memory. A refused step changes nothing.
     fn step(&mut self, step: Step) -> Reply
         ensures stands { (limits : LimitNumbers) (h : History) → Stands limits (record_of self.old) h
@@ -43,8 +43,8 @@ impl Stepper for Relay {
     }
 }
 
-/// Makes the steps in order, whatever makes them, and gives one reply for each. Their vector is reserved before the first step, so that
-/// want of memory means that no step was made. The clauses are those of `Relay::run`, of any stepper.
+/// Makes the steps in order on any stepper, and gives one reply for each. Their vector is reserved before the first step, so that
+/// running out of memory means that no step was made. The clauses are those of `Relay::run`, for any stepper.
 pub fn run_steps<S: Stepper>(
     alloc: Global,
     relay: &mut S,
@@ -55,7 +55,7 @@ pub fn run_steps<S: Stepper>(
     ensures all { IfOk result (λ replies. length replies.items ≡ length steps.now) }
     ensures unchanged { OnErr result (S.record_of relay.new ≡ S.record_of relay.old) }
 {
-    // A fault of rattle-kit-13b: it lays out a `Reply` in a `Vec` only where the body names the enum inside it.
+    // A fault of rattle-kit-13b: it lays out a `Reply` in a `Vec` only if the body names the enum inside it.
     let _named: Option<Taken> = None;
     let mut replies = Vec::with_capacity(alloc, steps.len())?;
     for step in steps {

@@ -1,4 +1,4 @@
--- A head that is still to come is shorter than the longest head.
+-- A head that has yet to come is shorter than the longest head.
 use Rattle.std.proofs.Common.{◌≡◌, ◌≢◌, ℕ, ◌+◌, ◌%◌, ◌<◌, ◌≤◌, Bool, true, false, cond, ◌==◌, ◌||◌, nat_lt, nat_le, nat_eq, List, length, take, drop, Option, None, Some, Result, Ok, Err, refl, arith, length-drop, inl, inr}
 use Rattle.std.specs.Prelude.{◌⊎◌, replicate, slice_index}
 use Rattle.std.specs.Int.{w16, w64, from_be_bytes}
@@ -22,7 +22,7 @@ below a b is = grind (arith, nat_tests)
 zero_short : (n : ℕ) → (n == 0) ≡ true → n < 14
 zero_short n is = grind (arith, nat_tests)
 
--- more bytes are asked for where there are too few, and only there
+-- more bytes are waited for if there are too few, and only then
 too_few : {A : Type 0} (n k : ℕ) (y : Decoded A) → y ≢ Ok None → cond (nat_lt n k) (Ok None) y ≡ Ok None → n < k
 too_few n k y some is =
     elim (chosen (nat_lt n k) (Ok None) y (Ok None) is) [

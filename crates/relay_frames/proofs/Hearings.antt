@@ -1,4 +1,4 @@
--- What is told of a peer does not depend on how its bytes are cut into pieces, and ends with the last event.
+-- The events of a peer do not depend on how its bytes are cut into pieces, and end with the last event.
 use Rattle.std.proofs.Common.{◌≡◌, ℕ, zero, suc, ◌<◌, Bool, true, false, cond, List, [], ◌∷◌, ◌++◌, length, fold, Option, None, Some, refl, sym, ◌∙◌, ap, arith, append-nil, append_assoc}
 use Rattle.std.specs.List.{concat}
 use Rattle.websocket.specs.FrameHeader.{decode_header}
@@ -7,7 +7,7 @@ use Rattle.relay_frames.specs.Reading.{Message, Reading, opened, over, fed, wait
 use Rattle.relay_frames.specs.Hearing.{Heard, silence, behind, hear_times, hear_all, hear_piece, hear_pieces, EndsWithTheLast, IsSmall}
 use Rattle.relay_frames.proofs.Steps.{Fits, Steps, Follows, waited, told, tells, steps}
 
--- one time more: the first step, and what comes from there on
+-- one more time: the first step, and what comes from there on
 hear_told : (n : ℕ) (r : Reading) (t : Told) (next : Reading) → next_step r ≡ tells t next → hear_times (suc n) r ≡ behind (t ∷ []) (hear_times n next)
 unfolding hear_times
 hear_told n r t next is = rw is refl
@@ -38,7 +38,7 @@ fed_shorter r t next f more =
           rw (← same) g.shorter
     ]
 
--- what is told before a piece and behind it is what is told where the piece has come at once
+-- the events before a piece and after it are those when the piece has come at once
 piece_after : (n : ℕ) (r : Reading) (more : List ℕ) → length r.unread < n → hear_piece (hear_times n r) more ≡ hear_all (fed r more)
 piece_after zero r more h = absurd (omega (arith, h))
 piece_after (suc n) r more h =
@@ -72,12 +72,12 @@ opened_waits : next_step opened ≡ waits opened
 unfolding next_step decode_header
 opened_waits = refl
 
--- what is told depends on the bytes alone
+-- the events depend only on the bytes
 pub pieces_are_one : (pieces : List (List ℕ)) → hear_pieces pieces ≡ hear_all (fed opened (concat pieces))
 pieces_are_one pieces =
     ap (λ h. fold hear_piece h pieces) (sym (hear_waited 0 opened opened_waits)) ∙ pieces_after opened pieces
 
--- nothing is told of a connection that has ended
+-- there are no events of a connection that has ended
 over_is_silent : (n : ℕ) → (hear_times n over).told ≡ []
 unfolding hear_times next_step
 over_is_silent zero = refl
@@ -93,11 +93,11 @@ ends_with_the_last (suc n) r =
           rw is ((λ last. rw (f.last last) (over_is_silent n)), ends_with_the_last n next)
     ]
 
--- of any bytes in any pieces the last event is the last one told
+-- for any bytes in any pieces the last event is the last in the list
 pub heard_ends_with_the_last : (pieces : List (List ℕ)) → EndsWithTheLast (hear_pieces pieces).told
 heard_ends_with_the_last pieces = rw (pieces_are_one pieces) (ends_with_the_last _ (fed opened (concat pieces)))
 
--- what is kept where more bytes are waited for is small
+-- what is kept while more bytes are waited for is small
 times_small : (n : ℕ) (r : Reading) → length r.unread < n → Fits r → IsSmall (hear_times n r).then
 times_small zero r enough f = absurd (omega (arith, enough))
 times_small (suc n) r enough f =

@@ -9,7 +9,7 @@ use Rattle.websocket.specs.FrameHeader.{header_len}
 use Rattle.websocket.specs.Mask.{apply_mask_if}
 use Rattle.relay_frames.specs.Reading.{payload_at}
 
--- it stands after what lay before its new place
+-- it comes after what lay before its new place
 pub moved_down : (old bytes payload : List ℕ) (start size to : ℕ) → to ≤ start → start + size ≤ length bytes → take start bytes ≡ take start old → take size (drop start bytes) ≡ payload
     → take (to + size) (copy_within bytes start (start + size) to) ≡ take to old ++ payload
 moved_down old bytes payload start size to down inside before is =

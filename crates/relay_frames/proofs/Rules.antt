@@ -51,11 +51,11 @@ place_kept begun h n is =
     let plain = passed (h.rsv1 || h.rsv2 || h.rsv3) ReservedBit (cond (not (is_some h.mask)) (Some Unmasked) by_place) is in
     (passed (not (is_some h.mask)) Unmasked by_place plain.1).1
 
--- its payload is within a message's bound, and the message takes it
+-- its payload is within a message's bound, and the message accepts it
 pub head_kept : (begun : Option Message) (h : FrameHeader) (n : ℕ) → head_breach begun h n ≡ None → (n ≤ most_bytes) × HasRoom begun h.opcode
 head_kept begun h n is = opcode_kept begun h.opcode h.is_final n (place_kept begun h n is)
 
--- beside what came of the message its payload is within the bound, or a control frame's
+-- with what has come of the message its payload is within the bound, or that of a control frame
 pub payload_kept : (begun : Option Message) (op : OpCode) (is_final : Bool) (n : ℕ) → opcode_breach begun op is_final n ≡ None → bytes_of begun ≤ most_bytes → n + bytes_of begun ≤ most_bytes + 125
 payload_kept begun (codes.Control control) is_final n is fits = omega (arith, control_kept is_final n is, fits)
 payload_kept None (codes.Data Continue) is_final n is fits = absurd (cc is)
@@ -79,7 +79,7 @@ with_payload_kept (Some m) Continue payload is =
 with_payload_kept (Some m) Text payload is = absurd (cc is)
 with_payload_kept (Some m) Binary payload is = absurd (cc is)
 
--- of a message that goes on
+-- for a message that goes on
 abbrev IsWithin : Option Message → Type 0
 IsWithin begun = (bytes_of begun ≤ most_bytes) × (fragments_of begun ≤ most_fragments)
 

@@ -26,27 +26,27 @@ pub record Fits (r : Reading) : Type 0 where
 over_fits : Fits over
 over_fits = record { message = omega arith; fragments = omega arith; ended = λ _. refl }
 
--- a step that tells something
+-- a step that gives an event
 abbrev pub tells : Told → Reading → Step
 tells t next = record { told = Some t; then = next }
 
--- what is told took bytes, nothing is read behind the last, and before more bytes it is the same
+-- the event took bytes, nothing is read after the last, and with more bytes it is the same
 pub record Follows (r : Reading) (t : Told) (next : Reading) : Type 0 where
   pub shorter : length next.unread < length r.unread
   pub last : is_last t ≡ true → next ≡ over
   pub same : (more : List ℕ) → next_step (fed r more) ≡ tells t (fed next more)
   pub fits : Fits r → Fits next
 
--- a step waits or tells something
+-- a step waits or gives an event
 pub data Steps (r : Reading) : Type 0 where
   waited : next_step r ≡ waits r → (Fits r → IsSmall r) → Steps r
   told : (t : Told) (next : Reading) → next_step r ≡ tells t next → Follows r t next → Steps r
 
--- of a peer whose connection goes on
+-- of a peer whose connection has not ended
 abbrev pub live : List ℕ → Option Message → Reading
 live bs begun = record { unread = bs; begun = begun; is_over = false }
 
--- bytes that are not waited for behind are some
+-- bytes after which no more are waited for are not empty
 not_empty : (bs : List ℕ) → decode_header bs ≢ Ok None → 0 < length bs
 unfolding decode_header
 not_empty [] some = absurd (some refl)
@@ -61,7 +61,7 @@ broke : (bs : List ℕ) (begun : Option Message) (b : Breach) → decode_header 
 broke bs begun b some is same =
     told (broken b) over is (record { shorter = not_empty bs some; last = λ _. refl; same = same; fits = λ _. over_fits })
 
--- what is known behind a frame
+-- what is known after a frame
 abbrev behind_frame : List ℕ → Effect → Reading
 behind_frame rest e = (goes_on rest e).then
 

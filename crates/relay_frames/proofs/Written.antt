@@ -41,7 +41,7 @@ written_checked begun h payload rest valid None =
       drop_at (encode_frame h payload) rest (header_len h n + n) size,
     ) refl
 
--- what a frame says is read from its bytes, whatever stands behind it
+-- what a frame says is read from its bytes, whatever follows it
 pub written_is_read : (begun : Option Message) (h : FrameHeader) (payload rest : List ℕ) → IsHeader h (length payload)
     → next_step (behind_bytes begun (encode_frame h payload ++ rest)) ≡ read_written begun h payload rest (head_breach begun h (length payload))
 written_is_read begun h payload rest valid =
@@ -50,7 +50,7 @@ written_is_read begun h payload rest valid =
     rw split (header_read begun h n (apply_mask_if h.mask payload ++ rest) valid)
     ∙ written_checked begun h payload rest valid (head_breach begun h n)
 
--- a head that breaks a rule is told of before its payload has come
+-- a head that breaks a rule is reported before its payload has come
 pub breach_is_told : (begun : Option Message) (h : FrameHeader) (n : ℕ) (b : Breach) → IsHeader h n → head_breach begun h n ≡ Some b
     → next_step (behind_bytes begun (encode_header h n)) ≡ breaks b
 breach_is_told begun h n b valid breach =

@@ -1,11 +1,11 @@
--- What is told of a peer.
+-- The events of a peer.
 use Rattle.std.specs.Prelude.{ℕ, List, Bool, true, false, Option, None, Some, string_bytes}
 use Rattle.relay_frames.specs.declared.breach.Breach.{Breach}
 use Rattle.relay_frames.specs.declared.code.Code.{Code}
 use Rattle.relay_frames.specs.declared.event.Event.{Event}
 use Rattle.relay_frames.specs.declared.event.Event.TheVariants as events
 
--- an event, with the bytes of what it holds
+-- an event, with the bytes that it contains
 pub data Told : Type 0 where
   fragment : Told
   text : List ℕ → Told
@@ -28,7 +28,7 @@ told (events.Pong bytes) = pong bytes.items
 told (events.Closed code) = closed (number_of code)
 told (events.Broken breach) = broken breach
 
--- nothing is told behind it
+-- no event follows it
 abbrev pub is_last : Told → Bool
 is_last (closed _) = true
 is_last (broken _) = true

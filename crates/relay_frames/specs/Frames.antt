@@ -1,4 +1,4 @@
--- The frames that a server sends: whole messages with no mask, RFC 6455 sections 5.1, 5.2 and 5.5.
+-- The frames that a server sends: whole messages without a mask, RFC 6455 sections 5.1, 5.2 and 5.5.
 use Rattle.std.specs.Prelude.{ℕ, List, [], Option, None, Some}
 use Rattle.std.specs.Int.{w16, to_be_bytes}
 use Rattle.websocket.specs.declared.protocol.frame.coding.OpCode.TheVariants.{Data, Control}
@@ -26,7 +26,7 @@ close_payload (Some number) = to_be_bytes w16 number
 unfoldable pub close_frame : Option ℕ → List ℕ
 close_frame number = encode_frame (whole_header (Control Close) None) (close_payload number)
 
--- the frame that an event is due, sections 5.5.1, 5.5.2 and 7.1.7
+-- the frame that is due after an event, sections 5.5.1, 5.5.2 and 7.1.7
 abbrev pub answer_of : Told → Option (List ℕ)
 answer_of fragment = None
 answer_of (text _) = None

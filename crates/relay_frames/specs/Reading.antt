@@ -18,13 +18,13 @@ use Rattle.relay_frames.specs.declared.breach.Breach.TheVariants.{NoHead, Reserv
 use Rattle.relay_frames.specs.Codes.{may_be_sent}
 use Rattle.relay_frames.specs.Events.{Told, fragment, text, binary, ping, pong, closed, broken, is_last}
 
--- a message whose last fragment is still to come
+-- a message whose last fragment has yet to come
 pub record Message : Type 0 where
   pub kind : MessageType
   pub bytes : List ℕ
   pub fragments : ℕ
 
--- what is known of a peer: the bytes that no frame was read from yet, the message that has begun, and whether nothing is read any more
+-- what is known of a peer: the bytes from which no frame has been read yet, the message that has begun, and whether reading has ended
 pub record Reading : Type 0 where
   pub unread : List ℕ
   pub begun : Option Message
@@ -38,7 +38,7 @@ opened = record { unread = []; begun = None; is_over = false }
 abbrev pub over : Reading
 over = record { unread = []; begun = None; is_over = true }
 
--- a frame or a message has begun, and its end is still to come
+-- a frame or a message has begun, and its end has yet to come
 abbrev pub is_midway : Reading → Bool
 is_midway r = not (length r.unread == 0) || is_some r.begun
 
@@ -48,14 +48,14 @@ fed r bytes = cond r.is_over r (record r { unread = r.unread ++ bytes })
 
 -- ---- the rules for a frame's head
 
--- a message has at most so many bytes, and so many fragments
+-- a message has at most this many bytes, and this many fragments
 abbrev pub most_bytes : ℕ
 most_bytes = 65536
 
 abbrev pub most_fragments : ℕ
 most_fragments = 1024
 
--- a message of so many bytes, so far and with this frame
+-- a message of this many bytes, so far and with this frame
 abbrev pub size_breach : ℕ → ℕ → Option Breach
 size_breach before n = cond (nat_lt most_bytes (before + n)) (Some TooLong) None
 
@@ -63,7 +63,7 @@ size_breach before n = cond (nat_lt most_bytes (before + n)) (Some TooLong) None
 abbrev pub control_breach : Bool → ℕ → Option Breach
 control_breach is_final n = cond (not is_final) (Some ControlInFragments) (cond (nat_lt 125 n) (Some LongControl) None)
 
--- a fragment of n bytes more for this message
+-- a further fragment of n bytes for this message
 abbrev pub fragment_breach : Message → ℕ → Option Breach
 fragment_breach m n = cond (nat_le most_fragments m.fragments) (Some TooManyFragments) (size_breach (length m.bytes) n)
 
@@ -80,21 +80,21 @@ abbrev pub opcode_breach : Option Message → OpCode → Bool → ℕ → Option
 opcode_breach begun (codes.Control control) is_final n = control_breach is_final n
 opcode_breach begun (codes.Data kind) is_final n = data_breach begun kind n
 
--- the rule that a frame's head breaks, where its payload has n bytes
+-- the rule that a frame's head breaks, if its payload has n bytes
 abbrev pub head_breach : Option Message → FrameHeader → ℕ → Option Breach
 head_breach begun h n =
     cond (h.rsv1 || h.rsv2 || h.rsv3) (Some ReservedBit)
     (cond (not (is_some h.mask)) (Some Unmasked)
     (opcode_breach begun h.opcode h.is_final n))
 
--- ---- what a frame says
+-- ---- the meaning of a frame
 
--- what is told of a frame, and the message that has begun behind it
+-- the event of a frame, and the message that has begun after it
 pub record Effect : Type 0 where
   pub told : Told
   pub begun : Option Message
 
--- the code in front of a close's reason
+-- the code before a close's reason
 abbrev pub close_number : List ℕ → ℕ
 close_number payload = from_be_bytes w16 payload
 
@@ -117,18 +117,18 @@ abbrev pub told_of_message : MessageType → List ℕ → Told
 told_of_message kinds.Text bytes = cond (is_utf8 bytes) (text bytes) (broken NotUtf8)
 told_of_message kinds.Binary bytes = binary bytes
 
--- the kind of a message that begins so
+-- the kind of a message that begins with this frame
 abbrev pub kind_of : Data → MessageType
 kind_of Binary = kinds.Binary
 kind_of Text = kinds.Text
 kind_of Continue = kinds.Text
 
--- the message that the frame begins or goes on with
+-- the message that the frame begins or continues
 abbrev pub with_payload : Option Message → Data → List ℕ → Message
 with_payload None kind payload = record { kind = kind_of kind; bytes = payload; fragments = 1 }
 with_payload (Some m) kind payload = record m { bytes = m.bytes ++ payload; fragments = m.fragments + 1 }
 
--- a message is told when its last fragment has come
+-- a message is reported when its last fragment has come
 abbrev pub message_effect : Message → Bool → Effect
 message_effect m is_final =
     cond is_final (record { told = told_of_message m.kind m.bytes; begun = None })
@@ -141,7 +141,7 @@ frame_effect begun (codes.Data kind) is_final payload = message_effect (with_pay
 
 -- ---- reading
 
--- what is told next, and what is known then
+-- the next event, and what is known then
 pub record Step : Type 0 where
   pub told : Option Told
   pub then : Reading
@@ -150,28 +150,28 @@ pub record Step : Type 0 where
 abbrev pub waits : Reading → Step
 waits r = record { told = None; then = r }
 
--- the peer broke the protocol, and nothing is read any more
+-- the peer broke the protocol, and nothing more is read
 abbrev pub breaks : Breach → Step
 breaks b = record { told = Some (broken b); then = over }
 
--- a frame was read, and these bytes stand behind it
+-- a frame was read, and these bytes follow it
 abbrev pub goes_on : List ℕ → Effect → Step
 goes_on rest e = record { told = Some e.told; then = cond (is_last e.told) over (record { unread = rest; begun = e.begun; is_over = false }) }
 
--- what is told, and what is known then, are those of the step, or of the effect
+-- the event, and what is known then, are those of the step, or of the effect
 abbrev pub IsStep : Told → Reading → Step → Type 0
 IsStep t r s = (s.told ≡ Some t) × (r ≡ s.then)
 
 abbrev pub IsEffect : Told → Option Message → Effect → Type 0
 IsEffect t begun e = (t ≡ e.told) × (begun ≡ e.begun)
 
--- a message that has begun takes one fragment more
+-- a message that has begun accepts one more fragment
 abbrev pub HasRoom : Option Message → OpCode → Type 0
 HasRoom None op = ⊤
 HasRoom (Some m) (codes.Control control) = ⊤
 HasRoom (Some m) (codes.Data kind) = m.fragments < most_fragments
 
--- the payload of n bytes behind the head
+-- the payload of n bytes after the head
 abbrev pub payload_at : List ℕ → FrameHeader → ℕ → List ℕ
 payload_at bytes h n = apply_mask_if h.mask (take n (drop (header_len h n) bytes))
 
@@ -190,6 +190,6 @@ read_head r (Err e) = breaks NoHead
 read_head r (Ok None) = waits r
 read_head r (Ok (Some p)) = read_checked r p.0 p.1 (head_breach r.begun p.0 p.1)
 
--- a breach is told as soon as the head is there, and anything else when the frame is whole
+-- a breach is reported as soon as the head has come, and anything else when the frame is complete
 unfoldable pub next_step : Reading → Step
 next_step r = cond r.is_over (waits r) (read_head r (decode_header r.unread))

@@ -8,7 +8,7 @@ ghost use Rattle.relay_frames.specs.Requests.{acceptance_text};
 use std::alloc::AllocError;
 use websocket::handshake::server::write_response;
 
-/// How a request is accepted: by the value of `Sec-WebSocket-Accept` that answers its key (RFC 6455, section 4.2.2).
+/// How a request is accepted: with the value of `Sec-WebSocket-Accept` that answers its key (RFC 6455, section 4.2.2).
 #[derive(Clone, Copy, Debug, PartialEq, Eq)]
 pub struct Acceptance {
     pub value: [u8; 28],
@@ -16,7 +16,7 @@ pub struct Acceptance {
 }
 
 impl Acceptance {
-    /// Appends the answer. The peer's frames come behind it, and so do those that it is sent.
+    /// Appends the answer. The peer's frames follow it, and so do those that the peer is sent.
     ///
     /// # Errors
     ///

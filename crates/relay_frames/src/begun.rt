@@ -12,7 +12,7 @@ use std::marker::Model;
 use websocket::protocol::MessageType;
 use websocket::protocol::frame::coding::Data;
 
-/// What is known beside its bytes of a message whose last fragment is still to come (RFC 6455, section 5.4).
+/// What is known, besides its bytes, of a message whose last fragment has yet to come (RFC 6455, section 5.4).
 #[derive(Drop)]
 pub(crate) struct Begun {
     kind: MessageType,
@@ -38,7 +38,7 @@ impl Begun {
         }
     }
 
-    /// The message with one fragment more.
+    /// The message with one more fragment.
     pub(crate) fn and_one_more(&self) -> Begun
         requires { self.now.fragments < 1024 }
         ensures { result ≡ record self.now { fragments = self.now.fragments + 1 } }
@@ -49,7 +49,7 @@ impl Begun {
         }
     }
 
-    /// The rule that a fragment of so many bytes more would break, after these of the message.
+    /// The rule that a further fragment of this many bytes would break, after these bytes of the message.
     pub(crate) fn breach(&self, bytes: &[u8], length: u64) -> Option<Breach>
         ensures { result ≡ fragment_breach (message_of bytes.now self.now) length }
     {
@@ -59,7 +59,7 @@ impl Begun {
         size_breach(bytes.len(), length)
     }
 
-    /// The message is whole, and has these bytes.
+    /// The message is complete, and has these bytes.
     pub(crate) fn into_event(self, bytes: Vec<u8>) -> Event
         ensures { told result ≡ told_of_message self.kind bytes.items }
     {
@@ -70,7 +70,7 @@ impl Begun {
     }
 }
 
-/// The kind of a message that begins so.
+/// The kind of a message that begins with this frame.
 fn kind_of(kind: Data) -> MessageType
     ensures { result ≡ kind_of kind }
 {
@@ -80,7 +80,7 @@ fn kind_of(kind: Data) -> MessageType
     }
 }
 
-/// The rule that a frame of so many bytes would break, behind so many of the same message.
+/// The rule that a frame of this many bytes would break, after `before` bytes of the same message.
 pub(crate) fn size_breach(before: usize, length: u64) -> Option<Breach>
     ensures { result ≡ size_breach before length }
 {
@@ -90,7 +90,7 @@ pub(crate) fn size_breach(before: usize, length: u64) -> Option<Breach>
     None
 }
 
-/// A text, if the bytes are one.
+/// A text if the bytes are UTF-8, and otherwise the breach.
 fn text_event(bytes: Vec<u8>) -> Event
     ensures { told result ≡ told_of_message MessageType.Text bytes.items }
 {

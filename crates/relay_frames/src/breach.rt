@@ -8,7 +8,7 @@ use crate::code::Code;
 /// What a peer did that ends its connection (RFC 6455, section 7.1.7).
 #[derive(Clone, Copy, Debug, PartialEq, Eq)]
 pub enum Breach {
-    /// The bytes are no frame's head: the opcode is a reserved one, or the length is not in its shortest form or has its top
+    /// The bytes are not a frame's head: the opcode is a reserved one, or the length is not in its shortest form or has its top
     /// bit set (section 5.2).
     NoHead,
     /// A reserved bit is set, and no extension was agreed on (section 5.2).
@@ -19,23 +19,23 @@ pub enum Breach {
     ControlInFragments,
     /// A control frame has more than 125 bytes (section 5.5).
     LongControl,
-    /// A fragment continues a message, and none has begun (section 5.4).
+    /// A fragment continues a message, but none has begun (section 5.4).
     NothingToContinue,
     /// A message begins within another one (section 5.4).
     MessageWithinMessage,
     /// A close has one byte, or a code that may not be sent (sections 5.5.1 and 7.4).
     BadClose,
-    /// A text, or the reason of a close, is no UTF-8 (section 8.1).
+    /// A text, or the reason of a close, is not UTF-8 (section 8.1).
     NotUtf8,
-    /// A message has more bytes than are taken.
+    /// A message has more bytes than are accepted.
     TooLong,
-    /// A message has more fragments than are taken.
+    /// A message has more fragments than are accepted.
     TooManyFragments,
 }
 
 impl Breach {
-    /// The code of the close that tells the peer of it (section 7.4.1): 1007 where bytes are no UTF-8, 1009 for a message that
-    /// is too long or has too many fragments, and else 1002.
+    /// The code of the close that tells the peer of it (section 7.4.1): 1007 if bytes are not UTF-8, 1009 for a message that
+    /// is too long or has too many fragments, and otherwise 1002.
     #[tactic(auto, unfolding(crate::specs::Codes::may_be_sent))]
     pub fn code(self) -> Code
         ensures { result.number ≡ code_of self }

@@ -1,4 +1,4 @@
-//! The bytes that are held of a peer.
+//! The bytes held for a peer.
 
 ghost use Rattle.std.specs.Prelude.{◌≡◌, ◌+◌, ◌≤◌, [], ◌++◌, length, take, drop, vec_capacity, vec_len, IfOk, OnOk, OnErr};
 ghost use Rattle.websocket.specs.FrameHeader.{header_len};
@@ -10,18 +10,18 @@ use std::marker::Model;
 use std::mem;
 use websocket::protocol::frame::FrameHeader;
 
-/// Of a message in fragments the bytes so far, without their mask, and after them those that were not read.
+/// The bytes so far of a message in fragments, without their mask, and after them those that have not been read.
 ///
-/// They stand in one vector, so that a payload needs no second one: it is unmasked where it came and moved down over its frame's
-/// head. Room is added for what has come or was announced and for no more: a vector that grows by itself doubles. No room is held
-/// where there are no bytes.
+/// They share one vector, so that a payload needs no second one: it is unmasked in place and moved down over its frame's
+/// head. Room is added for what has come or was announced, and for no more; a vector that grows by itself doubles. No room is held
+/// if there are no bytes.
 #[derive(Drop)]
 pub(crate) struct Buffer {
     alloc: Global,
     bytes: Vec<u8>,
     /// Where the message so far ends.
     message: usize,
-    /// Where the bytes begin that were not read. What lies between goes when more are added, so that reading many
+    /// Where the bytes begin that have not been read. What lies between is dropped when more are added, so that reading many
     /// small frames moves no bytes.
     read: usize,
 }
@@ -57,7 +57,7 @@ impl Buffer {
         &self.bytes[..self.message]
     }
 
-    /// The bytes that were not read.
+    /// The bytes that have not been read.
     pub(crate) fn unread(&self) -> &[u8]
         ensures { result.now ≡ self.now.unread }
     {
@@ -81,7 +81,7 @@ impl Buffer {
         self.bytes.extend_from_slice(bytes)
     }
 
-    /// Sees to it that, where some were not read, there is room until so many were not read, and for no more.
+    /// If there are unread bytes, ensures room for `total` unread bytes in all, and for no more.
     ///
     /// # Errors
     ///
@@ -97,7 +97,7 @@ impl Buffer {
         self.bytes.reserve_exact(total.saturating_sub(came))
     }
 
-    /// Reads a frame that belongs to no message in fragments, and hands its payload out.
+    /// Reads a frame that belongs to no message in fragments, and returns its payload.
     ///
     /// # Errors
     ///
@@ -119,7 +119,7 @@ impl Buffer {
         Ok(payload)
     }
 
-    /// Reads a frame of the message that has begun, and puts its payload after the message so far.
+    /// Reads a frame of the message that has begun, and appends its payload to the message so far.
     pub(crate) fn read_on(&mut self, header: &FrameHeader, size: usize)
         requires whole { header_len header.now size + size ≤ length self.old.unread }
         requires small { size ≤ most_bytes }
@@ -135,10 +135,10 @@ impl Buffer {
         }
     }
 
-    /// Reads the last frame of a message, and hands the message out.
+    /// Reads the last frame of a message, and returns the message.
     ///
-    /// The vector itself becomes the message, and what follows the frame gets one of its own. Only where that is the longer, as
-    /// with many small messages in one piece, the message does.
+    /// The vector itself becomes the message, and what follows the frame gets a new one. Only if that is the longer part, as
+    /// with many small messages in one piece, the message gets the new one.
     ///
     /// # Errors
     ///
@@ -167,7 +167,7 @@ impl Buffer {
         Ok(mem::replace(&mut self.bytes, rest))
     }
 
-    /// Lets all bytes go.
+    /// Drops all bytes.
     pub(crate) fn clear(&mut self)
         ensures { self.new ≡ record { message = []; unread = [] } }
     {
@@ -176,7 +176,7 @@ impl Buffer {
         self.read = 0;
     }
 
-    /// Puts what was not read right after the message.
+    /// Moves what has not been read right after the message.
     fn close_up(&mut self)
         ensures { self.new ≡ self.old }
     {
@@ -184,7 +184,7 @@ impl Buffer {
         self.read = self.message;
     }
 
-    /// These were read.
+    /// Marks `count` bytes as read.
     fn skip(&mut self, count: usize)
         requires { count ≤ length self.old.unread }
         ensures { self.new ≡ record self.old { unread = drop count self.old.unread } }
@@ -197,7 +197,7 @@ impl Buffer {
     }
 }
 
-/// Cuts the bytes from here on off. Where there are none, no room is taken for them.
+/// Cuts off the bytes from here on. If there are none, no room is taken for them.
 fn cut(alloc: Global, bytes: &mut Vec<u8>, at: usize) -> Result<Vec<u8>, AllocError>
     requires { at ≤ vec_len bytes.old }
     ensures kept { OnOk result (bytes.new.items ≡ take at bytes.old.items) }

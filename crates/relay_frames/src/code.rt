@@ -13,21 +13,21 @@ pub struct Code {
 }
 
 impl Code {
-    /// All is done.
+    /// Everything is done.
     pub const NORMAL: Code = Code { number: 1000 };
     /// The server goes away.
     pub const AWAY: Code = Code { number: 1001 };
     /// The peer broke the protocol.
     pub const PROTOCOL: Code = Code { number: 1002 };
-    /// A text was no UTF-8.
+    /// A text was not UTF-8.
     pub const NO_UTF8: Code = Code { number: 1007 };
     /// The peer broke a rule of the server's own.
     pub const POLICY: Code = Code { number: 1008 };
     /// A message was too big.
     pub const TOO_BIG: Code = Code { number: 1009 };
-    /// The server could not go on.
+    /// The server could not continue.
     pub const ERROR: Code = Code { number: 1011 };
-    /// There is no place now: the peer may try again later.
+    /// There is no room now: the peer may try again later.
     pub const AGAIN: Code = Code { number: 1013 };
 
     /// The code with this number, if it may be sent.

@@ -1,4 +1,4 @@
-//! What is told of a peer.
+//! What a peer is found to have sent.
 
 ghost use Rattle.std.specs.Prelude.{◌≡◌, option_map, IfOk};
 ghost use Rattle.relay_frames.specs.Events.{is_last, told};
@@ -12,32 +12,32 @@ use std::alloc::{AllocError, Global};
 /// What a peer sent.
 #[derive(Debug, Drop)]
 pub enum Event {
-    /// A fragment of a message that goes on: who is told so may set the rest a deadline.
+    /// A fragment of a message that goes on: whoever gets this event may set a deadline for the rest.
     Fragment,
     /// A text.
     Text(String),
     /// A binary message.
     Binary(Vec<u8>),
-    /// A ping, which has at most 125 bytes. Its answer is a pong with these bytes; of several pings the last one alone may be
+    /// A ping, which has at most 125 bytes. Its answer is a pong with these bytes; of several pings only the last one needs to be
     /// answered (RFC 6455, section 5.5.3).
     Ping(Vec<u8>),
     /// A pong, which has at most 125 bytes.
     Pong(Vec<u8>),
-    /// A close, and its code if it has one. Nothing is told behind it. Its answer is a close with the same code.
+    /// A close, and its code if it has one. No event follows it. Its answer is a close with the same code.
     Closed(Option<Code>),
-    /// The peer broke the protocol. Nothing is told behind it. Its answer is a close with the breach's code.
+    /// The peer broke the protocol. No event follows it. Its answer is a close with the breach's code.
     Broken(Breach),
 }
 
 impl Event {
-    /// Whether nothing is told behind it.
+    /// Whether no event follows it.
     pub fn is_last(&self) -> bool
         ensures { result ≡ is_last (told self.now) }
     {
         matches!(self, Event::Closed(_) | Event::Broken(_))
     }
 
-    /// The frame that the peer is due, if it is due one: the pong of a ping, the close of a close or of a breach.
+    /// The frame that is due to the peer, if there is one: the pong of a ping, the close of a close or of a breach.
     ///
     /// # Errors
     ///

@@ -1,4 +1,4 @@
-//! Laws of reading: what the calls of a peer say together.
+//! Laws of reading: what the calls of a peer mean together.
 
 ghost use Rattle.std.specs.Prelude.{◌≡◌, ℕ, List, ◌++◌, length, Option, Some};
 ghost use Rattle.std.specs.List.{concat};
@@ -10,25 +10,25 @@ ghost use Rattle.relay_frames.specs.Hearing.{EndsWithTheLast, IsSmall, hear_all,
 ghost use Rattle.relay_frames.specs.Reading.{Message, breaks, fed, head_breach, next_step, opened};
 ghost use Rattle.relay_frames.specs.Writing.{behind_bytes, read_written};
 
-/// What is told of a peer depends on the bytes that came from it alone: fed in any pieces they say what they say fed at once, and
-/// what is known of the peer then is the same.
+/// The events of a peer depend only on the bytes that came from it: fed in any pieces they mean the same as fed at once, and
+/// what is then known of the peer is the same.
 #[tactic(auto, using(crate::proofs::Hearings::pieces_are_one))]
 pub fn however_it_is_cut()
     ensures { (pieces : List (List ℕ)) → hear_pieces pieces ≡ hear_all (fed opened (concat pieces)) }
 {}
 
-/// Behind a close or a breach nothing is told, whatever still comes.
+/// After a close or a breach there are no events, whatever still comes.
 #[tactic(auto, using(crate::proofs::Hearings::heard_ends_with_the_last))]
 pub fn nothing_behind_the_last()
     ensures { (pieces : List (List ℕ)) → EndsWithTheLast (hear_pieces pieces).told }
 {}
 
-/// What is kept of a peer whose bytes were heard is small: of a message not more than it may have, and beside it less than a frame.
+/// What is kept of a peer whose bytes were read is small: of a message no more than it may have, and besides that less than a frame.
 pub fn little_is_kept()
     ensures { (pieces : List (List ℕ)) → IsSmall (hear_pieces pieces).then }
 {}
 
-/// A frame that a peer wrote is read as that frame, whatever stands behind it: what is told is the rule that its head breaks, or
+/// A frame that a peer wrote is read as that frame, whatever follows it. The event is the rule that its head breaks, or
 /// what its payload says.
 #[tactic(auto, using(crate::proofs::Written::written_is_read))]
 pub fn what_is_written_is_read()
@@ -36,7 +36,7 @@ pub fn what_is_written_is_read()
         → next_step (behind_bytes begun (encode_frame h payload ++ rest)) ≡ read_written begun h payload rest (head_breach begun h (length payload)) }
 {}
 
-/// A head that breaks a rule is told of before a byte of its payload has come.
+/// A head that breaks a rule is reported before a byte of its payload has come.
 #[tactic(auto, using(crate::proofs::Written::breach_is_told))]
 pub fn a_breach_is_told_at_the_head()
     ensures { (begun : Option Message) (h : FrameHeader) (n : ℕ) (b : Breach) → IsHeader h n → head_breach begun h n ≡ Some b

@@ -1,5 +1,5 @@
-//! The server's side of WebSocket (RFC 6455) with no reading and no writing: bytes come in, events and bytes go out. Nothing here
-//! waits, looks at a clock or knows of a socket, so a thread for each peer and a loop for all of them read peers alike.
+//! The server's side of WebSocket (RFC 6455) without reading and writing: bytes come in, events and bytes go out. Nothing here
+//! waits, looks at a clock or knows of a socket. So a thread for each peer and a loop for all of them read peers in the same way.
 #![tactic(auto)]
 
 mod acceptance;
@@ -12,13 +12,13 @@ pub mod laws;
 pub mod outgoing;
 mod payload;
 mod peer;
-mod refusal;
 mod request;
+mod request_refusal;
 
 pub use acceptance::Acceptance;
 pub use breach::Breach;
 pub use code::Code;
 pub use event::Event;
 pub use peer::{MOST_BYTES, MOST_FRAGMENTS, Peer};
-pub use refusal::Refusal;
 pub use request::{MOST_FIELDS, acceptance_of, refusal_of};
+pub use request_refusal::RequestRefusal;

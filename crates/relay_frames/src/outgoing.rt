@@ -1,5 +1,5 @@
-//! The frames that a server sends: each is a whole message, and has no mask (RFC 6455, sections 5.1 and 5.2). Each call appends one
-//! frame to the output, and at an error the output is as it was.
+//! The frames that a server sends: each is a whole message, without a mask (RFC 6455, sections 5.1 and 5.2). Each call appends one
+//! frame to the output, and after an error the output is as it was.
 
 ghost use Rattle.std.specs.Prelude.{◌≡◌, ◌≤◌, ◌++◌, length, OnOk, OnErr};
 ghost use Rattle.relay_frames.specs.Events.{number_of};
@@ -10,7 +10,7 @@ use std::alloc::AllocError;
 use websocket::protocol::frame::coding::{Control, Data, OpCode};
 use websocket::protocol::frame::{FrameHeader, write_frame};
 
-/// A text.
+/// The frame of a text.
 ///
 /// # Errors
 ///
@@ -53,7 +53,7 @@ pub fn pong(payload: &[u8], output: &mut Vec<u8>) -> Result<(), AllocError>
     write_frame(&header, payload, output)
 }
 
-/// A close with this code or none, and no reason. Nothing may be sent behind it.
+/// A close with this code or none, and no reason. Nothing may be sent after it.
 ///
 /// # Errors
 ///

@@ -1,4 +1,4 @@
-//! What the payloads of frames say.
+//! The meaning of the payloads of frames.
 
 ghost use Rattle.std.specs.Prelude.{◌≡◌, ◌+◌, ◌≤◌, ◌++◌, length, take, drop, vec_len, IfOk};
 ghost use Rattle.std.specs.Str.{is_utf8};
@@ -29,7 +29,7 @@ pub(crate) fn unmasked(
     Ok(payload)
 }
 
-/// Takes the mask off a payload where it lies.
+/// Removes the mask of a payload in place.
 fn unmask(bytes: &mut [u8], start: usize, size: usize, mask: Option<[u8; 4]>)
     requires { start + size ≤ length bytes.old }
     ensures len { length bytes.new ≡ length bytes.old }
@@ -42,7 +42,7 @@ fn unmask(bytes: &mut [u8], start: usize, size: usize, mask: Option<[u8; 4]>)
     }
 }
 
-/// Takes the mask off a payload where it lies, and moves it down to another place.
+/// Removes the mask of a payload, and moves it down to another place.
 pub(crate) fn move_down(
     bytes: &mut Vec<u8>,
     start: usize,
@@ -60,7 +60,7 @@ pub(crate) fn move_down(
     bytes.copy_within(start..start + size, to);
 }
 
-/// What a control frame with this payload says (RFC 6455, section 5.5).
+/// What a control frame with this payload means (RFC 6455, section 5.5).
 pub(crate) fn control_event(control: Control, payload: Vec<u8>) -> Event
     ensures { told result ≡ told_of_control control payload.items }
 {
@@ -71,7 +71,7 @@ pub(crate) fn control_event(control: Control, payload: Vec<u8>) -> Event
     }
 }
 
-/// What a close with this payload says (RFC 6455, section 5.5.1).
+/// What a close with this payload means (RFC 6455, section 5.5.1).
 #[tactic(auto, unfolding(crate::specs::Reading::told_of_close))]
 fn close_event(payload: &[u8]) -> Event
     ensures { told result ≡ told_of_close payload.now }

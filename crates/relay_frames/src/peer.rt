@@ -26,10 +26,10 @@ pub const MOST_FRAGMENTS: u32 = 1024;
 /// How many bytes a control frame may have (RFC 6455, section 5.5).
 const MOST_CONTROL_BYTES: u64 = 125;
 
-/// A peer that shook hands. It is fed the bytes that came from it, in pieces however small, and tells what they say.
+/// A peer that has shaken hands. It is fed the bytes that came from it, in pieces of any size, and returns what they mean.
 ///
-/// Feed it, and then ask `next` until that tells nothing: then less than one frame is kept, and of a message in fragments what came
-/// so far. What is told depends on the bytes alone, and not on how they were cut into pieces.
+/// Feed it, and then call `next` until that returns nothing. Then less than one frame is kept, and of a message in fragments what came
+/// so far. The events depend only on the bytes, not on how they were cut into pieces.
 #[derive(Drop)]
 pub struct Peer {
     buffer: Buffer,
@@ -49,7 +49,7 @@ impl Model for Peer {
 }
 
 impl Peer {
-    /// A peer that has sent nothing behind its request.
+    /// A peer that has sent nothing after its request.
     pub fn new(alloc: Global) -> Peer
         ensures { result ≡ opened }
     {
@@ -60,7 +60,7 @@ impl Peer {
         }
     }
 
-    /// Whether a close or a breach was told. Nothing more is told then.
+    /// Whether a close or a breach was reported. There are no more events then.
     pub fn is_over(&self) -> bool
         ensures { result ≡ self.now.is_over }
     {
@@ -74,7 +74,7 @@ impl Peer {
         !self.buffer.unread().is_empty() || self.begun.is_some()
     }
 
-    /// These bytes came. Once a close or a breach was told they are let go.
+    /// These bytes came. Once a close or a breach was reported, they are dropped.
     ///
     /// # Errors
     ///
@@ -89,8 +89,8 @@ impl Peer {
         self.buffer.push(bytes)
     }
 
-    /// What the bytes say next: `None` where more have to come, and always once a close or a breach was told. A breach is told as
-    /// soon as the head of its frame is there.
+    /// What the bytes mean next: `None` if more have to come, and always once a close or a breach was reported. A breach is reported as
+    /// soon as the head of its frame has come.
     ///
     /// # Errors
     ///
@@ -111,7 +111,7 @@ impl Peer {
         }
     }
 
-    /// What the frame with this head says.
+    /// What the frame with this head means.
     #[tactic(auto, using(crate::proofs::Rules::head_kept))]
     fn next_checked(
         &mut self,
@@ -129,7 +129,7 @@ impl Peer {
         }
     }
 
-    /// What the frame with this head says, which keeps the rules. Where more of it has to come, there is room for it from then on.
+    /// What the frame with this head means, which keeps the rules. If more of it has to come, there is room for it from then on.
     fn next_whole(&mut self, header: &FrameHeader, size: usize) -> Result<Option<Event>, AllocError>
         requires open { self.old.is_over ≡ false }
         requires small { size ≤ most_bytes }
@@ -146,7 +146,7 @@ impl Peer {
         Ok(Some(self.next_frame(header, size)?))
     }
 
-    /// The rule that a frame's head breaks, where the payload has so many bytes.
+    /// The rule that a frame's head breaks, if the payload has this many bytes.
     fn head_breach(&self, header: &FrameHeader, length: u64) -> Option<Breach>
         ensures { result ≡ head_breach self.now.begun header.now length }
     {
@@ -162,7 +162,7 @@ impl Peer {
         }
     }
 
-    /// The rule that a data frame breaks by its place.
+    /// The rule that a data frame breaks at its place in a message.
     fn data_breach(&self, kind: Data, length: u64) -> Option<Breach>
         ensures { result ≡ data_breach self.now.begun kind length }
     {
@@ -174,7 +174,7 @@ impl Peer {
         }
     }
 
-    /// What a whole frame says, whose head keeps the rules and whose payload has so many bytes.
+    /// What a whole frame means, whose head keeps the rules and whose payload has this many bytes.
     fn next_frame(&mut self, header: &FrameHeader, size: usize) -> Result<Event, AllocError>
         requires open { self.old.is_over ≡ false }
         requires whole { header_len header.now size + size ≤ length self.old.unread }
@@ -195,7 +195,7 @@ impl Peer {
         Ok(event)
     }
 
-    /// What a whole data frame says, with the message that it begins or goes on with.
+    /// What a whole data frame means, with the message that it begins or continues.
     fn next_data(
         &mut self,
         kind: Data,
@@ -221,7 +221,7 @@ impl Peer {
         Ok(begun.into_event(bytes))
     }
 
-    /// The message with one fragment more, which begins it where none has begun.
+    /// The message with one more fragment, which begins it if none has begun.
     fn continued(&self, kind: Data) -> Begun
         requires { HasRoom self.now.begun (OpCode.Data kind) }
         ensures { result ≡ continued self.now.begun kind }
@@ -241,7 +241,7 @@ impl Peer {
         Event::Broken(breach)
     }
 
-    /// Nothing is told any more.
+    /// No events follow.
     fn end(&mut self)
         ensures { self.new ≡ over }
     {

@@ -1,4 +1,4 @@
-//! Whether a request is answered by a WebSocket (RFC 9112, sections 2 to 5; RFC 6455, section 4.2.1).
+//! Whether a request is answered with a WebSocket (RFC 9112, sections 2 to 5; RFC 6455, section 4.2.1).
 
 ghost use Rattle.std.specs.Prelude.{◌≡◌, ◌==◌, length, codes, take, None, Some, All, IfOk, IfErr};
 ghost use Rattle.httparse.specs.Spans.{IsHeaderWithin, IsRequestWithin, span_bytes};
@@ -6,7 +6,7 @@ ghost use Rattle.websocket.specs.Headers.{eq_ignore_case, fields_of};
 ghost use Rattle.relay_frames.specs.Requests.{Accepts, IsAcceptance, IsAnswered, IsJudged, count_of_hosts};
 
 use crate::acceptance::Acceptance;
-use crate::refusal::Refusal;
+use crate::request_refusal::RequestRefusal;
 use httparse::spans::{EMPTY_HEADER_SPAN, HeaderSpan, RequestSpans, parse_request};
 use httparse::{Error, Status};
 use websocket::handshake::HandshakeError;
@@ -15,12 +15,12 @@ use websocket::handshake::server::check_request;
 /// How many fields a head may have: a browser behind two proxies sends some 25.
 pub const MOST_FIELDS: usize = 64;
 
-/// How the request with this head is accepted. The bytes end where the head does.
+/// How the request with this head is accepted. The bytes end where the head ends.
 ///
 /// # Errors
 ///
 /// The request is refused.
-pub fn acceptance_of(head: &[u8]) -> Result<Acceptance, Refusal>
+pub fn acceptance_of(head: &[u8]) -> Result<Acceptance, RequestRefusal>
     ensures let_in { IfOk result (λ _. IsAnswered head.now None) }
     ensures accepted { IfOk result (λ acceptance. Accepts head.now acceptance.value) }
     ensures refused { IfErr result (λ refusal. IsAnswered head.now (Some refusal)) }
@@ -28,14 +28,14 @@ pub fn acceptance_of(head: &[u8]) -> Result<Acceptance, Refusal>
     let mut spans = [EMPTY_HEADER_SPAN; MOST_FIELDS];
     match parse_request(head, &mut spans) {
         Ok(Status::Complete(found)) => judged(head, &found, &spans),
-        Ok(Status::Partial) => Err(Refusal::BadRequest),
-        Err(Error::TooManyHeaders) => Err(Refusal::HeadTooLarge),
-        Err(_) => Err(Refusal::BadRequest),
+        Ok(Status::Partial) => Err(RequestRefusal::BadRequest),
+        Err(Error::TooManyHeaders) => Err(RequestRefusal::HeadTooLarge),
+        Err(_) => Err(RequestRefusal::BadRequest),
     }
 }
 
-/// How the request with this head is refused, if it is. The bytes end where the head does.
-pub fn refusal_of(head: &[u8]) -> Option<Refusal>
+/// How the request with this head is refused, if it is. The bytes end where the head ends.
+pub fn refusal_of(head: &[u8]) -> Option<RequestRefusal>
     ensures { IsAnswered head.now result }
 {
     match acceptance_of(head) {
@@ -44,25 +44,31 @@ pub fn refusal_of(head: &[u8]) -> Option<Refusal>
     }
 }
 
-/// How a request of these parts is accepted, or how it is refused.
-fn judged(head: &[u8], found: &RequestSpans, spans: &[HeaderSpan]) -> Result<Acceptance, Refusal>
+/// How a request with these parts is accepted, or how it is refused.
+fn judged(
+    head: &[u8],
+    found: &RequestSpans,
+    spans: &[HeaderSpan],
+) -> Result<Acceptance, RequestRefusal>
     requires { IsRequestWithin head.now spans.now found.now }
     ensures let_in { IfOk result (λ _. IsJudged (span_bytes head.now found.now.method) found.now.version (fields_of head.now (take found.now.headers spans.now)) None) }
     ensures accepted { IfOk result (λ acceptance. IsAcceptance (span_bytes head.now found.now.method) found.now.version (fields_of head.now (take found.now.headers spans.now)) acceptance.value) }
     ensures refused { IfErr result (λ refusal. IsJudged (span_bytes head.now found.now.method) found.now.version (fields_of head.now (take found.now.headers spans.now)) (Some refusal)) }
 {
     if !has_one_host(head, &spans[..found.headers]) {
-        return Err(Refusal::BadRequest);
+        return Err(RequestRefusal::BadRequest);
     }
     match check_request(head, found, spans) {
         Ok(value) => Ok(Acceptance { value }),
-        Err(HandshakeError::WrongHttpMethod) => Err(Refusal::MethodNotAllowed),
-        Err(HandshakeError::MissingSecWebSocketVersionHeader) => Err(Refusal::UpgradeRequired),
-        Err(_) => Err(Refusal::BadRequest),
+        Err(HandshakeError::WrongHttpMethod) => Err(RequestRefusal::MethodNotAllowed),
+        Err(HandshakeError::MissingSecWebSocketVersionHeader) => Err(
+            RequestRefusal::UpgradeRequired,
+        ),
+        Err(_) => Err(RequestRefusal::BadRequest),
     }
 }
 
-/// Whether there is a `Host`, and one alone (RFC 9112, section 3.2).
+/// Whether there is exactly one `Host` (RFC 9112, section 3.2).
 fn has_one_host(head: &[u8], spans: &[HeaderSpan]) -> bool
     requires { All (IsHeaderWithin (length head.now)) spans.now }
     ensures { result ≡ (count_of_hosts (fields_of head.now spans.now) == 1) }

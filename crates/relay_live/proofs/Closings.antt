@@ -1,22 +1,22 @@
--- What the tries to close followers make of a board's view.
+-- The effects of the tries to close followers on a board's view.
 use Rattle.std.proofs.Common.{◌≡◌, ◌≢◌, ℕ, zero, suc, ◌+◌, ◌-◌, ◌<◌, ◌≤◌, ◌⊎◌, List, [], ◌∷◌, map, length, nat_lt, Some, None, sym, refl, ap, ◌∙◌, subst, inl, inr, ⊎_elim, arith, cond, eqb, eqb-true}
 use mathlib.Core.Logic.{dite}
 use mathlib.Core.Option.{some, some-injective}
 use native.Mathlib.Decide.{ℕ_discrete}
 use lib.ListN.{get_elem?}
-use Rattle.live_steps.specs.declared.note.Note.{Note}
-use Rattle.live_steps.specs.declared.note.Note.TheVariants.{Vacant, Open, Closed}
-use Rattle.live_steps.specs.declared.view.Part.{Part}
-use Rattle.live_steps.specs.declared.view.View.{View}
-use Rattle.live_steps.specs.Words.{closing_in, note_after}
-use Rattle.live_steps.specs.Views.{noted, missing, learns, only_at}
-use Rattle.live_steps.specs.Sound.{Follows}
-use Rattle.live_steps.proofs.Parts.{pick, not_there}
-use Rattle.live_steps.proofs.Totals.{at_map_back}
+use Rattle.live_board.specs.declared.note.Note.{Note}
+use Rattle.live_board.specs.declared.note.Note.TheVariants.{Vacant, Open, Closed}
+use Rattle.live_board.specs.declared.view.Part.{Part}
+use Rattle.live_board.specs.declared.view.View.{View}
+use Rattle.live_board.specs.Words.{closing_in, note_after}
+use Rattle.live_board.specs.Views.{noted, missing, learns, only_at}
+use Rattle.live_board.specs.Sound.{Follows}
+use Rattle.live_board.proofs.lemmas.Cases.{pick, not_there}
+use Rattle.live_board.proofs.lemmas.Totals.{at_map_back}
 use Rattle.live_board.specs.Carried.{holding_of}
 use Rattle.live_board.specs.Desk.{Tried, TriedBelow}
-use Rattle.live_board.proofs.Desks.{at_within, closed_open, open_back, vacant_open}
-use Rattle.live_board.proofs.Tries.{at_place, by_try, loaded_note, tidied, tidied_below, TidiedBelow}
+use Rattle.live_board.proofs.lemmas.Notes.{at_within, closed_open, open_back, vacant_open, at_place}
+use Rattle.live_board.proofs.lemmas.Tries.{by_try, loaded_note, tidied, tidied_below, TidiedBelow}
 
 -- ---- Notes.
 
@@ -26,38 +26,38 @@ open_none n r j b e = ap (λ (y : ℕ). cond (nat_lt 1 y) (Some (y - 2)) None) (
 
 -- ---- Parts.
 
--- no part at the place k has noticed a closing
+-- no part in the slot k has noticed a closing
 abbrev pub NoneNoticed : List Part → ℕ → Type 0
-NoneNoticed ps k = (i : ℕ) (p : Part) → get_elem? ps i ≡ some p → p.place ≡ k → p.closing ≡ None
+NoneNoticed ps k = (i : ℕ) (p : Part) → get_elem? ps i ≡ some p → p.slot ≡ k → p.closing ≡ None
 
-learned_place : (word r : ℕ) (p : Part) → (only_at word (learns r) p).place ≡ p.place
-learned_place word r p = pick (λ (x : Part). x.place ≡ p.place) (eqb (p.place + 2) word) (learns r p) p (λ _. refl) (λ _. refl)
+learned_slot : (word r : ℕ) (p : Part) → (only_at word (learns r) p).slot ≡ p.slot
+learned_slot word r p = pick (λ (x : Part). x.slot ≡ p.slot) (eqb (p.slot + 2) word) (learns r p) p (λ _. refl) (λ _. refl)
 
 held_learned : (word r : ℕ) (ps : List Part) → map holding_of (map (only_at word (learns r)) ps) ≡ map holding_of ps
 held_learned word r [] = refl
 held_learned word r (p ∷ ps) =
-    let one : holding_of (only_at word (learns r) p) ≡ holding_of p = pick (λ (x : Part). holding_of x ≡ holding_of p) (eqb (p.place + 2) word) (learns r p) p (λ _. refl) (λ _. refl) in
+    let one : holding_of (only_at word (learns r) p) ≡ holding_of p = pick (λ (x : Part). holding_of x ≡ holding_of p) (eqb (p.slot + 2) word) (learns r p) p (λ _. refl) (λ _. refl) in
     λ i. one i ∷ held_learned word r ps i
 
--- a load of the cursor k leaves the parts at other places
+-- a load of the cursor k leaves the parts in other slots
 noticed_other : (k j r : ℕ) (ps : List Part) → j ≢ k → NoneNoticed ps j → NoneNoticed (map (only_at (k + 2) (learns r)) ps) j
 noticed_other k j r ps ne none i q e here =
     let p = at_map_back (only_at (k + 2) (learns r)) ps i q e in
-    let place : p.0.place ≡ j = sym (learned_place (k + 2) r p.0) ∙ ap (λ (x : Part). x.place) p.2 ∙ here in
-    let same : only_at (k + 2) (learns r) p.0 ≡ p.0 = pick (λ (x : Part). x ≡ p.0) (eqb (p.0.place + 2) (k + 2)) (learns r p.0) p.0 (λ t. let z = eqb-true (p.0.place + 2) (k + 2) t in absurd (ne (omega (arith, z, place)))) (λ _. refl) in
-    ap (λ (x : Part). x.closing) (sym p.2 ∙ same) ∙ none i p.0 p.1 place
+    let slot : p.0.slot ≡ j = sym (learned_slot (k + 2) r p.0) ∙ ap (λ (x : Part). x.slot) p.2 ∙ here in
+    let same : only_at (k + 2) (learns r) p.0 ≡ p.0 = pick (λ (x : Part). x ≡ p.0) (eqb (p.0.slot + 2) (k + 2)) (learns r p.0) p.0 (λ t. let z = eqb-true (p.0.slot + 2) (k + 2) t in absurd (ne (omega (arith, z, slot)))) (λ _. refl) in
+    ap (λ (x : Part). x.closing) (sym p.2 ∙ same) ∙ none i p.0 p.1 slot
 
--- where the cursor k is open, no part there has noticed a closing once it is loaded
+-- if the cursor k is open, no part there has noticed a closing after it is loaded
 noticed_none : (k r : ℕ) (ps : List Part) → closing_in r ≡ None → NoneNoticed (map (only_at (k + 2) (learns r)) ps) k
 noticed_none k r ps says i q e here =
     let p = at_map_back (only_at (k + 2) (learns r)) ps i q e in
-    let place : p.0.place ≡ k = sym (learned_place (k + 2) r p.0) ∙ ap (λ (x : Part). x.place) p.2 ∙ here in
+    let slot : p.0.slot ≡ k = sym (learned_slot (k + 2) r p.0) ∙ ap (λ (x : Part). x.slot) p.2 ∙ here in
     ap (λ (x : Part). x.closing) (sym p.2)
-    ∙ pick (λ (x : Part). x.closing ≡ None) (eqb (p.0.place + 2) (k + 2)) (learns r p.0) p.0 (λ _. says) (λ t. absurd (not_there (k + 2) (p.0.place + 2) t (ap (λ (y : ℕ). y + 2) place)))
+    ∙ pick (λ (x : Part). x.closing ≡ None) (eqb (p.0.slot + 2) (k + 2)) (learns r p.0) p.0 (λ _. says) (λ t. absurd (not_there (k + 2) (p.0.slot + 2) t (ap (λ (y : ℕ). y + 2) slot)))
 
--- ---- What becomes of a note.
+-- ---- What a note becomes.
 
--- the note of the place k where full followers are closed at the length
+-- what the note of the slot k becomes when full followers are closed at the length
 abbrev pub Turns : ℕ → List Part → ℕ → Note → Note → Type 0
 Turns len ps k Vacant n = n ≡ Vacant
 Turns len ps k (Open joined least) n = (n ≡ Vacant) ⊎ (((c : ℕ) × (n ≡ Open joined c)) ⊎ ((n ≡ Closed len) × NoneNoticed ps k))
@@ -84,15 +84,15 @@ turns_closed len ps k Vacant j b f none = absurd (vacant_open j b (sym f))
 turns_closed len ps k (Closed c) j b f none = ⊎_elim (λ (x : Open j b ≡ Vacant). absurd (vacant_open j b (sym x))) (λ (x : Open j b ≡ Closed c). absurd (closed_open c j b (sym x))) f
 turns_closed len ps k (Open joined least) j b f none = inr (inr (refl, none))
 
--- a note that stays follows on itself
+-- a note that stays follows from itself
 stays_noted : (a : Note) → Follows a a
 stays_noted Vacant = refl
 stays_noted (Open joined least) = inr (least, refl, omega arith)
 stays_noted (Closed c) = inr refl
 
--- ---- One place.
+-- ---- One slot.
 
--- what a try to close the follower at the place k leaves of the parts, and makes of its note
+-- what a try to close the follower in the slot k does to the parts and to its note
 pub record TriedOnce (v : View) (k : ℕ) (w : View) : Type 0 where
   pub held : map holding_of w.parts ≡ map holding_of v.parts
   pub others : (j : ℕ) → j ≢ k → NoneNoticed v.parts j → NoneNoticed w.parts j
@@ -130,14 +130,14 @@ tried_once v w k t = by_try (TriedOnce v k) v w k t
           (turns_again (length v.log) w'.parts k a full.0 place (note_after (Open full.0 place) n) (subst (Follows a) after (told a e).0) (told' (Open full.0 place) full.1).0);
     })
 
--- ---- The places below n.
+-- ---- The slots below n.
 
 pub record Closes (n : ℕ) (v w : View) : Type 0 where
   pub tidied : TidiedBelow n v w
   pub held : map holding_of w.parts ≡ map holding_of v.parts
   pub turns : (k : ℕ) (a b : Note) → k < n → get_elem? v.notes k ≡ some a → get_elem? w.notes k ≡ some b → Turns (length v.log) w.parts k a b
 
--- what has become of a note stays so where the other parts have not noticed more
+-- what a note has become stays so if the other parts have not noticed more
 turns_on : (len : ℕ) (ps qs : List Part) (k : ℕ) (a b : Note) → (NoneNoticed ps k → NoneNoticed qs k) → Turns len ps k a b → Turns len qs k a b
 turns_on len ps qs k Vacant b on t = t
 turns_on len ps qs k (Closed c) b on t = t

@@ -11,29 +11,30 @@ use Rattle.c960_game.specs.Ending.{named_outcome}
 use Rattle.c960_game.specs.Limits.{LimitNumbers}
 use Rattle.relay_core.specs.declared.step.Step.TheVariants.{End}
 use Rattle.relay_core.specs.declared.reply.Reply.TheVariants.{Ended, Refused}
-use Rattle.relay_core.specs.Inner.Boards.{end_answer_at, ended_by}
-use Rattle.relay_core.specs.Inner.Held.{HeldFollower}
+use Rattle.relay_core.specs.BoardAnswers.{end_answer_at, ended_by}
+use Rattle.relay_core.specs.Held.{HeldFollower}
 use Rattle.relay_core.specs.Name.{same_name}
-use Rattle.relay_core.proofs.Ended.{end_goes, end_refused}
-use Rattle.relay_core.proofs.Lists.{lookup-map}
-use Rattle.relay_core.proofs.Standing.{Goes, keeps}
+use Rattle.relay_core.proofs.lemmas.Ended.{end_goes, end_refused}
+use Rattle.relay_core.proofs.lemmas.Lists.{lookup-map}
+use Rattle.relay_core.specs.Held.Stands.{Goes}
+use Rattle.relay_core.proofs.lemmas.Standing.{keeps}
 use Rattle.relay_live.specs.declared.seated.Seated.{Seated}
-use Rattle.live_steps.specs.declared.note.Note.{Note}
-use Rattle.live_steps.specs.declared.note.Note.TheVariants.{Vacant}
-use Rattle.live_steps.specs.declared.view.View.{View}
+use Rattle.live_board.specs.declared.note.Note.{Note}
+use Rattle.live_board.specs.declared.note.Note.TheVariants.{Vacant}
+use Rattle.live_board.specs.declared.view.View.{View}
 use Rattle.live_board.specs.Board.{game_of, setup_of}
 use Rattle.live_board.specs.Carried.{Carries}
 use Rattle.live_board.specs.Seats.{BoardSeat}
 use Rattle.relay_live.specs.Live.{Boards, held_by, games, holders, IsSeated, IsLive, vacancy}
-use Rattle.live_steps.specs.Shows.{total}
-use Rattle.live_steps.specs.Sound.{IsSound}
-use Rattle.live_steps.specs.Views.{finished}
+use Rattle.live_board.specs.Shows.{total}
+use Rattle.live_board.specs.Sound.{IsSound}
+use Rattle.live_board.specs.Views.{finished}
 use Rattle.relay_live.proofs.Swaps.{each_on, game, games_changed, games_counted, held_still, holders_on, seated_still}
 
 module _ (limits : LimitNumbers) (old new : Boards) (fs : List (ℕ × Seated)) (name : List ℕ) (ending : Ending) (live : IsLive limits old fs)
     (b c : BoardSeat) (there : lookup (same_name name) old ≡ Some b) (is : c.knows ≡ finished (Some (named_outcome ending)) b.knows) (ok' : IsSound c.knows) (new-is : new ≡ set_value (same_name name) old c) where
   same_holders : holders limits.capacity new fs ≡ holders limits.capacity old fs
-  same_holders = holders_on limits.capacity old new fs (λ i e d. held_still old new name b c there new-is limits.capacity e.1 (ap (λ (v : View). v.log) is) (λ same. ap (λ (v : View). get_elem? v.notes e.1.place) is))
+  same_holders = holders_on limits.capacity old new fs (λ i e d. held_still old new name b c there new-is limits.capacity e.1 (ap (λ (v : View). v.log) is) (λ same. ap (λ (v : View). get_elem? v.notes e.1.slot) is))
 
   seated_on : (f : Seated) → IsSeated old f → IsSeated new f
   seated_on f s = seated_still old new name b c there new-is f s (λ same e. (s.index, s.part, ap (λ (v : View). get_elem? v.parts s.index) is ∙ e, refl))

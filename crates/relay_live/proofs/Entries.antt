@@ -7,18 +7,18 @@ use Rattle.std.proofs.lemmas.Option.{same_Some, none-some}
 use mathlib.Core.Option.{some, some-injective, some-ne-none}
 use lib.ListN.{get_elem?}
 use Rattle.relay_core.specs.Name.{same_name}
-use Rattle.live_steps.specs.declared.note.Note.{Note}
-use Rattle.live_steps.specs.declared.note.Note.TheVariants.{Vacant, Open, Closed}
-use Rattle.live_steps.specs.declared.view.Part.{Part}
-use Rattle.live_steps.specs.Shows.{total}
-use Rattle.live_steps.specs.Views.{without}
-use Rattle.live_steps.proofs.Parts.{pick}
+use Rattle.live_board.specs.declared.note.Note.{Note}
+use Rattle.live_board.specs.declared.note.Note.TheVariants.{Vacant, Open, Closed}
+use Rattle.live_board.specs.declared.view.Part.{Part}
+use Rattle.live_board.specs.Shows.{total}
+use Rattle.live_board.specs.Views.{without}
+use Rattle.live_board.proofs.lemmas.Cases.{pick}
 use Rattle.relay_live.specs.declared.seated.Seated.{Seated}
 use Rattle.relay_live.specs.Live.{vacancy}
 
 -- ---- One entry is gone.
 
--- the old index of an entry that has the index i once that at j is gone
+-- the old index of an entry that has the index i after the one at j was removed
 abbrev pub up : ℕ → ℕ → ℕ
 up zero i = suc i
 up (suc j) zero = zero
@@ -95,7 +95,7 @@ crowd_removed q test (x ∷ xs) f e = by (crowd_removed q test xs f) (test x.0) 
     by more true e = let same = ap (λ (g : Seated). one_if_true (same_name q g.board)) (same_Some _ _ e) in omega (arith, same)
     by more false e = let m = more e in let c = crowd_cons q x (remove_entry test xs) in omega (arith, m, c)
 
--- ---- Vacant places.
+-- ---- Vacant slots.
 
 pub at_replicate : (n k : ℕ) (x y : Note) → get_elem? (replicate n x) k ≡ some y → y ≡ x
 at_replicate zero k x y e = absurd (some-ne-none y (sym e))
@@ -117,13 +117,13 @@ none_vacant (x ∷ xs) none = omega (arith, taken x (λ e. none 0 (ap some e)), 
 
 -- ---- Parts that stay.
 
-pub without_keeps : (word : ℕ) (ps : List Part) (i : ℕ) (p : Part) → get_elem? ps i ≡ some p → p.place + 2 ≢ word → (j : ℕ) × (get_elem? (without word ps) j ≡ some p)
+pub without_keeps : (word : ℕ) (ps : List Part) (i : ℕ) (p : Part) → get_elem? ps i ≡ some p → p.slot + 2 ≢ word → (j : ℕ) × (get_elem? (without word ps) j ≡ some p)
 without_keeps word [] i p e ne = absurd (some-ne-none p (sym e))
 without_keeps word (x ∷ xs) zero p e ne =
     let same : x ≡ p = some-injective x p e in
-    pick (λ (l : List Part). (j : ℕ) × (get_elem? l j ≡ some p)) (nat_eq (x.place + 2) word) (without word xs) (x ∷ without word xs)
-    (λ t. absurd (ne (let y = ap (λ (z : Part). z.place) same in let w = eqb-true (x.place + 2) word t in omega arith))) (λ _. (0, e))
+    pick (λ (l : List Part). (j : ℕ) × (get_elem? l j ≡ some p)) (nat_eq (x.slot + 2) word) (without word xs) (x ∷ without word xs)
+    (λ t. absurd (ne (let y = ap (λ (z : Part). z.slot) same in let w = eqb-true (x.slot + 2) word t in omega arith))) (λ _. (0, e))
 without_keeps word (x ∷ xs) (suc i) p e ne =
     let m = without_keeps word xs i p e ne in
-    pick (λ (l : List Part). (j : ℕ) × (get_elem? l j ≡ some p)) (nat_eq (x.place + 2) word) (without word xs) (x ∷ without word xs)
+    pick (λ (l : List Part). (j : ℕ) × (get_elem? l j ≡ some p)) (nat_eq (x.slot + 2) word) (without word xs) (x ∷ without word xs)
     (λ _. m) (λ _. (suc m.0, m.1))

@@ -8,42 +8,41 @@ use native.Mathlib.Decide.{ℕ_discrete}
 use lib.ListN.{get_elem?}
 use Rattle.atomic_table.proofs.Lists.{at_map}
 use Rattle.c960_game.specs.Limits.{LimitNumbers}
-use Rattle.c960_game.specs.Record.{GameRecord}
+use Rattle.c960_game.specs.GameRecord.{GameRecord}
 use Rattle.relay_core.specs.declared.reply.Account.{Account}
 use Rattle.relay_core.specs.declared.step.Step.TheVariants.{Leave}
 use Rattle.relay_core.specs.declared.reply.Reply.TheVariants.{Left}
-use Rattle.relay_core.specs.Inner.Boards.{length_at}
-use Rattle.relay_core.specs.Inner.Followers.{account_of}
+use Rattle.relay_core.specs.BoardAnswers.{length_at}
+use Rattle.relay_core.specs.Held.Followers.{account_of}
 use Rattle.relay_core.specs.Name.{same_name}
-use Rattle.relay_core.proofs.Leaves.{leave_goes}
-use Rattle.relay_core.proofs.Lists.{lookup-map, remove-map}
-use Rattle.relay_core.proofs.NameFacts.{is_same_name}
-use Rattle.relay_core.proofs.Standing.{Goes, keeps}
-use Rattle.live_steps.specs.declared.note.Note.{Note}
-use Rattle.live_steps.specs.declared.note.Note.TheVariants.{Vacant, Open, Closed}
-use Rattle.live_steps.specs.declared.view.Part.{Part}
-use Rattle.live_steps.specs.declared.view.View.{View}
-use Rattle.live_steps.specs.Shows.{total}
-use Rattle.live_steps.specs.Sound.{IsSound, IsSoundBoard, Agrees}
-use Rattle.live_steps.specs.Views.{each_part, left_at, sees}
-use Rattle.live_steps.proofs.Checking.{note_there}
-use Rattle.live_steps.proofs.Totals.{total-set}
+use Rattle.relay_core.proofs.lemmas.Leaves.{leave_goes}
+use Rattle.relay_core.proofs.lemmas.Lists.{lookup-map, remove-map}
+use Rattle.relay_core.proofs.lemmas.Names.{is_same_name}
+use Rattle.relay_core.specs.Held.Stands.{Goes}
+use Rattle.relay_core.proofs.lemmas.Standing.{keeps}
+use Rattle.live_board.specs.declared.note.Note.{Note}
+use Rattle.live_board.specs.declared.note.Note.TheVariants.{Vacant, Open, Closed}
+use Rattle.live_board.specs.declared.view.Part.{Part}
+use Rattle.live_board.specs.declared.view.View.{View}
+use Rattle.live_board.specs.Shows.{total}
+use Rattle.live_board.specs.Sound.{IsSound, IsSoundBoard, Agrees}
+use Rattle.live_board.specs.Views.{each_part, left_at, sees}
+use Rattle.live_board.proofs.lemmas.Notes.{note_there, at_within, at_other, at_place}
+use Rattle.live_board.proofs.lemmas.Totals.{total-set}
 use Rattle.live_board.specs.Board.{game_of, setup_of}
-use Rattle.live_board.specs.Carried.{Carries, closing_found, cut_at}
+use Rattle.live_board.specs.Carried.{Carries, closing_found, closing_at}
 use Rattle.live_board.specs.Meeting.{closing_noted}
 use Rattle.live_board.specs.Seats.{BoardSeat}
 use Rattle.relay_live.specs.declared.seated.Seated.{Seated}
 use Rattle.relay_live.specs.Live.{Boards, held_at, held_in, view_in, held_by, games, holders, IsSeated, IsLive, vacancy}
-use Rattle.live_board.proofs.Desks.{at_within}
-use Rattle.live_board.proofs.Tries.{at_other, at_place}
 use Rattle.relay_live.proofs.Entries.{crowd, one_if_true, crowd_removed, removed, taken, up, up_apart, up_one, without_keeps}
 use Rattle.relay_live.proofs.Swaps.{Each, each_on, each_turned, flipped, game, held_still, holders_on, same_games, seated_still}
 
--- a closing is a length of the log, so it fits 16 bits
-pub closing_low : (v : View) (place i : ℕ) (p : Part) (c : ℕ) → IsSoundBoard v → get_elem? v.parts i ≡ some p → p.place ≡ place → cut_at v place ≡ Some c → c < 65536
-closing_low v place i p c ok carried at cut =
+-- a closing is a length of the log, so it fits in 16 bits
+pub closing_low : (v : View) (slot i : ℕ) (p : Part) (c : ℕ) → IsSoundBoard v → get_elem? v.parts i ≡ some p → p.slot ≡ slot → closing_at v slot ≡ Some c → c < 65536
+closing_low v slot i p c ok carried at cut =
     let inside = (ok.inside i p carried).0 in
-    let n = note_there v.notes place (omega (arith, inside, at, ok.noted)) in
+    let n = note_there v.notes slot (omega (arith, inside, at, ok.noted)) in
     by n.0 (ok.agree i p carried n.0 (ap (get_elem? v.notes) at ∙ n.1)) (sym (ap closing_found n.1) ∙ cut)
   where
     by : (n : Note) → Agrees v n p → closing_noted n ≡ Some c → c < 65536
@@ -57,28 +56,28 @@ closing_low v place i p c ok carried at cut =
         omega (arith, same, within, room, most)
 
 module _ (limits : LimitNumbers) (old new : Boards) (fs fs' : List (ℕ × Seated)) (who : ℕ) (f : Seated) (live : IsLive limits old fs) (mine : lookup (nat_eq who) fs ≡ Some f)
-    (b c : BoardSeat) (there : lookup (same_name f.board) old ≡ Some b) (status cursor : ℕ) (left : c.knows ≡ left_at (f.place + 2) cursor (each_part (sees status) b.knows)) (sound' : IsSound c.knows)
+    (b c : BoardSeat) (there : lookup (same_name f.board) old ≡ Some b) (status cursor : ℕ) (left : c.knows ≡ left_at (f.slot + 2) cursor (each_part (sees status) b.knows)) (sound' : IsSound c.knows)
     (new-is : new ≡ set_value (same_name f.board) old c) (fs-is : fs' ≡ remove_entry (nat_eq who) fs) (gone : (q : ℕ) → lookup (nat_eq q) fs' ≡ cond (nat_eq who q) None (lookup (nat_eq q) fs)) where
   ok : IsSoundBoard b.knows
   ok = (live.sound f.board b there).board (live.owns f.board b there)
 
-  notes_other : (k : ℕ) → k ≢ f.place → get_elem? c.knows.notes k ≡ get_elem? b.knows.notes k
-  notes_other k ne = ap (λ (x : View). get_elem? x.notes k) left ∙ at_other b.knows.notes f.place k Vacant ne
+  notes_other : (k : ℕ) → k ≢ f.slot → get_elem? c.knows.notes k ≡ get_elem? b.knows.notes k
+  notes_other k ne = ap (λ (x : View). get_elem? x.notes k) left ∙ at_other b.knows.notes f.slot k Vacant ne
 
   abbrev pub apart_from : Seated → Type 0
-  apart_from g = f.board ≡ g.board → g.place ≢ f.place
+  apart_from g = f.board ≡ g.board → g.slot ≢ f.slot
 
   held_other : (g : Seated) → apart_from g → held_at limits.capacity new g ≡ held_at limits.capacity old g
-  held_other g far = held_still old new f.board b c there new-is limits.capacity g (ap (λ (x : View). x.log) left) (λ same. notes_other g.place (far same))
+  held_other g far = held_still old new f.board b c there new-is limits.capacity g (ap (λ (x : View). x.log) left) (λ same. notes_other g.slot (far same))
 
-  -- who is left, and where it stood
+  -- which entry is left, and where it was
   stays : (i : ℕ) (e : ℕ × Seated) → get_elem? fs' i ≡ some e → get_elem? fs (up (removed (nat_eq who) fs f mine).0 i) ≡ some e
   stays i e d = (removed (nat_eq who) fs f mine).3 i e (ap (λ l. get_elem? l i) (sym fs-is) ∙ d)
 
   far_away : (i : ℕ) (e : ℕ × Seated) → get_elem? fs' i ≡ some e → apart_from e.1
-  far_away i e d same place =
+  far_away i e d same slot =
       let m = removed (nat_eq who) fs f mine in
-      up_apart m.0 i (live.apart (up m.0 i) m.0 e (m.1, f) (stays i e d) m.2 (sym same) place)
+      up_apart m.0 i (live.apart (up m.0 i) m.0 e (m.1, f) (stays i e d) m.2 (sym same) slot)
 
   kept_holders : holders limits.capacity new fs' ≡ holders limits.capacity old fs'
   kept_holders = holders_on limits.capacity old new fs' (λ i e d. held_other e.1 (far_away i e d))
@@ -95,7 +94,7 @@ module _ (limits : LimitNumbers) (old new : Boards) (fs fs' : List (ℕ × Seate
       by true = refl
       by false = refl
 
-  -- the account that is told
+  -- the account that is returned
   abbrev pub told : Account
   told = account_of (length b.knows.log) (held_in limits.capacity b.knows f)
 
@@ -117,35 +116,35 @@ module _ (limits : LimitNumbers) (old new : Boards) (fs fs' : List (ℕ × Seate
   setup' : c.knows.setup ≡ b.knows.setup
   setup' = ap (λ (x : View). x.setup) left
 
-  keeps_part : (i : ℕ) (p : Part) → get_elem? b.knows.parts i ≡ some p → p.place ≢ f.place → (j : ℕ) × (get_elem? c.knows.parts j ≡ some (sees status p))
+  keeps_part : (i : ℕ) (p : Part) → get_elem? b.knows.parts i ≡ some p → p.slot ≢ f.slot → (j : ℕ) × (get_elem? c.knows.parts j ≡ some (sees status p))
   keeps_part i p e ne =
-      let m = without_keeps (f.place + 2) (map (sees status) b.knows.parts) i (sees status p) (at_map (sees status) b.knows.parts i p e) (λ z. ne (omega arith)) in
+      let m = without_keeps (f.slot + 2) (map (sees status) b.knows.parts) i (sees status p) (at_map (sees status) b.knows.parts i p e) (λ z. ne (omega arith)) in
       (m.0, ap (λ (x : View). get_elem? x.parts m.0) left ∙ m.1)
 
   seated_on : (g : Seated) → IsSeated old g → apart_from g → IsSeated new g
   seated_on g s far = seated_still old new f.board b c there new-is g s
-      (λ same e. let m = keeps_part s.index s.part e (λ z. far same (sym s.place_is ∙ z)) in (m.0, sees status s.part, m.1, refl))
+      (λ same e. let m = keeps_part s.index s.part e (λ z. far same (sym s.slot_is ∙ z)) in (m.0, sees status s.part, m.1, refl))
 
   mine_seated : IsSeated old f
   mine_seated = let m = removed (nat_eq who) fs f mine in live.seated m.0 (m.1, f) m.2
 
-  -- the note of the place that is given back
-  given_back : (n : Note) × (get_elem? b.knows.notes f.place ≡ some n) × (n ≢ Vacant)
+  -- the note of the slot that is given back
+  given_back : (n : Note) × (get_elem? b.knows.notes f.slot ≡ some n) × (n ≢ Vacant)
   given_back =
       let s = mine_seated in
       let is : s.board ≡ b = same_Some _ _ (sym s.there ∙ there) in
       let e : get_elem? b.knows.parts s.index ≡ some s.part = ap (λ (x : BoardSeat). get_elem? x.knows.parts s.index) (sym is) ∙ s.carried in
       let inside = (ok.inside s.index s.part e).0 in
-      let at = s.place_is in
-      let n = note_there b.knows.notes f.place (omega (arith, inside, at, ok.noted)) in
+      let at = s.slot_is in
+      let n = note_there b.knows.notes f.slot (omega (arith, inside, at, ok.noted)) in
       (n.0, n.1, λ z. ok.agree s.index s.part e Vacant (ap (get_elem? b.knows.notes) at ∙ n.1 ∙ ap some z))
 
-  low : f.place < length b.knows.notes
-  low = at_within b.knows.notes f.place given_back.0 given_back.1
+  low : f.slot < length b.knows.notes
+  low = at_within b.knows.notes f.slot given_back.0 given_back.1
 
   carried_on : (k : ℕ) (n : Note) → get_elem? c.knows.notes k ≡ some n → n ≢ Vacant → Carries c.knows k
-  carried_on k n e ne = dite (ℕ_discrete k f.place)
-      (λ (at : k ≡ f.place). absurd (ne (some-injective _ _ (sym e ∙ ap (get_elem? c.knows.notes) at ∙ ap (λ (x : View). get_elem? x.notes f.place) left ∙ at_place b.knows.notes f.place Vacant low))))
+  carried_on k n e ne = dite (ℕ_discrete k f.slot)
+      (λ (at : k ≡ f.slot). absurd (ne (some-injective _ _ (sym e ∙ ap (get_elem? c.knows.notes) at ∙ ap (λ (x : View). get_elem? x.notes f.slot) left ∙ at_place b.knows.notes f.slot Vacant low))))
       (λ far.
       let d = live.carried f.board b there k n (sym (notes_other k far) ∙ e) ne in
       let m = keeps_part d.0 d.1 d.2 (λ z. far (sym d.3 ∙ z)) in
@@ -153,10 +152,10 @@ module _ (limits : LimitNumbers) (old new : Boards) (fs fs' : List (ℕ × Seate
 
   one_more : total vacancy c.knows.notes ≡ total vacancy b.knows.notes + 1
   one_more =
-      let put = total-set vacancy b.knows.notes f.place given_back.0 Vacant given_back.1 in
+      let put = total-set vacancy b.knows.notes f.slot given_back.0 Vacant given_back.1 in
       let none = taken given_back.0 given_back.2 in
-      let at : f.place + 2 - 2 ≡ f.place = omega arith in
-      let is : total vacancy c.knows.notes ≡ total vacancy (set b.knows.notes f.place Vacant) =
+      let at : f.slot + 2 - 2 ≡ f.slot = omega arith in
+      let is : total vacancy c.knows.notes ≡ total vacancy (set b.knows.notes f.slot Vacant) =
       ap (λ (x : View). total vacancy x.notes) left ∙ ap (λ (k : ℕ). total vacancy (set b.knows.notes k Vacant)) at in
       omega (arith, put, none, is)
 
@@ -175,7 +174,7 @@ module _ (limits : LimitNumbers) (old new : Boards) (fs fs' : List (ℕ × Seate
     owns = each_on old new f.board b c there new-is (λ q v. v.owns ≡ true) live.owns (λ q same h. owns');
     sound = each_on old new f.board b c there new-is (λ q v. IsSound v) live.sound (λ q same h. sound');
     seated = λ i e d. seated_on e.1 (live.seated (up (removed (nat_eq who) fs f mine).0 i) e (stays i e d)) (far_away i e d);
-    apart = λ i j e d x y same place. up_one (removed (nat_eq who) fs f mine).0 i j (live.apart _ _ e d (stays i e x) (stays j d y) same place);
+    apart = λ i j e d x y same slot. up_one (removed (nat_eq who) fs f mine).0 i j (live.apart _ _ e d (stays i e x) (stays j d y) same slot);
     carried = each_on old new f.board b c there new-is (λ q v. (k : ℕ) (n : Note) → get_elem? v.notes k ≡ some n → n ≢ Vacant → Carries v k) live.carried (λ q same h. carried_on);
     counted = counted_on;
   }

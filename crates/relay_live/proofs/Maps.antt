@@ -1,4 +1,4 @@
--- Look-ups after one value is another.
+-- Look-ups after one value has changed.
 use Rattle.std.proofs.Common.{◌≡◌, ◌≢◌, ◌⊎◌, ℕ, zero, suc, Bool, true, false, true≢false, List, [], ◌∷◌, cond, Some, sym, refl, ap, ◌∙◌, inl, inr, ⊎_elim}
 use Rattle.std.proofs.lemmas.Option.{same_Some, none-some}
 use Rattle.std.specs.Map.{lookup, set_value}
@@ -23,7 +23,7 @@ module _ {K V : Type 0} (eq : K → K → Bool) (is : (a b : K) → eq a b ≡ t
       by more true false i at = ap (λ t. cond t (Some c) (lookup (eq q) ys)) at ∙ sym (ap (λ t. cond t (Some y.1) (lookup (eq q) ys)) at)
       by more false s i at = ap (cond (eq q y.0) (Some y.1)) more
 
--- where the value that is written stands
+-- where the value that is written is
 abbrev pub Written : {K V : Type 0} → (K → Bool) → List (K × V) → V → V → Type 0
 Written {K} {V} test es f w = (j : ℕ) × (k : K) × (get_elem? es j ≡ some (k, f)) × ((i : ℕ) (e : K × V) → get_elem? (set_value test es w) i ≡ some e → ((i ≡ j) × (e ≡ (k, w))) ⊎ ((i ≢ j) × (get_elem? es i ≡ some e)))
 

@@ -6,25 +6,24 @@ use mathlib.Core.Option.{some}
 use lib.ListN.{get_elem?}
 use Rattle.atomic_table.proofs.Lists.{at_map}
 use Rattle.c960_board.specs.Moves.{Triple}
-use Rattle.relay_core.specs.Inner.Followers.{offered, closed_at, queued}
-use Rattle.relay_core.specs.Inner.Held.{HeldFollower}
+use Rattle.relay_core.specs.Held.Followers.{offered, closed_at, queued}
+use Rattle.relay_core.specs.Held.{HeldFollower}
 use Rattle.relay_core.specs.Name.{same_name}
 use Rattle.relay_live.specs.declared.seated.Seated.{Seated}
-use Rattle.live_steps.specs.declared.setup.BoardSetup.{BoardSetup}
-use Rattle.live_steps.specs.declared.note.Note.{Note}
-use Rattle.live_steps.specs.declared.note.Note.TheVariants.{Vacant, Open, Closed}
-use Rattle.live_steps.specs.declared.view.Part.{Part}
-use Rattle.live_steps.specs.declared.view.View.{View}
+use Rattle.live_board.specs.declared.setup.BoardSetup.{BoardSetup}
+use Rattle.live_board.specs.declared.note.Note.{Note}
+use Rattle.live_board.specs.declared.note.Note.TheVariants.{Vacant, Open, Closed}
+use Rattle.live_board.specs.declared.view.Part.{Part}
+use Rattle.live_board.specs.declared.view.View.{View}
 use Rattle.live_board.specs.Desk.{Submitted}
 use Rattle.live_board.specs.Carried.{Carries, Holding, closing_found, holding_of}
 use Rattle.live_board.specs.Meeting.{closing_noted}
 use Rattle.relay_live.specs.Live.{held_in, vacancy}
-use Rattle.live_steps.specs.Shows.{total}
-use Rattle.live_steps.specs.Sound.{IsSoundBoard, Agrees}
-use Rattle.live_steps.specs.Views.{next_of}
-use Rattle.live_steps.proofs.Totals.{at_map_back}
-use Rattle.live_steps.proofs.Checking.{note_there}
-use Rattle.live_board.proofs.Desks.{at_within}
+use Rattle.live_board.specs.Shows.{total}
+use Rattle.live_board.specs.Sound.{IsSoundBoard, Agrees}
+use Rattle.live_board.specs.Views.{next_of}
+use Rattle.live_board.proofs.lemmas.Totals.{at_map_back}
+use Rattle.live_board.proofs.lemmas.Notes.{note_there, at_within}
 use Rattle.relay_live.proofs.Closings.{Closes, NoneNoticed, Turns, closes}
 
 -- ---- One follower.
@@ -63,7 +62,7 @@ module _ (k : ℕ) (f : Seated) (name : List ℕ) (m : Triple) (l : List Triple)
       ap (λ (q : List Triple). record { board = f.board; joined = f.joined; taken = f.taken; cut = Some c; queue = drop (f.joined + f.taken) q; capacity = k }) (take-append-le c l (m ∷ []) low)
       ∙ sym (λ i. cond (mine i && false) (cond (eqb (length h.queue) k) (closed_at (length l) h) (queued m h)) h)
 
--- ---- What becomes of a note.
+-- ---- What a note becomes.
 
 gets_closed : (len : ℕ) (ps : List Part) (k j b c : ℕ) → Turns len ps k (Open j b) (Closed c) → (c ≡ len) × NoneNoticed ps k
 gets_closed len ps k j b c g = ⊎_elim
@@ -87,26 +86,26 @@ was_closed len ps k c n w q y g = ⊎_elim (λ (t : n ≡ Vacant). absurd (subst
 pub same_part : (v w : View) (i : ℕ) (p : Part) → map holding_of w.parts ≡ map holding_of v.parts → get_elem? v.parts i ≡ some p → (q : Part) × (get_elem? w.parts i ≡ some q) × (holding_of q ≡ holding_of p)
 same_part v w i p same e = at_map_back holding_of w.parts i (holding_of p) (ap (λ (l : List (Holding)). get_elem? l i) same ∙ at_map holding_of v.parts i p e)
 
-pub offered_here : (k : ℕ) (f : Seated) (name : List ℕ) (m : Triple) (v w : View) (i : ℕ) (p : Part) → IsSoundBoard v → IsSoundBoard w → v.setup.limits.capacity ≡ k → Submitted m v w → get_elem? v.parts i ≡ some p → p.place ≡ f.place → p.joined ≡ f.joined → length p.taken ≡ f.taken
+pub offered_here : (k : ℕ) (f : Seated) (name : List ℕ) (m : Triple) (v w : View) (i : ℕ) (p : Part) → IsSoundBoard v → IsSoundBoard w → v.setup.limits.capacity ≡ k → Submitted m v w → get_elem? v.parts i ≡ some p → p.slot ≡ f.slot → p.joined ≡ f.joined → length p.taken ≡ f.taken
     → same_name name f.board ≡ true → held_in k w f ≡ offered name (length v.log) m (held_in k v f)
-offered_here k f name m v w i p ok ok' cap (u, tried, w-is) e at-place joined taken mine =
-    let inside : f.place < v.setup.limits.followers = let x = (ok.inside i p e).0 in omega arith in
-    let old = note_there v.notes f.place (omega (arith, ok.noted, inside)) in
+offered_here k f name m v w i p ok ok' cap (u, tried, w-is) e at-slot joined taken mine =
+    let inside : f.slot < v.setup.limits.followers = let x = (ok.inside i p e).0 in omega arith in
+    let old = note_there v.notes f.slot (omega (arith, ok.noted, inside)) in
     let closes = closes v.setup.limits.followers v u tried in
     let u-is = closes.tidied.same in
     let notes : w.notes ≡ u.notes = ap (λ (x : View). x.notes) w-is in
     let log : w.log ≡ v.log ++ m ∷ [] = ap (λ (x : View). x.log) w-is ∙ ap (λ (x : View). x.log ++ m ∷ []) u-is in
     let setup : w.setup ≡ v.setup = ap (λ (x : View). x.setup) w-is ∙ ap (λ (x : View). x.setup) u-is in
     let parts-are : w.parts ≡ u.parts = ap (λ (x : View). x.parts) w-is in
-    let new = note_there w.notes f.place (omega (arith, ok'.noted, inside, ap (λ (z : BoardSetup). z.limits.followers) setup)) in
+    let new = note_there w.notes f.slot (omega (arith, ok'.noted, inside, ap (λ (z : BoardSetup). z.limits.followers) setup)) in
     let parts : map holding_of w.parts ≡ map holding_of v.parts = ap (map holding_of) parts-are ∙ closes.held in
     let q = same_part v w i p parts e in
-    let here : q.0.place ≡ f.place = ap (λ (x : Holding). x.0) q.2 ∙ at-place in
+    let here : q.0.slot ≡ f.slot = ap (λ (x : Holding). x.0) q.2 ∙ at-slot in
     let next : next_of q.0 ≡ next_of p = ap (λ (x : Holding). x.1 + length x.2) q.2 in
-    let fits : Agrees v old.0 p = ok.agree i p e old.0 (ap (get_elem? v.notes) at-place ∙ old.1) in
+    let fits : Agrees v old.0 p = ok.agree i p e old.0 (ap (get_elem? v.notes) at-slot ∙ old.1) in
     let fits' : Agrees w new.0 q.0 = ok'.agree i q.0 q.1 new.0 (ap (get_elem? w.notes) here ∙ new.1) in
-    let goes : Turns (length v.log) w.parts f.place old.0 new.0 = subst (λ (l : List Part). Turns (length v.log) l f.place old.0 new.0) (sym parts-are)
-    (closes.turns f.place old.0 new.0 inside old.1 (ap (λ (x : List Note). get_elem? x f.place) (sym notes) ∙ new.1)) in
+    let goes : Turns (length v.log) w.parts f.slot old.0 new.0 = subst (λ (l : List Part). Turns (length v.log) l f.slot old.0 new.0) (sym parts-are)
+    (closes.turns f.slot old.0 new.0 inside old.1 (ap (λ (x : List Note). get_elem? x f.slot) (sym notes) ∙ new.1)) in
     let longer : length w.log ≡ length v.log + 1 = ap length log ∙ length-append v.log (m ∷ []) in
     let cap' : w.setup.limits.capacity ≡ k = ap (λ (z : BoardSetup). z.limits.capacity) setup ∙ cap in
     let sum : f.joined + f.taken ≡ next_of p = omega (arith, joined, taken) in
@@ -114,7 +113,7 @@ offered_here k f name m v w i p ok ok' cap (u, tried, w-is) e at-place joined ta
     let shown-old : held_in k v f ≡ shown k f v.log (closing_noted old.0) = λ x. shown k f v.log (closing_found (old.1 x)) in
     shown-new ∙ by old.0 new.0 q.0 fits fits' goes q.1 here sum next longer cap' ∙ ap (offered name (length v.log) m) (sym shown-old)
   where
-    by : (a b : Note) (q : Part) → Agrees v a p → Agrees w b q → Turns (length v.log) w.parts f.place a b → get_elem? w.parts i ≡ some q → q.place ≡ f.place → f.joined + f.taken ≡ next_of p → next_of q ≡ next_of p → length w.log ≡ length v.log + 1
+    by : (a b : Note) (q : Part) → Agrees v a p → Agrees w b q → Turns (length v.log) w.parts f.slot a b → get_elem? w.parts i ≡ some q → q.slot ≡ f.slot → f.joined + f.taken ≡ next_of p → next_of q ≡ next_of p → length w.log ≡ length v.log + 1
         → w.setup.limits.capacity ≡ k → shown k f (v.log ++ m ∷ []) (closing_noted b) ≡ offered name (length v.log) m (shown k f v.log (closing_noted a))
     by Vacant b q x y g there here sum next longer cap' = absurd x
     by (Open j b) Vacant q x y g there here sum next longer cap' = absurd y
@@ -123,7 +122,7 @@ offered_here k f name m v w i p ok ok' cap (u, tried, w-is) e at-place joined ta
         let near = y.4 in
         still_open k f name m v.log mine (omega arith) (omega arith)
     by (Open j b) (Closed c) q x y g there here sum next longer cap' =
-        let t = gets_closed (length v.log) w.parts f.place j b c g in
+        let t = gets_closed (length v.log) w.parts f.slot j b c g in
         let full = y.3 (t.1 i q there here) in
         let at = t.0 in
         let reached = x.3 in
@@ -131,10 +130,10 @@ offered_here k f name m v w i p ok ok' cap (u, tried, w-is) e at-place joined ta
     by (Closed c) b q x y g there here sum next longer cap' =
         let low = x.0 in
         let high = x.1 in
-        let t : b ≡ Closed c = was_closed (length v.log) w.parts f.place c b w q y g in
+        let t : b ≡ Closed c = was_closed (length v.log) w.parts f.slot c b w q y g in
         ap (λ (n : Note). shown k f (v.log ++ m ∷ []) (closing_noted n)) t ∙ stays_closed k f name m v.log mine (omega arith) c high
 
--- ---- Vacant places.
+-- ---- Vacant slots.
 
 pub total_same : (g : Note → ℕ) (l l' : List Note) → length l' ≡ length l → ((k : ℕ) (a b : Note) → get_elem? l k ≡ some a → get_elem? l' k ≡ some b → g b ≡ g a) → total g l' ≡ total g l
 total_same g [] [] e all = refl
@@ -142,7 +141,7 @@ total_same g [] (y ∷ ys) e all = absurd (omega arith)
 total_same g (x ∷ xs) [] e all = absurd (omega arith)
 total_same g (x ∷ xs) (y ∷ ys) e all = omega (arith, all 0 x y refl refl, total_same g xs ys (omega arith) (λ k a b d d'. all (suc k) a b d d'))
 
--- what a submit leaves of the notes, where each place that is not vacant is carried
+-- what a submit does to the notes, if each slot that is not vacant is carried
 module _ (m : Triple) (v w : View) (ok' : IsSoundBoard w) (sub : Submitted m v w) (noted : length v.notes ≡ v.setup.limits.followers) (carried : (k : ℕ) (n : Note) → get_elem? v.notes k ≡ some n → n ≢ Vacant → Carries v k) where
   shut : Closes v.setup.limits.followers v sub.0
   shut = closes v.setup.limits.followers v sub.0 sub.1
@@ -167,7 +166,7 @@ module _ (m : Triple) (v w : View) (ok' : IsSoundBoard w) (sub : Submitted m v w
   goes_at : (k : ℕ) (a n : Note) → get_elem? v.notes k ≡ some a → get_elem? w.notes k ≡ some n → Turns (length v.log) sub.0.parts k a n
   goes_at k a n e d = shut.turns k a n (let x = at_within v.notes k a e in omega arith) e (ap (λ (l : List Note). get_elem? l k) (sym notes-are) ∙ d)
 
-  -- vacant before exactly where vacant after
+  -- vacant before exactly if vacant after
   pub same_vacancy : (k : ℕ) (a n : Note) → get_elem? v.notes k ≡ some a → get_elem? w.notes k ≡ some n → vacancy n ≡ vacancy a
   same_vacancy k Vacant n e d = ap vacancy (goes_at k Vacant n e d)
   same_vacancy k (Open j b) n e d = none n (not_vacant k n d (carried k (Open j b) e (λ z. cc)))

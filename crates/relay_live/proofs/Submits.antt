@@ -2,8 +2,8 @@
 use Rattle.std.proofs.Common.{◌≡◌, ◌≢◌, ◌==◌, ℕ, suc, ◌+◌, Bool, true, false, List, [], ◌∷◌, map, length, Result, Ok, Err, Option, Some, option_map, sym, refl, ap, ◌∙◌, arith, cond, ◌&&◌, not, is_some}
 use Rattle.std.proofs.lemmas.Option.{same_Some}
 use Rattle.std.specs.Prelude.{count_by}
-use Rattle.live_steps.specs.declared.note.Note.{Note}
-use Rattle.live_steps.specs.declared.note.Note.TheVariants.{Vacant}
+use Rattle.live_board.specs.declared.note.Note.{Note}
+use Rattle.live_board.specs.declared.note.Note.TheVariants.{Vacant}
 use Rattle.std.specs.Map.{lookup, set_value}
 use mathlib.Core.Option.{some}
 use lib.ListN.{get_elem?}
@@ -14,24 +14,25 @@ use Rattle.c960_game.specs.Limits.{LimitNumbers}
 use Rattle.c960_game.specs.Record.{play_answer, with_move}
 use Rattle.relay_core.specs.declared.step.Step.TheVariants.{Submit}
 use Rattle.relay_core.specs.declared.reply.Reply.TheVariants.{Played, Refused}
-use Rattle.relay_core.specs.Inner.Boards.{play_answer_at, with_place}
-use Rattle.relay_core.specs.Inner.Followers.{offered, published, closed_at, queued}
+use Rattle.relay_core.specs.BoardAnswers.{play_answer_at, with_place}
+use Rattle.relay_core.specs.Held.Followers.{offered, published, closed_at, queued}
 use Rattle.relay_core.specs.Name.{same_name}
-use Rattle.relay_core.proofs.Lists.{lookup-map}
-use Rattle.relay_core.proofs.NameFacts.{same_name_is}
-use Rattle.relay_core.proofs.Standing.{Goes, keeps}
-use Rattle.relay_core.proofs.Submits.{submit_goes, submit_refused}
+use Rattle.relay_core.proofs.lemmas.Lists.{lookup-map}
+use Rattle.relay_core.proofs.lemmas.Names.{same_name_is}
+use Rattle.relay_core.specs.Held.Stands.{Goes}
+use Rattle.relay_core.proofs.lemmas.Standing.{keeps}
+use Rattle.relay_core.proofs.lemmas.Submits.{submit_goes, submit_refused}
 use Rattle.relay_live.specs.declared.seated.Seated.{Seated}
-use Rattle.live_steps.specs.declared.setup.BoardSetup.{BoardSetup}
-use Rattle.live_steps.specs.declared.view.View.{View}
+use Rattle.live_board.specs.declared.setup.BoardSetup.{BoardSetup}
+use Rattle.live_board.specs.declared.view.View.{View}
 use Rattle.live_board.specs.Board.{game_of, setup_of}
 use Rattle.live_board.specs.Carried.{Carries, holding_of}
 use Rattle.live_board.specs.Desk.{Submitted}
 use Rattle.live_board.specs.Seats.{BoardSeat}
 use Rattle.relay_live.specs.Live.{Boards, held_at, held_in, view_in, held_by, games, holders, IsSeated, IsLive, vacancy}
-use Rattle.live_steps.specs.Shows.{total}
-use Rattle.live_steps.specs.Sound.{IsSound, IsSoundBoard}
-use Rattle.live_steps.specs.Views.{published as published_view, storing}
+use Rattle.live_board.specs.Shows.{total}
+use Rattle.live_board.specs.Sound.{IsSound, IsSoundBoard}
+use Rattle.live_board.specs.Views.{published as published_view, storing}
 use Rattle.relay_live.proofs.Offers.{offered_here, same_part, carried_after, vacancies}
 use Rattle.relay_live.proofs.Closings.{Closes, closes}
 use Rattle.relay_live.proofs.Swaps.{each_on, game, games_changed, games_counted, seated_still, swapped_before, swapped_elsewhere, swapped_here}
@@ -77,7 +78,7 @@ module _ (limits : LimitNumbers) (old new : Boards) (fs : List (ℕ × Seated)) 
           let is : s.board ≡ b = same_Some _ _ (sym s.there ∙ was) in
           ap (λ o. held_in limits.capacity (view_in o) f) now
           ∙ offered_here limits.capacity f name m b.knows c.knows s.index s.part ok ok' (ap (λ (z : BoardSetup). z.limits.capacity) (live.setups name b there)) sub
-          (ap (λ (x : BoardSeat). get_elem? x.knows.parts s.index) (sym is) ∙ s.carried) s.place_is s.joined_is s.taken_is e
+          (ap (λ (x : BoardSeat). get_elem? x.knows.parts s.index) (sym is) ∙ s.carried) s.slot_is s.joined_is s.taken_is e
           ∙ ap (λ o. offered name (length b.knows.log) m (held_in limits.capacity (view_in o) f)) (sym was)
 
   pushed : (l : List (ℕ × Seated)) → ((i : ℕ) (e : ℕ × Seated) → get_elem? l i ≡ some e → IsSeated old e.1) → holders limits.capacity new l ≡ published name (length b.knows.log) m (holders limits.capacity old l)

@@ -1,4 +1,4 @@
--- One board of the map is another now: what is at each name, who sits there, and what the record shows.
+-- One board of the map has changed: what is at each name, who sits there, and what the record shows.
 use Rattle.std.proofs.Common.{◌≡◌, ◌+◌, ℕ, suc, Bool, true, false, List, [], ◌∷◌, length, drop, take, unwrap_or, Some, option_map, sym, refl, ap, ◌∙◌, subst, cond}
 use Rattle.std.proofs.lemmas.List.{length-map}
 use Rattle.std.proofs.lemmas.Map.{length-set_value}
@@ -6,12 +6,12 @@ use Rattle.std.proofs.lemmas.Option.{same_Some}
 use Rattle.std.specs.Map.{lookup, set_value}
 use mathlib.Core.Option.{some}
 use lib.ListN.{get_elem?}
-use Rattle.c960_game.specs.Record.{GameRecord}
+use Rattle.c960_game.specs.GameRecord.{GameRecord}
 use Rattle.relay_core.specs.Name.{same_name}
-use Rattle.relay_core.proofs.Lists.{lookup-map, set_value-map}
-use Rattle.relay_core.proofs.NameFacts.{same_name_is, is_same_name}
-use Rattle.live_steps.specs.declared.view.Part.{Part}
-use Rattle.live_steps.specs.declared.view.View.{View}
+use Rattle.relay_core.proofs.lemmas.Lists.{lookup-map, set_value-map}
+use Rattle.relay_core.proofs.lemmas.Names.{same_name_is, is_same_name}
+use Rattle.live_board.specs.declared.view.Part.{Part}
+use Rattle.live_board.specs.declared.view.View.{View}
 use Rattle.live_board.specs.Board.{game_of}
 use Rattle.live_board.specs.Carried.{Holding, closing_found, holding_of}
 use Rattle.live_board.specs.Seats.{BoardSeat}
@@ -22,7 +22,7 @@ use Rattle.relay_live.proofs.Maps.{seek_same, seek_other}
 abbrev pub game : BoardSeat → GameRecord
 game b = game_of b.knows
 
--- two names compare alike either way round
+-- two names compare equal either way round
 pub flipped : (a b : List ℕ) (t : Bool) → same_name a b ≡ t → same_name b a ≡ t
 flipped a b true at = is_same_name b a (sym (same_name_is a b at))
 flipped a b false at = back (same_name b a) refl
@@ -31,11 +31,11 @@ flipped a b false at = back (same_name b a) refl
     back false z = refl
     back true z = sym (is_same_name a b (sym (same_name_is b a z))) ∙ at
 
--- what is true of each board's view, by the board's name
+-- what is true of each board's view, for the board's name
 abbrev pub Each : (List ℕ → View → Type 0) → Boards → Type 0
 Each P boards = (q : List ℕ) (x : BoardSeat) → lookup (same_name q) boards ≡ Some x → P q x.knows
 
--- where each follower shows the same, all do
+-- if each follower shows the same, all do
 pub holders_on : (capacity : ℕ) (old new : Boards) (l : List (ℕ × Seated)) → ((i : ℕ) (e : ℕ × Seated) → get_elem? l i ≡ some e → held_at capacity new e.1 ≡ held_at capacity old e.1) → holders capacity new l ≡ holders capacity old l
 holders_on capacity old new [] all = refl
 holders_on capacity old new (x ∷ xs) all = λ i. (x.0, all 0 x refl i) ∷ holders_on capacity old new xs (λ k e d. all (suc k) e d) i
@@ -54,7 +54,7 @@ module _ (old new : Boards) (name : List ℕ) (b c : BoardSeat) (there : lookup 
       ap (λ (x : List ℕ). lookup (same_name x) new) (sym same) ∙ ap (lookup (same_name name)) new-is
       ∙ seek_same same_name same_name_is is_same_name name old b c there
 
-  -- what is true of each board now, by what was true of it and by what has become of the one
+  -- what is true of each board now, from what was true of it and what has happened to the changed one
   pub each_turned : (P Q : List ℕ → View → Type 0) → Each P old → ((q : List ℕ) → name ≡ q → P q b.knows → Q q c.knows) → ((q : List ℕ) (v : View) → same_name name q ≡ false → P q v → Q q v) → Each Q new
   each_turned P Q was mine others q x e = by (same_name name q) refl
     where
@@ -69,12 +69,12 @@ module _ (old new : Boards) (name : List ℕ) (b c : BoardSeat) (there : lookup 
 
   -- ---- Who sits at a board.
 
-  -- whoever sat at the board still does, where a part with the same place, joining place and list is carried there now
+  -- a follower that sat at the board still does, if a part with the same slot, joining place and list is carried there now
   pub seated_still : (g : Seated) (s : IsSeated old g) → (name ≡ g.board → get_elem? b.knows.parts s.index ≡ some s.part → (j : ℕ) × (q : Part) × (get_elem? c.knows.parts j ≡ some q) × (holding_of q ≡ holding_of s.part)) → IsSeated new g
   seated_still g s carried = by (same_name name g.board) refl
     where
       by : (t : Bool) → same_name name g.board ≡ t → IsSeated new g
-      by false e = record { board = s.board; there = swapped_elsewhere g.board e ∙ s.there; index = s.index; part = s.part; carried = s.carried; place_is = s.place_is; joined_is = s.joined_is; taken_is = s.taken_is }
+      by false e = record { board = s.board; there = swapped_elsewhere g.board e ∙ s.there; index = s.index; part = s.part; carried = s.carried; slot_is = s.slot_is; joined_is = s.joined_is; taken_is = s.taken_is }
       by true e =
           let same = same_name_is name g.board e in
           let is : s.board ≡ b = same_Some _ _ (sym s.there ∙ swapped_before g.board same) in
@@ -85,13 +85,13 @@ module _ (old new : Boards) (name : List ℕ) (b c : BoardSeat) (there : lookup 
             index = m.0;
             part = m.1;
             carried = m.2;
-            place_is = ap (λ (x : Holding). x.0) m.3 ∙ s.place_is;
+            slot_is = ap (λ (x : Holding). x.0) m.3 ∙ s.slot_is;
             joined_is = ap (λ (x : Holding). x.1) m.3 ∙ s.joined_is;
             taken_is = ap (λ (x : Holding). length x.2) m.3 ∙ s.taken_is;
           }
 
-  -- a follower shows the same where the board's log and the note of its place are as they were
-  pub held_still : (capacity : ℕ) (g : Seated) → c.knows.log ≡ b.knows.log → (name ≡ g.board → get_elem? c.knows.notes g.place ≡ get_elem? b.knows.notes g.place) → held_at capacity new g ≡ held_at capacity old g
+  -- a follower shows the same if the board's log and the note of its slot are as they were
+  pub held_still : (capacity : ℕ) (g : Seated) → c.knows.log ≡ b.knows.log → (name ≡ g.board → get_elem? c.knows.notes g.slot ≡ get_elem? b.knows.notes g.slot) → held_at capacity new g ≡ held_at capacity old g
   held_still capacity g log noted = by (same_name name g.board) refl
     where
       by : (t : Bool) → same_name name g.board ≡ t → held_at capacity new g ≡ held_at capacity old g

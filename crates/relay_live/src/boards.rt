@@ -1,4 +1,4 @@
-//! What a step does on one board of the map.
+//! What a step does to one board of the map.
 
 ghost use Rattle.std.specs.Prelude.{◌≡◌, ◌+◌, ◌<◌, ◌≤◌, ℕ, length, true, option_map, OnErr, OnOk, Some, None};
 ghost use mathlib.Core.Option.{some};
@@ -6,15 +6,15 @@ ghost use lib.ListN.{get_elem?};
 ghost use Rattle.std.specs.Map.{lookup};
 ghost use Rattle.std.specs.HashMap.{spare};
 ghost use Rattle.c960_game.specs.Ending.{named_outcome};
-ghost use Rattle.relay_core.specs.Inner.Boards.{end_answer_at, play_answer_at};
-ghost use Rattle.relay_core.specs.Inner.Followers.{account_of};
+ghost use Rattle.relay_core.specs.BoardAnswers.{end_answer_at, play_answer_at};
+ghost use Rattle.relay_core.specs.Held.Followers.{account_of};
 ghost use Rattle.relay_core.specs.Name.{same_name};
 ghost use Rattle.relay_core.specs.Replies.{taken_of};
-ghost use Rattle.live_steps.specs.declared.note.Note.TheVariants.{Vacant};
-ghost use Rattle.live_steps.specs.Sound.{IsSound};
-ghost use Rattle.live_steps.specs.Views.{each_part, finished, followed, left_at, sees};
+ghost use Rattle.live_board.specs.declared.note.Note.TheVariants.{Vacant};
+ghost use Rattle.live_board.specs.Sound.{IsSound};
+ghost use Rattle.live_board.specs.Views.{each_part, finished, followed, left_at, sees};
 ghost use Rattle.live_board.specs.Board.{game_of};
-ghost use Rattle.live_board.specs.Carried.{cut_at, due_at, TookAt};
+ghost use Rattle.live_board.specs.Carried.{closing_at, due_at, TookAt};
 ghost use Rattle.live_board.specs.Desk.{Submitted};
 ghost use Rattle.live_board.specs.Seats.{BoardSeat};
 ghost use Rattle.relay_live.specs.Live.{IsSeated, Swapped, held_in};
@@ -26,7 +26,7 @@ use indexmap::IndexMap;
 use live_board::Board;
 use relay_core::{Account, BoardName, Taken};
 
-/// Makes a move on a board, and tells its place and the outcome that it makes.
+/// Makes a move on a board. Returns its place and the outcome that it brings about, if any.
 #[tactic(auto, using(std::proofs::lemmas::Map::Steps::set_value_same))]
 pub(crate) fn play(
     boards: &mut IndexMap<BoardName, Board>,
@@ -44,7 +44,7 @@ pub(crate) fn play(
     live.submit(m)
 }
 
-/// Ends the game of a board, and tells the outcome that the ending names.
+/// Ends the game of a board. Returns the outcome that the ending names.
 #[tactic(auto, using(std::proofs::lemmas::Map::Steps::set_value_same))]
 pub(crate) fn end(
     boards: &mut IndexMap<BoardName, Board>,
@@ -62,40 +62,40 @@ pub(crate) fn end(
     live.end(ending)
 }
 
-/// Takes for one who is seated at a board.
+/// Makes a take for a spectator that is seated at a board.
 pub(crate) fn take_for(boards: &mut IndexMap<BoardName, Board>, seated: Seated) -> Taken
     requires seated { IsSeated boards.old.entries seated }
     requires fits { seated.joined + seated.taken < 65536 }
-    ensures swapped { Swapped (λ b c. TookAt seated.place result b.knows c.knows × IsSound c.knows
-        × (result ≡ taken_of (seated.joined + seated.taken) b.knows.outcome (cut_at b.knows seated.place) (due_at b.knows seated.place (seated.joined + seated.taken))))
+    ensures swapped { Swapped (λ b c. TookAt seated.slot result b.knows c.knows × IsSound c.knows
+        × (result ≡ taken_of (seated.joined + seated.taken) b.knows.outcome (closing_at b.knows seated.slot) (due_at b.knows seated.slot (seated.joined + seated.taken))))
         seated.board boards.old.entries boards.new.entries }
     ensures room { spare boards.new ≡ spare boards.old }
 {
     let Some(live) = boards.get_mut(&seated.board) else {
         unreachable!();
     };
-    live.take_at(seated.place, seated.joined + seated.taken)
+    live.take_at(seated.slot, seated.joined + seated.taken)
 }
 
-/// Seats a follower at a vacant cursor place of a board, to take from a place of its log on.
-pub(crate) fn seat(boards: &mut IndexMap<BoardName, Board>, board: BoardName, place: u64, from: u16)
+/// Lets a follower join in a vacant slot of a board. It takes from a place of its log on.
+pub(crate) fn join(boards: &mut IndexMap<BoardName, Board>, board: BoardName, slot: u64, from: u16)
     requires { (b : BoardSeat) × (lookup (same_name board) boards.old.entries ≡ Some b)
-        × (place < b.knows.setup.limits.followers) × (get_elem? b.knows.notes place ≡ some Vacant)
+        × (slot < b.knows.setup.limits.followers) × (get_elem? b.knows.notes slot ≡ some Vacant)
         × (from ≤ length b.knows.log) × (length b.knows.log ≤ from + b.knows.setup.limits.capacity) }
-    ensures swapped { Swapped (λ b c. (c.knows ≡ followed place from b.knows) × IsSound c.knows) board boards.old.entries boards.new.entries }
+    ensures swapped { Swapped (λ b c. (c.knows ≡ followed slot from b.knows) × IsSound c.knows) board boards.old.entries boards.new.entries }
     ensures room { spare boards.new ≡ spare boards.old }
 {
     let Some(live) = boards.get_mut(&board) else {
         unreachable!();
     };
-    live.seat_at(place, from);
+    live.join_at(slot, from);
 }
 
-/// Lets one who is seated at a board go, and tells what it has had.
+/// Removes a spectator that is seated at a board, and returns what it has had.
 pub(crate) fn leave_for(boards: &mut IndexMap<BoardName, Board>, seated: Seated) -> Account
     requires seated { IsSeated boards.old.entries seated }
     requires sound { (b : BoardSeat) → lookup (same_name seated.board) boards.old.entries ≡ Some b → IsSound b.knows × (b.knows.owns ≡ true) }
-    ensures swapped { Swapped (λ b c. ((status cursor : ℕ) × (c.knows ≡ left_at (seated.place + 2) cursor (each_part (sees status) b.knows))) × IsSound c.knows
+    ensures swapped { Swapped (λ b c. ((status cursor : ℕ) × (c.knows ≡ left_at (seated.slot + 2) cursor (each_part (sees status) b.knows))) × IsSound c.knows
         × ((capacity : ℕ) → result ≡ account_of (length b.knows.log) (held_in capacity b.knows seated)))
         seated.board boards.old.entries boards.new.entries }
     ensures room { spare boards.new ≡ spare boards.old }
@@ -104,6 +104,6 @@ pub(crate) fn leave_for(boards: &mut IndexMap<BoardName, Board>, seated: Seated)
         unreachable!();
     };
     let present = live.len();
-    let closing = live.leave_at(seated.place);
+    let closing = live.leave_at(seated.slot);
     account(seated, present, closing)
 }

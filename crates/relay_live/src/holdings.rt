@@ -1,25 +1,25 @@
-//! What a relay over live boards holds, and each step on it, with the room that is left. It stands apart from `LiveRelay`, so that the
-//! clauses of the steps can speak of that room and those of a relay need not.
+//! What a relay over live boards holds, and each step on it, with the room that is left. It is separate from `LiveRelay`, so that the
+//! clauses of the steps can mention that room and those of a relay need not.
 
 ghost use Rattle.std.specs.Prelude.{◌≡◌, ◌≤◌, [], false, option_map, IfOk, IfSome};
 ghost use Rattle.std.specs.Map.{lookup};
 ghost use Rattle.c960_game.specs.Limits.{LimitNumbers};
 ghost use Rattle.relay_core.specs.History.{History, is_accepted};
-ghost use Rattle.relay_core.specs.Inner.Room.{KeepsRoom};
+ghost use Rattle.relay_core.specs.Held.Room.{KeepsRoom};
 ghost use Rattle.relay_core.specs.Leads.{Leads};
 ghost use Rattle.relay_core.specs.Name.{same_name};
 ghost use Rattle.relay_core.specs.Replies.{may_grow, reply_to};
 ghost use Rattle.relay_core.specs.Stands.{Stands};
 ghost use Rattle.live_board.specs.Board.{game_of, setup_of};
-ghost use Rattle.relay_live.specs.Live.{PlacesLeft};
+ghost use Rattle.relay_live.specs.Live.{SlotsLeft};
 
-use crate::boards::{end, leave_for, play, seat, take_for};
+use crate::boards::{end, join, leave_for, play, take_for};
 use crate::seated::{Seated, count_take};
 use c960_board::Move;
 use c960_game::{Ending, Limits, Refusal};
 use indexmap::IndexMap;
 use live_board::Board;
-use relay_core::{BoardName, Reply, Spectator, Step, Taken};
+use relay_core::{BoardName, Reply, Spectator, Step, Taken, may_follow, may_open};
 use std::alloc::{AllocError, Global};
 use std::marker::Model;
 
@@ -30,12 +30,12 @@ pub(crate) struct Holdings {
     limits: Limits,
     /// The boards that were opened.
     boards: IndexMap<BoardName, Board>,
-    /// Who follows, and where.
+    /// Which spectators follow, and where.
     followers: IndexMap<Spectator, Seated>,
 }
 
 impl Model for Holdings {
-    ghost use Rattle.relay_core.specs.Inner.Room.{Holding};
+    ghost use Rattle.relay_core.specs.Held.Room.{Holding};
     ghost use Rattle.relay_live.specs.Live.{HasRoom, IsLive, holding_of};
 
     ghost Value = { Holding };
@@ -46,7 +46,7 @@ impl Model for Holdings {
 }
 
 impl Holdings {
-    /// No board, with room for as many as the limits allow.
+    /// Holdings without boards, with room for as many as the limits allow.
     pub(crate) fn new(alloc: Global, limits: Limits) -> Result<Holdings, AllocError>
         ensures stands { IfOk result (λ h. Stands limits h.shown []) }
     {
@@ -62,14 +62,9 @@ impl Holdings {
         ensures stands { Leads self.old.shown self.new.shown (Step.Open board start) result }
         ensures refused { is_accepted result ≡ false → self.new.shown ≡ self.old.shown }
     {
-        if self.boards.contains_key(&board) {
-            return Reply::Refused(Refusal::BoardExists);
-        }
-        if start >= 960 {
-            return Reply::Refused(Refusal::BadStart);
-        }
-        if self.boards.len() >= usize::from(self.limits.boards()) {
-            return Reply::Refused(Refusal::TooManyBoards);
+        let is_named = self.boards.contains_key(&board);
+        if let Err(refusal) = may_open(is_named, start, self.boards.len(), self.limits.boards()) {
+            return Reply::Refused(refusal);
         }
         let Ok(live) = Board::open(alloc, start, self.limits) else {
             return Reply::Refused(Refusal::OutOfMemory);
@@ -114,32 +109,30 @@ impl Holdings {
         let Some(live) = self.boards.get(&board) else {
             return Reply::Refused(Refusal::NoSuchBoard);
         };
-        if self.followers.contains_key(&who) {
-            return Reply::Refused(Refusal::FollowerExists);
+        let follows = self.followers.contains_key(&who);
+        let len = live.len();
+        let joined = from.unwrap_or(len);
+        let vacant = live.vacant_slot();
+        let capacity = self.limits.capacity();
+        if let Err(refusal) = may_follow(follows, len, joined, capacity, vacant.is_none()) {
+            return Reply::Refused(refusal);
         }
-        let joined = from.unwrap_or(live.len());
-        if joined > live.len() {
-            return Reply::Refused(Refusal::NotYet);
-        }
-        if live.len() - joined > self.limits.capacity() {
-            return Reply::Refused(Refusal::TooFarBack);
-        }
-        let Some(place) = live.vacant_place() else {
-            return Reply::Refused(Refusal::TooManyFollowers);
+        let Some(slot) = vacant else {
+            unreachable!();
         };
         let Some(position) = live.position_at(joined) else {
             unreachable!();
         };
         let seated = Seated {
             board,
-            place,
+            slot,
             joined,
             taken: 0,
         };
         let Ok(_) = self.followers.insert(who, seated) else {
             return Reply::Refused(Refusal::OutOfMemory);
         };
-        seat(&mut self.boards, board, place, joined);
+        join(&mut self.boards, board, slot, joined);
         Reply::Following { joined, position }
     }
 
@@ -149,7 +142,7 @@ impl Holdings {
         ensures refused { is_accepted result ≡ false → self.new.shown ≡ self.old.shown }
         ensures room { self.new.room ≡ self.old.room }
     {
-        // So the places of a log fit 16 bits.
+        // Hence the places of a log fit in 16 bits.
         prove!(self.limits.plies() <= 16384);
         let Some(&seated) = self.followers.get(&who) else {
             return Reply::Refused(Refusal::NoSuchFollower);
@@ -174,7 +167,7 @@ impl Holdings {
         Reply::Left(leave_for(&mut self.boards, seated))
     }
 
-    /// Makes one step, as `LiveRelay::step` promises it. An Open alone is handed what memory is asked of.
+    /// Makes one step, as `LiveRelay::step` promises. Only an Open is given the allocator.
     pub(crate) fn step(&mut self, alloc: Global, step: Step) -> Reply
         ensures stands { Leads self.old.shown self.new.shown step result }
         ensures exact { may_grow step ≡ false → (limits : LimitNumbers) (h : History) → Stands limits self.old.shown h
@@ -192,11 +185,11 @@ impl Holdings {
         }
     }
 
-    /// The board of that name, as `LiveRelay::into_board` promises it.
+    /// The board of that name, as `LiveRelay::into_board` promises.
     pub(crate) fn into_board(self, board: &BoardName) -> Option<Board>
         ensures game { option_map (λ b. game_of b.knows) result ≡ lookup (same_name board.now) self.shown.boards }
         ensures setup { IfSome result (λ b. b.knows.setup ≡ setup_of b.knows.setup.start self.shown.limits) }
-        ensures places { IfSome result (λ b. PlacesLeft self.shown board.now b) }
+        ensures slots { IfSome result (λ b. SlotsLeft self.shown board.now b) }
     {
         let Holdings {
             limits: _,

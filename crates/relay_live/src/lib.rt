@@ -1,5 +1,5 @@
-//! The relay over live boards: one thread steps for every board and for all of its followers, and hands a board out as it stands, so
-//! that threads may go on with it.
+//! The relay over live boards: one thread makes the steps of every board and of all its followers. It can hand out a board as it is, so
+//! that other threads can continue with it.
 #![tactic(auto)]
 
 mod boards;

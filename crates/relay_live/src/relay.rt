@@ -9,7 +9,7 @@ ghost use Rattle.relay_core.specs.Name.{same_name};
 ghost use Rattle.relay_core.specs.Replies.{may_grow, reply_to};
 ghost use Rattle.relay_core.specs.Stands.{Stands};
 ghost use Rattle.live_board.specs.Board.{game_of, setup_of};
-ghost use Rattle.relay_live.specs.Live.{PlacesLeft};
+ghost use Rattle.relay_live.specs.Live.{SlotsLeft};
 
 use crate::holdings::Holdings;
 use c960_game::Limits;
@@ -18,13 +18,13 @@ use relay_core::{BoardName, Reply, Step, Stepper, run_steps};
 use std::alloc::{AllocError, Global};
 use std::marker::Model;
 
-/// A relay over live boards. The board of each name carries every part of its followers at its own seat, takes and leaves for them, and
+/// A relay over live boards. Each board carries all its followers' parts at its own seat, takes and leaves for them, and
 /// reads their replies off what that seat knows. Contracts see a `RelayRecord`, as they do of a `Relay`.
 #[derive(Drop)]
 pub struct LiveRelay {
     /// The boards and their followers.
     holdings: Holdings,
-    /// What memory is asked of.
+    /// The allocator.
     alloc: Global,
 }
 
@@ -47,8 +47,8 @@ impl LiveRelay {
         })
     }
 
-    /// Makes one step. Its reply is the one that the whole history asks for: the first refusal whose ground holds, in the
-    /// order in which `reply_to` names them, else the accepted reply. An Open or a Follow that nothing else refuses may be refused for want of
+    /// Makes one step. Its reply is the one that the whole history requires: the first refusal whose ground holds, in the order
+    /// in which `reply_to` names them, else the accepted reply. An Open or a Follow that nothing else refuses may be refused for lack of
     /// memory. A refused step changes nothing.
     pub fn step(&mut self, step: Step) -> Reply
         ensures stands { (limits : LimitNumbers) (h : History) → Stands limits self.old h
@@ -64,7 +64,7 @@ impl LiveRelay {
     /// numbered start, and the moves that a follower has taken, then those it has queued, are, each once and in order, the
     /// stretch of that log from its joining place to the present or its closing; no move follows a game's end.
     ///
-    /// It makes the steps in order and gives one reply for each. Their vector is reserved before the first step, so that want
+    /// It makes the steps in order and gives one reply for each. Their vector is reserved before the first step, so that running out
     /// of memory means that no step was made.
     pub fn run(&mut self, steps: &[Step]) -> Result<Vec<Reply>, AllocError>
         ensures headline { IfOk result (λ replies. (limits : LimitNumbers) (h : History) → Stands limits self.old h
@@ -75,12 +75,12 @@ impl LiveRelay {
         run_steps(self.alloc, self, steps)
     }
 
-    /// The live board of that name, with this relay's limits, None exactly where none was opened. Its followers are dropped, and their
-    /// places there stay taken: the board has as many places left as these leave. It takes no memory.
+    /// The live board of that name, with this relay's limits, or None exactly if none was opened. Its followers are dropped, and their
+    /// slots there stay taken: the board has as many slots left as these leave. It allocates nothing.
     pub fn into_board(self, board: &BoardName) -> Option<Board>
         ensures game { option_map (λ b. game_of b.knows) result ≡ lookup (same_name board.now) self.boards }
         ensures setup { IfSome result (λ b. b.knows.setup ≡ setup_of b.knows.setup.start self.limits) }
-        ensures places { IfSome result (λ b. PlacesLeft self board.now b) }
+        ensures slots { IfSome result (λ b. SlotsLeft self board.now b) }
     {
         let LiveRelay { holdings, alloc: _ } = self;
         holdings.into_board(board)

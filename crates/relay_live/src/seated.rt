@@ -8,13 +8,13 @@ ghost use Rattle.relay_live.specs.Live.{with_one_more};
 use indexmap::IndexMap;
 use relay_core::{Account, BoardName, Spectator};
 
-/// Where a spectator follows, and how far it is. All else of it stands in what the board knows.
+/// Where a spectator follows, and how far it has got. Everything else about it is in what the board knows.
 #[derive(Clone, Copy, PartialEq, Eq, Debug)]
 pub(crate) struct Seated {
     /// The board that it follows.
     pub(crate) board: BoardName,
-    /// Its cursor place there.
-    pub(crate) place: u64,
+    /// Its slot there.
+    pub(crate) slot: u64,
     /// The place of the log at which it joined.
     pub(crate) joined: u16,
     /// How many moves it has taken.
@@ -34,7 +34,7 @@ pub(crate) fn count_take(seats: &mut IndexMap<Spectator, Seated>, who: Spectator
     seated.taken += 1;
 }
 
-/// What a spectator has had, whose board's log has this length, and which was closed at that length if it was.
+/// What a spectator has had. Its board's log has the length `present`, and it was closed at `closing`, if it was.
 pub(crate) fn account(seated: Seated, present: u16, closing: Option<u64>) -> Account
     requires { (c : ℕ) → closing ≡ Some c → c < 65536 }
     ensures joined { result.joined ≡ seated.joined }

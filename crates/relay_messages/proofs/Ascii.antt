@@ -1,6 +1,5 @@
 -- The texts of positions and of moves are ASCII, and so text.
-use Rattle.std.proofs.Common.{◌≡◌, ℕ, zero, suc, ◌+◌, ◌*◌, ◌<◌, ◌≤◌, List, [], ◌∷◌, ◌++◌, length, take, drop, true, false, cond}
-use Rattle.std.proofs.Common.{Option, Some, None, decimal, refl, arith, lit<, length-drop}
+use Rattle.std.proofs.Common.{◌≡◌, ℕ, zero, suc, ◌+◌, ◌*◌, ◌<◌, ◌≤◌, List, [], ◌∷◌, ◌++◌, length, take, drop, true, false, cond, Option, Some, None, decimal, refl, arith, lit<, length-drop}
 use Rattle.std.specs.Str.{IsAscii, IsUtf8}
 use Rattle.std.proofs.lemmas.Fmt.{IsAscii-decimal}
 use Rattle.std.proofs.lemmas.List.{length-take}
@@ -15,9 +14,11 @@ use Rattle.c960_board.specs.declared.rights.CastlingRights.{CastlingRights}
 use Rattle.c960_board.specs.Fen.Canonical.{canonical, fields_of, or_dash, ranks_text, rights_text, run_text, side_text, squares_text}
 use Rattle.c960_board.specs.Fen.Letters.{letter, letter_of, right_base, small_letter, turn_text}
 use Rattle.c960_board.specs.Fen.Target.{target_text}
-use Rattle.c960_board.specs.Moves.{IsMove, Triple, move_text, promotion_text, square_text}
+use Rattle.c960_board.specs.Moves.{IsMove, Triple}
+use Rattle.c960_board.specs.MoveTexts.{move_text, promotion_text, square_text}
 use Rattle.c960_board.specs.Pieces.{Cell}
-use Rattle.c960_board.specs.Position.{IsPosition, IsTarget, has_right}
+use Rattle.c960_board.specs.Position.{IsPosition, IsTarget}
+use Rattle.c960_board.specs.Cells.{has_right}
 use Rattle.c960_board.specs.Squares.{file_of, rank_of}
 
 one : (b : ℕ) → b < 128 → IsAscii (b ∷ [])

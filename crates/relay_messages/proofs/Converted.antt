@@ -1,4 +1,4 @@
--- Items and members, one after another, under the conversion of a text's values, where they are read and where they are refused.
+-- Items and members, one after another, under the conversion of a text's values, when they are read and when they are refused.
 use Rattle.std.proofs.Common.{◌≡◌, ℕ, zero, suc, ◌-◌, ◌<◌, ◌≤◌, List, [], ◌∷◌, length, Option, Some, None, option_map, option_and_then, refl, ap, ◌∙◌}
 use Rattle.json.specs.Token.{Token}
 use Rattle.json.specs.Json as json

@@ -1,4 +1,4 @@
--- Values that come first, and what is passed with them.
+-- Values that come first, and what is skipped with them.
 use Rattle.std.proofs.Common.{◌≡◌, ◌==◌, ℕ, zero, suc, ◌<◌, ◌-◌, List, [], ◌∷◌, length, take, drop, slice_index, Bool, true, false, Option, Some, None, option_map, refl, ap, ◌∙◌, arith}
 use Rattle.std.proofs.Math.Seq.{take-length}
 use Rattle.fast_float.specs.Text.{Parts, scan}
@@ -11,7 +11,7 @@ use Rattle.serde_json.specs.Read.{converted, number_from, number_of, of_items, o
 use Rattle.relay_messages.proofs.Converted.{array_converted}
 use Rattle.relay_messages.proofs.PlainReading.{object_read, read_first}
 use Rattle.relay_messages.specs.Beginnings.{Begins, IsOther, opened_by, opening}
-use Rattle.relay_messages.specs.Kept.{kept}
+use Rattle.relay_messages.specs.KeptValues.{kept}
 use Rattle.relay_messages.specs.Passing.{IsFirst, behind, begun_passed, opened_passed, passed, rest_passed}
 use Rattle.relay_messages.specs.declared.passing.Nest.{Nest}
 use Rattle.relay_messages.specs.declared.passing.Nest.TheVariants.{Array, Object}
@@ -57,19 +57,19 @@ unfolding value
 too_deep Array ts r is = ap (λ ts. converted of_json (value 0 ts)) is
 too_deep Object ts r is = ap (λ ts. converted of_json (value 0 ts)) is
 
--- what opens is passed by its rest
+-- what opens is skipped by its rest
 opens_passed : (nest : Nest) (depth : ℕ) (ts r : List Token) → ts ≡ opening nest ∷ r → passed depth ts ≡ opened_passed nest depth r
 opens_passed nest zero ts r is = ap behind (too_deep nest ts r is)
 opens_passed Array (suc depth) ts r is = ap behind (array_opens depth ts r is) ∙ left-parse_map array _
 opens_passed Object (suc depth) ts r is = ap behind (object_opens depth ts r is) ∙ left-parse_map object _
 
--- an array that is passed is no object
+-- an array that is skipped is not an object
 pub array_read : (depth : ℕ) (ts r s : List Token) → ts ≡ Token.begin_array ∷ r → rest_passed Array depth r ≡ Some s
     → (d : Data) × (converted of_json (value (suc depth) ts) ≡ Some (d, s)) × (as_object d ≡ None) × (kept d ≡ null)
 array_read depth ts r s is read =
     let ds = left_some _ s read in (array ds.0, array_opens depth ts r is ∙ ap (parse_map array) ds.1, refl, refl)
 
--- of what opens and is passed nothing is kept
+-- of what opens and is skipped nothing is kept
 pub nest_read : (nest : Nest) (depth : ℕ) (ts r s : List Token) → ts ≡ opening nest ∷ r → rest_passed nest depth r ≡ Some s
     → (d : Data) × (converted of_json (value (suc depth) ts) ≡ Some (d, s)) × (kept d ≡ null)
 nest_read Array depth ts r s is read = let d = array_read depth ts r s is read in (d.0, d.1, d.3)
@@ -85,7 +85,7 @@ nest_refused Object depth ts r is none = object_opens depth ts r is ∙ ap (pars
 pub first_shorter : (depth : ℕ) (ts r : List Token) (d : Data) → IsFirst d depth ts r → length r < length ts
 first_shorter depth ts r d is = let j = read_first of_json (value depth ts) d r is in skip_value-shorter depth ts r (ap left j.1)
 
--- what begins is passed
+-- a value that begins is skipped
 pub begins_passed : (b : Beginning) (ts r : List Token) → Begins b ts r → (depth : ℕ) → passed depth ts ≡ begun_passed (opened_by b) depth r
 begins_passed (Text text) ts r is depth = ap behind (is depth)
 begins_passed (Whole n) ts r is depth = ap behind (is depth)
@@ -111,7 +111,7 @@ none_read : (o : Option Num) → None ≡ option_map as_u64 o → o ≡ None
 none_read None e = refl
 none_read (Some x) e = absurd (cc)
 
--- ---- What a number's text begins.
+-- ---- What a number's text means at the beginning of a value.
 
 none_kept : (x : Num) → as_u64 x ≡ None → kept (number x) ≡ null
 none_kept (unsigned n) none = absurd (cc)

@@ -1,4 +1,4 @@
--- Members that were put in stand in the order of their keys, each key once. So one of a key that is there already makes none more.
+-- Members that were added are in the order of their keys, each key once. So one with a key that is there already adds no other.
 use Rattle.std.proofs.Common.{◌≡◌, ℕ, suc, List, [], ◌∷◌, ◌++◌, Option, Some, None, Ordering, Less, Equal, Greater, nat_cmp, true, is_some, option_map, true≢false, refl, sym, ap, ◌∙◌}
 use Rattle.std.specs.Prelude.{⊤}
 use Rattle.std.specs.Cmp.Lexicographic.{slice_cmp}

@@ -1,4 +1,4 @@
--- What is kept of the members of an object, as they are put in and looked up.
+-- What is kept of the members of an object, as they are added and looked up.
 use Rattle.std.proofs.Common.{◌≡◌, ℕ, suc, true, List, Option, Some, None, Ordering, Less, Equal, Greater, is_some, nat_cmp, option_map, option_and_then, unwrap_or, refl, sym, ap, ◌∙◌}
 use Rattle.std.specs.Cmp.Lexicographic.{slice_cmp}
 use Rattle.std.specs.Ordering.{match_ordering}
@@ -6,7 +6,7 @@ use Rattle.serde_json.specs.Data.{Num, unsigned, negative, float, Data, null, bo
 use Rattle.serde_json.specs.Events.{members_len}
 use Rattle.serde_json.specs.Find.{as_number, as_object, as_str, as_u64, get, get_member}
 use Rattle.relay_messages.specs.Fields.{member_count, number_at, text_at}
-use Rattle.relay_messages.specs.Kept.{kept, kept_members, kept_number, kept_object}
+use Rattle.relay_messages.specs.KeptValues.{kept, kept_members, kept_number, kept_object}
 use Rattle.relay_messages.specs.Members.{field_data}
 use Rattle.relay_messages.specs.declared.member.Field.{Field}
 

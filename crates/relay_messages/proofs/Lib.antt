@@ -1,12 +1,12 @@
-pub mod Ascii
-pub mod Names
-pub mod Decoding
-pub mod PlainFacts
-pub mod PlainReading
-pub mod Converted
-pub mod FirstValues
-pub mod Turns
-pub mod InOrder
-pub mod KeptFacts
-pub mod Whole
-pub mod Ports
+pub mod lemmas
+mod Ascii
+mod Names
+mod PlainFacts
+mod PlainReading
+mod Converted
+mod FirstValues
+mod Turns
+mod InOrder
+mod KeptFacts
+mod Whole
+mod Ports

@@ -11,7 +11,7 @@ no_name text false never = refl
 nothing : IsSome {T = List ℕ} None → ⊥
 nothing h = cc
 
--- what gives a text's name exactly where it is one gives what the test gives
+-- anything that gives a text's name exactly if it is one gives what the test gives
 pub name_by_test : (text : List ℕ) (found : Option (List ℕ)) → (IsSome found ↔ IsName text) → IfSome found (λ name. name ≡ text)
     → found ≡ name_in text
 name_by_test text (Some name) some same = ap Some same ∙ sym (ap (λ test. cond test (Some text) None) (some.0 (search rules)))

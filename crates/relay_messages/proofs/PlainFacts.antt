@@ -1,4 +1,4 @@
--- Lemmas on the members of a plain object, which go in one after another.
+-- Lemmas on the members of a plain object, which are added one after another.
 use Rattle.std.proofs.Common.{◌≡◌, ℕ, suc, List, [], ◌∷◌, ◌++◌, Bool, true, false, cond, Option, Some, None, Ordering, Less, Equal, Greater, true≢false}
 use Rattle.std.proofs.Common.{◌+◌, ◌<◌, ◌^◌, ◌==◌, get_or, take, length, nat_lt, refl, sym, ap, ◌∙◌, arith, nat_cmp, SomeIff, IfSome, is_some, length-append, option_map}
 use Rattle.fast_float.specs.Text.{IsInteger, Parts, digits_of, scan}
@@ -33,7 +33,7 @@ found_or_other true name key d ms is =
 found_or_other false name key d ms is =
     get_member-put_other name key d ms (λ here. true≢false (sym ((bytes_eq-Decides key name).1 (sym here)) ∙ is))
 
--- the last member of a name is the one that is found
+-- the last member with a name is the one that is found
 pub get_member-push : (name : List ℕ) (ms : List Member) (m : Member)
     → get_member name (members_in (ms ++ m ∷ [])) ≡ cond (bytes_eq m.key.now name) (Some (field_data m.field)) (get_member name (members_in ms))
 get_member-push name ms m =
@@ -44,7 +44,7 @@ picked : (same : Bool) (field : Field) (before : Option Field)
 picked true field before = refl
 picked false field before = refl
 
--- One member more is looked at. The last so far of that name is either that member or the one found before.
+-- One more member is looked at. The last so far with that name is either that member or the one found before.
 pub found_next : (name : List ℕ) (ms : List Member) (i : ℕ) (d : Member) (same : Bool) (before after : Option Field)
     → i < length ms → same ≡ bytes_eq (get_or ms i d).key.now name → option_map field_data before ≡ get_member name (members_in (take i ms))
     → after ≡ cond same (Some (get_or ms i d).field) before → option_map field_data after ≡ get_member name (members_in (take (i + 1) ms))
@@ -70,7 +70,7 @@ one_more Less k l d e ms none later = refl
 one_more Equal k l d e ms none later = absurd (some≢none e none)
 one_more Greater k l d e ms none later = ap suc later
 
--- a new key makes one member more
+-- a new key makes one more member
 pub members_len-put : (k : List ℕ) (d : Data) (ms : Members) → get_member k ms ≡ None → members_len (put k d ms) ≡ suc (members_len ms)
 members_len-put k d no_members none = refl
 members_len-put k d (member l e ms) none =

@@ -26,7 +26,7 @@ with_member : (k : List ℕ) (j : json.Json) (d : Data) (old : Members) → of_j
 with_member k j d old e None = refl
 with_member k j d old e (Some p) = rw e
 
--- a member is read, and goes into those before it
+-- a member is read, and added to those before it
 pub member_read : (p : Parse json.Json) (old : Members) (n : ℕ) (k : List ℕ) (ts s r : List Token) (d : Data) → 0 < n
     → read_key ts ≡ Some (Some k, s) → converted of_json (p s) ≡ Some (d, r)
     → converted (λ ms. of_members ms old) (members p n ts) ≡ converted (λ ms. of_members ms (put k d old)) (members p (n - 1) r)
@@ -49,7 +49,7 @@ pub object_read : (o : Option (json.Members × List Token))
 object_read None = refl
 object_read (Some p) = with_rest p.1 (of_members p.0 no_members)
 
--- nothing stands behind the value
+-- nothing follows the value
 pub whole_read : (o : Option (json.Json × List Token)) (d : Data) → converted of_json o ≡ Some (d, [])
     → option_and_then of_json (option_and_then (λ p. if_last p.0 p.1) o) ≡ Some d
 whole_read o d e =

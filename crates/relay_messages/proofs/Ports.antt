@@ -1,4 +1,4 @@
--- What a text says on the watch port, and on the main port.
+-- What a text means on the watch port, and on the main port.
 use Rattle.std.proofs.Common.{◌≡◌, ◌↔◌, List, ℕ, length, Bool, true, false, cond, nat_lt, Option, Some, None, Result, Ok, Err, refl}
 use Rattle.std.specs.Option.{ok_or}
 use Rattle.std.specs.Prelude.{◌==◌, codes}
@@ -15,7 +15,7 @@ use Rattle.relay_messages.specs.Commands.{command_by, command_in, command_named,
 use Rattle.relay_messages.specs.Decoding.{decoded, text_says, value_says, watch_decoded}
 use Rattle.relay_messages.specs.Fields.{member_count, text_at}
 
--- the same steps, and `boards` only where no command is known
+-- the same steps, and `boards` only if no command is known
 record Agree (main : Result Step MessageFault) (other : Result WatchCommand MessageFault) : Type 0 where
   pub steps : (step : Step) → (main ≡ Ok step) ↔ (other ≡ Ok (watch.Step step))
   pub boards : other ≡ Ok watch.Boards → main ≡ Err UnknownCommand

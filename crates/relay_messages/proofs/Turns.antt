@@ -1,4 +1,4 @@
--- The turns of the loop that passes over what is open.
+-- The turns of the loop that skips what is open.
 use Rattle.std.proofs.Common.{◌≡◌, ℕ, zero, suc, ◌-◌, ◌<◌, ◌≤◌, List, [], ◌∷◌, ◌++◌, length, Bool, true, false, cond, Result, Ok, Err, OnErr, Option, Some, None, is_some, option_map, option_and_then, refl, sym, ap, ◌∙◌, arith, true≢false, length-append}
 use Rattle.std.specs.Bool.{MatchBool}
 use Rattle.json.specs.Token.{Token}
@@ -14,7 +14,7 @@ use Rattle.relay_messages.specs.Passing.{behind, opened_passed, outer_passed, pa
 use Rattle.relay_messages.specs.declared.passing.Nest.{Nest}
 use Rattle.relay_messages.specs.declared.passing.Nest.TheVariants.{Array, Object}
 
--- ---- What is known at a fault, and of a test.
+-- ---- What is known after a fault, and of a test.
 
 pub on_err : {A E P : Type 0} (r : Result A E) → P → OnErr r P
 on_err (Ok a) p = tt
@@ -78,7 +78,7 @@ module _ (p : Parse Json) (takes : Takes p) where
   members_turns (suc n) (suc m) (t ∷ ts) a b =
       same_then _ _ (read_key (t ∷ ts)) (λ q e. let less = read_key-shorter (t ∷ ts) q.0 q.1 e in member_turns n m q.0 q.1 (omega (arith, a, less)) (omega (arith, b, less)) (members_turns n m))
 
--- ---- What stands behind an object does not depend on the members before.
+-- ---- What follows an object does not depend on the members before.
 
 any_then : {A B : Type 0} (f g : A → Option B) (o : Option A) → ((a : A) → is_some (f a) ≡ is_some (g a)) → is_some (option_and_then f o) ≡ is_some (option_and_then g o)
 any_then f g None same = refl
@@ -99,7 +99,7 @@ behind_members : (a b : Members) (o : Option (json.Members × List Token))
 behind_members a b None = refl
 behind_members a b (Some p) = behind_any (of_members p.0 a) (of_members p.0 b) p.1 (any_members p.0 a b)
 
--- ---- One item or member is passed, and then the rest.
+-- ---- One item or member is skipped, and then the rest.
 
 item_then : (depth : ℕ) (ts : List Token) (x : Option (Data × List Token)) → after_end_array ts ≡ None → converted of_json (value depth ts) ≡ x
     → rest_passed Array depth ts ≡ option_and_then (rest_passed Array depth) (behind x)
@@ -138,7 +138,7 @@ object_closed depth ts r e = ap behind (members_over (value depth) no_members (l
 object_refused : (depth : ℕ) (ts : List Token) → read_key ts ≡ None → rest_passed Object depth ts ≡ None
 object_refused depth ts e = ap behind (key_refused (value depth) no_members (length ts) ts e)
 
--- ---- What closes an array or an object, or goes on with it.
+-- ---- What closes an array or an object, or continues it.
 
 pub array_step : (nest : Nest) (closes : Bool) (old new : List Token) → nest ≡ Array
     → MatchBool closes (after_end_array old ≡ Some new) ((after_end_array old ≡ None) × (new ≡ old))

@@ -9,7 +9,7 @@ use Rattle.serde_json.specs.Read.{converted, of_json, read}
 use Rattle.relay_messages.proofs.Converted.{whole, whole_and_more, whole_refused}
 use Rattle.relay_messages.proofs.PlainReading.{whole_read}
 use Rattle.relay_messages.specs.Any.{IsFound, IsKept, IsNext}
-use Rattle.relay_messages.specs.Kept.{kept_members, kept_object}
+use Rattle.relay_messages.specs.KeptValues.{kept_members, kept_object}
 use Rattle.relay_messages.specs.Members.{members_in}
 use Rattle.relay_messages.specs.declared.any.KeptMembers.{KeptMembers}
 

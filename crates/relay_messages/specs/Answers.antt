@@ -1,9 +1,10 @@
--- The texts of answers: compact JSON objects whose keys stand in the order of their bytes.
+-- The texts of answers: compact JSON objects whose keys are in the order of their bytes.
 use Rattle.std.specs.Prelude.{ℕ, Bool, true, false, List, [], ◌∷◌, Option, Some, None, option_map, codes, decimal}
 use Rattle.std.specs.List.{concat}
 use Rattle.c960_board.specs.declared.parts.Parts.{Parts}
 use Rattle.c960_board.specs.Fen.Canonical.{canonical}
-use Rattle.c960_board.specs.Moves.{Triple, move_text}
+use Rattle.c960_board.specs.Moves.{Triple}
+use Rattle.c960_board.specs.MoveTexts.{move_text}
 use Rattle.c960_game.specs.declared.outcome.Outcome.{Outcome}
 use Rattle.c960_game.specs.Outcome.{outcome_text}
 use Rattle.c960_game.specs.Refusal.{refusal_code, refusal_name}
@@ -21,7 +22,7 @@ use Rattle.relay_messages.specs.Faults.{message_fault_code, message_fault_name}
 abbrev pub alone_text : List ℕ → List ℕ
 alone_text reply = concat (codes "{\"reply\":\"" ∷ reply ∷ codes "\"}" ∷ [])
 
--- {"outcome":null,"place":0,"reply":"played"}, with the outcome's text where the move ends the game
+-- {"outcome":null,"place":0,"reply":"played"}, with the outcome's text if the move ends the game
 abbrev pub played_text : ℕ → Option Outcome → List ℕ
 played_text place None = concat (codes "{\"outcome\":null,\"place\":" ∷ decimal place ∷ codes ",\"reply\":\"played\"}" ∷ [])
 played_text place (Some outcome) =
@@ -75,7 +76,7 @@ unfoldable pub answer_text : Answer → List ℕ
 answer_text (answers.Reply reply) = reply_text reply
 answer_text (answers.Fault fault) = refused_text (message_fault_code fault) (message_fault_name fault)
 
--- "e2e4", or null where there is no text
+-- "e2e4", or null if there is no text
 abbrev pub text_or_null : Option (List ℕ) → List ℕ
 text_or_null (Some text) = concat (codes "\"" ∷ text ∷ codes "\"" ∷ [])
 text_or_null None = codes "null"

@@ -1,4 +1,4 @@
--- How a value begins: all but an array and an object end where they begin, however deep values may nest.
+-- How a value begins: every value but an array or an object ends where it begins, however deep values may nest.
 use Rattle.std.specs.Prelude.{ℕ, ◌≡◌, List, ◌∷◌, Option, Some, None}
 use Rattle.json.specs.Token.{Token}
 use Rattle.serde_json.specs.Data.{Data, null, number, string, unsigned}
@@ -7,7 +7,7 @@ use Rattle.relay_messages.specs.declared.passing.Nest.{Nest}
 use Rattle.relay_messages.specs.declared.passing.Nest.TheVariants.{Array, Object}
 use Rattle.relay_messages.specs.declared.passing.Beginning.{Beginning}
 use Rattle.relay_messages.specs.declared.passing.Beginning.TheVariants.{Text, Whole, Other, Opens}
-use Rattle.relay_messages.specs.Kept.{kept}
+use Rattle.relay_messages.specs.KeptValues.{kept}
 use Rattle.relay_messages.specs.Passing.{IsFirst}
 
 -- a value that ends where it begins, of which nothing is kept
@@ -22,7 +22,7 @@ abbrev pub opening : Nest → Token
 opening Array = Token.begin_array
 opening Object = Token.begin_object
 
--- with a value that begins so the tokens begin, and these are left of them
+-- the tokens begin with a value that begins in this way, and these are left of them
 abbrev pub Begins : Beginning → List Token → List Token → Type 0
 Begins (Text text) ts r = (depth : ℕ) → IsFirst (string text.now) depth ts r
 Begins (Whole n) ts r = (depth : ℕ) → IsFirst (number (unsigned n)) depth ts r

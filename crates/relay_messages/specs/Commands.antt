@@ -1,5 +1,5 @@
--- What the object of a command says: the step; or None where a key is missing, there is a key more, or a value has another form.
--- An object has no key more where it has as many members as the command has keys, `cmd` counted.
+-- What the object of a command gives: the step; or None if a key is missing, there is a key too many, or a value has another form.
+-- An object has no key too many if it has as many members as the command has keys, `cmd` included.
 use Rattle.std.specs.Prelude.{ℕ, ◌==◌, Bool, false, cond, is_some, List, Option, Some, None, option_map, option_and_then, Result, Ok, Err, codes}
 use Rattle.std.specs.Option.{ok_or}
 use Rattle.std.specs.Str.{bytes_eq}
@@ -15,7 +15,7 @@ use Rattle.relay_messages.specs.declared.watch_command.WatchCommand.{WatchComman
 use Rattle.relay_messages.specs.declared.watch_command.WatchCommand.TheVariants as watch
 use Rattle.relay_messages.specs.Fields.{member_count, text_at, board_at, start_at, from_at, has_from, spectator_at, move_at, side_at}
 
--- what is there, where the object has n members
+-- this result, if the object has n members
 abbrev pub with_members : {A : Type 0} → ℕ → Data → Option A → Option A
 with_members n d found = cond (member_count d == n) found None
 
@@ -43,7 +43,7 @@ ending_in d = option_and_then (ending_named d) (text_at (codes "how") d)
 abbrev pub end_in : Data → Option Step
 end_in d = option_and_then (λ board. option_map (λ ending. End board ending) (ending_in d)) (board_at d)
 
--- `from` where it is there, else no place
+-- `from` if it is there, or else no place
 abbrev pub from_in : Data → Option (Option ℕ)
 from_in d = cond (has_from d) (with_members 4 d (option_map Some (from_at d))) (with_members 3 d (Some None))
 
@@ -60,7 +60,7 @@ take_in d = with_members 2 d (option_map (λ who. Take who) (spectator_at d))
 abbrev pub leave_in : Data → Option Step
 leave_in d = with_members 2 d (option_map (λ who. Leave who) (spectator_at d))
 
--- the command of the name that `cmd` gives
+-- the command whose name is in `cmd`
 unfoldable pub command_named : Data → List ℕ → Result Step MessageFault
 command_named d name =
     cond (bytes_eq name (codes "open")) (ok_or (open_in d) BadField)
@@ -75,7 +75,7 @@ abbrev pub command_by : Data → Option (List ℕ) → Result Step MessageFault
 command_by d (Some name) = command_named d name
 command_by d None = Err UnknownCommand
 
--- what a JSON value says
+-- what a JSON value gives
 unfoldable pub command_in : Data → Result Step MessageFault
 command_in d = cond (is_some (as_object d)) (command_by d (text_at (codes "cmd") d)) (Err NotObject)
 
@@ -94,6 +94,6 @@ abbrev pub on_both_ports : Result Step MessageFault → Result WatchCommand Mess
 on_both_ports (Ok step) = Ok (watch.Step step)
 on_both_ports (Err fault) = Err fault
 
--- what a JSON value says on the watch port: `boards`, or what it says on the main port
+-- what a JSON value gives on the watch port: `boards`, or what it gives on the main port
 unfoldable pub watch_command_in : Data → Result WatchCommand MessageFault
 watch_command_in d = cond (is_boards (text_at (codes "cmd") d)) (ok_or (boards_in d) BadField) (on_both_ports (command_in d))

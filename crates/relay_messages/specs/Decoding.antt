@@ -1,4 +1,4 @@
--- What a text says: on the main port, and on the watch port. The two differ only in what a JSON value says there.
+-- What a text means: on the main port, and on the watch port. The two differ only in what a JSON value means there.
 use Rattle.std.specs.Prelude.{ℕ, ◌≡◌, ◌≤◌, ◌⊎◌, nat_lt, cond, List, length, Option, Some, None, Result, Err}
 use Rattle.std.specs.Str.{is_utf8}
 use Rattle.serde_json.specs.Data.{Data}
@@ -13,17 +13,17 @@ use Rattle.relay_messages.specs.Commands.{command_in, watch_command_in}
 abbrev pub most_bytes : ℕ
 most_bytes = 1024
 
--- what the value says that was read, if one was
+-- what the value that was read means, if one was
 abbrev pub value_says : {A : Type 0} → (Data → Result A MessageFault) → Option Data → Result A MessageFault
 value_says says (Some d) = says d
 value_says says None = Err NotJson
 
--- what a text says, where a JSON value says this; or its first fault
+-- what a text means, if a JSON value means this; or its first fault
 unfoldable pub text_says : {A : Type 0} → (Data → Result A MessageFault) → List ℕ → Result A MessageFault
 text_says says text =
     cond (nat_lt most_bytes (length text)) (Err BadField) (cond (is_utf8 text) (value_says says (read text)) (Err NotJson))
 
--- the command that a text says, or its first fault
+-- the command that a text gives, or its first fault
 unfoldable pub decoded : List ℕ → Result Step MessageFault
 decoded text = text_says command_in text
 
@@ -31,18 +31,18 @@ decoded text = text_says command_in text
 unfoldable pub watch_decoded : List ℕ → Result WatchCommand MessageFault
 watch_decoded text = text_says watch_command_in text
 
--- the answer is what the text says, or want of memory, which a text of more bytes than it may have does not meet
+-- the answer is what the text means, or lack of memory, which cannot occur for a text of more bytes than it may have
 abbrev pub IsSaid : {A : Type 0} → List ℕ → Result A MessageFault → Result A MessageFault → Type 0
 IsSaid text said answer = (answer ≡ said) ⊎ ((length text ≤ most_bytes) × (answer ≡ Err OutOfMemory))
 
--- what decoding answers
+-- the results of decoding
 abbrev pub IsDecoding : List ℕ → Result Step MessageFault → Type 0
 IsDecoding text answer = IsSaid text (decoded text) answer
 
--- what decoding answers on the watch port
+-- the results of decoding on the watch port
 abbrev pub IsWatchDecoding : List ℕ → Result WatchCommand MessageFault → Type 0
 IsWatchDecoding text answer = IsSaid text (watch_decoded text) answer
 
--- what reading a text in UTF-8 answers: what the text says, or want of memory
+-- the results of reading a text in UTF-8: what the text means, or lack of memory
 abbrev pub IsReading : {A : Type 0} → (Data → Result A MessageFault) → List ℕ → Result A MessageFault → Type 0
 IsReading says text answer = (answer ≡ value_says says (read text)) ⊎ (answer ≡ Err OutOfMemory)

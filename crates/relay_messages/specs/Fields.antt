@@ -1,4 +1,4 @@
--- What the members of a JSON object say. `get` finds the member that serde_json's reading gives: where a key is repeated in
+-- The values of the members of a JSON object. `get` finds the member that serde_json's reading gives: if a key is repeated in
 -- the text, the last.
 use Rattle.std.specs.Prelude.{ℕ, ◌^◌, nat_lt, Bool, cond, List, Option, Some, None, is_some, option_map, option_and_then, unwrap_or, codes}
 use Rattle.std.specs.Result.{result_ok}

@@ -1,6 +1,6 @@
 pub mod Faults
 pub mod Fields
-pub mod Kept
+pub mod KeptValues
 pub mod Passing
 pub mod Members
 pub mod Plain

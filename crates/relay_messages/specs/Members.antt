@@ -10,7 +10,7 @@ field_data (Text text) = string text.now
 field_data (Number n) = number (unsigned n)
 field_data Other = null
 
--- The members go in one after another.
+-- Adds the members one after another.
 abbrev pub with_all : Members → List Member → Members
 with_all found [] = found
 with_all found (m ∷ ms) = with_all (put m.key.now (field_data m.field) found) ms

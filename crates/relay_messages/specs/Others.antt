@@ -1,4 +1,4 @@
--- What is no object asks nothing.
+-- What is not an object asks for nothing.
 use Rattle.std.specs.Prelude.{◌≡◌, None, Err, refl}
 use Rattle.serde_json.specs.Data.{Data, null, boolean, number, string, array, object}
 use Rattle.serde_json.specs.Find.{as_object}

@@ -1,4 +1,4 @@
--- The value that a plain object stands for.
+-- The value that a plain object represents.
 use Rattle.serde_json.specs.Data.{Data, object}
 use Rattle.relay_messages.specs.declared.plain.PlainObject.{PlainObject}
 use Rattle.relay_messages.specs.Members.{members_in}

@@ -1,4 +1,4 @@
--- What serde_json reads in a text, said of the text's tokens.
+-- What serde_json reads in a text, in terms of the text's tokens.
 use Rattle.std.specs.Prelude.{List, Option, option_and_then}
 use Rattle.json.specs.Json.{if_last, value}
 use Rattle.json.specs.Token.{Token}

@@ -9,7 +9,7 @@ use relay_core::{Account, Taken};
 use std::alloc::{AllocError, Global};
 use std::str;
 
-/// The answer that has nothing but its kind.
+/// An answer that consists of its kind alone.
 pub fn alone(alloc: Global, reply: &str) -> Result<String, AllocError>
     ensures { IfOk result (λ text. string_bytes text ≡ alone_text reply.now) }
 {
@@ -29,7 +29,7 @@ pub fn played(alloc: Global, place: u16, outcome: Option<Outcome>) -> Result<Str
     }
 }
 
-/// The answer that tells an outcome: to an accepted ending, and to a take behind the end.
+/// The answer that reports an outcome: to an accepted ending, and to a take after the end.
 pub fn with_outcome(alloc: Global, outcome: Outcome, reply: &str) -> Result<String, AllocError>
     ensures { IfOk result (λ text. string_bytes text ≡ outcome_alone_text outcome reply.now) }
 {
@@ -42,7 +42,7 @@ pub fn with_outcome(alloc: Global, outcome: Outcome, reply: &str) -> Result<Stri
 pub fn following(alloc: Global, joined: u16, position: &Position) -> Result<String, AllocError>
     ensures { IfOk result (λ text. string_bytes text ≡ following_text joined position.now) }
 {
-    // So its text is ASCII.
+    // Hence its text is ASCII.
     prove!(position.parts().number >= 1);
     let bytes = write_fen(position);
     let fen = str::from_utf8(bytes.as_slice()).unwrap();
@@ -54,7 +54,7 @@ pub fn following(alloc: Global, joined: u16, position: &Position) -> Result<Stri
 pub fn moved(alloc: Global, place: u16, m: Move) -> Result<String, AllocError>
     ensures { IfOk result (λ text. string_bytes text ≡ moved_text place m) }
 {
-    // So its text is ASCII.
+    // Hence its text is ASCII.
     prove!(m.code() < 20480);
     let bytes = move_bytes(m);
     let spelt = str::from_utf8(bytes.as_slice()).unwrap();
@@ -88,7 +88,7 @@ pub fn left(alloc: Global, account: Account) -> Result<String, AllocError>
     )
 }
 
-/// The answer to what is refused, or to a text that gives no command.
+/// The answer to what is refused, or to a text that is not a command.
 pub fn refused(alloc: Global, code: u64, name: &str) -> Result<String, AllocError>
     ensures { IfOk result (λ text. string_bytes text ≡ refused_text code name.now) }
 {

@@ -1,5 +1,5 @@
-//! Objects of any form. Of their members the texts and the unsigned whole numbers are kept, since no command asks for another value; the
-//! others are passed over.
+//! Objects of any form. Of their members, the texts and the unsigned whole numbers are kept, since no command asks for another value; the
+//! others are skipped.
 
 ghost use Rattle.std.specs.Prelude.{◌≡◌, ◌≤◌, ◌<◌, Err, IfOk, OnOk, OnErr, None, Some, length, option_and_then, option_map};
 ghost use Rattle.json.specs.Json.{members, value};
@@ -7,7 +7,7 @@ ghost use Rattle.serde_json.specs.Data.{Data, Members, no_members, put};
 ghost use Rattle.serde_json.specs.Events.{members_len};
 ghost use Rattle.serde_json.specs.Find.{as_number, as_str, as_u64, get_member};
 ghost use Rattle.serde_json.specs.Read.{converted, of_json, of_members, read as read_text};
-ghost use Rattle.relay_messages.specs.Kept.{kept, kept_members, kept_object};
+ghost use Rattle.relay_messages.specs.KeptValues.{kept, kept_members, kept_object};
 ghost use Rattle.relay_messages.specs.Members.{field_data, members_in};
 
 use crate::member::{Field, Member};
@@ -21,7 +21,7 @@ use std::alloc::{AllocError, Global};
 #[derive(Drop)]
 pub struct KeptMembers<'a> {
     members: Vec<Member<'a>>,
-    /// How many keys they have: one may come again.
+    /// How many different keys there are: a key may be repeated.
     count: usize,
     ghost counted: { members_len (members_in members.items) ≡ count },
     ghost within: { count ≤ length members.items },
@@ -45,7 +45,7 @@ impl<'a> KeptMembers<'a> {
         self.count
     }
 
-    /// What the member of that key has.
+    /// The value of the member with that key.
     pub fn get(&self, key: &str) -> Option<Field<'a>>
         ensures { option_map field_data result ≡ get_member key.now (members_in self.now.members.items) }
     {
@@ -72,7 +72,7 @@ impl<'a> KeptMembers<'a> {
         }
     }
 
-    /// Adds a member, in place of the one of that key if there is one.
+    /// Adds a member, replacing the one with that key if there is one.
     ///
     /// # Errors
     ///
@@ -100,7 +100,7 @@ pub struct AnyObject<'a> {
 }
 
 impl<'a> AnyObject<'a> {
-    /// The object that this text is, with these members.
+    /// The object with this text and these members.
     pub fn new(text: &'a str, members: KeptMembers<'a>) -> AnyObject<'a>
         requires { kept_object (read_text text.now) ≡ Some (members_in members.members.items) }
         ensures { result.text.now ≡ text.now }
@@ -116,7 +116,7 @@ impl<'a> AnyObject<'a> {
     }
 }
 
-/// The value of a member, which comes next.
+/// The value of a member, which comes next in the text.
 fn read_field<'a>(reader: &mut Reader<'a>) -> Result<Field<'a>, Invalid>
     ensures ok { IfOk result (λ field. (d : Data) × (converted of_json (value 126 reader.old) ≡ Some (d, reader.new)) × (field_data field ≡ kept d)) }
     ensures shorter { OnOk result (length reader.new < length reader.old) }
@@ -134,7 +134,7 @@ fn read_field<'a>(reader: &mut Reader<'a>) -> Result<Field<'a>, Invalid>
     }
 }
 
-/// The members behind an opening brace, with the brace that closes them.
+/// The members after an opening brace, up to and including the brace that closes them.
 pub fn read_members<'a>(alloc: Global, reader: &mut Reader<'a>) -> Result<KeptMembers<'a>, Unread>
     ensures ok { IfOk result (λ found. (ms : Members) × (converted (λ ms. of_members ms no_members)
         (members (value 126) (length reader.old) reader.old) ≡ Some (ms, reader.new)) × (members_in found.members.items ≡ kept_members ms)) }

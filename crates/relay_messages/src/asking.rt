@@ -1,4 +1,4 @@
-//! What the members of an object ask, on the main port and on the watch port.
+//! What the members of an object ask for, on the main port and on the watch port.
 
 ghost use Rattle.std.specs.Prelude.{◌≡◌, Result};
 ghost use Rattle.serde_json.specs.Data.{Data};
@@ -10,17 +10,17 @@ use crate::object::Object;
 use crate::watch_command::WatchCommand;
 use relay_core::Step;
 
-/// What is asked on a port.
+/// What can be asked on a port.
 pub trait Asked: Sized {
     ghost use Rattle.std.specs.Prelude.{None, Err};
     ghost use Rattle.serde_json.specs.Find.{as_object};
     ghost use Rattle.relay_messages.specs.declared.fault.MessageFault.{MessageFault};
     ghost use Rattle.relay_messages.specs.declared.fault.MessageFault.TheVariants.{NotObject};
 
-    /// What a JSON value asks there, or its fault.
+    /// What a JSON value asks for there, or its fault.
     ghost says: { Data → Result Self MessageFault };
 
-    /// What a value asks.
+    /// What a value asks for.
     ///
     /// # Errors
     ///
@@ -28,7 +28,7 @@ pub trait Asked: Sized {
     fn of<O: Object>(object: &O) -> Result<Self, MessageFault>
         ensures { result ≡ says (O.said object.now) };
 
-    /// A value that is no object asks nothing.
+    /// A value that is not an object asks for nothing.
     ghost others: { (d : Data) → as_object d ≡ None → says d ≡ Err NotObject };
 }
 
@@ -58,7 +58,7 @@ impl Asked for WatchCommand {
     }
 }
 
-/// The command of the name that `cmd` gives.
+/// The command whose name is in `cmd`.
 #[tactic(auto, unfolding(crate::specs::Commands::command_named))]
 fn command_of_name<O: Object>(object: &O, name: &str) -> Result<Step, MessageFault>
     ensures { result ≡ command_named (O.said object.now) name.now }
@@ -75,7 +75,7 @@ fn command_of_name<O: Object>(object: &O, name: &str) -> Result<Step, MessageFau
     command.ok_or(MessageFault::BadField)
 }
 
-/// The command that a value says.
+/// The command that a value gives.
 #[tactic(auto, unfolding(crate::specs::Commands::command_in))]
 fn command_of<O: Object>(object: &O) -> Result<Step, MessageFault>
     ensures { result ≡ command_in (O.said object.now) }
@@ -89,7 +89,7 @@ fn command_of<O: Object>(object: &O) -> Result<Step, MessageFault>
     }
 }
 
-/// Asks for all boards: no key but `cmd`.
+/// Asks for all boards: there is no key but `cmd`.
 fn boards_of<O: Object>(object: &O) -> Option<WatchCommand>
     ensures { result ≡ boards_in (O.said object.now) }
 {
@@ -99,7 +99,7 @@ fn boards_of<O: Object>(object: &O) -> Option<WatchCommand>
     Some(WatchCommand::Boards)
 }
 
-/// The command that a value says on the watch port.
+/// The command that a value gives on the watch port.
 #[tactic(auto, unfolding(crate::specs::Commands::watch_command_in))]
 fn watch_command_of<O: Object>(object: &O) -> Result<WatchCommand, MessageFault>
     ensures { result ≡ watch_command_in (O.said object.now) }

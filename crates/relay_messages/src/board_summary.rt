@@ -1,4 +1,4 @@
-//! What the watch port tells of a board, and its text.
+//! What the watch port sends about a board, and its text.
 
 ghost use Rattle.std.specs.Prelude.{◌≡◌, string_bytes, IfOk};
 ghost use Rattle.relay_messages.specs.Answers.{board_text};
@@ -9,7 +9,7 @@ use relay_core::BoardName;
 use std::alloc::{AllocError, Global};
 use std::{fmt, str};
 
-/// How a board stands.
+/// The present state of a board.
 #[derive(Clone, Copy, PartialEq, Eq, Debug)]
 pub struct BoardSummary {
     /// Its name.
@@ -20,7 +20,7 @@ pub struct BoardSummary {
     pub position: Position,
     /// The last move, once there is one.
     pub last: Option<Move>,
-    /// How many moves the log has, each side's counted.
+    /// How many moves the log has, counting those of both sides.
     pub plies: u16,
     /// How the game ended, once it has.
     pub outcome: Option<Outcome>,
@@ -32,7 +32,7 @@ struct LastMove(Option<Move>);
 
 impl fmt::Display for LastMove {
     ghost use Rattle.std.specs.Prelude.{Some, option_map};
-    ghost use Rattle.c960_board.specs.Moves.{move_text};
+    ghost use Rattle.c960_board.specs.MoveTexts.{move_text};
     ghost use Rattle.relay_messages.specs.Answers.{text_or_null};
 
     ghost output = { λ last. Some (text_or_null (option_map move_text last.0)) };
@@ -42,7 +42,7 @@ impl fmt::Display for LastMove {
         let Some(m) = self.0 else {
             return f.write_str("null");
         };
-        // So its text is ASCII.
+        // Hence its text is ASCII.
         prove!(m.code() < 20480);
         let bytes = move_bytes(m);
         let spelt = str::from_utf8(bytes.as_slice()).unwrap();
@@ -69,7 +69,7 @@ impl fmt::Display for End {
     }
 }
 
-/// The text that tells of a board: one compact JSON object (RFC 8259) without white space, its keys in the order of their bytes.
+/// The text about a board: one compact JSON object (RFC 8259) without white space, its keys in the order of their bytes.
 ///
 /// # Errors
 ///
@@ -86,7 +86,7 @@ pub fn encode_board(alloc: Global, summary: &BoardSummary) -> Result<String, All
         plies,
         outcome,
     } = *summary;
-    // So its text is ASCII.
+    // Hence its text is ASCII.
     prove!(position.parts().number >= 1);
     let bytes = write_fen(&position);
     let fen = str::from_utf8(bytes.as_slice()).unwrap();

@@ -1,4 +1,4 @@
-//! The commands that objects say, one function each.
+//! The commands that objects give, one function each.
 
 ghost use Rattle.std.specs.Prelude.{◌≡◌, Some};
 ghost use Rattle.relay_messages.specs.Commands.{end_in, ending_in, ending_named, follow_in, from_in, leave_in, open_in, submit_in, take_in, with_members};
@@ -36,7 +36,7 @@ pub fn submit_of<O: Object>(object: &O) -> Option<Step>
     Some(Step::Submit(board, m))
 }
 
-/// The side, in an object with no other key more.
+/// The side, in an object with no further key.
 fn side_of_ending<O: Object>(object: &O) -> Option<Colour>
     ensures { result ≡ with_members 4 (O.said object.now) (side_at (O.said object.now)) }
 {
@@ -56,7 +56,7 @@ fn without_side<O: Object>(object: &O, ending: Ending) -> Option<Ending>
     Some(ending)
 }
 
-/// The ending of this name, with its side where it has one.
+/// The ending of this name, with its side if it has one.
 fn ending_of<O: Object>(object: &O, how: &str) -> Option<Ending>
     ensures { result ≡ ending_named (O.said object.now) how.now }
 {
@@ -80,7 +80,7 @@ pub fn end_of<O: Object>(object: &O) -> Option<Step>
     Some(Step::End(board, ending))
 }
 
-/// The place from which to follow, or none without the key, in an object with no other key more.
+/// The place from which to follow, or none without the key, in an object with no further key.
 fn from_of<O: Object>(object: &O) -> Option<Option<u16>>
     ensures { result ≡ from_in (O.said object.now) }
 {
@@ -91,7 +91,7 @@ fn from_of<O: Object>(object: &O) -> Option<Option<u16>>
     }
 }
 
-/// Lets a spectator follow a board: `board`, `spectator` and, where it is not to join at the log's present length, `from`.
+/// Makes a spectator follow a board: `board`, `spectator` and, unless it is to join at the log's present length, `from`.
 pub fn follow_of<O: Object>(object: &O) -> Option<Step>
     ensures { result ≡ follow_in (O.said object.now) }
 {

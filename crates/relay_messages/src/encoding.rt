@@ -1,4 +1,4 @@
-//! An answer to its text.
+//! Encoding an answer as its text.
 
 ghost use Rattle.std.specs.Prelude.{◌≡◌, string_bytes, IfOk};
 ghost use Rattle.relay_messages.specs.Answers.{answer_text, reply_text};

@@ -1,22 +1,22 @@
-//! Why a text is no command.
+//! Why a text is not a command.
 
 ghost use Rattle.std.specs.Prelude.{◌≡◌};
 ghost use Rattle.relay_messages.specs.Faults.{message_fault_code, message_fault_name};
 
-/// Why a text gives no command.
+/// Why a text is not a command.
 #[derive(Clone, Copy, PartialEq, Eq, Debug)]
 pub enum MessageFault {
     /// There was no memory to read it.
     OutOfMemory,
-    /// The text is none that `serde_json` reads: no JSON text in UTF-8, or one that nests deeper than 127, has a number past
+    /// `serde_json` does not read the text: it is not JSON text in UTF-8, or it nests deeper than 127, has a number past
     /// the floats' range or half a surrogate pair.
     NotJson,
-    /// The JSON value is no object.
+    /// The JSON value is not an object.
     NotObject,
-    /// The member `cmd` is missing, is no text, or names no command.
+    /// The member `cmd` is missing, is not a text, or names no command.
     UnknownCommand,
-    /// The text has more than 1,024 bytes; or a key is missing, there is a key more, or a value has another form than the
-    /// command asks for.
+    /// The text has more than 1,024 bytes; or a key is missing, there is a key too many, or a value has another form than the
+    /// command requires.
     BadField,
 }
 
@@ -34,7 +34,7 @@ impl MessageFault {
         }
     }
 
-    /// The name of the fault, as it stands in answers.
+    /// The name of the fault, as used in answers.
     pub fn name(&self) -> &'static str
         ensures { result.now ≡ message_fault_name self.now }
     {

@@ -50,14 +50,14 @@ pub fn spectator_field<O: Object>(object: &O) -> Option<Spectator>
     u32::try_from(object.number("spectator")?).ok()
 }
 
-/// A move.
+/// A move, read from its text.
 pub fn move_field<O: Object>(object: &O) -> Option<Move>
     ensures { result ≡ move_at (O.said object.now) }
 {
     read_move(object.text("move")?.as_bytes()).ok()
 }
 
-/// The side of a text.
+/// The side that a text names.
 fn side_of(text: &str) -> Option<Colour>
     ensures { result ≡ side_in text.now }
 {

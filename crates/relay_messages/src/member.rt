@@ -1,6 +1,6 @@
 //! A member of an object.
 
-/// What a member has.
+/// The value of a member.
 #[derive(Clone, Copy, Drop)]
 pub enum Field<'a> {
     /// A text, without its escapes.
@@ -22,6 +22,6 @@ impl<'a> Default for Field<'a> {
 pub struct Member<'a> {
     /// Its key.
     pub key: &'a str,
-    /// What it has.
+    /// Its value.
     pub field: Field<'a>,
 }

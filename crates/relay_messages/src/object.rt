@@ -1,4 +1,4 @@
-//! Objects in which members are looked up, however they were read.
+//! Objects in which members are looked up, no matter how they were read.
 
 ghost use Rattle.std.specs.Prelude.{◌≡◌, is_some, option_map};
 ghost use Rattle.serde_json.specs.Data.{Data};
@@ -9,9 +9,9 @@ use crate::any::AnyObject;
 use crate::member::Field;
 use crate::plain::PlainObject;
 
-/// A JSON value in which members are looked up. One that is no object has none.
+/// A JSON value in which members are looked up. One that is not an object has none.
 pub trait Object {
-    /// The value that it says.
+    /// The JSON value that it represents.
     ghost said: { Self → Data };
 
     /// Whether it is an object.
@@ -30,7 +30,7 @@ pub trait Object {
     fn number(&self, key: &str) -> Option<u64>
         ensures { result ≡ number_at key.now (said self.now) };
 
-    /// Whether there is a member of that key, of any form.
+    /// Whether there is a member with that key, of any form.
     fn has(&self, key: &str) -> bool
         ensures { result ≡ is_some (get key.now (said self.now)) };
 }

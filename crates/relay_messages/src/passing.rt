@@ -1,5 +1,5 @@
-//! Values that are passed over: they are read as `serde_json` reads them, and nothing is kept of what is in an array or an object. One loop
-//! does it, which keeps of what is open the kind alone: so a value that nests deep takes no more of the stack than another, and no memory.
+//! Values that are skipped: they are read as `serde_json` reads them, and nothing inside an array or an object is kept. One loop does this,
+//! and keeps only the kind of each open array or object. So a deeply nested value takes no more of the stack than others, and no memory.
 
 ghost use Rattle.std.specs.Prelude.{◌≡◌, ◌≤◌, ◌<◌, ℕ, true, false, None, Some, IfOk, OnOk, OnErr, cond, length, option_and_then, option_map};
 ghost use Rattle.json.specs.Json.{value};
@@ -13,8 +13,8 @@ use arrayvec::ArrayVec;
 use fast_float::Numeral;
 use json::{Invalid, Reader, Token};
 
-/// How many arrays and objects may be open around another one: `serde_json` reads values that nest 127 deep, and no member's value that
-/// is passed over is the outermost.
+/// How many arrays and objects may be open around another one. `serde_json` reads values that nest 127 deep, and a member's value that
+/// is skipped is never the outermost.
 const MOST_OUTER: usize = 126;
 
 /// What opens.
@@ -32,21 +32,21 @@ impl Default for Nest {
     }
 }
 
-/// What a value begins with.
+/// The beginning of a value.
 #[derive(Clone, Copy)]
 pub enum Beginning<'a> {
-    /// A text, and it is the value.
+    /// A text, which is the value.
     Text(&'a str),
-    /// An unsigned whole number, and it is the value.
+    /// An unsigned whole number, which is the value.
     Whole(u64),
-    /// Another number, a truth value or `null`, and it is the value.
+    /// Another number, a truth value or `null`, which is the value.
     Other,
     /// An array or an object opens.
     Opens(Nest),
 }
 
 impl Beginning<'_> {
-    /// What opens, if that does.
+    /// What opens, if anything does.
     fn opens(self) -> Option<Nest>
         ensures { result ≡ opened_by self.entry }
     {
@@ -59,7 +59,7 @@ impl Beginning<'_> {
     }
 }
 
-/// A number as a float: whether it is within the floats' range.
+/// A number as a float: whether it is within the range of floats.
 fn nearest(is_negative: bool, numeral: &Numeral<'_>) -> Option<Option<u64>>
     ensures { result ≡ option_map as_u64 (float_of is_negative numeral.now) }
 {
@@ -80,7 +80,7 @@ fn unsigned(numeral: &Numeral<'_>) -> Option<Option<u64>>
     }
 }
 
-/// A number behind a minus sign. It is never an unsigned whole one.
+/// A number after a minus sign. It is never an unsigned whole number.
 fn negative(numeral: &Numeral<'_>) -> Option<Option<u64>>
     ensures { result ≡ option_map as_u64 (number_from true numeral.now) }
 {
@@ -90,8 +90,8 @@ fn negative(numeral: &Numeral<'_>) -> Option<Option<u64>>
     }
 }
 
-/// The unsigned whole number of a number's text, or none in it where that is another number; and none at all where `serde_json` reads no
-/// number, since it is past the floats' range.
+/// The unsigned whole number of a number's text. It is `Some(None)` for any other number, and `None` if `serde_json` reads no
+/// number, because it is past the range of floats.
 fn number_in(text: &str) -> Option<Option<u64>>
     ensures { result ≡ option_map as_u64 (number_of text.now) }
 {
@@ -103,7 +103,7 @@ fn number_in(text: &str) -> Option<Option<u64>>
     }
 }
 
-/// Takes what the next value begins with.
+/// Reads the beginning of the next value.
 pub fn take_beginning<'a>(reader: &mut Reader<'a>) -> Result<Beginning<'a>, Invalid>
     ensures begins { IfOk result (λ beginning. Begins beginning reader.old reader.new) }
     ensures shorter { OnOk result (length reader.new < length reader.old) }
@@ -125,7 +125,7 @@ pub fn take_beginning<'a>(reader: &mut Reader<'a>) -> Result<Beginning<'a>, Inva
     }
 }
 
-/// Takes what closes an array or an object, or the key of an object's next member; and tells whether that closes it.
+/// Reads what closes an array or an object, or the key of an object's next member. Returns whether it closes.
 fn closes(reader: &mut Reader<'_>, nest: Nest) -> Result<bool, Invalid>
     ensures ok { IfOk result (λ closes. (depth : ℕ) → rest_passed nest depth reader.old
         ≡ cond closes (Some reader.new) (option_and_then (rest_passed nest depth) (passed depth reader.new))) }
@@ -151,8 +151,8 @@ struct Open {
 }
 
 impl Open {
-    /// One turn: what is next in the innermost is passed, or opens, or closes it. Tells whether one is still open. Within the outermost
-    /// values may nest so deep.
+    /// One turn: the next element of the innermost is skipped, or opens, or closes it. Returns whether anything is still open. Within the
+    /// outermost, values may nest `depth` deep.
     fn turn(&mut self, reader: &mut Reader<'_>, depth: usize) -> Result<bool, Invalid>
         requires most { depth ≤ 126 }
         requires room { length self.old.outer.items ≤ depth }
@@ -186,7 +186,7 @@ impl Open {
     }
 }
 
-/// Passes over the rest of an array or an object that was opened, within which values may nest so deep.
+/// Skips the rest of an array or an object that was opened, within which values may nest `depth` deep.
 pub fn pass_rest(reader: &mut Reader<'_>, nest: Nest, depth: usize) -> Result<(), Invalid>
     requires { depth ≤ 126 }
     ensures ok { OnOk result (rest_passed nest depth reader.old ≡ Some reader.new) }

@@ -1,5 +1,6 @@
 //! Plain objects: at most four members, each a text or an unsigned whole number, and no key twice. All objects of commands are plain. Such an
-//! object is read straight from the tokens of its text, whose bytes it borrows: no tree is built, and nothing is copied but texts with escapes.
+//! object is read directly from the tokens of its text, whose bytes it borrows: no tree is built, and nothing is copied except texts with
+//! escapes.
 
 ghost use Rattle.std.specs.Prelude.{◌≡◌, ◌==◌, ◌<◌, IfOk, IfSome, OnOk, Some, length, option_map, slice_index};
 ghost use Rattle.json.specs.Json.{members, value};
@@ -43,7 +44,7 @@ impl<'a> PlainObject<'a> {
         self.members.len()
     }
 
-    /// What the member of that key has.
+    /// The value of the member with that key.
     pub fn get(&self, key: &str) -> Option<Field<'a>>
         ensures { option_map field_data result ≡ get_member key.now (members_in self.now.members.items) }
     {
@@ -54,7 +55,7 @@ impl<'a> PlainObject<'a> {
     ///
     /// # Errors
     ///
-    /// There is a member of that key, or there is no room.
+    /// There is already a member with that key, or there is no room.
     fn add(&mut self, key: &'a str, field: Field<'a>) -> Result<(), Invalid>
         ensures { OnOk result (members_in self.new.members.items
             ≡ put key.now (field_data field.entry) (members_in self.old.members.items)) }
@@ -67,7 +68,7 @@ impl<'a> PlainObject<'a> {
     }
 }
 
-/// What the last of the members of that key has.
+/// The value of the last of the members with that key.
 pub fn find<'a>(members: &[Member<'a>], key: &str) -> Option<Field<'a>>
     ensures { option_map field_data result ≡ get_member key.now (members_in members.now) }
 {
@@ -87,7 +88,7 @@ pub fn has_minus(digits: &[u8]) -> bool
     !digits.is_empty() && digits[0] == b'-'
 }
 
-/// The unsigned whole number of a number's text: `1.0` and `1e0` are none.
+/// The unsigned whole number of a number's text: `1.0` and `1e0` do not count.
 fn whole_number(text: &str) -> Option<u64>
     ensures { IfSome result (λ number. number_of text.now ≡ Some (unsigned number)) }
 {
@@ -114,7 +115,7 @@ fn read_field<'a>(reader: &mut Reader<'a>) -> Result<Field<'a>, Invalid>
     }
 }
 
-/// The members behind an opening brace, with the brace that closes them.
+/// The members after an opening brace, up to and including the brace that closes them.
 fn read_members<'a>(reader: &mut Reader<'a>) -> Result<PlainObject<'a>, Invalid>
     ensures { IfOk result (λ object. converted (λ ms. of_members ms no_members)
         (members (value 126) (length reader.old) reader.old) ≡ Some (members_in object.members.items, reader.new)) }
@@ -141,7 +142,7 @@ fn read_object<'a>(reader: &mut Reader<'a>) -> Result<PlainObject<'a>, Invalid>
     }
 }
 
-/// The plain object that a text is, or none where it is something else. The scratch grows to the length of the text, and is lent to the
+/// The plain object that a text is, or none if it is something else. The scratch grows to the length of the text, and is lent to the
 /// object.
 ///
 /// # Errors

@@ -1,4 +1,4 @@
-//! A text to its command.
+//! Reading a text as its command.
 
 ghost use Rattle.std.specs.Prelude.{◌≡◌, ◌∷◌, Err, IfOk, None};
 ghost use Rattle.json.specs.Json.{value};
@@ -25,7 +25,7 @@ pub type Command = Step;
 /// How many bytes a text may have.
 const MOST_BYTES: usize = 1024;
 
-/// What is kept of an object that was opened, or none where an array was.
+/// What is kept of an object that was opened, or none if an array was.
 fn read_opened<'a>(
     alloc: Global,
     reader: &mut Reader<'a>,
@@ -46,7 +46,7 @@ fn read_opened<'a>(
     }
 }
 
-/// What is kept of the object that comes next, or none where another value does.
+/// What is kept of the object that comes next, or none if another value does.
 fn read_next<'a>(alloc: Global, reader: &mut Reader<'a>) -> Result<Option<KeptMembers<'a>>, Unread>
     ensures ok { IfOk result (λ found. IsNext found reader.old reader.new) }
     ensures err { result ≡ Err Unread.NotJson → converted of_json (value 127 reader.old) ≡ None }
@@ -60,7 +60,7 @@ fn read_next<'a>(alloc: Global, reader: &mut Reader<'a>) -> Result<Option<KeptMe
     }
 }
 
-/// The object that a text is, or none where it is another value.
+/// The object that a text is, or none if it is another value.
 fn read_object<'a>(
     alloc: Global,
     text: &'a str,
@@ -81,7 +81,7 @@ fn read_object<'a>(
     }
 }
 
-/// What a text asks that is no plain object, or any other.
+/// What a text asks for that is not a plain object, or any other.
 fn read_any<A: Asked>(alloc: Global, scratch: &mut Scratch, text: &str) -> Result<A, MessageFault>
     ensures { IsReading A.says text.now result }
 {
@@ -93,7 +93,7 @@ fn read_any<A: Asked>(alloc: Global, scratch: &mut Scratch, text: &str) -> Resul
     }
 }
 
-/// What a text in UTF-8 asks.
+/// What a text in UTF-8 asks for.
 fn read_text<A: Asked>(alloc: Global, scratch: &mut Scratch, text: &str) -> Result<A, MessageFault>
     ensures { IsReading A.says text.now result }
 {
@@ -105,7 +105,7 @@ fn read_text<A: Asked>(alloc: Global, scratch: &mut Scratch, text: &str) -> Resu
     read_any(alloc, scratch, text)
 }
 
-/// What decodes texts one after another. It keeps the memory that reading needs from text to text.
+/// Decodes texts one after another. It keeps the memory that reading needs from one text to the next.
 #[derive(Drop)]
 pub struct Decoder {
     alloc: Global,
@@ -113,7 +113,7 @@ pub struct Decoder {
 }
 
 impl Decoder {
-    /// It takes no memory yet.
+    /// A decoder that takes no memory yet.
     pub fn new(alloc: Global) -> Decoder {
         Decoder {
             alloc,
@@ -121,7 +121,7 @@ impl Decoder {
         }
     }
 
-    /// The command that a text says, as `decode` gives it.
+    /// The command that a text gives, as `decode` returns it.
     ///
     /// # Errors
     ///
@@ -133,7 +133,7 @@ impl Decoder {
         self.read(text)
     }
 
-    /// The command that a text says on the watch port: `boards`, which has no other key, or what it says on the main port.
+    /// The command that a text gives on the watch port: `boards`, which has no other key, or what it gives on the main port.
     ///
     /// # Errors
     ///
@@ -145,7 +145,7 @@ impl Decoder {
         self.read(text)
     }
 
-    /// What a text asks.
+    /// What a text asks for.
     fn read<A: Asked>(&mut self, text: &[u8]) -> Result<A, MessageFault>
         ensures { IsSaid text.now (text_says A.says text.now) result }
     {
@@ -159,15 +159,15 @@ impl Decoder {
     }
 }
 
-/// The command that a text says: a JSON object (RFC 8259) with the keys of one of the six commands. White space, escapes
-/// and the order of keys are free, as `serde_json` reads them; where a key is repeated, the last counts.
+/// The command that a text gives: a JSON object (RFC 8259) with the keys of one of the six commands. White space, escapes
+/// and the order of keys are free, as `serde_json` reads them; if a key is repeated, the last one counts.
 ///
 /// # Errors
 ///
 /// The first of these: `BadField` for a text of more than 1,024 bytes, for which no memory is taken; `NotJson` for a text
-/// that `serde_json` does not read; `NotObject`; `UnknownCommand` where `cmd` is missing, is no text or names no command;
-/// `BadField` where a key is missing, there is a key more, or a value has another form. `OutOfMemory` where a text within
-/// the 1,024 bytes could not be read for want of memory.
+/// that `serde_json` does not read; `NotObject`; `UnknownCommand` if `cmd` is missing, is not a text or names no command;
+/// `BadField` if a key is missing, there is a key too many, or a value has another form. `OutOfMemory` if a text within
+/// the 1,024 bytes could not be read for lack of memory.
 pub fn decode(alloc: Global, text: &[u8]) -> Result<Command, MessageFault>
     ensures { IsDecoding text.now result }
 {

@@ -6,7 +6,7 @@ use std::alloc::AllocError;
 /// Why a text was not read.
 #[derive(Clone, Copy, PartialEq, Eq, Drop)]
 pub enum Unread {
-    /// It is none that `serde_json` reads.
+    /// `serde_json` does not read it.
     NotJson,
     /// There was no memory.
     OutOfMemory,

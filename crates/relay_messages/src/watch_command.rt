@@ -1,11 +1,11 @@
-//! What is asked on the watch port.
+//! What may be asked for on the watch port.
 
 use relay_core::Step;
 
-/// What a text asks on the watch port.
+/// What a text asks for on the watch port.
 #[derive(Clone, Copy, PartialEq, Eq, Debug)]
 pub enum WatchCommand {
-    /// To be told of all boards.
+    /// To be sent all boards.
     Boards,
     /// A command of the main port.
     Step(Step),

@@ -1,4 +1,3 @@
-pub mod Pushes
-pub mod Turns
-pub mod Stops
-pub mod Abandons
+pub mod lemmas
+mod Stops
+mod Abandons

@@ -1,4 +1,4 @@
--- What a connection is answered, and which boards it has opened.
+-- How a connection is answered, and which boards it has opened.
 use Rattle.std.specs.Prelude.{◌≡◌, ◌≢◌, ◌⊎◌, ℕ, List, [], ◌∷◌, ◌++◌, Bool, true, false, cond, Ok, Err, ⊤}
 use Rattle.std.specs.List.{list_any}
 use Rattle.c960_game.specs.declared.ending.Ending.TheVariants.{Abandoned}
@@ -15,7 +15,7 @@ use Rattle.relay_messages.specs.declared.answer.Answer.{Answer}
 use Rattle.relay_messages.specs.declared.answer.Answer.TheVariants as answers
 use Rattle.relay_messages.specs.Decoding.{IsDecoding}
 
--- What a connection asks of its keeper before a step: whether there is a board of this name; whether it belongs to the connection, be it that
+-- What a connection asks of its keeper before a step: whether there is a board of this name; whether it belongs to the connection, even if
 -- another one opened it; whether any board does.
 pub data Question : Type 0 where
   Knows : (board : List ℕ) → Question
@@ -35,19 +35,19 @@ opened_by _ = []
 abbrev pub opened_after : List (List ℕ) → Step → Reply → List (List ℕ)
 opened_after opened step reply = cond (is_accepted reply) (opened ++ opened_by step) opened
 
--- the board belongs to the connection: it opened it, or the keeper tells so
+-- the board belongs to the connection: it opened it, or the keeper says so
 abbrev pub IsOwn : (Question → Bool → Type 0) → List (List ℕ) → List ℕ → Type 0
 IsOwn tells opened board = (is_among board opened ≡ true) ⊎ tells (Owns board) true
 
--- some board belongs to the connection: it opened one, or the keeper tells so
+-- some board belongs to the connection: it opened one, or the keeper says so
 abbrev pub OwnsSome : (Question → Bool → Type 0) → List (List ℕ) → Type 0
 OwnsSome tells opened = (opened ≢ []) ⊎ tells OwnsAny true
 
--- no board belongs to the connection: it opened none, and the keeper tells so
+-- no board belongs to the connection: it opened none, and the keeper says so
 abbrev pub OwnsNone : (Question → Bool → Type 0) → List (List ℕ) → Type 0
 OwnsNone tells opened = (opened ≡ []) × tells OwnsAny false
 
--- a board that does not belong to the connection is NotYourBoard or NoSuchBoard, as the keeper tells that it knows the board or not
+-- a board that does not belong to the connection gives NotYourBoard or NoSuchBoard, as the keeper says that it knows the board or not
 pub record IsForeign (tells : Question → Bool → Type 0) (opened : List (List ℕ)) (board : List ℕ) (refusal : Refusal) : Type 0 where
   pub foreign : is_among board opened ≡ false
   pub unowned : tells (Owns board) false
@@ -55,7 +55,7 @@ pub record IsForeign (tells : Question → Bool → Type 0) (opened : List (List
   pub told : tells (Knows board) known
   pub reason : refusal ≡ cond known NotYourBoard NoSuchBoard
 
--- the connection may not make the step, for this reason
+-- the connection may not make the step for this reason
 abbrev pub Bars : (Question → Bool → Type 0) → List (List ℕ) → Step → Refusal → Type 0
 Bars tells opened (Open board start) refusal = ⊥
 Bars tells opened (Submit board m) refusal = IsForeign tells opened board refusal
@@ -96,7 +96,7 @@ abbrev pub Replied : {K : Type 0} → (Question → Bool → Type 0) → (K → 
 Replied tells makes opened k step reply boards after =
     Made tells makes opened k step reply boards after ⊎ Barred tells opened k step reply boards after
 
--- a text gets this answer: the fault of its decoding, and nothing was made; or the reply to the step that it says
+-- a text gets this answer: the fault of its decoding, and nothing was made; or the reply to the step that it asks for
 abbrev pub Leads : {K : Type 0} → (Question → Bool → Type 0) → (K → Step → Reply → K → Type 0) → List (List ℕ) → K → List ℕ → Answer → List (List ℕ) → K → Type 0
 Leads tells makes opened k text (answers.Fault fault) boards after = IsDecoding text (Err fault) × IsUnmoved opened k boards after
 Leads tells makes opened k text (answers.Reply reply) boards after =
@@ -107,7 +107,7 @@ abbrev pub Answered : {K : Type 0} → (Question → Bool → Type 0) → (K →
 Answered tells makes opened k text bytes boards after =
     (answer : Answer) × Leads tells makes opened k text answer boards after × (bytes ≡ answer_text answer)
 
--- there was no memory to answer a text: the keeper made the step that the text says, or none was made
+-- there was no memory to answer a text: the keeper made the step that the text asks for, or none was made
 abbrev pub Stopped : {K : Type 0} → (Question → Bool → Type 0) → (K → Step → Reply → K → Type 0) → List (List ℕ) → K → List ℕ → List (List ℕ) → K → Type 0
 Stopped tells makes opened k text boards after =
     ((step : Step) × (reply : Reply) × IsDecoding text (Ok step) × Made tells makes opened k step reply boards after)

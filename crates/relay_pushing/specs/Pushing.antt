@@ -1,4 +1,4 @@
--- What is taken of a source, and what an outlet is sent of it.
+-- What is taken from a source, and what an outlet is sent of it.
 use Rattle.std.specs.Prelude.{◌≡◌, ℕ, List, [], ◌∷◌, ◌++◌, Option, None, Some, ⊤}
 use Rattle.relay_core.specs.declared.reply.Taken.{Taken}
 use Rattle.relay_core.specs.declared.reply.Taken.TheVariants as takes
@@ -20,7 +20,7 @@ Takes {S} gives s (x ∷ xs) t = (mid : S) × gives s x mid × Takes gives mid x
 abbrev pub text_of : Taken → List ℕ
 text_of taken = answer_text (Reply (Took taken))
 
--- the texts of answers, in order, Nothing left out
+-- the texts of answers, in order, except Nothing
 abbrev pub texts_of : List Taken → List (List ℕ)
 texts_of [] = []
 texts_of (takes.Nothing ∷ xs) = texts_of xs
@@ -39,38 +39,38 @@ abbrev pub AllGoOn : List Taken → Type 0
 AllGoOn [] = ⊤
 AllGoOn (x ∷ xs) = GoesOn x × AllGoOn xs
 
--- Takes with answers that go on, then one with the last answer, lead from s to t, and the texts of those sent came to the outlet.
+-- Takes with answers that go on, then one with the last answer, lead from s to t. The outlet gained the texts of those that were sent.
 pub record Went {S : Type 0} (gives : S → Taken → S → Type 0) (s t : S) (old new : Option (List (List ℕ))) (before : List Taken) (last : Taken) (sent : List Taken) : Type 0 where
   pub go_on : AllGoOn before
   pub taken : Takes gives s (before ++ last ∷ []) t
   pub gained : GainsAll old new (texts_of sent)
 
--- Over or Cut is answered where that was the last answer and all of them were sent; Failed, where all but the last were.
+-- The result is Over or Cut if that was the last answer and all of them were sent; it is Failed if all but the last were.
 abbrev pub Pushed : {S : Type 0} → (S → Taken → S → Type 0) → S → S → Option (List (List ℕ)) → Option (List (List ℕ)) → PushEnd → Type 0
 Pushed gives s t old new (Over outcome) =
     (before : List Taken) × Went gives s t old new before (takes.Over outcome) (before ++ takes.Over outcome ∷ [])
 Pushed gives s t old new Cut = (before : List Taken) × Went gives s t old new before takes.Cut (before ++ takes.Cut ∷ [])
 Pushed gives s t old new (Failed fault) = (before : List Taken) × (last : Taken) × Went gives s t old new before last before
 
--- Takes with answers that go on lead from s to t, and the texts of all of them came to the outlet.
+-- Takes with answers that go on lead from s to t, and the outlet gained the texts of all of them.
 pub record Going {S : Type 0} (gives : S → Taken → S → Type 0) (s t : S) (old new : Option (List (List ℕ))) : Type 0 where
   pub before : List Taken
   pub go_on : AllGoOn before
   pub taken : Takes gives s before t
   pub gained : GainsAll old new (texts_of before)
 
--- A turn went on, so that nothing was taken that was not sent; or it ended pushing. It waits only where the last answer was Nothing.
+-- A turn went on, so that nothing was taken that was not sent; or it ended pushing. It waits only if the last answer was Nothing.
 abbrev pub Turned : {S : Type 0} → (S → Taken → S → Type 0) → S → S → Option (List (List ℕ)) → Option (List (List ℕ)) → Turn → Type 0
 Turned {S} gives s t old new Waits = (m : S) × Going gives s m old new × gives m takes.Nothing t
 Turned gives s t old new IsFull = Going gives s t old new
 Turned gives s t old new (Ended end) = Pushed gives s t old new end
 
--- one take more: where there may be more, it went on
+-- another take: if there may be more, it went on
 abbrev pub HasPushed : {S : Type 0} → (S → Taken → S → Type 0) → S → S → Option (List (List ℕ)) → Option (List (List ℕ)) → Option Turn → Type 0
 HasPushed gives s t old new None = Going gives s t old new
 HasPushed gives s t old new (Some turn) = Turned gives s t old new turn
 
--- a device's fault is answered only where the count of failures rose or is full
+-- the result is a device's fault only if the count of failures rose or is full
 abbrev pub IsDeviceFaultCounted : ℕ → ℕ → PushEnd → Type 0
 IsDeviceFaultCounted old new (Over outcome) = ⊤
 IsDeviceFaultCounted old new Cut = ⊤

@@ -45,7 +45,7 @@ impl Conn {
         self.opened.contains(&board)
     }
 
-    /// Whether some board belongs to the connection: it opened one, or the keeper tells so.
+    /// Whether some board belongs to the connection: it opened one, or the keeper says so.
     pub fn is_owner<K: Keeper>(&self, keeper: &K) -> bool
         ensures some { result ≡ true → OwnsSome (K.tells keeper.now) self.now }
         ensures none { result ≡ false → OwnsNone (K.tells keeper.now) self.now }
@@ -80,7 +80,7 @@ impl Conn {
         }
     }
 
-    /// Replies to a step: makes it where the connection may. Room for an opened board is asked for before the step is made.
+    /// Replies to a step: makes it if the connection may. Room for an opened board is reserved before the step is made.
     fn reply<K: Keeper>(&mut self, step: &Step, keeper: &mut K) -> Result<Reply, AllocError>
         ensures ok { IfOk result (λ reply. Replied (K.tells keeper.old) K.makes self.old keeper.old step.now reply self.new keeper.new) }
         ensures err { OnErr result (IsUnmoved self.old keeper.old self.new keeper.new) }
@@ -99,7 +99,7 @@ impl Conn {
         Ok(reply)
     }
 
-    /// What a text is to be answered.
+    /// The answer to a text.
     fn answer_to<K: Keeper>(&mut self, text: &[u8], keeper: &mut K) -> Result<Answer, AllocError>
         ensures ok { IfOk result (λ answer. Leads (K.tells keeper.old) K.makes self.old keeper.old text.now answer self.new keeper.new) }
         ensures err { OnErr result (IsUnmoved self.old keeper.old self.new keeper.new) }
@@ -110,16 +110,16 @@ impl Conn {
         }
     }
 
-    /// Answers one text: the fault of its decoding; the refusal where the connection may not make the step that it says; else
-    /// the reply to that step, which the keeper made.
+    /// Answers one text: with the fault of its decoding; with the refusal if the connection may not make the step that it asks for; else
+    /// with the reply to that step, which the keeper made.
     ///
-    /// A connection may not take or leave, and not follow once it has opened a board, or where the keeper tells that one belongs to it
-    /// (`WrongMode`); it may submit to and end the boards that it opened and those that the keeper tells to be its own, and no others
-    /// (`NotYourBoard`, or `NoSuchBoard` where the keeper knows no such board).
+    /// A connection may not take or leave. It may not follow once it has opened a board, or if the keeper says that one belongs to it
+    /// (`WrongMode`). It may submit to and end the boards that it opened and those that the keeper says are its own, and no others
+    /// (`NotYourBoard`, or `NoSuchBoard` if the keeper knows no such board).
     ///
     /// # Errors
     ///
-    /// There was no memory. The keeper made the step or none was made, and the boards that were opened are known all the same.
+    /// There was no memory. The keeper made the step or none was made; in either case the boards that were opened are known.
     #[tactic(auto, using(crate::proofs::Stops::stopped_after))]
     pub fn answer<K: Keeper>(&mut self, text: &[u8], keeper: &mut K) -> Result<String, AllocError>
         ensures ok { IfOk result (λ s. Answered (K.tells keeper.old) K.makes self.old keeper.old text.now (string_bytes s) self.new keeper.new) }
@@ -129,7 +129,7 @@ impl Conn {
         encode(self.alloc, &answer)
     }
 
-    /// Ends each board that the connection opened as abandoned, in the order of opening. A game that has ended stays as it ended.
+    /// Ends each board that the connection opened as abandoned, in the order of opening. A game that has already ended stays as it is.
     pub fn finish<K: Keeper>(self, keeper: &mut K)
         ensures { Ends K.makes keeper.old self keeper.new }
     {
@@ -138,7 +138,7 @@ impl Conn {
         }
     }
 
-    /// Parts with the connection where its boards are to outlive it: they are handed back, in the order of opening. No step is made, since
+    /// Gives up the connection when its boards are to outlive it: they are returned, in the order of opening. No step is made, since
     /// no keeper is asked.
     pub fn part(self) -> Vec<BoardName>
         ensures { result.items ≡ self }

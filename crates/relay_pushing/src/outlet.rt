@@ -6,7 +6,7 @@ ghost use Rattle.relay_pushing.specs.Sending.{Counts, Gains, send_fault_code as 
 /// Why a text was not sent.
 #[derive(Clone, Copy, PartialEq, Eq, Debug)]
 pub enum SendFault {
-    /// The device failed: any cause but want of memory, a full buffer among them.
+    /// The device failed: for any cause but lack of memory, including a full buffer.
     Device,
     /// There was no memory.
     OutOfMemory,
@@ -26,19 +26,19 @@ impl SendFault {
 
 /// Where texts go. It counts the failures of its device, up to the greatest `u64`.
 pub trait Outlet {
-    /// The texts that it accepted, in order, where it tells them.
+    /// The texts that it accepted, in order, if it reports them.
     ghost sent: { Self → Option (List (List ℕ)) } = { λ _. None };
 
     /// How often its device failed.
     ghost failures: { Self → ℕ };
 
-    /// Whether it has room for a text more. Who pushes by turns asks this before each take, and goes on later where there is none. An outlet whose
-    /// `send` may wait until there is room needs no other body than this one.
+    /// Whether it has room for another text. Pushing by turns asks this before each take, and goes on later if there is none. An outlet
+    /// whose `send` may wait until there is room needs no other body than this one.
     fn has_room(&self) -> bool {
         true
     }
 
-    /// Accepts a text. It is on its way at the latest after the next `flush` or `close`.
+    /// Accepts a text. It is on its way after the next `flush` or `close` at the latest.
     ///
     /// # Errors
     ///
@@ -60,7 +60,7 @@ pub trait Outlet {
         Ok(())
     }
 
-    /// Sends on its way what was accepted, and then that there is no more, for the reason of this code.
+    /// Sends on its way what was accepted, and then that there is no more, for the reason given by this code.
     ///
     /// # Errors
     ///

@@ -1,4 +1,4 @@
-//! Pushing: what a source gives is sent to an outlet.
+//! Pushing: sending to an outlet what a source gives.
 
 ghost use Rattle.std.specs.Prelude.{◌≡◌, ◌≤◌, OnOk, OnErr};
 ghost use Rattle.relay_pushing.specs.Pushing.{HasPushed, IsDeviceFaultCounted, IsNextCounted, IsTurnCounted, Pushed, Turned, text_of};
@@ -47,7 +47,7 @@ fn send_taken<O: Outlet>(alloc: Global, outlet: &mut O, taken: Taken) -> Result<
     }
 }
 
-/// Takes what is next and sends it: None where a move was sent, so that there may be more.
+/// Takes what is next and sends it. Returns None if a move was sent, so that there may be more.
 fn push_next<O: Outlet, S: Source>(alloc: Global, outlet: &mut O, source: &mut S) -> Option<Turn>
     ensures pushed { HasPushed S.gives source.old source.new (O.sent outlet.old) (O.sent outlet.new) result }
     ensures kept { O.failures outlet.old ≤ O.failures outlet.new }
@@ -71,9 +71,9 @@ fn push_next<O: Outlet, S: Source>(alloc: Global, outlet: &mut O, source: &mut S
     }
 }
 
-/// Sends what the source gives as long as the outlet has room: a turn, after which pushing may go on by another one. What was taken was sent,
-/// unless the turn ended pushing: the outlet is asked for room before each take. It neither flushes nor waits. Turns of which the last one ended
-/// pushing are together what one call of `push_all` is (`laws::pushed_on`).
+/// Sends what the source gives as long as the outlet has room: one turn, after which another may go on. What was taken was sent,
+/// unless the turn ended pushing: the outlet is asked for room before each take. It neither flushes nor waits. Turns of which the last one
+/// ended pushing are together the same as one call of `push_all` (`laws::pushed_on`).
 pub fn push_some<O: Outlet, S: Source>(alloc: Global, outlet: &mut O, source: &mut S) -> Turn
     ensures turned { Turned S.gives source.old source.new (O.sent outlet.old) (O.sent outlet.new) result }
     ensures kept { O.failures outlet.old ≤ O.failures outlet.new }
@@ -90,9 +90,9 @@ pub fn push_some<O: Outlet, S: Source>(alloc: Global, outlet: &mut O, source: &m
     Turn::IsFull
 }
 
-/// Sends what the source gives, each answer once and in order, `Nothing` left out. Where there is nothing more yet, it flushes
-/// the outlet and waits for the bell. It ends where the source answers `Over` or `Cut`, or where a text could not be made or
-/// sent; then it sends no more.
+/// Sends what the source gives, each answer once and in order, except `Nothing`. When there is nothing more yet, it flushes
+/// the outlet and waits for the bell. It ends if the source answers `Over` or `Cut`, or if a text could not be made or
+/// sent; after that it sends no more.
 pub fn push_all<R: Wait, O: Outlet, S: Source, B: Bell>(
     rt: &R,
     alloc: Global,

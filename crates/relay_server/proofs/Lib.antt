@@ -5,5 +5,4 @@ pub mod Stretches
 pub mod Told
 pub mod Owned
 pub mod Refusals
-pub mod Sendings
 pub mod Served

@@ -4,10 +4,10 @@ use Rattle.std.specs.Map.{keys_of, lookup}
 use Rattle.indexmap.specs.IndexMap.{insert_entry}
 use Rattle.std.proofs.lemmas.Map.Made.{is_some-lookup}
 use Rattle.relay_core.specs.Name.{same_name}
-use Rattle.relay_core.proofs.NameFacts.{same_name_is}
+use Rattle.relay_core.proofs.lemmas.Names.{same_name_is}
 use Rattle.relay_server.specs.Opening.{AreNamed, is_taken}
 
--- a name is found where it is taken
+-- a name is found exactly if it is taken
 pub taken_where_found : {B : Type 0} (name : List ℕ) (es : List (List ℕ × B)) → is_some (lookup (same_name name) es) ≡ is_taken (keys_of es) name
 taken_where_found name es = is_some-lookup (same_name name) es
 
@@ -28,11 +28,11 @@ module _ {B : Type 0} where
       by true is rest = subst (λ n. same_name name n ≡ true) (sym (head_named e es name_of named)) is
       by false is rest = rest
 
-  -- the same boards stand under the same names
+  -- the same boards are under the same names
   pub same_named : (fs es : List (List ℕ × B)) (name_of : B → List ℕ) → fs ≡ es → AreNamed es name_of → AreNamed fs name_of
   same_named fs es name_of same named = subst (λ l. AreNamed l name_of) (sym same) named
 
-  -- and what is put under its name stands under it, the others under theirs
+  -- and what is put under its name is under it, the others under theirs
   inserted_named : (es : List (List ℕ × B)) (name_of : B → List ℕ) (b : B) → AreNamed es name_of → AreNamed (insert_entry same_name es (name_of b) b) name_of
   inserted_named [] name_of b named = refl
   inserted_named (e ∷ es) name_of b named = by (same_name (name_of b) e.0) refl (inserted_named es name_of b (tail_named e es name_of named))
@@ -42,21 +42,21 @@ module _ {B : Type 0} where
       by true is rest = let here : name_of b ≡ e.0 = same_name_is _ _ is in let tail = tail_named e es name_of named in cc (here, tail)
       by false is rest = let here = head_named e es name_of named in cc (here, rest)
 
--- likewise where the name comes in another spelling
+-- the same if the name comes in another spelling
 pub inserted_as : {B : Type 0} (es : List (List ℕ × B)) (name_of : B → List ℕ) (b : B) (key : List ℕ) → key ≡ name_of b → AreNamed es name_of → AreNamed (insert_entry same_name es key b) name_of
 inserted_as es name_of b key is named = subst (λ k. AreNamed (insert_entry same_name es k b) name_of) (sym is) (inserted_named es name_of b named)
 
--- what a look-up's result lends has what the result has
+-- what a borrowed result has, the result has
 pub copied_has : {B : Type 0} (P : B → Type 0) (lent : Option (Bor B)) (found : Option B) → option_copied lent ≡ found → IfSome found P → IfSome lent (λ b. P b.now)
 copied_has P None found is has = tt
 copied_has P (Some b) found is has = subst (λ r. IfSome r P) (sym is) has
 
--- by what a call made where it was done, and where it was refused
+-- what holds after a call: if it was done, and if it was refused
 pub by_result : {A E P Q G : Type 0} (r : Result A E) → OnOk r P → OnErr r Q → (P → G) → (Q → G) → G
 by_result (Ok done) p q f g = f p
 by_result (Err fault) p q f g = g q
 
--- a map with room for one more has room for as many in all behind it
+-- a map with room for one more has the same room in all afterwards
 pub room_after : {E : Type 0} (r : Result Unit E) (most old spare new left : ℕ) → OnOk r (new ≡ old + 1) → (0 < spare → IsOk r) → spare ≤ left + 1 → old < most → most ≤ old + spare → most ≤ new + left
 room_after (Ok done) most old spare new left grew succeeds less fewer room = omega arith
 room_after (Err fault) most old spare new left grew succeeds less fewer room = absurd (true≢false (sym (succeeds (omega arith))))

@@ -1,9 +1,10 @@
--- Why one may not join a board.
-use Rattle.std.proofs.Common.{◌+◌, ◌<◌, ◌≤◌, ℕ, length, Option, None, Some, Err, refl, inl, inr, arith}
+-- Why a follower may not join a board.
+use Rattle.std.proofs.Common.{◌≡◌, ◌⊎◌, ◌↔◌, ◌+◌, ◌<◌, ◌≤◌, ℕ, length, Option, None, Some, Result, Ok, Err, IfErr, refl, sym, subst, ap, ◌∙◌, inl, inr, arith}
+use Rattle.c960_game.specs.declared.refusal.Refusal.{Refusal}
 use Rattle.c960_game.specs.declared.refusal.Refusal.TheVariants.{NotYet, TooFarBack, TooManyFollowers}
-use Rattle.c960_game.proofs.KeptFacts.{opened_is_game}
-use Rattle.live_steps.specs.declared.view.View.{View}
-use Rattle.live_steps.specs.Views.{starting}
+use Rattle.c960_game.proofs.lemmas.KeptFacts.{opened_is_game}
+use Rattle.live_board.specs.declared.view.View.{View}
+use Rattle.live_board.specs.Views.{starting}
 use Rattle.live_board.specs.Board.{from_place, setup_of}
 use Rattle.relay_server.specs.Broadcasting.{JoinAnswer, IsJoinAnswer}
 
@@ -27,7 +28,25 @@ refused_late board place made late = record {
   sound = tt;
 }
 
--- who could join but for the followers that there are
+-- a place at which a follower may not join is reported with the first ground
+by_ground : (board : View) (place : ℕ) (answer : Result Unit Refusal) (refusal : Refusal) → answer ≡ Err refusal
+    → (answer ≡ Err NotYet) ↔ (length board.log < place)
+    → (answer ≡ Err TooFarBack) ↔ ((place ≤ length board.log) × (place + board.setup.limits.capacity < length board.log))
+    → (refusal ≡ NotYet) ⊎ (refusal ≡ TooFarBack) → JoinAnswer board (Some place) (Err refusal)
+by_ground board place answer refusal is early late (inl e) =
+    subst (λ r. JoinAnswer board (Some place) (Err r)) (sym e) (refused_early board place (early.0 (is ∙ ap Err e)))
+by_ground board place answer refusal is early late (inr e) =
+    let far = late.0 (is ∙ ap Err e) in
+    subst (λ r. JoinAnswer board (Some place) (Err r)) (sym e) (refused_late board place far.0 far.1)
+
+pub refused_for : (board : View) (place : ℕ) (answer : Result Unit Refusal) (refusal : Refusal) → answer ≡ Err refusal
+    → (answer ≡ Err NotYet) ↔ (length board.log < place)
+    → (answer ≡ Err TooFarBack) ↔ ((place ≤ length board.log) × (place + board.setup.limits.capacity < length board.log))
+    → IfErr answer (λ r. (r ≡ NotYet) ⊎ (r ≡ TooFarBack)) → JoinAnswer board (Some place) (Err refusal)
+refused_for board place answer refusal is early late one =
+    by_ground board place answer refusal is early late (subst (λ (a : Result Unit Refusal). IfErr a (λ r. (r ≡ NotYet) ⊎ (r ≡ TooFarBack))) is one)
+
+-- a follower that could join but for the followers that there are
 pub refused_full : (board : View) (from : Option ℕ) → from_place board from ≤ length board.log → length board.log ≤ from_place board from + board.setup.limits.capacity → JoinAnswer board from (Err TooManyFollowers)
 refused_full board from made near = record {
   not_yet = ((λ h. cc), (λ h. absurd (omega (arith, made, h))));
@@ -38,7 +57,7 @@ refused_full board from made near = record {
   sound = tt;
 }
 
--- who names no place may be refused so by any board, as by one that was just opened
+-- a follower that names no place may get this refusal from any board, for example from one that was just opened
 pub refused_at_once : IsJoinAnswer None (Err TooManyFollowers)
 refused_at_once =
     let board = starting (setup_of 0 (record { boards = 1; followers = 1; capacity = 1; plies = 1 })) in

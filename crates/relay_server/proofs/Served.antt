@@ -1,20 +1,20 @@
--- One who follows is pushed to by turns: what is known of it behind each.
+-- A follower is pushed to in turns: what is known of it after each.
 use Rattle.std.proofs.Common.{◌≡◌, ℕ, List, Some, refl, sym, ap, subst}
 use Rattle.relay_pushing.specs.declared.pushing.PushEnd.{PushEnd}
 use Rattle.relay_pushing.specs.declared.pushing.PushEnd.TheVariants.{Over, Cut, Failed}
 use Rattle.relay_pushing.specs.declared.pushing.Turn.{Turn}
 use Rattle.relay_pushing.specs.declared.pushing.Turn.TheVariants as turns
 use Rattle.relay_pushing.specs.Pushing.{Going, Turned, Pushed}
-use Rattle.relay_pushing.proofs.Turns.{going_on, pushed_on, waiting_goes_on}
+use Rattle.relay_pushing.proofs.lemmas.Turns.{going_on, pushed_on, waiting_goes_on}
 use Rattle.live_board.specs.Seats.{FollowerSeat}
 use Rattle.relay_server.specs.declared.spectating.Spectating.{Spectating}
-use Rattle.relay_server.specs.declared.spectator.State.{State}
-use Rattle.relay_server.specs.declared.spectator.State.TheVariants as states
+use Rattle.relay_server.specs.declared.spectator.SpectatorState.{SpectatorState}
+use Rattle.relay_server.specs.declared.spectator.SpectatorState.TheVariants as states
 use Rattle.relay_server.specs.Spectating.{Gives, Spectated, session_end}
 use Rattle.relay_server.specs.Served.{Ended, Following, IsSentSoFar, IsServed, Standing, TookTurn, standing_of}
 use Rattle.relay_server.proofs.Stretches.{pushed_sent}
 
--- one turn more that went on
+-- one more turn that went on
 pub sent_on : (g h : FollowerSeat) (old new : List (List ℕ)) → IsSentSoFar g old → Going Gives g h (Some old) (Some new) → IsSentSoFar h new
 sent_on g h old new sent turn = record {
   f = sent.f;
@@ -34,15 +34,15 @@ spectated g h old new end sent turn = record {
       (end, pushed_sent sent.f h (Some sent.before) (Some new) end (pushed_on Gives sent.f g h (Some sent.before) (Some old) (Some new) end sent.going turn), refl);
 }
 
--- who follows was sent so far what its follower took
-pub sent_so_far : (state : State) (spectating : Spectating) (texts : List (List ℕ)) → IsServed (standing_of state) texts → state ≡ states.Follows spectating → IsSentSoFar spectating.source texts
-sent_so_far state spectating texts served is = subst (λ (z : State). IsServed (standing_of z) texts) is served
+-- a follower was sent so far what its follower took
+pub sent_so_far : (state : SpectatorState) (spectating : Spectating) (texts : List (List ℕ)) → IsServed (standing_of state) texts → state ≡ states.Follows spectating → IsSentSoFar spectating.source texts
+sent_so_far state spectating texts served is = subst (λ (z : SpectatorState). IsServed (standing_of z) texts) is served
 
 -- how a turn ends that ends pushing
 pub pushed_at : (g h : FollowerSeat) (old new : List (List ℕ)) (turn : Turn) (end : PushEnd) → turn ≡ turns.Ended end → Turned Gives g h (Some old) (Some new) turn → Pushed Gives g h (Some old) (Some new) end
 pushed_at g h old new turn end is turned = subst (λ (z : Turn). Turned Gives g h (Some old) (Some new) z) is turned
 
--- behind such a turn it was served as one that ended so
+-- after such a turn it was served as one that ended in this way
 pub ended_served : (g h : FollowerSeat) (old new : List (List ℕ)) (end : PushEnd) (standing : Standing) → IsSentSoFar g old → Pushed Gives g h (Some old) (Some new) end → standing ≡ Ended (session_end end) → IsServed standing new
 ended_served g h old new (Over outcome) standing sent turn is = subst (λ (z : Standing). IsServed z new) (sym is) (spectated g h old new (Over outcome) sent turn)
 ended_served g h old new Cut standing sent turn is = subst (λ (z : Standing). IsServed z new) (sym is) (spectated g h old new Cut sent turn)
@@ -54,13 +54,13 @@ turned_sent g h old new turns.Waits on sent turned = sent_on g h old new sent (w
 turned_sent g h old new turns.IsFull on sent turned = sent_on g h old new sent turned
 turned_sent g h old new (turns.Ended end) on sent turned = absurd (on end refl)
 
--- and it follows still
+-- and it still follows
 pub took_turn : (f h : FollowerSeat) (old new : List (List ℕ)) (turn : Turn) → ((end : PushEnd) → turn ≡ turns.Ended end → ⊥) → Turned Gives f h (Some old) (Some new) turn → TookTurn f old (Following h) new turn
 took_turn f h old new turns.Waits on turned = (h, refl, turned)
 took_turn f h old new turns.IsFull on turned = (h, refl, turned)
 took_turn f h old new (turns.Ended end) on turned = absurd (on end refl)
 
--- who follows by one follower follows by no other
+-- a connection that follows with one follower follows with no other
 abbrev follower_or : FollowerSeat → Standing → FollowerSeat
 follower_or other (Following g) = g
 follower_or other (Ended end) = other

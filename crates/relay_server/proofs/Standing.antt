@@ -1,4 +1,4 @@
--- What each key has, as the presence of one key changes, or one key comes or goes.
+-- What each key has when the presence of one key changes, or one key comes or goes.
 use Rattle.std.proofs.Common.{◌≡◌, ◌<◌, ◌≤◌, ◌+◌, ℕ, suc, Bool, true, false, cond, ◌↔◌, is_some, is_none, List, [], ◌∷◌, ◌++◌, Option, None, Some, IfSome, length, take, drop, get_or, set, refl, sym, ap, subst, ◌∙◌, true≢false, arith}
 use Rattle.std.specs.List.{remove, slice_get}
 use Rattle.std.specs.Cmp.Lexicographic.{same_text}
@@ -53,7 +53,7 @@ none_is : (p : Option Presence) → is_none p ≡ true → p ≡ None
 none_is None none = refl
 none_is (Some presence) none = absurd (true≢false (sym none))
 
--- another key is passed over
+-- another key is skipped
 passed : (key : List ℕ) (h : Holder) (rest : List Holder) → same_key key h.key ≡ false → presence_of key (h ∷ rest) ≡ presence_of key rest
 passed key h rest other = ap (λ t. cond t (Some h.presence) (presence_of key rest)) other
 
@@ -89,7 +89,7 @@ between (b ∷ bs) h after once =
       changed = λ p. and_from (is_none (presence_of b.key (bs ++ record h { presence = p } ∷ after))) (stand_once (bs ++ record h { presence = p } ∷ after)) (ap is_none (still p)) (rest.changed p);
     }
 
--- ---- The holder at a place.
+-- ---- The holder at an index.
 
 module _ (rows : List Holder) (at : ℕ) (h : Holder) (within : at < length rows) (is : h ≡ get_or rows at h) (once : stand_once rows ≡ true) where
   split : rows ≡ take at rows ++ h ∷ drop (suc at) rows
@@ -106,7 +106,7 @@ module _ (rows : List Holder) (at : ℕ) (h : Holder) (within : at < length rows
   has_at = ap (presence_of h.key) split ∙ presence_of-append h.key (take at rows) (h ∷ drop (suc at) rows)
       ∙ ap (λ q. first q (presence_of h.key (h ∷ drop (suc at) rows))) around.not_before ∙ met h.key h (drop (suc at) rows) (with_itself h.key)
 
-  -- as it changes
+  -- when it changes
   pub has_changed : (p : Presence) → presence_of h.key (set rows at (record h { presence = p })) ≡ Some p
   has_changed p = ap (presence_of h.key) (set_is p) ∙ presence_of-append h.key (take at rows) (record h { presence = p } ∷ drop (suc at) rows)
       ∙ ap (λ q. first q (presence_of h.key (record h { presence = p } ∷ drop (suc at) rows))) around.not_before
@@ -121,7 +121,7 @@ module _ (rows : List Holder) (at : ℕ) (h : Holder) (within : at < length rows
   pub once_as_changed : (p : Presence) → stand_once (set rows at (record h { presence = p })) ≡ true
   once_as_changed p = ap stand_once (set_is p) ∙ around.changed p
 
-  -- as it goes
+  -- when it goes
   pub has_gone : presence_of h.key (remove rows at) ≡ None
   has_gone = presence_of-append h.key (take at rows) (drop (suc at) rows) ∙ ap (λ q. first q (presence_of h.key (drop (suc at) rows))) around.not_before ∙ around.not_after
 
@@ -134,11 +134,11 @@ module _ (rows : List Holder) (at : ℕ) (h : Holder) (within : at < length rows
   pub once_as_gone : stand_once (remove rows at) ≡ true
   once_as_gone = around.without
 
--- what was said of the holder at a place
+-- what was said of the holder at an index
 pub holds_at : (rows : List Holder) (at : ℕ) (h : Holder) → at < length rows → h ≡ get_or rows at h → (P : Holder → Type 0) → IfSome (slice_get rows at) P → P h
 holds_at rows at h within is P said = subst P (sym is) (subst (λ found. IfSome found P) (slice_get-get_or rows at h within) said)
 
--- ---- The place where a key was found.
+-- ---- The index where a key was found.
 
 -- the holder there has the key
 abbrev HasKey : List ℕ → Holder → Type 0
@@ -164,7 +164,7 @@ module _ (key : List ℕ) (rows : List Holder) (at : ℕ) (h : Holder) (within :
   pub others_of_gone : OthersStay key rows (remove rows at)
   others_of_gone = subst (λ k. OthersStay k rows (remove rows at)) (sym its_key) (others_as_gone rows at h within is once)
 
--- a key has a presence where it was found
+-- a key has a presence if it was found
 pub has_where_found : (key : List ℕ) (rows : List Holder) (n : ℕ) (place : Option ℕ) → n ≡ length rows → stand_once rows ≡ true
     → IfSome place (λ at. at < n) → IfSome place (λ at. IfSome (slice_get rows at) (HasKey key)) → (place ≡ None → presence_of key rows ≡ None)
     → is_some place ≡ is_some (presence_of key rows)
@@ -185,7 +185,7 @@ waited_is true (Waits until) due = refl
 waited_is false (Here present) due = refl
 waited_is false (Waits until) due = due.1 tt
 
--- what is left of a key, by what became of it
+-- what is left of a key, depending on what happened to it
 pub others_left : (p : Option Presence) → OneOfMore ≡ departure p → (is_waiting p ≡ false) × (is_none p ≡ false)
 others_left None told = let no : ⊥ = cc in absurd no
 others_left (Some (Here present)) told = (refl, refl)
@@ -206,7 +206,7 @@ pub absent_is : (p : Option Presence) → is_some p ≡ false → p ≡ None
 absent_is None absent = refl
 absent_is (Some presence) absent = absurd (true≢false absent)
 
--- what holds in any case holds of what is lent
+-- what holds in any case holds for what is lent
 pub whatever : {A P : Type 0} (lent : Option A) → P → IfSome lent (λ _. P)
 whatever None p = tt
 whatever (Some a) p = p

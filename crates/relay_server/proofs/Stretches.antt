@@ -1,4 +1,4 @@
--- What is taken of a follower is a stretch of moves, and so is what is sent of it.
+-- What is taken from a follower is a stretch of moves, and so is what is sent of it.
 use Rattle.std.proofs.Common.{◌≡◌, ◌+◌, ◌≤◌, ℕ, List, [], ◌∷◌, ◌++◌, length, Option, Some, refl, sym, ap, ◌∙◌, subst, append_assoc, append-nil, length-append, arith}
 use Rattle.c960_board.specs.Moves.{Triple}
 use Rattle.relay_core.specs.declared.reply.Taken.{Taken}
@@ -8,12 +8,12 @@ use Rattle.relay_pushing.specs.declared.pushing.PushEnd.TheVariants.{Over, Cut, 
 use Rattle.relay_pushing.specs.declared.outlet.SendFault.{SendFault}
 use Rattle.relay_pushing.specs.Pushing.{AllGoOn, Pushed, Takes, text_of, texts_of}
 use Rattle.relay_pushing.specs.Sending.{GainsAll}
-use Rattle.relay_pushing.proofs.Pushes.{texts_of-append}
-use Rattle.live_steps.specs.Views.{next_of}
+use Rattle.relay_pushing.proofs.lemmas.Pushes.{texts_of-append}
+use Rattle.live_board.specs.Views.{next_of}
 use Rattle.live_board.specs.Seats.{FollowerSeat}
 use Rattle.live_board.specs.Takes.{Stays, TookOfGame}
-use Rattle.live_board.proofs.Headlines.{since_stretch}
-use Rattle.relay_server.specs.Spectating.{Gives, move_texts, end_texts, IsLost, IsEnd, Sent}
+use Rattle.live_board.proofs.lemmas.Headlines.{since_stretch}
+use Rattle.relay_server.specs.Spectating.{Gives, move_texts, end_texts, IsLost, IsEnd, SentUntil}
 
 -- takes that go on took these moves, and their texts are those of the moves
 record Ran (f g : FollowerSeat) (xs : List Taken) : Type 0 where
@@ -87,9 +87,9 @@ ran f g (takes.Cut ∷ xs) on h = absurd on.0
 texts_more : {f g : FollowerSeat} {xs : List Taken} (r : Ran f g xs) (x : Taken) → texts_of (xs ++ x ∷ []) ≡ move_texts (next_of f.part) r.moves ++ texts_of (x ∷ [])
 texts_more {xs = xs} r x = texts_of-append xs (x ∷ []) ∙ ap (λ l. l ++ texts_of (x ∷ [])) r.texts
 
--- what was sent where pushing ended by Over or Cut
+-- what was sent if pushing ended by Over or Cut
 ended_sent : {f mid g : FollowerSeat} {xs : List Taken} {old new : Option (List (List ℕ))} {end : PushEnd} (r : Ran f mid xs) (x : Taken) → GainsAll old new (texts_of (xs ++ x ∷ [])) → texts_of (x ∷ []) ≡ end_texts end
-    → IsLost end [] → Stays mid g → g.part.taken ≡ mid.part.taken → (t : TookOfGame g.part x) → IsEnd t.0 g.part end → Sent f g old new end
+    → IsLost end [] → Stays mid g → g.part.taken ≡ mid.part.taken → (t : TookOfGame g.part x) → IsEnd t.0 g.part end → SentUntil f g old new end
 ended_sent {f = f} {g = g} {old = old} {new = new} {end = end} r x gained last few stays taken t ended =
     let joined = stays.3 ∙ r.joined in
     let all : g.part.taken ≡ f.part.taken ++ (r.moves ++ []) = taken ∙ r.taken ∙ ap (λ l. f.part.taken ++ l) (sym (append-nil r.moves)) in
@@ -110,9 +110,9 @@ ended_sent {f = f} {g = g} {old = old} {new = new} {end = end} r x gained last f
       ended = ended;
     }
 
--- and where it ended by a fault, with this lost
+-- and if it ended with a fault, with this lost
 failed_sent : {f mid g : FollowerSeat} {xs : List Taken} {old new : Option (List (List ℕ))} {fault : SendFault} (r : Ran f mid xs) (lost : List Triple) (x : Taken) → GainsAll old new (texts_of xs) → length lost ≤ 1
-    → Stays mid g → g.part.taken ≡ mid.part.taken ++ lost → TookOfGame g.part x → Sent f g old new (Failed fault)
+    → Stays mid g → g.part.taken ≡ mid.part.taken ++ lost → TookOfGame g.part x → SentUntil f g old new (Failed fault)
 failed_sent {f = f} {g = g} {old = old} {new = new} r lost x gained few stays taken t =
     let joined = stays.3 ∙ r.joined in
     let all : g.part.taken ≡ f.part.taken ++ (r.moves ++ lost) = taken ∙ ap (λ l. l ++ lost) r.taken ∙ append_assoc f.part.taken r.moves lost in
@@ -133,15 +133,15 @@ failed_sent {f = f} {g = g} {old = old} {new = new} r lost x gained few stays ta
       ended = tt;
     }
 
--- where it ended by a fault, the last move may be lost
-lost_last : {f mid g : FollowerSeat} {xs : List Taken} {old new : Option (List (List ℕ))} {fault : SendFault} (r : Ran f mid xs) (x : Taken) → GainsAll old new (texts_of xs) → Gives mid x g → Sent f g old new (Failed fault)
+-- if it ended with a fault, the last move may be lost
+lost_last : {f mid g : FollowerSeat} {xs : List Taken} {old new : Option (List (List ℕ))} {fault : SendFault} (r : Ran f mid xs) (x : Taken) → GainsAll old new (texts_of xs) → Gives mid x g → SentUntil f g old new (Failed fault)
 lost_last {mid = mid} r takes.Nothing gained h = failed_sent r [] takes.Nothing gained (omega arith) h.0 (h.1.0.1 ∙ sym (append-nil mid.part.taken)) h.2
 lost_last {mid = mid} r (takes.Move place m) gained h = failed_sent r (m ∷ []) (takes.Move place m) gained (omega arith) h.0 h.1.1 h.2
 lost_last {mid = mid} r (takes.Over outcome) gained h = failed_sent r [] (takes.Over outcome) gained (omega arith) h.0 (h.1.0.1 ∙ sym (append-nil mid.part.taken)) h.2
 lost_last {mid = mid} r takes.Cut gained h = failed_sent r [] takes.Cut gained (omega arith) h.0 (ap (λ (s : FollowerSeat). s.part.taken) h.1.0 ∙ sym (append-nil mid.part.taken)) h.2
 
--- what is pushed of a follower is a stretch of its board's log
-pub pushed_sent : (f g : FollowerSeat) (old new : Option (List (List ℕ))) (end : PushEnd) → Pushed Gives f g old new end → Sent f g old new end
+-- what is pushed from a follower is a stretch of its board's log
+pub pushed_sent : (f g : FollowerSeat) (old new : Option (List (List ℕ))) (end : PushEnd) → Pushed Gives f g old new end → SentUntil f g old new end
 pushed_sent f g old new (Over outcome) h =
     let w = h.1 in
     let t = takes_last Gives f g h.0 (takes.Over outcome) w.taken in

@@ -1,7 +1,7 @@
--- What a head has still to give.
+-- What a head has yet to give out.
 use Rattle.std.specs.Prelude.{ℕ, List, drop}
 use Rattle.relay_server.specs.declared.head.Head.{Head}
 
--- the bytes behind those that were given
+-- the bytes after those that were given out
 abbrev pub left : Head → List ℕ
 left head = drop head.given head.bytes.items

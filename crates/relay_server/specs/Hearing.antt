@@ -1,4 +1,4 @@
--- What an outlet hears of a peer whose stream does not wait.
+-- What an outlet hears from a peer whose stream does not wait.
 use Rattle.std.specs.Prelude.{◌≡◌, ◌⊎◌, ℕ, List, length, Option}
 use Rattle.std.specs.Io.KnownBytes.{Keeps}
 use Rattle.std.specs.IoError.{error_kind}
@@ -6,19 +6,19 @@ use Rattle.std.specs.declared.io.Error.{Error}
 use Rattle.std.specs.declared.io.ErrorKind.TheVariants.{OutOfMemory}
 use Rattle.relay_frames.specs.Reading.{fed}
 use Rattle.relay_server.specs.Heads.{left}
-use Rattle.relay_server.specs.Lines.{Came}
+use Rattle.relay_server.specs.BufferedStreams.{Came}
 use Rattle.relay_server.specs.declared.outlet.SocketOutlet.{SocketOutlet}
 
--- so many bytes came, and the peer's reader was fed them
+-- n bytes came, and were fed to the peer's reader
 pub record TakesIn {S : Type 0} (remaining : S → Option (List ℕ)) (old new : SocketOutlet S) (n : ℕ) : Type 0 where
   pub bytes : List ℕ
   pub count : n ≡ length bytes
-  pub came : Came remaining old.line new.line bytes
+  pub came : Came remaining old.buffered new.buffered bytes
   pub fed_with : new.peer ≡ fed old.peer bytes
 
--- A read that failed fed the peer's reader nothing. Unless there was no memory for what came, nothing was lost either: all that is to come is still
--- to be read.
+-- A read that failed fed nothing to the peer's reader. Unless there was no memory for what came, nothing was lost either: everything to
+-- come has yet to be read.
 abbrev pub TakesNone : {S : Type 0} → (S → Option (List ℕ)) → SocketOutlet S → SocketOutlet S → Error → Type 0
 TakesNone remaining old new error =
     (new.peer ≡ old.peer)
-    × ((error_kind error ≡ OutOfMemory) ⊎ ((left new.line.head ≡ left old.line.head) × Keeps (remaining old.line.stream) (remaining new.line.stream)))
+    × ((error_kind error ≡ OutOfMemory) ⊎ ((left new.buffered.head ≡ left old.buffered.head) × Keeps (remaining old.buffered.stream) (remaining new.buffered.stream)))

@@ -1,4 +1,4 @@
--- Which presence each key has, of those that connections hold and those whose boards wait.
+-- Which presence each key has, among those that connections hold and those whose boards wait.
 use Rattle.std.specs.Prelude.{◌≡◌, ℕ, cond, List, [], ◌∷◌, Bool, true, false, ◌&&◌, is_none, Option, None, Some}
 use Rattle.std.specs.declared.time.Instant.{Instant}
 use Rattle.relay_server.specs.declared.holders.Departure.{Departure}
@@ -14,7 +14,7 @@ abbrev pub presence_of : List ℕ → List Holder → Option Presence
 presence_of key [] = None
 presence_of key (holder ∷ holders) = cond (same_key key holder.key) (Some holder.presence) (presence_of key holders)
 
--- whether no key stands twice
+-- whether no key occurs twice
 abbrev pub stand_once : List Holder → Bool
 stand_once [] = true
 stand_once (holder ∷ holders) = is_none (presence_of holder.key holders) && stand_once holders
@@ -39,17 +39,17 @@ is_waiting None = false
 is_waiting (Some (Here present)) = false
 is_waiting (Some (Waits until)) = true
 
--- what became of a key of which this is left
+-- what happened to a key that has this presence left
 abbrev pub departure : Option Presence → Departure
 departure None = Last
 departure (Some (Here present)) = OneOfMore
 departure (Some (Waits until)) = WaitsOn
 
--- the boards of the key have waited until now; where no time is given, they wait
+-- the boards of the key have waited until now; without a time, they wait
 abbrev pub HasRunOut : Option Instant → Option Presence → Type 0
 HasRunOut now None = ⊥
 HasRunOut now (Some presence) = IsDue now presence
 
--- no key's boards have
+-- no key's boards have done so
 abbrev pub NoneHasRunOut : Option Instant → List Holder → Type 0
 NoneHasRunOut now holders = (key : List ℕ) → HasRunOut now (presence_of key holders) → ⊥

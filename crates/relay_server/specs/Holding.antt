@@ -1,4 +1,4 @@
--- Whether connections with a key are there, and how long its boards wait where none is.
+-- Whether connections with a key exist, and how long its boards wait if there are none.
 use Rattle.std.specs.Prelude.{◌+◌, ◌-◌, ◌^◌, ◌≤◌, nat_lt, cond, Option, None, Some, ⊤}
 use Rattle.std.specs.Time.{instant_nanos}
 use Rattle.std.specs.declared.time.Instant.{Instant}
@@ -15,12 +15,12 @@ abbrev pub waiting : Option Instant → Option Presence
 waiting None = None
 waiting (Some until) = Some (Waits until)
 
--- one has gone: others are there still, or the boards wait, or nothing is left
+-- one has gone: others remain, or the boards wait, or nothing is left
 abbrev pub with_one_less : Presence → Option Instant → Option Presence
 with_one_less (Here present) until = cond (nat_lt 1 present) (Some (Here (present - 1))) (waiting until)
 with_one_less (Waits earlier) until = waiting until
 
--- the boards have waited until now; where no time is given, they wait. While a connection is there they are not due.
+-- the boards have waited until now; without a time, they wait. As long as there is a connection they are not due.
 abbrev pub IsDue : Option Instant → Presence → Type 0
 IsDue now (Here present) = ⊥
 IsDue None (Waits until) = ⊤

@@ -5,10 +5,10 @@ pub mod Hearing
 pub mod Holders
 pub mod Holding
 pub mod Keys
-pub mod Lines
+pub mod BufferedStreams
 pub mod Memory
 pub mod Opening
-pub mod Seating
+pub mod Keeping
 pub mod Served
 pub mod Showing
 pub mod Spectating

@@ -1,13 +1,14 @@
--- How boards stand under their names, why no board of a name may be opened, and what opening one answers.
-use Rattle.std.specs.Prelude.{◌≡◌, ◌⊎◌, ℕ, List, length, map, Bool, false, nat_le, cond, Option, None, Some, Result, Ok, Err}
+-- How boards are kept under their names, why a board of a name may not be opened, and what opening one answers.
+use Rattle.std.specs.Prelude.{◌≡◌, ◌⊎◌, ℕ, List, length, map, Bool, false, Option, None, Some, Result, Ok, Err}
 use Rattle.std.specs.List.{list_any}
 use Rattle.std.specs.Map.{keys_of, lookup}
 use Rattle.c960_game.specs.declared.refusal.Refusal.{Refusal}
-use Rattle.c960_game.specs.declared.refusal.Refusal.TheVariants.{BadStart, BoardExists, OutOfMemory, TooManyBoards}
+use Rattle.c960_game.specs.declared.refusal.Refusal.TheVariants.{OutOfMemory}
 use Rattle.relay_core.specs.Name.{same_name}
+use Rattle.relay_core.specs.Refusals.{first_refusal, open_grounds}
 use Rattle.relay_server.specs.Keys.{is_owner}
 
--- each board stands under its own name
+-- each board is kept under its own name
 abbrev pub AreNamed : {B : Type 0} → List (List ℕ × B) → (B → List ℕ) → Type 0
 AreNamed boards name_of = map (λ e. name_of e.1) boards ≡ keys_of boards
 
@@ -15,19 +16,15 @@ AreNamed boards name_of = map (λ e. name_of e.1) boards ≡ keys_of boards
 abbrev pub is_taken : List (List ℕ) → List ℕ → Bool
 is_taken names name = list_any (same_name name) names
 
--- of boards with these names, the first of the grounds that holds, memory aside: the name is taken, there is no such start, as many boards
--- were opened as may be
+-- the answer to opening a board if boards have these names, memory aside: the first of the grounds that holds, or that it may be opened
 abbrev pub admission : List (List ℕ) → ℕ → List ℕ → ℕ → Result Unit Refusal
-admission names most name start =
-    cond (is_taken names name) (Err BoardExists)
-    (cond (nat_le 960 start) (Err BadStart)
-    (cond (nat_le most (length names)) (Err TooManyBoards) (Ok tt)))
+admission names most name start = first_refusal (open_grounds (is_taken names name) start (length names) most)
 
 -- each board's name, and the key that it was opened with, or none
 abbrev pub owners : {B : Type 0} → List (List ℕ × B) → (B → Option (List ℕ)) → List (List ℕ × Option (List ℕ))
 owners boards owner_of = map (λ e. (e.0, owner_of e.1)) boards
 
--- whether a board that was found belongs to who has the key, or has none
+-- whether a board that was found belongs to a connection with this key, or without one
 abbrev pub is_owned : Option (List ℕ) → Option (Option (List ℕ)) → Bool
 is_owned key None = false
 is_owned key (Some owner) = is_owner key owner
@@ -36,14 +33,14 @@ is_owned key (Some owner) = is_owner key owner
 abbrev pub owns_any : Option (List ℕ) → List (List ℕ × Option (List ℕ)) → Bool
 owns_any key boards = list_any (λ board. is_owner key board.1) boards
 
--- ---- Behind the lock, where other connections open boards too: what is said is said of the boards that were found there at one look.
+-- ---- Behind the lock, where other connections open boards too. What is said is said of the boards that were found there at one look.
 
--- whether a board of this name is there, is told by the names of the boards that were found
+-- whether a board of this name exists, according to the names of the boards that were found
 abbrev pub IsTold : List ℕ → Bool → Type 0
 IsTold name known = (names : List (List ℕ)) × (known ≡ is_taken names name)
 
--- Whether the board of this name belongs to who has the key, or has none, is told by the boards that were found: each with its name, and the key
--- that it was opened with, or none.
+-- Whether the board of this name belongs to a connection with this key, or without one, according to the boards that were found: each with
+-- its name, and the key that it was opened with, or none.
 abbrev pub IsToldOwned : Option (List ℕ) → List ℕ → Bool → Type 0
 IsToldOwned key name owned = (boards : List (List ℕ × Option (List ℕ))) × (owned ≡ is_owned key (lookup (same_name name) boards))
 
@@ -51,7 +48,7 @@ IsToldOwned key name owned = (boards : List (List ℕ × Option (List ℕ))) × 
 abbrev pub IsToldOwner : Option (List ℕ) → Bool → Type 0
 IsToldOwner key owns = (boards : List (List ℕ × Option (List ℕ))) × (owns ≡ owns_any key boards)
 
--- opening a board is answered by the boards that were found, or there was no memory
+-- the answer to opening a board follows from the boards that were found, or there was no memory
 abbrev pub IsOpening : List ℕ → ℕ → Result Unit Refusal → Type 0
 IsOpening name start answer = ((names : List (List ℕ)) × (most : ℕ) × (answer ≡ admission names most name start)) ⊎ (answer ≡ Err OutOfMemory)
 

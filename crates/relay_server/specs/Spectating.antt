@@ -14,9 +14,9 @@ use Rattle.relay_pushing.specs.declared.pushing.PushEnd.{PushEnd}
 use Rattle.relay_pushing.specs.declared.pushing.PushEnd.TheVariants.{Over, Cut, Failed}
 use Rattle.relay_pushing.specs.Pushing.{text_of}
 use Rattle.relay_pushing.specs.Sending.{GainsAll}
-use Rattle.live_steps.specs.declared.view.Part.{Part}
-use Rattle.live_steps.specs.Views.{next_of}
-use Rattle.live_steps.specs.Sound.{BearsOut}
+use Rattle.live_board.specs.declared.view.Part.{Part}
+use Rattle.live_board.specs.Views.{next_of}
+use Rattle.live_board.specs.Sound.{BearsOut}
 use Rattle.live_board.specs.Seats.{FollowerSeat}
 use Rattle.live_board.specs.Takes.{Stays, Took, TookOfGame}
 use Rattle.relay_server.specs.declared.sessions.SessionEnd.{SessionEnd}
@@ -26,7 +26,7 @@ use Rattle.relay_server.specs.declared.sessions.SessionEnd.TheVariants as ends
 abbrev pub Gives : FollowerSeat → Taken → FollowerSeat → Type 0
 Gives f taken g = Stays f g × Took f g taken × TookOfGame g.part taken
 
--- the texts of moves, the first of them with this place, the others with the places behind it
+-- the texts of moves, the first with this place, the others with the places that follow it
 abbrev pub move_texts : ℕ → List Triple → List (List ℕ)
 move_texts place [] = []
 move_texts place (m ∷ moves) = text_of (takes.Move place m) ∷ move_texts (place + 1) moves
@@ -37,14 +37,14 @@ end_texts (Over outcome) = text_of (takes.Over outcome) ∷ []
 end_texts Cut = text_of takes.Cut ∷ []
 end_texts (Failed fault) = []
 
--- a move was taken and not sent: one at most, and only where a text could not be made or sent
+-- a move was taken and not sent: at most one, and only if a text could not be made or sent
 abbrev pub IsLost : PushEnd → List Triple → Type 0
 IsLost (Over outcome) lost = lost ≡ []
 IsLost Cut lost = lost ≡ []
 IsLost (Failed fault) lost = length lost ≤ 1
 
--- an end is told by the outcome that the follower has seen, which is the log's, and then all of the log is taken; or by the closing where
--- it stands
+-- an end is reported by the outcome that the follower has seen, which is the log's, and then all of the log is taken; or by the closing at
+-- which it stands
 abbrev pub IsEnd : List Triple → Part → PushEnd → Type 0
 IsEnd log p (Over outcome) =
     (p.outcome ≡ Some outcome) × (next_of p ≡ p.seen) × (p.closing ≡ None) × (next_of p ≡ length log) × IsOutcome p.setup.start log (Some outcome)
@@ -52,9 +52,9 @@ IsEnd log p Cut = p.closing ≡ Some (next_of p)
 IsEnd log p (Failed fault) = ⊤
 
 -- The follower took moves: the stretch of its board's log from its next place on, and that log is a legal game from its numbered start. The
--- outlet gained their texts, each once and in order, with the places from the follower's next place on, and then the end's; where a text
--- could not be made or sent, perhaps not the last move's.
-pub record Sent (f g : FollowerSeat) (old new : Option (List (List ℕ))) (end : PushEnd) : Type 0 where
+-- outlet gained their texts, each once and in order, with the places from the follower's next place on, and then the end's. If a text
+-- could not be made or sent, the last move's may be missing.
+pub record SentUntil (f g : FollowerSeat) (old new : Option (List (List ℕ))) (end : PushEnd) : Type 0 where
   pub table : g.table ≡ f.table
   pub setup : g.part.setup ≡ f.part.setup
   pub joined : g.part.joined ≡ f.part.joined
@@ -71,25 +71,25 @@ pub record Sent (f g : FollowerSeat) (old new : Option (List (List ℕ))) (end :
   pub gained : GainsAll old new (move_texts (next_of f.part) sent ++ end_texts end)
   pub ended : IsEnd log g.part end
 
--- the end of a session after pushing ended so
+-- how a session ends after pushing ended in this way
 abbrev pub session_end : PushEnd → SessionEnd
 session_end (Over outcome) = ends.Over
 session_end Cut = ends.Cut
 session_end (Failed fault) = ends.Failed
 
--- the code of the close behind pushing that ended so, if one is sent: a normal end, or that the server goes away, behind the game's end, and
--- the server's own behind a cut
+-- the code of the close after pushing that ended in this way, if one is sent: after the game's end a normal end, or that the server goes
+-- away; after a cut the server's own
 abbrev pub close_code : Bool → PushEnd → Option ℕ
 close_code is_ending (Over outcome) = Some (if is_ending then 1001 else 1000)
 close_code is_ending Cut = Some 4001
 close_code is_ending (Failed fault) = None
 
--- the session ended as its pushing did, and was sent what the follower took: these texts came behind those before
+-- the session ended as its pushing did, and was sent what the follower took: these texts came after those before
 abbrev pub Pushed : FollowerSeat → FollowerSeat → List (List ℕ) → List (List ℕ) → SessionEnd → Type 0
-Pushed f g old new ended = (end : PushEnd) × Sent f g (Some old) (Some new) end × (ended ≡ session_end end)
+Pushed f g old new ended = (end : PushEnd) × SentUntil f g (Some old) (Some new) end × (ended ≡ session_end end)
 
--- A session with this follower pushed: it ended so, the texts handed over are those that the follower was sent, and it has the follower
--- still. One without a follower failed, and nothing was handed over.
+-- A session with this follower pushed: it ended in this way, the texts handed over are those that the follower was sent, and it still has
+-- the follower. One without a follower failed, and nothing was handed over.
 abbrev pub Followed : Option FollowerSeat → Option FollowerSeat → List (List ℕ) → List (List ℕ) → SessionEnd → Type 0
 Followed (Some f) has old new ended = (g : FollowerSeat) × Pushed f g old new ended × (has ≡ Some g)
 Followed None has old new ended = (ended ≡ ends.Failed) × (new ≡ old) × (has ≡ None)
@@ -109,7 +109,7 @@ pub record IsToldOf (f : FollowerSeat) (texts : List (List ℕ)) : Type 0 where
 abbrev pub HasBeenTold : Option FollowerSeat → List (List ℕ) → Type 0
 HasBeenTold has texts = IsSomeAnd has (λ f. IsToldOf f texts)
 
--- A connection was told of its follower, and the texts behind that one are those that this very follower was sent: they begin at the place
+-- A connection was told of its follower, and the texts after that one are those that this very follower was sent: they begin at the place
 -- told.
 pub record Spectated (texts : List (List ℕ)) (ended : SessionEnd) : Type 0 where
   pub f : FollowerSeat
@@ -118,7 +118,7 @@ pub record Spectated (texts : List (List ℕ)) (ended : SessionEnd) : Type 0 whe
   pub told : IsToldOf f before
   pub pushed : Pushed f g before texts ended
 
--- a session ends as over or as cut only behind such pushing
+-- a session ends as over or as cut only after such pushing
 abbrev pub Conversed : List (List ℕ) → SessionEnd → Type 0
 Conversed texts ends.Over = Spectated texts ends.Over
 Conversed texts ends.Cut = Spectated texts ends.Cut

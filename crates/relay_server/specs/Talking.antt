@@ -1,4 +1,4 @@
--- What a peer's messages are answered.
+-- How a peer's messages are answered.
 use Rattle.std.specs.Prelude.{◌≡◌, ℕ, List, Bool, Option, None, Some, string_bytes, ⊤}
 use Rattle.relay_core.specs.declared.step.Step.{Step}
 use Rattle.relay_core.specs.declared.reply.Reply.{Reply}
@@ -16,18 +16,18 @@ use Rattle.relay_server.specs.declared.talk.TalkEnd.{TalkEnd}
 use Rattle.relay_server.specs.declared.talk.TalkEnd.TheVariants.{Closed, Full, Follows, Broken, Idle, Failed}
 use Rattle.relay_server.specs.Spectating.{HasBeenTold}
 
--- a text is answered as the connection answers it; any other message as a text that is no JSON, and nothing is made
+-- a text is answered as the connection answers it; any other message is answered as a text that is not JSON, and no step is made
 abbrev pub MessageAnswered : {K : Type 0} → (Question → Bool → Type 0) → (K → Step → Reply → K → Type 0) → List (List ℕ) → K → Event → List ℕ → List (List ℕ) → K → Type 0
 MessageAnswered tells makes opened k (events.Text text) bytes boards after = Answered tells makes opened k (string_bytes text) bytes boards after
 MessageAnswered tells makes opened k other bytes boards after =
     (bytes ≡ answer_text (Fault NotJson)) × IsUnmoved opened k boards after
 
--- there was no memory for the answer: the step that a text says was made, or none was
+-- there was no memory for the answer: the step that a text asks for was made, or none was
 abbrev pub MessageStopped : {K : Type 0} → (Question → Bool → Type 0) → (K → Step → Reply → K → Type 0) → List (List ℕ) → K → Event → List (List ℕ) → K → Type 0
 MessageStopped tells makes opened k (events.Text text) boards after = Stopped tells makes opened k (string_bytes text) boards after
 MessageStopped tells makes opened k other boards after = IsUnmoved opened k boards after
 
--- the answer to a message stands behind the texts before, and the keeper is the one that the answer left
+-- the answer to a message comes after the texts before, and the keeper is the one that the answer left
 abbrev pub AnswerSent : {K : Type 0} → (Question → Bool → Type 0) → (K → Step → Reply → K → Type 0) → List (List ℕ) → K → Event → List (List ℕ) → List (List ℕ) → K → List (List ℕ) → Type 0
 AnswerSent tells makes opened k message old boards after new =
     (bytes : List ℕ) × MessageAnswered tells makes opened k message bytes boards after × Gains (Some old) (Some new) bytes
@@ -38,7 +38,7 @@ Heard tells makes opened k (events.Text text) old boards after new = AnswerSent 
 Heard tells makes opened k (events.Binary bytes) old boards after new = AnswerSent tells makes opened k (events.Binary bytes) old boards after new
 Heard tells makes opened k other old boards after new = IsUnmoved opened k boards after × (new ≡ old)
 
--- A talk of a connection that followed nothing ends because it follows right behind the text that tells it so, and otherwise it follows
+-- A talk of a connection that followed nothing ends because it follows directly after the text that tells it so. Otherwise it follows
 -- nothing, unless memory or the device failed.
 abbrev pub TalkEnds : TalkEnd → Option FollowerSeat → List (List ℕ) → Type 0
 TalkEnds Follows has texts = HasBeenTold has texts
@@ -48,12 +48,12 @@ TalkEnds (Broken breach) has texts = has ≡ None
 TalkEnds Idle has texts = has ≡ None
 TalkEnds Failed has texts = ⊤
 
--- who is sent away because it said nothing for too long owns nothing
+-- a peer that is sent away because it sent nothing for too long owns nothing
 abbrev pub IsSentAway : (Question → Bool → Type 0) → TalkEnd → List (List ℕ) → Type 0
 IsSentAway tells Idle opened = OwnsNone tells opened
 IsSentAway tells _ opened = ⊤
 
--- a peer that broke the protocol was told so: one whose message was too long got the answer to a text that is too long, and else nothing
+-- a peer that broke the protocol was told so: if its message was too long, it got the answer to a text that is too long; otherwise nothing
 -- was answered
 abbrev pub BreachTold : Breach → List (List ℕ) → List (List ℕ) → Type 0
 BreachTold TooLong old new = Gains (Some old) (Some new) (answer_text (Fault BadField))

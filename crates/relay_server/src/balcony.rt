@@ -1,4 +1,4 @@
-//! What others see of a loop in which connections follow.
+//! What other threads see of a loop in which connections follow.
 
 ghost use Rattle.std.specs.Prelude.{◌≡◌, ◌<◌, ◌++◌, ◌∷◌, [], true, false, vec_len, vec_capacity};
 
@@ -8,16 +8,16 @@ use std::alloc::Global;
 use std::mem;
 use std::sync::{Arc, Mutex, MutexGuard, Wait};
 
-/// Those who come to a loop.
+/// The connections that arrive at a loop.
 #[derive(Drop)]
 pub(crate) struct Inbox {
     newcomers: Vec<Newcomer>,
-    /// Whether nobody can come any more.
+    /// Whether no more can arrive.
     is_closed: bool,
 }
 
 impl Inbox {
-    /// Whether one more can come. There is room for it then.
+    /// Whether one more can arrive. If so, there is room for it.
     pub(crate) fn has_room(&mut self) -> bool
         ensures open { result ≡ true → self.new.is_closed ≡ false }
         ensures room { result ≡ true → vec_len self.new.newcomers < vec_capacity self.new.newcomers }
@@ -26,7 +26,7 @@ impl Inbox {
         !self.is_closed && self.newcomers.reserve(1).is_ok()
     }
 
-    /// One more comes, behind those who have come.
+    /// Adds one more, after those that have arrived.
     pub(crate) fn put(&mut self, newcomer: Newcomer)
         requires room { vec_len self.old.newcomers < vec_capacity self.old.newcomers }
         ensures came { self.new.newcomers.items ≡ self.old.newcomers.items ++ newcomer ∷ [] }
@@ -36,7 +36,7 @@ impl Inbox {
     }
 }
 
-/// What others see of a loop: what wakes it, and where one comes to it.
+/// What other threads see of a loop: what wakes it, and where connections arrive.
 #[derive(Drop)]
 pub(crate) struct Balcony {
     alloc: Global,
@@ -45,7 +45,7 @@ pub(crate) struct Balcony {
 }
 
 impl Balcony {
-    /// The balcony of a loop that this wakes. Nobody has come yet.
+    /// The balcony of the loop that `lookout` wakes. No connection has arrived yet.
     pub(crate) fn new(alloc: Global, lookout: Arc<Lookout, Global>) -> Balcony {
         Balcony {
             alloc,
@@ -57,18 +57,18 @@ impl Balcony {
         }
     }
 
-    /// Where one comes.
+    /// The inbox, where connections arrive.
     pub(crate) fn inbox<R: Wait>(&self, rt: &R) -> MutexGuard<'_, Inbox> {
         self.inbox.lock(rt)
     }
 
-    /// Those who have come since this was asked last.
+    /// The connections that have arrived since the last such call.
     pub(crate) fn newcomers<R: Wait>(&self, rt: &R) -> Vec<Newcomer> {
         let mut inbox = self.inbox.lock(rt);
         mem::replace(&mut inbox.newcomers, Vec::new(self.alloc))
     }
 
-    /// Nobody comes any more, if nobody has come since that was asked last. Whether that is so is told.
+    /// Closes the inbox if nothing has arrived since the last call of `newcomers`. Returns whether it is closed.
     pub(crate) fn is_closed_if_empty<R: Wait>(&self, rt: &R) -> bool {
         let mut inbox = self.inbox.lock(rt);
         if inbox.newcomers.is_empty() {
@@ -77,7 +77,7 @@ impl Balcony {
         inbox.is_closed
     }
 
-    /// Nobody comes any more.
+    /// Closes the inbox: no more connections arrive.
     pub(crate) fn close<R: Wait>(&self, rt: &R) {
         self.inbox.lock(rt).is_closed = true;
     }

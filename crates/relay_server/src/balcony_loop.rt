@@ -16,7 +16,7 @@ use std::time::{Clock, Duration, Instant};
 /// The token of the loop's waker.
 const WAKER: Token = Token(usize::MAX);
 
-/// How many events the system tells at a time.
+/// How many events the system reports at a time.
 const MOST_EVENTS: usize = 1024;
 
 /// How many milliseconds a turn waits at most.
@@ -31,7 +31,7 @@ pub(crate) struct BalconyLoop {
 }
 
 impl BalconyLoop {
-    /// A loop, and what wakes it.
+    /// A loop, and the waker that wakes it.
     ///
     /// # Errors
     ///
@@ -50,8 +50,8 @@ impl BalconyLoop {
         Ok((balcony_loop, waker))
     }
 
-    /// Serves those who come to the balcony of this number until the gallery closes and nobody is there. Where the clock or the system's own call
-    /// fails, all go.
+    /// Serves the connections that arrive at the balcony of this number, until the gallery closes and none is left. If the clock or the
+    /// system's own call fails, all of them go.
     pub(crate) fn run<R: Clock + Wait>(
         self,
         rt: &R,
@@ -96,7 +96,7 @@ struct Turns<'a, R> {
     balcony: &'a Balcony,
     spectators: Spectators<'a, R>,
     began: Option<Instant>,
-    /// By which second all that spectators had sent is heard, or told of in this turn.
+    /// Everything that spectators had sent by this second has been heard, or is reported in this turn.
     heard_by: u64,
 }
 
@@ -110,11 +110,11 @@ impl<'a, R: Clock + Wait> Turns<'a, R> {
         }
     }
 
-    /// Does what the system told of, and what is due. Whether it was the last turn is told.
+    /// Handles what the system reported, and what is due. Returns whether it was the last turn.
     fn take(&mut self, poll: &Poll, events: &Events) -> io::Result<bool> {
         let asked = self.spectators.now();
         self.look_at_clock()?;
-        // This comes before it looks: what is rung for from now on wakes it again.
+        // This comes before looking: a ring from now on wakes the loop again.
         self.balcony.lookout.heed();
         let is_closing = self.gallery.is_closing();
         self.let_in(poll);
@@ -125,11 +125,11 @@ impl<'a, R: Clock + Wait> Turns<'a, R> {
             told = told.saturating_add(1);
         }
         if told < MOST_EVENTS {
-            // The system has told of all that had come when it was asked.
+            // The system has reported everything that had arrived when it was asked.
             self.heard_by = asked;
         }
         self.spectators.tell_all();
-        // However long a turn took, or the program stood still, nobody goes for what it had sent in time.
+        // However long a turn took, or the program was suspended, no peer is dropped for what it had sent in time.
         self.spectators.look_around(self.heard_by);
         Ok(is_closing && self.spectators.is_empty() && self.balcony.is_closed_if_empty(self.rt))
     }
@@ -144,14 +144,14 @@ impl<'a, R: Clock + Wait> Turns<'a, R> {
         Ok(())
     }
 
-    /// Lets those in who have come.
+    /// Lets in the connections that have arrived.
     fn let_in(&mut self, poll: &Poll) {
         for newcomer in self.balcony.newcomers(self.rt) {
             self.spectators.enters(poll.registry(), newcomer);
         }
     }
 
-    /// Does what the system told of.
+    /// Handles what the system reported.
     fn heed(&mut self, event: &Event) {
         match event.token() {
             WAKER => {}
@@ -166,7 +166,7 @@ impl<'a, R: Clock + Wait> Turns<'a, R> {
         }
     }
 
-    /// Nobody comes any more, and all go who are still there.
+    /// Closes the balcony, and drops all that are still there.
     fn end(&mut self, poll: &Poll) {
         self.balcony.close(self.rt);
         self.let_in(poll);

@@ -24,7 +24,7 @@ pub(crate) struct BoardMap {
 }
 
 impl BoardMap {
-    /// No board, and no memory.
+    /// An empty map, without memory.
     pub(crate) fn new(alloc: Global) -> BoardMap
         ensures { result.map.entries ≡ [] }
     {
@@ -33,7 +33,7 @@ impl BoardMap {
         }
     }
 
-    /// No board, with room for so many.
+    /// An empty map, with room for `most` boards.
     pub(crate) fn with_capacity(alloc: Global, most: usize) -> Result<BoardMap, AllocError>
         ensures none { IfOk result (λ boards. boards.map.entries ≡ []) }
         ensures room { IfOk result (λ boards. most ≤ spare boards.map) }
@@ -65,7 +65,7 @@ impl BoardMap {
         self.map.get(name)
     }
 
-    /// The board at this place, in the order of opening.
+    /// The board of this index, in the order of opening.
     pub(crate) fn at(&self, at: usize) -> Option<&Arc<Broadcast, Global>> {
         match self.map.get_index(at) {
             Some((_, broadcast)) => Some(broadcast),
@@ -73,7 +73,7 @@ impl BoardMap {
         }
     }
 
-    /// Whether any board was opened with this key. All of them are looked at, whichever it is.
+    /// Whether any board was opened with this key. All of them are looked at, whatever the result.
     pub(crate) fn owns_any(&self, key: &Key) -> bool
         ensures { result ≡ owns_any (Some key.now) (owners self.now.map.entries (λ b. (arc_value b).owner)) }
     {
@@ -86,7 +86,7 @@ impl BoardMap {
         owns
     }
 
-    /// Puts a board under its name. Where there is room it takes no memory.
+    /// Puts a board under its name. If there is room, it allocates nothing.
     ///
     /// # Errors
     ///

@@ -1,4 +1,4 @@
-//! The boards of a server, which stand behind the registry's lock.
+//! The boards of a server, behind the registry's lock.
 
 ghost use Rattle.std.specs.Prelude.{◌≡◌, ◌≤◌, ◌+◌, ◌++◌, ◌∷◌, [], length, true, option_copied, IfOk, IfSome, OnOk, OnErr, Some};
 ghost use Rattle.std.specs.Arc.{arc_value};
@@ -12,11 +12,11 @@ use crate::board_map::BoardMap;
 use crate::broadcast::Broadcast;
 use crate::key::Key;
 use c960_game::{Limits, Refusal};
-use relay_core::BoardName;
+use relay_core::{BoardName, may_open};
 use std::alloc::{AllocError, Global};
 use std::sync::Arc;
 
-/// Boards by their names. As many as the limits allow fit without memory (`room`).
+/// Boards by their names. As many as the limits allow fit without further memory (`room`).
 #[derive(Drop)]
 pub(crate) struct Boards {
     shared: BoardMap,
@@ -25,7 +25,7 @@ pub(crate) struct Boards {
 }
 
 impl Boards {
-    /// No board, with room for as many as these limits allow.
+    /// No boards yet, with room for as many as these limits allow.
     pub(crate) fn new(alloc: Global, limits: Limits) -> Result<Boards, AllocError>
         ensures none { IfOk result (λ boards. boards.shared.map.entries ≡ []) }
         ensures limits { IfOk result (λ boards. boards.limits ≡ limits) }
@@ -58,12 +58,12 @@ impl Boards {
         self.shared.len()
     }
 
-    /// The board at this place, in the order of opening.
+    /// The board of this index, in the order of opening.
     pub(crate) fn at(&self, at: usize) -> Option<&Arc<Broadcast, Global>> {
         self.shared.at(at)
     }
 
-    /// The board at this place, in the order of opening, where it was opened with this key.
+    /// The board of this index, in the order of opening, if it was opened with this key.
     pub(crate) fn owned_at(&self, at: usize, key: &Key) -> Option<&Arc<Broadcast, Global>>
         ensures { IfSome result (λ b. is_owner (Some key.now) (arc_value b.now).owner ≡ true) }
     {
@@ -90,23 +90,19 @@ impl Boards {
         self.shared.owns_any(key)
     }
 
-    /// Tells in order why no board of this name and start may be opened, memory aside.
+    /// The first reason, in order, why no board of this name and start may be opened, memory aside.
     pub(crate) fn admit(&self, name: &BoardName, start: u16) -> Result<(), Refusal>
         ensures { result ≡ admission (keys_of self.now.shared.map.entries) self.now.limits.boards name.now start }
     {
-        if self.contains(name) {
-            return Err(Refusal::BoardExists);
-        }
-        if start >= 960 {
-            return Err(Refusal::BadStart);
-        }
-        if self.shared.len() >= usize::from(self.limits.boards()) {
-            return Err(Refusal::TooManyBoards);
-        }
-        Ok(())
+        may_open(
+            self.contains(name),
+            start,
+            self.shared.len(),
+            self.limits.boards(),
+        )
     }
 
-    /// Enters a board under its name, where it may still be opened. It takes no memory.
+    /// Enters a board under its name, if it may still be opened. It allocates nothing.
     pub(crate) fn enter(
         &mut self,
         start: u16,

@@ -4,7 +4,7 @@ ghost use Rattle.std.specs.Prelude.{◌≡◌, ◌↔◌, ◌≤◌, ◌⊎◌, 
 ghost use Rattle.c960_game.specs.Ending.{named_outcome};
 ghost use Rattle.c960_game.specs.Ends.{own_outcome};
 ghost use Rattle.c960_game.specs.Positions.{last_position};
-ghost use Rattle.live_steps.specs.Views.{finished};
+ghost use Rattle.live_board.specs.Views.{finished};
 ghost use Rattle.live_board.specs.Board.{IsLegalGame};
 ghost use Rattle.live_board.specs.Desk.{Submitted};
 ghost use Rattle.relay_server.specs.Keys.{is_owner};
@@ -14,29 +14,29 @@ ghost use Rattle.relay_server.specs.Broadcasting.{JoinAnswer, IsEndingAnswer, Is
 use crate::chime::{BoardBell, Chime};
 use crate::key::Key;
 use crate::lookout::Lookout;
-use crate::places::Places;
+use crate::occupancy::Occupancy;
 use c960_board::{Move, Position};
 use c960_game::{Ending, Limits, Outcome, Refusal, Replaying};
 use live_board::{Board, Follower};
 use once_cell::race::OnceBox;
-use relay_core::BoardName;
+use relay_core::{BoardName, may_join_at};
 use relay_messages::BoardSummary;
 use relay_pushing::Bell;
 use std::alloc::{AllocError, Global};
 use std::sync::{Arc, Mutex, Wait};
 
-/// A board under its name. Its lock is taken for one call on the board at a time: to play, and to join. A follower that has joined
+/// A board under its name. Its lock is held for one call on the board at a time: to play, and to join. A follower that has joined
 /// takes without it, and sleeps on the chime while there is nothing to take.
 #[derive(Drop)]
 pub(crate) struct Broadcast {
     pub(crate) name: BoardName,
     pub(crate) chime: Chime,
-    /// The key of the connection that opened it, where that had one. Whoever has it owns the board as well.
+    /// The key of the connection that opened it, if that had one. Whoever has it owns the board as well.
     owner: Option<Key>,
-    /// Those who look at it beside its followers.
+    /// The lookouts that watch it besides its followers.
     lookouts: Arc<Vec<Arc<Lookout, Global>>, Global>,
-    /// The places of its followers: who comes to a full board is refused without the search for a place behind the lock.
-    places: Places,
+    /// How many of its slots are taken. If all are, a connection is refused without searching for one behind the lock.
+    occupancy: Occupancy,
     /// The loops in which it is followed, once it is.
     loops: OnceBox<Arc<Vec<Arc<Lookout, Global>>, Global>>,
     board: Mutex<Board>,
@@ -67,7 +67,7 @@ impl Broadcast {
             chime: Chime::new(),
             owner,
             lookouts,
-            places: Places::new(limits.followers()),
+            occupancy: Occupancy::new(limits.followers()),
             loops: OnceBox::new(alloc),
             board: Mutex::new(board),
         })
@@ -88,22 +88,22 @@ impl Broadcast {
         self.board.lock(rt).outcome().is_none()
     }
 
-    /// Makes a move, and then rings: who heard the ring finds the move. The sleepers are still to be woken.
+    /// Makes a move, and then rings: whoever hears the ring finds the move. The sleepers have yet to be woken.
     ///
     /// # Errors
     ///
-    /// As `Board::submit`; then nobody is rung for.
+    /// As `Board::submit`; then it does not ring.
     pub(crate) fn submit<R: Wait>(&self, rt: &R, m: Move) -> Result<(u16, Option<Outcome>), Refusal>
         ensures { IsMoveAnswer m result }
     {
         play(&mut self.board.lock(rt), &self.bell(rt), m)
     }
 
-    /// Ends the game, and then rings. The sleepers are still to be woken.
+    /// Ends the game, and then rings. The sleepers have yet to be woken.
     ///
     /// # Errors
     ///
-    /// As `Board::end`; then nobody is rung for.
+    /// As `Board::end`; then it does not ring.
     pub(crate) fn end<R: Wait>(&self, rt: &R, ending: Ending) -> Result<Outcome, Refusal>
         ensures { IsEndingAnswer ending result }
     {
@@ -122,20 +122,20 @@ impl Broadcast {
     ) -> Result<(Follower, Position), Refusal>
         ensures { IsJoinAnswer from result }
     {
-        if self.places.are_taken() {
+        if self.occupancy.are_taken() {
             return Err(self.refusal_where_full(rt, from));
         }
         let (follower, replaying) = join(&mut self.board.lock(rt), from)?;
-        self.places.take();
+        self.occupancy.take();
         Ok((follower, replaying.position()))
     }
 
     /// A follower is about to leave the board.
     pub(crate) fn give_back_place(&self) {
-        self.places.give_back();
+        self.occupancy.give_back();
     }
 
-    /// Why one may not follow who finds all places taken. What the log says of the place from which it asks to follow comes first; where it names
+    /// Why a follower is refused if all slots are taken. A fault of the place from which it asks to follow comes first. If it names
     /// none, the board need not be asked.
     #[tactic(auto, using(crate::proofs::Refusals::refused_at_once))]
     fn refusal_where_full<R: Wait>(&self, rt: &R, from: Option<u16>) -> Refusal
@@ -147,7 +147,7 @@ impl Broadcast {
         }
     }
 
-    /// Puts the moves of the log from a place on behind `moves`, and tells the outcome of the game.
+    /// Appends the moves of the log from a place on to `moves`. Returns the outcome of the game.
     ///
     /// # Errors
     ///
@@ -163,7 +163,7 @@ impl Broadcast {
         news_of(&self.board.lock(rt), from, moves)
     }
 
-    /// How the board stands.
+    /// The present state of the board.
     pub(crate) fn summary<R: Wait>(&self, rt: &R) -> BoardSummary
         ensures { IsSummary result }
     {
@@ -182,12 +182,12 @@ impl Broadcast {
         self.board.lock(rt).position_at(place)
     }
 
-    /// Whether anybody may have to be woken where it is rung for.
+    /// Whether anybody may have to be woken after a ring.
     pub(crate) fn has_sleepers(&self) -> bool {
         self.chime.has_sleepers() || self.loops.get().is_some() || !self.lookouts.is_empty()
     }
 
-    /// From now on these loops are woken where the board is rung for, unless others are.
+    /// From now on these loops are woken when the board is rung for, unless others already are.
     ///
     /// # Errors
     ///
@@ -203,12 +203,12 @@ impl Broadcast {
         let Ok(loops) = Arc::try_clone(loops) else {
             return Err(AllocError);
         };
-        // Another thread may have been quicker, with the same ones.
+        // Another thread may have been faster, with the same loops.
         let _ = self.loops.set(Box::new(alloc, loops)?);
         Ok(())
     }
 
-    /// Wakes all who sleep until it is rung for, the loops in which it is followed, and all who look at it.
+    /// Wakes all who sleep until it is rung for, the loops in which it is followed, and all lookouts that watch it.
     pub(crate) fn wake(&self) {
         self.chime.wake();
         if let Some(loops) = self.loops.get() {
@@ -230,7 +230,7 @@ impl Broadcast {
     }
 }
 
-/// Makes a move on a board, and rings where it was accepted. A bell is shared, so no contract tells that it was rung.
+/// Makes a move on a board, and rings if it was accepted. A bell is shared, so no contract says that it was rung.
 ///
 /// # Errors
 ///
@@ -244,14 +244,14 @@ fn play<B: Bell>(board: &mut Board, bell: &B, m: Move) -> Result<(u16, Option<Ou
     ensures outcome { OnOk result (board.new.knows.outcome ≡ own_outcome board.old.knows.setup.start (board.old.knows.log ++ m ∷ [])) }
     ensures legal { IsLegalGame board.old.knows × IsLegalGame board.new.knows }
 {
-    // Each call on a board tells that its game is legal, this one of the game before the move.
+    // Each call on a board promises that its game is legal; this one promises it of the game before the move.
     let _ = board.start();
     let played = board.submit(m)?;
     bell.ring();
     Ok(played)
 }
 
-/// Ends the game of a board, and rings where that was accepted.
+/// Ends the game of a board, and rings if that was accepted.
 ///
 /// # Errors
 ///
@@ -269,23 +269,19 @@ fn finish<B: Bell>(board: &mut Board, bell: &B, ending: Ending) -> Result<Outcom
     Ok(outcome)
 }
 
-/// Why one may not follow a full board from this place of its log.
-#[tactic(auto, using(crate::proofs::Refusals::refused_early, crate::proofs::Refusals::refused_late, crate::proofs::Refusals::refused_full))]
+/// Why a follower is refused at a full board from this place of its log.
+#[tactic(auto, using(crate::proofs::Refusals::refused_for, crate::proofs::Refusals::refused_full))]
 fn refusal_at(board: &Board, place: u16) -> Refusal
     ensures answer { JoinAnswer board.now.knows (Some place) (Err result) }
     ensures legal { IsLegalGame board.now.knows }
 {
-    let len = board.len();
-    if len < place {
-        Refusal::NotYet
-    } else if len - place > board.capacity() {
-        Refusal::TooFarBack
-    } else {
-        Refusal::TooManyFollowers
+    match may_join_at(board.len(), place, board.capacity()) {
+        Err(refusal) => refusal,
+        Ok(()) => Refusal::TooManyFollowers,
     }
 }
 
-/// A follower joins a board: it, and the position from which it takes on, which is yet to be worked out.
+/// Adds a follower to a board. Returns it and the position from which it takes on, which has yet to be worked out.
 ///
 /// # Errors
 ///
@@ -306,7 +302,7 @@ fn join(board: &mut Board, from: Option<u16>) -> Result<(Follower, Replaying), R
     Ok((follower, replaying))
 }
 
-/// Puts the moves of a board's log from a place on behind `moves`, and tells the outcome of its game.
+/// Appends the moves of a board's log from a place on to `moves`. Returns the outcome of its game.
 ///
 /// # Errors
 ///
@@ -320,7 +316,7 @@ fn news_of(board: &Board, from: u16, moves: &mut Vec<Move>) -> Result<Option<Out
     Ok(outcome)
 }
 
-/// Puts the moves of a board's log from a place on behind `moves`.
+/// Appends the moves of a board's log from a place on to `moves`.
 ///
 /// # Errors
 ///
@@ -337,7 +333,7 @@ fn append_log(board: &Board, from: u16, moves: &mut Vec<Move>) -> Result<(), All
     Ok(())
 }
 
-/// How a board of this name stands.
+/// The present state of a board of this name.
 fn summary_of(name: &BoardName, board: &Board) -> BoardSummary
     ensures summary { SummaryOf board.now.knows result }
     ensures named { result.board ≡ name.now }

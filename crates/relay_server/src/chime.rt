@@ -1,4 +1,4 @@
-//! The bell of a board, which threads sleep on.
+//! The bell of a board, on which threads sleep.
 
 ghost use Rattle.std.specs.Prelude.{◌≢◌};
 
@@ -8,7 +8,7 @@ use std::sync::atomic::{AtomicU64, Ordering};
 use std::time::Duration;
 
 /// A count of rings, and how many threads sleep on it. Ringing and waking are two calls, so that the waking, which costs far
-/// more, can be put off.
+/// more, can be postponed.
 #[derive(Drop)]
 pub(crate) struct Chime {
     rings: AtomicU64,
@@ -29,7 +29,7 @@ impl Chime {
         self.rings.load(Ordering::SeqCst)
     }
 
-    /// Rings it: the count rises by 1. Who sleeps on it is left asleep until `wake`.
+    /// Rings it: the count rises by 1. Those who sleep on it stay asleep until `wake`.
     pub(crate) fn ring(&self) {
         self.rings.fetch_add(1, Ordering::SeqCst);
     }
@@ -47,7 +47,7 @@ impl Chime {
         }
     }
 
-    /// Waits until the count is not `heard`, and gives it.
+    /// Waits until the count is not `heard`, and returns it.
     pub(crate) fn wait<R: Wait>(&self, rt: &R, heard: u64) -> u64
         ensures { result ≢ heard }
     {
@@ -63,7 +63,7 @@ impl Chime {
         unreachable!()
     }
 
-    /// Sleeps while the count is `heard`, for so long at most; perhaps less.
+    /// Sleeps while the count is `heard`, but no longer than `most`, and perhaps less.
     pub(crate) fn doze<R: Wait>(&self, rt: &R, heard: u64, most: Duration) {
         self.sleepers.fetch_add(1, Ordering::SeqCst);
         self.rings
@@ -72,7 +72,7 @@ impl Chime {
     }
 }
 
-/// A board's chime as its bell, with the runtime by which its listener waits.
+/// A board's chime as its bell, with the runtime that its listener uses to wait.
 #[derive(Drop)]
 pub(crate) struct BoardBell<'a, R> {
     pub(crate) rt: &'a R,

@@ -1,4 +1,4 @@
-//! What happens to boards, noted for the log: who notes it waits for no device.
+//! What happens to boards, noted for the log. Noting it waits for no device.
 
 use crate::chime::Chime;
 use c960_game::Outcome;
@@ -8,7 +8,7 @@ use std::sync::atomic::{AtomicBool, AtomicU64, Ordering};
 use std::sync::{Mutex, Wait};
 use std::{fmt, mem};
 
-/// How many notes wait at most to be written. What happens beyond that is counted, and left out.
+/// How many notes may wait to be written. Anything beyond that is counted and left out.
 const MOST_NOTES: usize = 4096;
 
 /// What happened to a board.
@@ -16,9 +16,9 @@ const MOST_NOTES: usize = 4096;
 pub(crate) enum What {
     /// It was opened.
     Opened,
-    /// Its game has ended so.
+    /// Its game ended with this outcome.
     Ended(Outcome),
-    /// Nobody with its key is there, and it waits.
+    /// Nobody with its key is connected, and it waits.
     Waits,
     /// Somebody with its key has come back.
     IsBack,
@@ -28,12 +28,12 @@ pub(crate) enum What {
 
 /// A note: what happened to which board.
 #[derive(Clone, Copy)]
-pub(crate) struct Note {
+pub(crate) struct LogNote {
     board: BoardName,
     what: What,
 }
 
-impl fmt::Display for Note {
+impl fmt::Display for LogNote {
     fn fmt<W: fmt::Write>(&self, f: &mut fmt::Formatter<W>) -> fmt::Result {
         match self.what {
             What::Opened => write!(f, "board {} opened", self.board),
@@ -47,23 +47,23 @@ impl fmt::Display for Note {
 
 /// Notes that wait to be written.
 #[derive(Drop)]
-pub(crate) struct Notes {
-    pub(crate) kept: Vec<Note>,
-    /// How many were left out, since too many waited or there was no memory.
+pub(crate) struct LogNotes {
+    pub(crate) kept: Vec<LogNote>,
+    /// How many were left out, because too many were waiting or there was no memory.
     pub(crate) left_out: u64,
 }
 
-impl Notes {
-    /// No note.
-    fn new(alloc: Global) -> Notes {
-        Notes {
+impl LogNotes {
+    /// No notes.
+    fn new(alloc: Global) -> LogNotes {
+        LogNotes {
             kept: Vec::new(alloc),
             left_out: 0,
         }
     }
 
-    /// Adds a note, or counts it where there is no room.
-    fn add(&mut self, note: Note) {
+    /// Adds a note, or counts it if there is no room.
+    fn add(&mut self, note: LogNote) {
         if self.kept.len() < MOST_NOTES && self.kept.reserve(1).is_ok() {
             self.kept.push_reserved(note);
         } else {
@@ -72,18 +72,18 @@ impl Notes {
     }
 }
 
-/// The notes that were not written yet, and how often some things happened.
+/// The notes that have not been written yet, and how often certain things happened.
 #[derive(Drop)]
 pub(crate) struct Chronicle {
     alloc: Global,
     /// Whether anything is noted.
     pub(crate) is_kept: bool,
-    notes: Mutex<Notes>,
-    /// Rung at each note, and where no more comes.
+    notes: Mutex<LogNotes>,
+    /// Rung at each note, and when no more will come.
     pub(crate) chime: Chime,
     /// Whether no more notes come.
     is_over: AtomicBool,
-    /// How many connections are there.
+    /// How many connections there are.
     pub(crate) connections: AtomicU64,
     /// How many of them follow a board.
     pub(crate) followers: AtomicU64,
@@ -99,7 +99,7 @@ impl Chronicle {
         Chronicle {
             alloc,
             is_kept: false,
-            notes: Mutex::new(Notes::new(alloc)),
+            notes: Mutex::new(LogNotes::new(alloc)),
             chime: Chime::new(),
             is_over: AtomicBool::new(false),
             connections: AtomicU64::new(0),
@@ -123,15 +123,15 @@ impl Chronicle {
             }
             _ => {}
         }
-        self.notes.lock(rt).add(Note { board, what });
+        self.notes.lock(rt).add(LogNote { board, what });
         self.chime.ring();
         self.chime.wake();
     }
 
     /// Takes the notes that wait.
-    pub(crate) fn take<R: Wait>(&self, rt: &R) -> Notes {
+    pub(crate) fn take<R: Wait>(&self, rt: &R) -> LogNotes {
         let mut notes = self.notes.lock(rt);
-        mem::replace(&mut *notes, Notes::new(self.alloc))
+        mem::replace(&mut *notes, LogNotes::new(self.alloc))
     }
 
     /// No more notes come.

@@ -7,14 +7,14 @@ use std::io;
 use std::io::ErrorKind;
 use std::time::{Clock, Duration, Instant};
 
-/// A point in time.
+/// A point in time, by the monotonic clock.
 #[derive(Clone, Copy)]
 pub(crate) struct Deadline {
     end: Instant,
 }
 
 impl Deadline {
-    /// The point in time so long from now.
+    /// The point in time at this distance from now.
     pub(crate) fn after<C: Clock>(clock: &C, most: Duration) -> io::Result<Deadline> {
         match Instant::now(clock)?.checked_add(most) {
             Some(end) => Ok(Deadline { end }),

@@ -1,14 +1,14 @@
-//! The end of a connection: a peer that still sends would get a reset in place of the last bytes, where they were not read.
+//! The end of a connection. If a peer still sends and its bytes are not read, it would get a reset instead of the last bytes.
 
 use crate::deadline::Deadline;
 use crate::stream::{Stream, read_some};
 use std::io;
 use std::time::{Clock, Duration};
 
-/// How many pieces a peer's output is read on in.
+/// In how many pieces a peer's output is read on.
 const MOST_PIECES: u32 = 4096;
 
-/// How many seconds a peer's output is read on.
+/// For how many seconds a peer's output is read on.
 const MOST_SECONDS: u64 = 10;
 
 /// Ends the output, and reads until the peer's end, an error or the bound. What was read is dropped.

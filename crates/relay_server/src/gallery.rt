@@ -1,4 +1,4 @@
-//! Where those go who follow: loops that serve many of them each.
+//! The loops that connections that follow are moved to; each serves many of them.
 
 ghost use Rattle.std.specs.Prelude.{◌≡◌, Some, IfErr, IfOk, IfSome};
 ghost use Rattle.relay_server.specs.Heads.{left};
@@ -8,12 +8,12 @@ ghost use Rattle.relay_server.specs.Spectating.{HasBeenTold};
 use crate::balcony::Balcony;
 use crate::balcony_loop::BalconyLoop;
 use crate::broadcast::Broadcast;
+use crate::connection_keeper::ConnectionKeeper;
 use crate::interruptible::Interruptible;
 use crate::key::Key;
 use crate::lookout::Lookout;
 use crate::outlet::SocketOutlet;
 use crate::registry::Registry;
-use crate::seat::Seat;
 use crate::socket::Socket;
 use crate::spectating::Spectating;
 use crate::spectator::Spectator;
@@ -35,21 +35,21 @@ const BALCONIES: usize = 2;
 /// How many bytes the stack of a loop's thread has.
 const STACK_BYTES: usize = 256 * 1024;
 
-/// All balconies. One that follows goes to the next in turn.
+/// All balconies. Connections that follow are distributed over them in turn.
 #[derive(Drop)]
 pub(crate) struct Gallery {
     balconies: Vec<Balcony>,
-    /// What wakes the loops.
+    /// The lookouts that wake the loops.
     lookouts: Arc<Vec<Arc<Lookout, Global>>, Global>,
     next: AtomicU64,
     is_closing: AtomicBool,
 }
 
-/// A connection, as its thread has it.
+/// A connection, as its thread holds it.
 pub(crate) type Connection<'a, R> = Interruptible<'a, Socket<'a, R>, R>;
 
 impl Gallery {
-    /// A gallery, and its loops, which do not run yet.
+    /// A gallery and its loops, which are not running yet.
     ///
     /// # Errors
     ///
@@ -80,7 +80,7 @@ impl Gallery {
         self.balconies.get(at)
     }
 
-    /// No more connections follow. The loops end once nobody is there.
+    /// Closes the gallery: no more connections are moved here. The loops end once they are empty.
     pub(crate) fn close(&self) {
         self.is_closing.store(true, Ordering::SeqCst);
         for lookout in self.lookouts.iter() {
@@ -88,15 +88,19 @@ impl Gallery {
         }
     }
 
-    /// Whether it closes.
+    /// Whether it is closing.
     pub(crate) fn is_closing(&self) -> bool {
         self.is_closing.load(Ordering::SeqCst)
     }
 
-    /// The board that a connection follows, if its followers may come here. It is known to be followed here before a loop takes of it: what is rung
-    /// for behind that wakes the loop.
-    fn board_of<R>(&self, alloc: Global, seat: &Seat<'_, R>) -> Option<Arc<Broadcast, Global>> {
-        let Some(spectating) = &seat.spectating else {
+    /// The board that a connection follows, if its followers may be moved here. The loops are registered with it before one takes from it:
+    /// any later ring wakes the loop.
+    fn board_of<R>(
+        &self,
+        alloc: Global,
+        keeper: &ConnectionKeeper<'_, R>,
+    ) -> Option<Arc<Broadcast, Global>> {
+        let Some(spectating) = &keeper.spectating else {
             return None;
         };
         let board = Arc::try_clone(spectating.broadcast()).ok()?;
@@ -104,7 +108,7 @@ impl Gallery {
         Some(board)
     }
 
-    /// The balcony to which the next one goes.
+    /// The balcony for the next connection.
     fn next(&self) -> Option<&Balcony> {
         let turn = self.next.fetch_add(1, Ordering::SeqCst);
         let count = self.balconies.len();
@@ -115,30 +119,30 @@ impl Gallery {
     }
 }
 
-/// Hands a connection that follows over to a loop, with its follower: the same seat. Where none takes it, it is given back.
+/// Moves a connection that follows to a loop, with its follower: the same seat. If no loop takes it, it is returned.
 pub(crate) fn hand_over<'a, R: Wait + Clock>(
     rt: &R,
     alloc: Global,
     registry: &Registry,
     gallery: &Gallery,
     outlet: SocketOutlet<Connection<'a, R>>,
-    seat: Seat<'a, R>,
+    keeper: ConnectionKeeper<'a, R>,
     key: &Option<Key>,
-) -> Option<(SocketOutlet<Connection<'a, R>>, Seat<'a, R>)>
-    requires told { HasBeenTold seat.follower outlet.texts.items }
-    ensures back { IfSome result (λ back. (back.0.texts.items ≡ outlet.entry.texts.items) × (back.0.line ≡ outlet.entry.line) × (back.0.peer ≡ outlet.entry.peer) × (back.1.follower ≡ seat.entry.follower)) }
+) -> Option<(SocketOutlet<Connection<'a, R>>, ConnectionKeeper<'a, R>)>
+    requires told { HasBeenTold keeper.follower outlet.texts.items }
+    ensures back { IfSome result (λ back. (back.0.texts.items ≡ outlet.entry.texts.items) × (back.0.buffered ≡ outlet.entry.buffered) × (back.0.peer ≡ outlet.entry.peer) × (back.1.follower ≡ keeper.entry.follower)) }
 {
-    let Some(board) = gallery.board_of(alloc, &seat) else {
-        return Some((outlet, seat));
+    let Some(board) = gallery.board_of(alloc, &keeper) else {
+        return Some((outlet, keeper));
     };
     let Some(balcony) = gallery.next() else {
-        return Some((outlet, seat));
+        return Some((outlet, keeper));
     };
     let mut inbox = balcony.inbox(rt);
     if !inbox.has_room() {
-        return Some((outlet, seat));
+        return Some((outlet, keeper));
     }
-    if let Some(spectating) = seat.part() {
+    if let Some(spectating) = keeper.part() {
         match coming_over(outlet, spectating, key, board) {
             Ok(newcomer) => inbox.put(newcomer),
             Err(spectator) => spectator.go(rt, registry),
@@ -149,11 +153,11 @@ pub(crate) fn hand_over<'a, R: Wait + Clock>(
     None
 }
 
-/// One that comes to a loop over this connection, which waits no more.
+/// A connection on its way to a loop; it no longer waits.
 ///
 /// # Errors
 ///
-/// The system does not let it: it is to go.
+/// The system refuses, and the connection has to go.
 fn coming_over<R: Clock>(
     outlet: SocketOutlet<Connection<'_, R>>,
     spectating: Spectating,
@@ -162,9 +166,9 @@ fn coming_over<R: Clock>(
 ) -> Result<Newcomer, Spectator<Wire>>
     requires told { HasBeenTold (Some spectating.source) outlet.texts.items }
     ensures texts { IfOk result (λ newcomer. newcomer.spectator.texts ≡ outlet.entry.texts.items) }
-    ensures kept { IfOk result (λ newcomer. newcomer.spectator.kept ≡ outlet.entry.line.output.items) }
+    ensures kept { IfOk result (λ newcomer. newcomer.spectator.kept ≡ outlet.entry.buffered.output.items) }
     ensures peer { IfOk result (λ newcomer. newcomer.spectator.peer ≡ outlet.entry.peer) }
-    ensures behind { IfOk result (λ newcomer. newcomer.spectator.behind ≡ left outlet.entry.line.head) }
+    ensures behind { IfOk result (λ newcomer. newcomer.spectator.behind ≡ left outlet.entry.buffered.head) }
     ensures follows { IfOk result (λ newcomer. newcomer.spectator.standing ≡ Following spectating.source) }
     ensures refused { IfErr result (λ spectator. (spectator.texts ≡ outlet.entry.texts.items) × (spectator.standing ≡ Following spectating.source)) }
 {
@@ -183,7 +187,7 @@ fn coming_over<R: Clock>(
     }
 }
 
-/// What was made, or that there was no memory for it.
+/// What was made, or the error that there was no memory for it.
 fn or_no_memory<T: Drop>(made: Option<T>) -> io::Result<T> {
     match made {
         Some(made) => Ok(made),
@@ -191,7 +195,7 @@ fn or_no_memory<T: Drop>(made: Option<T>) -> io::Result<T> {
     }
 }
 
-/// Starts a gallery, each of its loops on a thread of its own, and tells their threads. There is none where the system has none.
+/// Starts a gallery, each of its loops on a thread of its own, and returns their threads. There is none if the system has no threads left.
 pub(crate) fn start_gallery<R>(
     rt: &R,
     alloc: Global,

@@ -1,4 +1,4 @@
-//! The thread that ends the boards for whose key nobody came back.
+//! The thread that ends boards when nobody has come back with their key.
 
 use crate::registry::Registry;
 use std::alloc::Global;
@@ -9,14 +9,14 @@ use std::time::{Clock, Instant};
 /// How many bytes the thread's stack has.
 const STACK_BYTES: usize = 256 * 1024;
 
-/// The thread, where there is one.
+/// The thread, if there is one.
 #[derive(Drop)]
 pub(crate) struct Grace {
     handle: Option<JoinHandle<()>>,
 }
 
 impl Grace {
-    /// Starts the thread, where the registry has a grace. Where it cannot be started no board waits.
+    /// Starts the thread if the registry has a grace. If it cannot be started, no board waits.
     pub(crate) fn start<R>(rt: &R, registry: &Arc<Registry, Global>) -> Grace
     where
         R: Threads + Wait + Clock + Clone + Send + Drop + 'static,
@@ -32,8 +32,8 @@ impl Grace {
         Grace { handle }
     }
 
-    /// No more connections are accepted. Once those that were have shaken hands, the boards that wait are ended, and so is the thread; from
-    /// then on no board waits.
+    /// Called when no more connections are accepted. Once those accepted have shaken hands, the waiting boards are ended, and so is the
+    /// thread; from then on no board waits.
     pub(crate) fn end(&self, registry: &Registry) {
         registry.set_closed(true);
     }
@@ -59,7 +59,7 @@ where
         .ok()
 }
 
-/// Ends the boards that have waited long enough, and sleeps until the next have or others wait, until it is told that it is over.
+/// Ends the boards that have waited long enough. Sleeps until the next ones have, or others begin to wait, until it is over.
 fn run<R: Wait + Clock>(rt: &R, registry: &Registry) {
     for _ in rt.forever() {
         let heard = registry.waiting.count();

@@ -1,4 +1,4 @@
-//! What stands behind the registry's lock: the boards, and who holds their keys. So coming back and running out meet under one lock.
+//! What the registry's lock protects: the boards and the holders of their keys. So a return and an expiry exclude each other.
 
 ghost use Rattle.std.specs.Prelude.{◌≡◌, ◌&&◌, None, Some, IfSome, cond, is_none, is_some, length, true};
 ghost use Rattle.std.specs.Arc.{arc_value};
@@ -14,17 +14,17 @@ use std::alloc::Global;
 use std::sync::Arc;
 use std::time::Instant;
 
-/// The boards, and who holds their keys.
+/// The boards, and the holders of their keys.
 #[derive(Drop)]
 pub(crate) struct Hall {
     pub(crate) boards: Boards,
     pub(crate) holders: Holders,
-    /// Whether a thread ends the boards that have waited long enough. Where none does, no board waits.
+    /// Whether a thread ends the boards that have waited long enough. If none does, no board waits.
     pub(crate) is_watched: bool,
 }
 
-/// The boards of a key that are to be ended: those of the first so many. Boards that are opened behind them, by a connection that came back in
-/// between, are none of them.
+/// The boards of a key that are to be ended: those among the first `count`. Boards opened after them, by a connection that came back in
+/// the meantime, are not among them.
 #[derive(Drop)]
 pub(crate) struct Forsaken {
     pub(crate) key: Key,
@@ -32,7 +32,7 @@ pub(crate) struct Forsaken {
 }
 
 impl Hall {
-    /// A connection with this key goes. What is told is the boards that are to be ended now, if there are any; and whether the key's boards wait.
+    /// A connection with this key goes. Returns the boards that are to be ended now, if there are any, and whether the key's boards wait.
     pub(crate) fn leave(&mut self, key: &Key, until: Option<Instant>) -> (Option<Forsaken>, bool)
         ensures left { presence_of key.now self.new.holders.rows.items ≡ without_one (presence_of key.now self.old.holders.rows.items) (cond (owns_any (Some key.now) (owners self.old.boards.shared.map.entries (λ b. (arc_value b).owner)) && self.old.is_watched) until None) }
         ensures others { OthersStay key.now self.old.holders.rows.items self.new.holders.rows.items }
@@ -49,14 +49,14 @@ impl Hall {
         }
     }
 
-    /// Until when the boards of a key wait that owns any, or none; it is none where they do not wait.
+    /// Until when the boards of a key wait, if it owns any; None if they do not wait.
     fn grace_end(&self, owns: bool, until: Option<Instant>) -> Option<Instant>
         ensures { result ≡ cond (owns && self.now.is_watched) until None }
     {
         if owns && self.is_watched { until } else { None }
     }
 
-    /// Boards that have waited until now, if there are any: one key's at a time. Where no time is given, those that wait.
+    /// Boards that have waited until now, if there are any: one key's at a time. Without a time, those that wait.
     pub(crate) fn expire(&mut self, now: Option<Instant>) -> Option<Forsaken>
         ensures due { IfSome result (λ forsaken. HasRunOut now (presence_of forsaken.key self.old.holders.rows.items)) }
         ensures gone { IfSome result (λ forsaken. presence_of forsaken.key self.new.holders.rows.items ≡ None) }
@@ -70,8 +70,8 @@ impl Hall {
         })
     }
 
-    /// The board at this place, in the order of opening, where it is still to be ended: it was opened with this key, with which nobody has
-    /// come back since its boards ran out.
+    /// The board of this index, in the order of opening, if it is still to be ended: it was opened with this key, and nobody has come back
+    /// with the key since its boards expired.
     pub(crate) fn forsaken_at(&self, at: usize, key: &Key) -> Option<&Arc<Broadcast, Global>>
         ensures owned { IfSome result (λ b. is_owner (Some key.now) (arc_value b.now).owner ≡ true) }
         ensures gone { IfSome result (λ b. presence_of key.now self.now.holders.rows.items ≡ None) }
@@ -82,7 +82,7 @@ impl Hall {
         self.boards.owned_at(at, key)
     }
 
-    /// The boards of this key that stand now, where it owns any.
+    /// The present boards of this key, if it owns any.
     fn forsaken(&self, key: Key, owns: bool) -> Option<Forsaken>
         ensures told { is_some result ≡ owns }
         ensures key { IfSome result (λ forsaken. forsaken.key ≡ key) }

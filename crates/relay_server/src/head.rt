@@ -6,13 +6,13 @@ ghost use Rattle.relay_server.specs.Heads.{left};
 use crate::deadline::Deadline;
 use crate::key::Key;
 use crate::stream::{Stream, read_some};
-use relay_frames::Refusal;
+use relay_frames::RequestRefusal;
 use std::alloc::Global;
 use std::io::ErrorKind;
 use std::time::{Clock, Duration};
 use std::{io, str};
 
-/// What a head ends with.
+/// The bytes that end a head.
 const BLANK_LINE: &[u8; 4] = b"\r\n\r\n";
 
 /// How many bytes a head may have.
@@ -25,7 +25,7 @@ const MOST_HEAD_SECONDS: u64 = 10;
 #[derive(Drop)]
 pub(crate) enum HeadFault {
     /// What came is refused.
-    Refused(Refusal),
+    Refused(RequestRefusal),
     /// The stream failed or ended, the head took too long, or there was no memory.
     Stream(io::Error),
 }
@@ -36,19 +36,19 @@ impl From<io::Error> for HeadFault {
     }
 }
 
-/// A request's head, and what came behind it in the same pieces. It gives the latter: the head itself is read in place.
+/// A request's head, and what followed it in the same pieces. It gives out only the latter: the head itself is read in place.
 #[derive(Drop)]
 pub(crate) struct Head {
     alloc: Global,
     bytes: Vec<u8>,
     /// Where the head ends.
     end: usize,
-    /// How many bytes were read in place or given.
+    /// How many bytes were read in place or given out.
     given: usize,
 }
 
 impl Head {
-    /// Reads to the end of the head, in pieces however small.
+    /// Reads to the end of the head, in pieces of any size.
     ///
     /// # Errors
     ///
@@ -69,10 +69,10 @@ impl Head {
             if read_more(stream, &mut bytes)? == 0 {
                 return Err(HeadFault::Stream(io::Error::from(ErrorKind::UnexpectedEof)));
             }
-            // RFC 9112 (section 2.2) would have empty lines before a request passed over, and who reads this head does so: he would
-            // find none in it, and read on without these bounds.
+            // RFC 9112 (section 2.2) wants empty lines before a request to be skipped. The parser of this head would do so: it would
+            // find no head in it, and read on without these bounds.
             if matches!(bytes.first(), Some(b'\r' | b'\n')) {
-                return Err(HeadFault::Refused(Refusal::BadRequest));
+                return Err(HeadFault::Refused(RequestRefusal::BadRequest));
             }
             if let Some(end) = end_of_head(bytes.as_slice(), seen) {
                 return Ok(Head {
@@ -86,10 +86,10 @@ impl Head {
                 break;
             }
         }
-        Err(HeadFault::Refused(Refusal::HeadTooLarge))
+        Err(HeadFault::Refused(RequestRefusal::HeadTooLarge))
     }
 
-    /// The bytes of the head, and none of those that came behind it.
+    /// The bytes of the head, without those that followed it.
     pub(crate) fn request(&self) -> &[u8]
         ensures { result.now ≡ take self.now.end self.now.bytes.items }
     {
@@ -102,7 +102,7 @@ impl Head {
         key_of(self.request())
     }
 
-    /// Gives bytes of what came behind the head, and none once all were given.
+    /// Gives out bytes that followed the head, and none once all have been given.
     pub(crate) fn give(&mut self, buf: &mut [u8]) -> usize
         ensures bound { result ≤ length buf.new }
         ensures next { left self.old ≡ take result buf.new ++ left self.new }
@@ -120,7 +120,7 @@ impl Head {
         n
     }
 
-    /// Lets go of the bytes, and of the memory that they took, once all were given.
+    /// Frees the bytes once all have been given out.
     pub(crate) fn let_go(&mut self)
         ensures same { left self.new ≡ left self.old }
         ensures freed { vec_len self.old.bytes ≤ self.old.given → vec_capacity self.new.bytes ≡ 0 }
@@ -133,7 +133,7 @@ impl Head {
     }
 }
 
-/// Reads once.
+/// Reads the stream once, and appends what came to `bytes`.
 fn read_more<S: Stream>(stream: &mut S, bytes: &mut Vec<u8>) -> io::Result<usize> {
     let mut piece = [0; 512];
     let n = read_some(stream, &mut piece)?;
@@ -143,8 +143,8 @@ fn read_more<S: Stream>(stream: &mut S, bytes: &mut Vec<u8>) -> io::Result<usize
     }
 }
 
-/// Where the head ends: behind the first blank line, which does not end within the bytes seen before. One that ends beyond the
-/// greatest number of bytes is none.
+/// The end of the head: after the first blank line, which does not end within the bytes seen before. An end beyond the
+/// greatest number of bytes does not count.
 fn end_of_head(bytes: &[u8], seen: usize) -> Option<usize>
     ensures { IfSome result (λ end. end ≤ 8192) }
 {
@@ -156,8 +156,8 @@ fn end_of_head(bytes: &[u8], seen: usize) -> Option<usize>
     None
 }
 
-/// The key in the target of a request with this head (RFC 9112, section 3): of the fields of its query, which stand behind the first `?` and
-/// are separated by `&`, the first that is `key=` and then a key. Nothing else is looked at.
+/// The key in the target of a request with this head (RFC 9112, section 3). The fields of its query come after the first `?` and
+/// are separated by `&`. The key is the value of the first field that is `key=` followed by a key. Nothing else is looked at.
 fn key_of(head: &[u8]) -> Option<Key> {
     let (_, behind_method) = first_line(head)?.split_once(' ')?;
     let (target, _) = behind_method.split_once(' ')?;
@@ -165,7 +165,7 @@ fn key_of(head: &[u8]) -> Option<Key> {
     query.split('&').find_map(key_in)
 }
 
-/// The first line of a head, where it is text.
+/// The first line of a head, if it is text.
 fn first_line(head: &[u8]) -> Option<&str> {
     let end = head.iter().position(|byte| matches!(*byte, b'\r' | b'\n'))?;
     str::from_utf8(head.get(..end)?).ok()

@@ -1,4 +1,4 @@
-//! The keys that connections hold, and those whose boards wait for one to come back.
+//! The keys that connections hold, and those whose boards wait for a connection to come back.
 
 ghost use Rattle.std.specs.Prelude.{◌≡◌, ◌<◌, ◌++◌, ◌∷◌, [], vec_len, is_some, true, slice_get, None, IfOk, IfSome, OnOk, OnErr};
 ghost use Rattle.relay_server.specs.Holders.{departure, is_waiting, presence_of, with_newcomer, without_one, HasRunOut, NoneHasRunOut, OthersStay, stand_once};
@@ -25,19 +25,19 @@ pub(crate) struct Holders {
     ghost once: { stand_once rows.items ≡ true } by { Prim.hlevel props },
 }
 
-/// What became of a key as one of its connections went.
+/// What happened to a key when one of its connections went.
 #[derive(Clone, Copy)]
 pub(crate) enum Departure {
-    /// Another connection with it is there.
+    /// Another connection with it remains.
     OneOfMore,
     /// Its boards wait.
     Waits,
-    /// None is there, and its boards are to be ended now.
+    /// No other connection remains, and its boards are to be ended now.
     Last,
 }
 
 impl Departure {
-    /// What became of a key of which this presence is left.
+    /// What happened to a key that now has this presence.
     fn of(presence: Presence) -> Departure
         ensures { result ≡ departure (Some presence) }
     {
@@ -49,7 +49,7 @@ impl Departure {
 }
 
 impl Holders {
-    /// No key.
+    /// No keys.
     pub(crate) fn new(alloc: Global) -> Holders
         ensures { result.rows.items ≡ [] }
     {
@@ -58,8 +58,8 @@ impl Holders {
         }
     }
 
-    /// Where the key stands.
-    fn place_of(&self, key: &Key) -> Option<usize>
+    /// The index of the key.
+    fn index_of(&self, key: &Key) -> Option<usize>
         ensures within { IfSome result (λ at. at < vec_len self.now.rows) }
         ensures found { IfSome result (λ at. IfSome (slice_get self.now.rows.items at) (λ holder. same_key key.now holder.key ≡ true)) }
         ensures missing { result ≡ None → presence_of key.now self.now.rows.items ≡ None }
@@ -72,18 +72,18 @@ impl Holders {
         None
     }
 
-    /// Whether a connection with this key is there, or its boards wait.
+    /// Whether a connection with this key exists, or its boards wait.
     pub(crate) fn has(&self, key: &Key) -> bool
         ensures { result ≡ is_some (presence_of key.now self.now.rows.items) }
     {
-        self.place_of(key).is_some()
+        self.index_of(key).is_some()
     }
 
-    /// A connection with this key has come. Its boards wait no longer; tells whether they did.
+    /// A connection with this key has come. Its boards wait no longer; returns whether they did.
     ///
     /// # Errors
     ///
-    /// There was no memory, or as many such connections are there as can be counted. Nothing has changed.
+    /// There was no memory, or there are as many such connections as can be counted. Nothing has changed.
     pub(crate) fn arrive(&mut self, key: &Key) -> Result<bool, AllocError>
         ensures there { OnOk result (is_some (presence_of key.now self.new.rows.items) ≡ true) }
         ensures counted { OnOk result (presence_of key.now self.new.rows.items ≡ with_newcomer (presence_of key.now self.old.rows.items)) }
@@ -91,7 +91,7 @@ impl Holders {
         ensures waited { IfOk result (λ waited. waited ≡ is_waiting (presence_of key.now self.old.rows.items)) }
         ensures unchanged { OnErr result (self.new.rows.items ≡ self.old.rows.items) }
     {
-        let Some(at) = self.place_of(key) else {
+        let Some(at) = self.index_of(key) else {
             self.enter(*key)?;
             return Ok(false);
         };
@@ -103,7 +103,7 @@ impl Holders {
         Ok(waited)
     }
 
-    /// Enters a key that stands nowhere yet.
+    /// Enters a key that has not been entered yet.
     fn enter(&mut self, key: Key) -> Result<(), AllocError>
         requires { presence_of key self.old.rows.items ≡ None }
         ensures entered { OnOk result (self.new.rows.items ≡ self.old.rows.items ++ record { key = key; presence = Presence.Here 1 } ∷ []) }
@@ -117,14 +117,14 @@ impl Holders {
         Ok(())
     }
 
-    /// A connection with this key goes. Where none is left, the key's boards wait until then; where they do not wait, it is told that they are
+    /// A connection with this key goes. If none is left, the key's boards wait until the given time. If they do not wait, they are
     /// to be ended now, and the key is forgotten.
     pub(crate) fn leave(&mut self, key: &Key, until: Option<Instant>) -> Departure
         ensures left { presence_of key.now self.new.rows.items ≡ without_one (presence_of key.now self.old.rows.items) until }
         ensures others { OthersStay key.now self.old.rows.items self.new.rows.items }
         ensures answer { result ≡ departure (presence_of key.now self.new.rows.items) }
     {
-        let Some(at) = self.place_of(key) else {
+        let Some(at) = self.index_of(key) else {
             return Departure::Last;
         };
         let Some(presence) = self.rows[at].presence.with_one_less(until) else {
@@ -135,7 +135,7 @@ impl Holders {
         Departure::of(presence)
     }
 
-    /// Takes out the first key whose boards have waited until now; where no time is given, the first whose boards wait.
+    /// Removes the first key whose boards have waited until now; without a time, the first whose boards wait.
     pub(crate) fn expire(&mut self, now: Option<Instant>) -> Option<Key>
         ensures due { IfSome result (λ key. HasRunOut now (presence_of key self.old.rows.items)) }
         ensures gone { IfSome result (λ key. presence_of key self.new.rows.items ≡ None) }
@@ -143,13 +143,13 @@ impl Holders {
         ensures none { result ≡ None → NoneHasRunOut now self.old.rows.items }
         ensures unchanged { result ≡ None → self.new.rows.items ≡ self.old.rows.items }
     {
-        let at = self.due_place(now)?;
+        let at = self.due_index(now)?;
         let Holder { key, .. } = self.rows.remove(at);
         Some(key)
     }
 
-    /// Where the first key stands whose boards have waited until now; where no time is given, the first whose boards wait.
-    fn due_place(&self, now: Option<Instant>) -> Option<usize>
+    /// The index of the first key whose boards have waited until now; without a time, of the first whose boards wait.
+    fn due_index(&self, now: Option<Instant>) -> Option<usize>
         ensures within { IfSome result (λ at. at < vec_len self.now.rows) }
         ensures due { IfSome result (λ at. IfSome (slice_get self.now.rows.items at) (λ holder. IsDue now holder.presence)) }
         ensures none { result ≡ None → NoneHasRunOut now self.now.rows.items }
@@ -172,7 +172,7 @@ impl Holders {
     }
 }
 
-/// The earlier of a time and of that until which a key's boards wait.
+/// The earlier of a time and the time until which a key's boards wait.
 fn earlier(next: Option<Instant>, presence: Presence) -> Option<Instant> {
     let Presence::Waits(until) = presence else {
         return next;

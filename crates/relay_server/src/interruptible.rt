@@ -1,4 +1,4 @@
-//! A stream whose reads are interrupted where the server goes away: serving is to end, or patience with the peer is over.
+//! A stream whose reads are interrupted when the server leaves: serving is to end, or the patience with the peer is over.
 
 ghost use Rattle.std.specs.Prelude.{◌≡◌};
 
@@ -11,31 +11,31 @@ use std::io;
 use std::io::{ErrorKind, Read, Write};
 use std::time::{Clock, Duration};
 
-/// How many seconds a read waits until it looks again whether the server goes away.
+/// How many seconds a read waits until it checks again whether the server leaves.
 const TURN_SECONDS: u64 = 1;
 
-/// How many milliseconds before its bound a read gives up. The system may wake it some milliseconds late, and so the three waits of half a
-/// minute for a peer that has vanished end within 90 seconds.
+/// How many milliseconds before its bound a read gives up. The system may wake it some milliseconds late. With this margin the three waits
+/// of half a minute for a peer that has vanished end within 90 seconds.
 const MARGIN_MILLIS: u64 = 100;
 
-/// A stream whose reads fail once serving is to end before its time, or patience with the peer is over: one that waits then notices within a
-/// second. What the peer sends behind the end of the output is read all the same, so that it gets what it was sent last.
+/// A stream whose reads fail once serving is to end early or the patience with the peer is over. A read that waits at that time notices
+/// within a second. What the peer sends after the end of the output is still read, so that it receives what it was sent last.
 #[derive(Drop)]
 pub(crate) struct Interruptible<'a, S, C> {
     stream: S,
     registry: &'a Registry,
     patience: &'a Patience,
     clock: &'a C,
-    /// How long a read waits at most, where that is bounded.
+    /// How long a read waits at most, if that is bounded.
     most: Option<Duration>,
-    /// How long the stream's own reads wait at most, where it was told.
+    /// How long the stream's own reads wait at most, if that was set.
     turn: Option<Duration>,
     /// Whether the output has ended.
     has_ended: bool,
 }
 
 impl<'a, S: Stream, C: Clock> Interruptible<'a, S, C> {
-    /// A stream that was not bounded yet, of a connection to the server with this registry, and with this patience.
+    /// A stream without bounds yet, of a connection to the server with this registry, and with this patience.
     pub(crate) fn new(
         stream: S,
         registry: &'a Registry,
@@ -53,7 +53,7 @@ impl<'a, S: Stream, C: Clock> Interruptible<'a, S, C> {
         }
     }
 
-    /// The stream alone.
+    /// The wrapped stream.
     pub(crate) fn into_inner(self) -> S
         ensures { result ≡ self.entry.stream }
     {
@@ -61,12 +61,12 @@ impl<'a, S: Stream, C: Clock> Interruptible<'a, S, C> {
         stream
     }
 
-    /// Whether reads fail, since the server goes away.
+    /// Whether reads fail because the server leaves.
     fn is_interrupted(&self) -> bool {
         !self.has_ended && (self.registry.is_ending() || self.patience.is_over(self.clock))
     }
 
-    /// By when a read that begins now gives up, where that is bounded.
+    /// When a read that begins now gives up, if that is bounded.
     fn due(&self) -> io::Result<Option<Deadline>> {
         let Some(most) = self.most else {
             return Ok(None);
@@ -75,7 +75,7 @@ impl<'a, S: Stream, C: Clock> Interruptible<'a, S, C> {
         Ok(Some(Deadline::after(self.clock, most)?))
     }
 
-    /// Lets the stream's own reads wait for a turn at most, and no longer than until then.
+    /// Lets the stream's own reads wait for one turn at most, and not beyond `due`.
     ///
     /// # Errors
     ///
@@ -88,7 +88,7 @@ impl<'a, S: Stream, C: Clock> Interruptible<'a, S, C> {
         }
     }
 
-    /// Lets the stream's own reads wait for so long at most.
+    /// Bounds the wait of the stream's own reads.
     fn bound_turn(&mut self, turn: Duration) -> io::Result<()> {
         if self.turn == Some(turn) {
             return Ok(());
@@ -102,6 +102,7 @@ impl<'a, S: Stream, C: Clock> Interruptible<'a, S, C> {
 
 impl<S: Stream, C: Clock> Read for Interruptible<'_, S, C> {
     fn read(&mut self, buf: &mut [u8]) -> io::Result<usize> {
+        self.patience.rest(self.clock);
         let due = self.due()?;
         for _ in 0..u64::MAX {
             if self.is_interrupted() {

@@ -7,14 +7,14 @@ ghost use Rattle.relay_server.specs.Keys.{filled, is_key, same_key};
 
 use std::marker::Model;
 
-/// How many bytes a key has at least.
+/// The least number of bytes of a key.
 const LEAST_BYTES: usize = 16;
 
-/// How many bytes a key has at most.
+/// The greatest number of bytes of a key.
 const MOST_BYTES: usize = 64;
 
-/// A key: 16 to 64 bytes of `A` to `Z`, `a` to `z`, `0` to `9`, `_` and `-`. It is written nowhere, so it has no `Debug`; and it has no
-/// `==`, since it is compared by `is_same` alone. Contracts see its bytes with zeros behind them, 64 in all; no byte of a key is zero.
+/// A key: 16 to 64 bytes of `A` to `Z`, `a` to `z`, `0` to `9`, `_` and `-`. It is written nowhere, so it has no `Debug`. It has no
+/// `==`, since only `is_same` may compare it. Contracts see its bytes padded with zeros, 64 in all; no byte of a key is zero.
 #[derive(Clone, Copy)]
 pub(crate) struct Key {
     bytes: [u8; 64],
@@ -33,7 +33,7 @@ impl Model for Key {
 }
 
 impl Key {
-    /// The key of these bytes, exactly where they make one.
+    /// The key that these bytes make, or None exactly if they make none.
     pub(crate) fn parse(text: &[u8]) -> Option<Key>
         ensures some { is_some result ≡ is_key text.now }
         ensures value { IfSome result (λ key. key ≡ filled text.now) }
@@ -46,7 +46,7 @@ impl Key {
         })
     }
 
-    /// Whether the keys are the same. All of their bytes are compared, wherever they differ first, so that the time tells nothing.
+    /// Whether the keys are the same. All bytes are compared, wherever the first difference is, so that the time reveals nothing.
     pub(crate) fn is_same(&self, other: &Key) -> bool
         ensures { result ≡ same_key self.now other.now }
     {
@@ -54,7 +54,7 @@ impl Key {
     }
 }
 
-/// Whether the bytes are the same. The loop goes over all of them.
+/// Whether the bytes are the same. The loop always goes over all of them.
 #[tactic(auto, using(crate::proofs::Owned::same_next, crate::proofs::Owned::all_of))]
 fn are_same(mine: &[u8; 64], theirs: &[u8; 64]) -> bool
     ensures { result ≡ same_key mine.now theirs.now }
@@ -66,7 +66,7 @@ fn are_same(mine: &[u8; 64], theirs: &[u8; 64]) -> bool
     are_same
 }
 
-/// The text with zeros behind it.
+/// The text, padded with zeros.
 #[tactic(auto, using(crate::proofs::Owned::zeros_behind))]
 fn with_zeros(text: &[u8]) -> [u8; 64]
     requires { length text.now ≤ 64 }
@@ -84,14 +84,14 @@ fn is_key(text: &[u8]) -> bool
     (LEAST_BYTES..=MOST_BYTES).contains(&text.len()) && are_key_bytes(text)
 }
 
-/// Whether each byte may stand in a key.
+/// Whether each byte may occur in a key.
 fn are_key_bytes(text: &[u8]) -> bool
     ensures value { result ≡ list_all is_in_keys text.now }
 {
     text.iter().all(|&byte| is_key_byte(byte))
 }
 
-/// Whether the byte may stand in a key.
+/// Whether the byte may occur in a key.
 fn is_key_byte(byte: u8) -> bool
     ensures value { result ≡ is_in_keys byte }
 {

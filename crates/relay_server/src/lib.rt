@@ -1,39 +1,40 @@
 //! Sessions of a relay over WebSocket (RFC 6455): a thread for each connection that answers commands, and loops for those that follow.
 #![tactic(auto)]
 
+mod attendee;
 mod audience;
 mod balcony;
 mod balcony_loop;
 mod board_map;
 mod boards;
 mod broadcast;
+mod buffered_stream;
 mod chime;
 mod chronicle;
+mod connection_keeper;
+mod courtesy;
 mod deadline;
 mod door;
 mod drain;
-mod ending;
 mod gallery;
 mod gates;
 mod grace;
 mod hall;
 mod head;
 mod holders;
+mod input_watch;
 mod interruptible;
 mod key;
-mod line;
 mod lookout;
 mod memory;
+mod occupancy;
 mod outlet;
 mod patience;
-mod places;
 mod presence;
 mod ready;
 mod registry;
 mod request;
 mod scribe;
-mod seat;
-mod seated;
 mod serving;
 mod sessions;
 mod shown;

@@ -1,10 +1,10 @@
-//! Those who look at all boards.
+//! Lookouts, which watch all boards.
 
 use mio::Waker;
 use std::sync::atomic::{AtomicBool, Ordering};
 
-/// One who looks at all boards, as a loop by which many watch: it is woken where any board was rung for. Of several rings before it looks one
-/// wakes it.
+/// A lookout watches all boards, for a loop that serves many spectators. It is woken when any board was rung for. Several rings before it
+/// looks wake it once.
 #[derive(Drop)]
 pub struct Lookout {
     waker: Waker,
@@ -13,7 +13,7 @@ pub struct Lookout {
 }
 
 impl Lookout {
-    /// One that this wakes.
+    /// A lookout that this wakes.
     pub fn new(waker: Waker) -> Lookout {
         Lookout {
             waker,
@@ -21,7 +21,7 @@ impl Lookout {
         }
     }
 
-    /// It looks now. This comes before it looks: what is rung for from now on wakes it again.
+    /// Called before it looks: a ring from now on wakes it again.
     pub fn heed(&self) {
         self.is_woken.store(false, Ordering::SeqCst);
     }

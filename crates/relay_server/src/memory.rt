@@ -1,4 +1,4 @@
-//! Want of memory, told from a failure of the device.
+//! Lack of memory, recognised in a failure of the device.
 
 ghost use Rattle.std.specs.Prelude.{◌≡◌, ◌↔◌, true};
 ghost use Rattle.relay_server.specs.Memory.{LacksMemory};
@@ -6,7 +6,7 @@ ghost use Rattle.relay_server.specs.Memory.{LacksMemory};
 use std::io::ErrorKind;
 use tungstenite::Error;
 
-/// Whether a call of a socket failed for want of memory. The socket found none, or its stream says so by the kind of its error.
+/// Whether a call of a socket failed for lack of memory. The socket found none, or the kind of its stream's error says so.
 pub(crate) fn is_want_of_memory(error: &Error) -> bool
     ensures { (result ≡ true) ↔ LacksMemory error.now }
 {

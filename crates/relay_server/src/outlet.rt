@@ -1,6 +1,6 @@
 //! The outlet over a WebSocket.
 
-ghost use Rattle.std.specs.Prelude.{◌≡◌, [], ◌∷◌, ◌++◌, ◌≤◌, ◌<◌, ◌↔◌, IsTrue, None, Some, Err, true, false, is_some, length, option_map, IfErr, IfOk, OnOk, OnErr, if◌then◌else◌};
+ghost use Rattle.std.specs.Prelude.{◌≡◌, [], ◌∷◌, ◌++◌, ◌≤◌, ◌<◌, ◌↔◌, IsTrue, None, Some, Err, true, false, is_some, length, option_map, IfErr, IfNone, IfOk, OnOk, OnErr, if◌then◌else◌};
 ghost use Rattle.std.specs.Io.KnownBytes.{Appends, Keeps};
 ghost use Rattle.relay_frames.specs.Breaches.{code_of};
 ghost use Rattle.relay_frames.specs.Events.{number_of, told};
@@ -11,13 +11,12 @@ ghost use Rattle.relay_pushing.specs.declared.outlet.SendFault.TheVariants.{Devi
 ghost use Rattle.relay_server.specs.Dues.{IsStillDue};
 ghost use Rattle.relay_server.specs.Heads.{left};
 ghost use Rattle.relay_server.specs.Hearing.{TakesIn, TakesNone};
-ghost use Rattle.relay_server.specs.Lines.{Sends, written as line_written};
+ghost use Rattle.relay_server.specs.BufferedStreams.{IsOffered, Sends, written as buffered_written};
 ghost use Rattle.relay_server.specs.Memory.{IsToldOf};
 
-use crate::broadcast::Broadcast;
+use crate::buffered_stream::BufferedStream;
 use crate::deadline::Deadline;
 use crate::drain::end_and_drain;
-use crate::line::Line;
 use crate::memory::is_want_of_memory;
 use crate::stream::Stream;
 use crate::texts::Texts;
@@ -26,14 +25,13 @@ use relay_pushing::{Outlet, SendFault};
 use std::alloc::{AllocError, Global};
 use std::io;
 use std::io::{ErrorKind, Read, Write};
-use std::sync::Arc;
 use std::time::{Clock, Duration};
 use tungstenite::Error;
 
-/// How many pings in a row a peer is sent from which nothing is heard.
+/// How many pings in a row are sent to a peer that stays silent.
 const MOST_PINGS: u32 = 2;
 
-/// How many seconds a read waits for a peer that is silent, until it is sent a ping.
+/// After how many seconds of silence a peer that is read from is sent a ping.
 pub(crate) const MOST_SILENT_SECONDS: u64 = 30;
 
 /// How many seconds a peer may take over half a message.
@@ -42,35 +40,35 @@ const MOST_HALF_SECONDS: u64 = 10;
 /// How many bytes one read of the stream asks for.
 const READ_BYTES: usize = 4096;
 
-/// How many bytes are kept back at least for one that is pushed to by turns, before it has no room.
+/// How many bytes at least are kept back for a peer that is pushed to by turns, before it has no room.
 const ROOM_BYTES: usize = 4096;
 
-/// An outlet over a WebSocket, from the end of its handshake on. It tells the texts whose frames it put into the line.
+/// An outlet over a WebSocket, from the end of its handshake on. Its model is the texts whose frames it put into the stream's buffer.
 #[derive(Drop)]
 pub(crate) struct SocketOutlet<S> {
     alloc: Global,
-    line: Line<S>,
+    buffered: BufferedStream<S>,
     peer: Peer,
-    /// By when the message is to be whole of which a part has come, if one has.
+    /// The time by which a message that has partly arrived has to be complete, if there is one.
     due: Option<Deadline>,
-    /// Whether that message comes in fragments: what stands between them is none.
+    /// Whether that message comes in fragments: frames between them are not part of it.
     is_in_fragments: bool,
-    /// How many bytes may be kept back where there is room for a text more.
+    /// How many bytes may be kept back while there is still room for one more text.
     room: usize,
     failures: u64,
     texts: Texts,
 }
 
 impl<S: Read + Write + Drop> SocketOutlet<S> {
-    /// The outlet over a line whose handshake is done and whose device has not failed yet. No text was put into it.
-    pub(crate) fn new(alloc: Global, line: Line<S>) -> SocketOutlet<S>
+    /// The outlet over a stream whose handshake is done and whose device has not failed yet. No text has been put into it.
+    pub(crate) fn new(alloc: Global, buffered: BufferedStream<S>) -> SocketOutlet<S>
         ensures texts { result.texts.items ≡ [] }
         ensures failures { result.failures ≡ 0 }
-        ensures line { result.line ≡ line }
+        ensures buffered { result.buffered ≡ buffered }
     {
         SocketOutlet {
             alloc,
-            line,
+            buffered,
             peer: Peer::new(alloc),
             due: None,
             is_in_fragments: false,
@@ -80,111 +78,120 @@ impl<S: Read + Write + Drop> SocketOutlet<S> {
         }
     }
 
-    /// Reads the stream once. A peer that was silent for as long as a read waits is sent a ping, and then another one. Where it is silent
-    /// behind that too, it is taken to have gone.
+    /// Reads the stream once. A peer that was silent for as long as a read waits is sent a ping, and then another one. If it is still
+    /// silent after that, it is taken to have gone.
     fn wait_for(&mut self, bytes: &mut [u8]) -> Result<usize, Error>
         ensures bound { IfOk result (λ n. n ≤ length bytes.new) }
         ensures texts { self.new.texts ≡ self.old.texts }
         ensures due { self.new.due ≡ self.old.due }
     {
         for _ in 0..MOST_PINGS {
-            let heard = self.line.read(bytes);
+            let heard = self.buffered.read(bytes);
             if !is_silence(&heard) {
                 return Ok(heard?);
             }
             self.ping()?;
         }
-        Ok(self.line.read(bytes)?)
+        Ok(self.buffered.read(bytes)?)
     }
 
     /// Writes a ping (RFC 6455, section 5.5.2). It leaves before the next read waits.
     pub(crate) fn ping(&mut self) -> Result<(), Error>
-        ensures given { OnOk result (Appends (line_written S.contents self.old.line) (line_written S.contents self.new.line) (ping_frame [])) }
-        ensures ungiven { OnErr result (Keeps (line_written S.contents self.old.line) (line_written S.contents self.new.line)) }
+        ensures given { OnOk result (Appends (buffered_written S.contents self.old.buffered) (buffered_written S.contents self.new.buffered) (ping_frame [])) }
+        ensures ungiven { OnErr result (Keeps (buffered_written S.contents self.old.buffered) (buffered_written S.contents self.new.buffered)) }
         ensures peer { self.new.peer ≡ self.old.peer }
         ensures texts { self.new.texts ≡ self.old.texts }
         ensures due { self.new.due ≡ self.old.due }
     {
         let mut frame = Vec::new(self.alloc);
         outgoing::ping(b"", &mut frame)?;
-        self.line.put(frame.as_slice())?;
+        self.buffered.put(frame.as_slice())?;
         Ok(())
     }
 
-    /// Answers a ping by a pong with its bytes (RFC 6455, section 5.5.3). It leaves before the next read waits.
+    /// Answers a ping with a pong that has its bytes (RFC 6455, section 5.5.3). It leaves before the next read waits.
     ///
     /// # Errors
     ///
-    /// The line took no more, or there was no memory.
+    /// The stream took no more, or there was no memory.
     pub(crate) fn pong(&mut self, payload: &[u8]) -> Result<(), Error>
-        ensures given { OnOk result (Appends (line_written S.contents self.old.line) (line_written S.contents self.new.line) (pong_frame payload.now)) }
-        ensures ungiven { OnErr result (Keeps (line_written S.contents self.old.line) (line_written S.contents self.new.line)) }
+        ensures given { OnOk result (Appends (buffered_written S.contents self.old.buffered) (buffered_written S.contents self.new.buffered) (pong_frame payload.now)) }
+        ensures ungiven { OnErr result (Keeps (buffered_written S.contents self.old.buffered) (buffered_written S.contents self.new.buffered)) }
         ensures peer { self.new.peer ≡ self.old.peer }
         ensures texts { self.new.texts ≡ self.old.texts }
     {
         let mut frame = Vec::new(self.alloc);
         outgoing::pong(payload, &mut frame)?;
-        self.line.put(frame.as_slice())?;
+        self.buffered.put(frame.as_slice())?;
         Ok(())
     }
 
-    /// Wakes the followers of a board later.
-    pub(crate) fn wake_later(&mut self, rung: Arc<Broadcast, Global>)
-        ensures { self.new.texts ≡ self.old.texts }
+    /// Offers the stream what is kept back, in one write.
+    pub(crate) fn offer(&mut self)
+        ensures offered { IsOffered self.new.buffered }
+        ensures bytes { Keeps (buffered_written S.contents self.old.buffered) (buffered_written S.contents self.new.buffered) }
+        ensures front { Sends S.contents self.old.buffered self.new.buffered.stream self.new.buffered.output.items }
+        ensures peer { self.new.peer ≡ self.old.peer }
+        ensures texts { self.new.texts ≡ self.old.texts }
     {
-        self.line.wake_later(rung);
+        self.buffered.offer();
     }
 
-    /// Sends what was accepted as far as the device lets it, and in any case wakes whom it was put off to wake.
+    /// Whether so much is kept back that what is put next waits until the stream has taken it.
+    pub(crate) fn is_full(&self) -> bool {
+        self.buffered.is_full()
+    }
+
+    /// Sends what was accepted as far as the device allows.
     pub(crate) fn give_up(&mut self)
         ensures { self.new.texts ≡ self.old.texts }
     {
-        let _ = self.line.send_now();
+        let _ = self.buffered.send_now();
     }
 
-    /// Puts a text's frame into the line, behind all that was put into it before, and notes the text. At an error the text is not noted.
+    /// Puts a text's frame into the buffer, after all that was put there before, and notes the text. After an error the text is not noted.
     ///
     /// # Errors
     ///
-    /// The line took no more, or there was no memory.
+    /// The stream took no more, or there was no memory.
     fn hand_over(&mut self, text: &str) -> Result<(), Error>
         ensures noted { OnOk result (self.new.texts.items ≡ self.old.texts.items ++ text.now ∷ []) }
-        ensures given { OnOk result (Appends (line_written S.contents self.old.line) (line_written S.contents self.new.line) (text_frame text.now)) }
+        ensures given { OnOk result (Appends (buffered_written S.contents self.old.buffered) (buffered_written S.contents self.new.buffered) (text_frame text.now)) }
         ensures unnoted { OnErr result (self.new.texts ≡ self.old.texts) }
         ensures failures { self.new.failures ≡ self.old.failures }
     {
         let mut frame = Vec::new(self.alloc);
         outgoing::text(text, &mut frame)?;
-        self.line.put(frame.as_slice())?;
+        self.buffered.put(frame.as_slice())?;
         self.texts = self.texts.and(text);
         Ok(())
     }
 
-    /// Puts the frame of a close into the line, behind all that was put into it before.
+    /// Puts the frame of a close into the buffer, after all that was put there before.
     ///
     /// # Errors
     ///
-    /// The line took no more, or there was no memory.
+    /// The stream took no more, or there was no memory.
     pub(crate) fn put_close(&mut self, code: Option<Code>) -> Result<(), Error>
-        ensures given { OnOk result (Appends (line_written S.contents self.old.line) (line_written S.contents self.new.line) (close_frame (number_of code))) }
-        ensures ungiven { OnErr result (Keeps (line_written S.contents self.old.line) (line_written S.contents self.new.line)) }
+        ensures given { OnOk result (Appends (buffered_written S.contents self.old.buffered) (buffered_written S.contents self.new.buffered) (close_frame (number_of code))) }
+        ensures ungiven { OnErr result (Keeps (buffered_written S.contents self.old.buffered) (buffered_written S.contents self.new.buffered)) }
         ensures peer { self.new.peer ≡ self.old.peer }
         ensures texts { self.new.texts ≡ self.old.texts }
         ensures failures { self.new.failures ≡ self.old.failures }
     {
         let mut frame = Vec::new(self.alloc);
         outgoing::close(code, &mut frame)?;
-        self.line.put(frame.as_slice())?;
+        self.buffered.put(frame.as_slice())?;
         Ok(())
     }
 
-    /// Puts the frame of the close into the line that tells a peer of its breach.
+    /// Puts the frame of the close that reports a peer's breach into the buffer.
     ///
     /// # Errors
     ///
-    /// The line took no more, or there was no memory.
+    /// The stream took no more, or there was no memory.
     pub(crate) fn put_breach(&mut self, breach: Breach) -> Result<(), Error>
-        ensures given { OnOk result (Appends (line_written S.contents self.old.line) (line_written S.contents self.new.line) (close_frame (Some (code_of breach)))) }
+        ensures given { OnOk result (Appends (buffered_written S.contents self.old.buffered) (buffered_written S.contents self.new.buffered) (close_frame (Some (code_of breach)))) }
         ensures texts { self.new.texts ≡ self.old.texts }
     {
         self.put_close(Some(breach.code()))
@@ -202,7 +209,7 @@ impl<S: Read + Write + Drop> SocketOutlet<S> {
         SendFault::Device
     }
 
-    /// What is told of a call of the socket. A failure of the device is counted; want of memory is none.
+    /// The result of a call of the socket. A failure of the device is counted; lack of memory is not one.
     fn counted(&mut self, done: Result<(), Error>) -> Result<(), SendFault>
         ensures told { IsToldOf done result }
         ensures counts { Counts self.old.failures self.new.failures result }
@@ -220,13 +227,13 @@ impl<S: Read + Write + Drop> SocketOutlet<S> {
         ensures counts { Counts self.old.failures self.new.failures result }
         ensures texts { self.new.texts ≡ self.old.texts }
     {
-        let sent = self.line.send_now().map_err(Error::Io);
+        let sent = self.buffered.send_now().map_err(Error::Io);
         self.counted(sent)
     }
 }
 
 impl<S: Read + Write + Drop> SocketOutlet<S> {
-    /// Reads a stream once that does not wait, and feeds the peer's reader what came. How many bytes came is told.
+    /// Reads once from a stream that does not wait, and feeds what came to the peer's reader. Returns how many bytes came.
     ///
     /// # Errors
     ///
@@ -234,18 +241,18 @@ impl<S: Read + Write + Drop> SocketOutlet<S> {
     pub(crate) fn take_in(&mut self) -> io::Result<usize>
         ensures came { IfOk result (λ n. TakesIn S.remaining self.old self.new n) }
         ensures nothing { IfErr result (λ error. TakesNone S.remaining self.old self.new error) }
-        ensures kept { self.new.line.output ≡ self.old.line.output }
+        ensures kept { self.new.buffered.output ≡ self.old.buffered.output }
         ensures texts { self.new.texts ≡ self.old.texts }
     {
         let mut piece = [0; READ_BYTES];
-        let n = self.line.read_on(&mut piece)?;
+        let n = self.buffered.read_on(&mut piece)?;
         match self.peer.feed(&piece[..n]) {
             Ok(()) => Ok(n),
             Err(_) => Err(io::Error::from(ErrorKind::OutOfMemory)),
         }
     }
 
-    /// What the bytes say next that were read, if they say anything.
+    /// What the bytes that were read say next, if anything.
     ///
     /// # Errors
     ///
@@ -254,7 +261,7 @@ impl<S: Read + Write + Drop> SocketOutlet<S> {
         ensures told { IfOk result (λ event. option_map told event ≡ (next_step self.old.peer).told) }
         ensures then { OnOk result (self.new.peer ≡ (next_step self.old.peer).then) }
         ensures unchanged { OnErr result (self.new.peer ≡ self.old.peer) }
-        ensures line { self.new.line ≡ self.old.line }
+        ensures buffered { self.new.buffered ≡ self.old.buffered }
         ensures texts { self.new.texts ≡ self.old.texts }
     {
         self.peer.next()
@@ -267,51 +274,51 @@ impl<S: Read + Write + Drop> SocketOutlet<S> {
         self.peer.is_midway()
     }
 
-    /// Sends of what was kept back as much as a stream takes that does not wait. Whether nothing is kept back any more is told.
+    /// Sends as much of what was kept back as a stream that does not wait takes. Returns whether nothing is kept back any more.
     ///
     /// # Errors
     ///
     /// The stream failed, now or before. What it did not take is still kept back.
     pub(crate) fn send_some(&mut self) -> io::Result<bool>
-        ensures bytes { Keeps (line_written S.contents self.old.line) (line_written S.contents self.new.line) }
-        ensures all { IfOk result (λ all. IsTrue all ↔ (self.new.line.output.items ≡ [])) }
-        ensures front { Sends S.contents self.old.line self.new.line.stream self.new.line.output.items }
+        ensures bytes { Keeps (buffered_written S.contents self.old.buffered) (buffered_written S.contents self.new.buffered) }
+        ensures all { IfOk result (λ all. IsTrue all ↔ (self.new.buffered.output.items ≡ [])) }
+        ensures front { Sends S.contents self.old.buffered self.new.buffered.stream self.new.buffered.output.items }
         ensures peer { self.new.peer ≡ self.old.peer }
         ensures texts { self.new.texts ≡ self.old.texts }
     {
-        self.line.send_some()
+        self.buffered.send_some()
     }
 
     /// How many bytes are kept back.
     pub(crate) fn kept(&self) -> usize
-        ensures { result ≡ length self.now.line.output.items }
+        ensures { result ≡ length self.now.buffered.output.items }
     {
-        self.line.kept()
+        self.buffered.kept()
     }
 
-    /// From now on there is room for a text more, however much is kept back, or there is only where that is little.
+    /// If lifted, there is room for one more text from now on, however much is kept back; if not, there is only while that is little.
     pub(crate) fn lift(&mut self, is_lifted: bool)
         ensures room { self.new.room ≡ if is_lifted then usize.MAX else 4096 }
         ensures peer { self.new.peer ≡ self.old.peer }
-        ensures line { self.new.line ≡ self.old.line }
+        ensures buffered { self.new.buffered ≡ self.old.buffered }
         ensures texts { self.new.texts ≡ self.old.texts }
     {
         self.room = if is_lifted { usize::MAX } else { ROOM_BYTES };
     }
 
-    /// The stream, and the outlet without it, for another stream that takes its place.
+    /// The stream, and the outlet without it, ready for another stream in its place.
     pub(crate) fn unplugged(self) -> (S, SocketOutlet<()>)
-        ensures stream { result.0 ≡ self.line.stream }
-        ensures kept { result.1.line.output.items ≡ self.line.output.items }
-        ensures behind { left result.1.line.head ≡ left self.line.head }
-        ensures failed { result.1.line.has_failed ≡ self.line.has_failed }
+        ensures stream { result.0 ≡ self.buffered.stream }
+        ensures kept { result.1.buffered.output.items ≡ self.buffered.output.items }
+        ensures behind { left result.1.buffered.head ≡ left self.buffered.head }
+        ensures failed { result.1.buffered.has_failed ≡ self.buffered.has_failed }
         ensures peer { result.1.peer ≡ self.peer }
         ensures failures { result.1.failures ≡ self.failures }
         ensures texts { result.1.texts ≡ self.texts }
     {
         let SocketOutlet {
             alloc,
-            line,
+            buffered,
             peer,
             due,
             is_in_fragments,
@@ -319,10 +326,10 @@ impl<S: Read + Write + Drop> SocketOutlet<S> {
             failures,
             texts,
         } = self;
-        let (stream, line) = line.unplugged();
+        let (stream, buffered) = buffered.unplugged();
         let outlet = SocketOutlet {
             alloc,
-            line,
+            buffered,
             peer,
             due,
             is_in_fragments,
@@ -337,18 +344,18 @@ impl<S: Read + Write + Drop> SocketOutlet<S> {
 impl SocketOutlet<()> {
     /// The same outlet over this stream, which does not wait.
     pub(crate) fn onto<S>(self, stream: S) -> SocketOutlet<S>
-        ensures stream { result.line.stream ≡ stream }
-        ensures kept { result.line.output.items ≡ self.line.output.items }
-        ensures behind { left result.line.head ≡ left self.line.head }
-        ensures failed { result.line.has_failed ≡ self.line.has_failed }
-        ensures unbounded { result.line.most_output ≡ usize.MAX }
+        ensures stream { result.buffered.stream ≡ stream }
+        ensures kept { result.buffered.output.items ≡ self.buffered.output.items }
+        ensures behind { left result.buffered.head ≡ left self.buffered.head }
+        ensures failed { result.buffered.has_failed ≡ self.buffered.has_failed }
+        ensures unbounded { result.buffered.most_output ≡ usize.MAX }
         ensures peer { result.peer ≡ self.peer }
         ensures failures { result.failures ≡ self.failures }
         ensures texts { result.texts ≡ self.texts }
     {
         let SocketOutlet {
             alloc,
-            line,
+            buffered,
             peer,
             due,
             is_in_fragments,
@@ -358,7 +365,7 @@ impl SocketOutlet<()> {
         } = self;
         SocketOutlet {
             alloc,
-            line: line.onto(stream),
+            buffered: buffered.onto(stream),
             peer,
             due,
             is_in_fragments,
@@ -370,39 +377,61 @@ impl SocketOutlet<()> {
 }
 
 impl<S: Stream + Drop> SocketOutlet<S> {
-    /// Ends the output of a stream that does not wait, to which all was written.
+    /// Ends the output of a stream that does not wait, after everything was written to it.
     pub(crate) fn end_output(&mut self)
         ensures { self.new.texts ≡ self.old.texts }
     {
-        let _ = self.line.end_output();
+        let _ = self.buffered.end_output();
     }
 
-    /// What the peer says next, but for fragments: what they say is told with the last one.
+    /// What the peer says next in what was read, if it says anything but fragments: what they say is reported with the last one.
     ///
     /// # Errors
     ///
-    /// The stream failed or ended, by the kind `WouldBlock` or `TimedOut` where the peer has gone or takes too long over a message; or there
-    /// was no memory.
-    pub(crate) fn read<C: Clock>(&mut self, clock: &C) -> Result<Event, Error>
+    /// There was no memory.
+    pub(crate) fn next_whole(&mut self) -> Result<Option<Event>, AllocError>
         ensures texts { self.new.texts ≡ self.old.texts }
-        ensures due { self.new.is_in_fragments ≡ true → IsStillDue self.old.due self.new.due }
+        ensures buffered { self.new.buffered ≡ self.old.buffered }
+        ensures due { self.new.is_in_fragments ≡ true → self.new.due ≡ self.old.due }
+        ensures none { IfOk result (λ event. IfNone event (self.new.due ≡ self.old.due)) }
+        ensures err { OnErr result (self.new.due ≡ self.old.due) }
     {
         for _ in 0..u64::MAX {
             match self.peer.next()? {
                 Some(Event::Fragment) => self.is_in_fragments = true,
                 Some(event) => {
                     self.heard(&event);
-                    return Ok(event);
+                    return Ok(Some(event));
                 }
-                None => self.fill(clock)?,
+                None => return Ok(None),
             }
+        }
+        Ok(None)
+    }
+
+    /// What the peer says next, except fragments. The stream is read when what was read says nothing more.
+    ///
+    /// # Errors
+    ///
+    /// The stream failed or ended, with the kind `WouldBlock` or `TimedOut` if the peer has gone or takes too long over a message; or there
+    /// was no memory.
+    pub(crate) fn read<C: Clock>(&mut self, clock: &C) -> Result<Event, Error>
+        ensures texts { self.new.texts ≡ self.old.texts }
+        ensures due { self.new.is_in_fragments ≡ true → IsStillDue self.old.due self.new.due }
+    {
+        for _ in 0..u64::MAX {
+            if let Some(event) = self.next_whole()? {
+                return Ok(event);
+            }
+            self.fill(clock)?;
         }
         Err(Error::Io(io::Error::from(ErrorKind::TimedOut)))
     }
 
-    /// A message is whole, or it was none that stands between the fragments of one: what comes next has its own time.
+    /// A message is complete, unless it was a frame between the fragments of one: what comes next has its own time.
     fn heard(&mut self, event: &Event)
         ensures texts { self.new.texts ≡ self.old.texts }
+        ensures buffered { self.new.buffered ≡ self.old.buffered }
         ensures due { self.new.is_in_fragments ≡ true → self.new.due ≡ self.old.due }
         ensures none_due { self.new.is_in_fragments ≡ false → self.new.due ≡ None }
     {
@@ -414,7 +443,7 @@ impl<S: Stream + Drop> SocketOutlet<S> {
         }
     }
 
-    /// Feeds the peer's reader what came.
+    /// Feeds what came to the peer's reader.
     fn fill<C: Clock>(&mut self, clock: &C) -> Result<(), Error>
         ensures texts { self.new.texts ≡ self.old.texts }
         ensures due { IsStillDue self.old.due self.new.due }
@@ -432,7 +461,7 @@ impl<S: Stream + Drop> SocketOutlet<S> {
         Ok(())
     }
 
-    /// Reads the stream once in the middle of a message, of which the whole has ten seconds, however often some of it comes.
+    /// Reads the stream once in the middle of a message. The whole message has ten seconds, however often some of it arrives.
     fn wait_for_rest<C: Clock>(&mut self, clock: &C, bytes: &mut [u8]) -> Result<usize, Error>
         ensures bound { IfOk result (λ n. n ≤ length bytes.new) }
         ensures texts { self.new.texts ≡ self.old.texts }
@@ -444,19 +473,19 @@ impl<S: Stream + Drop> SocketOutlet<S> {
             None => Deadline::after(clock, Duration::from_secs(MOST_HALF_SECONDS))?,
         };
         self.due = Some(due);
-        self.line.bound_reads(Some(due.left(clock)?))?;
-        let n = self.line.read(bytes)?;
-        self.line
+        self.buffered.bound_reads(Some(due.left(clock)?))?;
+        let n = self.buffered.read(bytes)?;
+        self.buffered
             .bound_reads(Some(Duration::from_secs(MOST_SILENT_SECONDS)))?;
         Ok(n)
     }
 
-    /// Ends the output, and reads on until the peer's end: a peer that still sends would else get a reset in place of the last
+    /// Ends the output, and reads on until the peer's end: otherwise a peer that still sends would get a reset instead of the last
     /// texts. What it sends now is dropped.
     pub(crate) fn drain<C: Clock>(&mut self, clock: &C)
         ensures { self.new.texts ≡ self.old.texts }
     {
-        let _ = end_and_drain(clock, &mut self.line);
+        let _ = end_and_drain(clock, &mut self.buffered);
     }
 }
 
@@ -465,11 +494,11 @@ impl<S: Read + Write + Drop> Outlet for SocketOutlet<S> {
 
     ghost failures = { λ s. s.failures };
 
-    /// Who waits for room while it sends need not ask.
+    /// An outlet that waits for room while it sends need not be asked.
     fn has_room(&self) -> bool
-        ensures { IsTrue result ↔ (length self.now.line.output.items < self.now.room) }
+        ensures { IsTrue result ↔ (length self.now.buffered.output.items < self.now.room) }
     {
-        self.line.kept() < self.room
+        self.buffered.kept() < self.room
     }
 
     fn send(&mut self, text: &str) -> Result<(), SendFault> {

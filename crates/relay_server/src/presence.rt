@@ -1,21 +1,21 @@
-//! Whether connections with a key are there, and how that changes as one comes or goes.
+//! Whether connections with a key exist, and how that changes when one comes or goes.
 
 ghost use Rattle.std.specs.Prelude.{◌≡◌, ◌↔◌, true};
 ghost use Rattle.relay_server.specs.Holding.{IsDue, with_one_less, with_one_more};
 
 use std::time::Instant;
 
-/// Whether connections with a key are there.
+/// Whether connections with a key exist.
 #[derive(Clone, Copy)]
 pub(crate) enum Presence {
-    /// So many are.
+    /// This many do.
     Here(u32),
-    /// None is. The boards of the key are ended at this time, unless one comes back before.
+    /// None does. The boards of the key are ended at this time, unless one comes back before.
     Waits(Instant),
 }
 
 impl Presence {
-    /// One more comes. There is no such presence where as many are there as can be counted.
+    /// One more comes. None if there are already as many as can be counted.
     pub(crate) fn with_one_more(self) -> Option<Presence>
         ensures { result ≡ with_one_more self }
     {
@@ -31,7 +31,7 @@ impl Presence {
         }
     }
 
-    /// One goes. Where it was the last, the boards wait until then; where they do not wait, nothing is left of the presence.
+    /// One goes. If it was the last, the boards wait until the given time; if they do not wait, nothing is left of the presence.
     pub(crate) fn with_one_less(self, until: Option<Instant>) -> Option<Presence>
         ensures { result ≡ with_one_less self until }
     {
@@ -46,7 +46,7 @@ impl Presence {
         }
     }
 
-    /// Whether the boards have waited until now; where no time is given, whether they wait.
+    /// Whether the boards have waited until now; without a time, whether they wait.
     pub(crate) fn is_due(&self, now: Option<Instant>) -> bool
         ensures { (result ≡ true) ↔ IsDue now self.now }
     {

@@ -1,4 +1,4 @@
-//! Those of an audience that are pushed to as soon as their board is rung for: all but those whose connections take no more now.
+//! The followers of an audience that are pushed to as soon as their board is rung for: all but those whose connections take no more now.
 
 use std::alloc::{AllocError, Global};
 
@@ -9,16 +9,16 @@ pub(crate) struct Ready {
 }
 
 impl Ready {
-    /// Nobody.
+    /// No spectators.
     pub(crate) fn new(alloc: Global) -> Ready {
         Ready {
             keys: Vec::new(alloc),
         }
     }
 
-    /// The key at a place.
-    pub(crate) fn at(&self, place: usize) -> Option<usize> {
-        self.keys.get(place).copied()
+    /// The key at an index.
+    pub(crate) fn at(&self, index: usize) -> Option<usize> {
+        self.keys.get(index).copied()
     }
 
     /// How many there are.
@@ -26,19 +26,19 @@ impl Ready {
         self.keys.len()
     }
 
-    /// Adds a spectator and tells its place.
+    /// Adds a spectator and returns its index.
     pub(crate) fn add(&mut self, key: usize) -> Result<usize, AllocError> {
-        let place = self.keys.len();
+        let index = self.keys.len();
         self.keys.push(key)?;
-        Ok(place)
+        Ok(index)
     }
 
-    /// Takes out the spectator at a place. The one that comes there in its place, if one does, is told.
-    pub(crate) fn remove(&mut self, place: usize) -> Option<usize> {
-        if place >= self.keys.len() {
+    /// Removes the spectator at an index. Returns the one that moves to that index, if any.
+    pub(crate) fn remove(&mut self, index: usize) -> Option<usize> {
+        if index >= self.keys.len() {
             return None;
         }
-        let _ = self.keys.swap_remove(place);
-        self.at(place)
+        let _ = self.keys.swap_remove(index);
+        self.at(index)
     }
 }

@@ -26,33 +26,34 @@ use std::sync::atomic::{AtomicBool, AtomicU32, AtomicU64, Ordering};
 use std::sync::{Arc, Mutex, Wait};
 use std::time::{Clock, Duration, Instant};
 
-/// The boards of a server. Its lock is taken to look a name up and to enter one. It is given back before a board's is taken, but where boards
-/// that have waited are ended; nobody takes the two in the other order. Neither is held while a socket is waited for. Contracts see its limits.
+/// The boards of a server. Its lock is taken to look up a name and to enter one. It is released before a board's lock is taken, except
+/// while boards that have waited are ended; nobody takes the two in the other order. Neither is held while a socket is waited for.
+/// Contracts see its limits.
 #[derive(Drop)]
 pub struct Registry {
     hall: Mutex<Hall>,
     limits: Limits,
     /// How long the boards of a key wait for a connection with it.
     grace: Duration,
-    /// How long a peer that owns and follows nothing may send nothing, if that has a bound.
+    /// How long a peer that owns and follows nothing may send nothing, if that is bounded.
     idle: Option<Duration>,
     alloc: Global,
-    /// Those who look at all boards.
+    /// The lookouts that watch all boards.
     lookouts: Arc<Vec<Arc<Lookout, Global>>, Global>,
-    /// How many watch by them, where there are any.
+    /// How many spectators watch through them, if there are any.
     watching: Option<Arc<AtomicU32, Global>>,
-    /// Rung as a session's thread ends. It stands here, made before anybody is listened for, so that serving needs no memory before
+    /// Rung when a session's thread ends. It is created here, before the server listens, so that serving allocates nothing before
     /// it accepts.
     pub(crate) ended: Chime,
     /// What is noted for the log.
     pub(crate) chronicle: Chronicle,
-    /// Rung where the boards of a key begin to wait, and where serving ends.
+    /// Rung when the boards of a key begin to wait, and when serving ends.
     pub(crate) waiting: Chime,
     /// Whether no more connections are accepted.
     is_closed: AtomicBool,
-    /// Whether serving is to end before its time.
+    /// Whether serving is to end early.
     is_ending: AtomicBool,
-    /// How many connections were accepted and have not shaken hands yet.
+    /// How many connections were accepted but have not shaken hands yet.
     coming: AtomicU64,
 }
 
@@ -65,7 +66,7 @@ impl Model for Registry {
 }
 
 impl Registry {
-    /// A registry of these limits, with no board yet. The map of boards is reserved here.
+    /// A registry with these limits, with no board yet. The map of boards is reserved here.
     ///
     /// # Errors
     ///
@@ -76,8 +77,8 @@ impl Registry {
         Registry::with_grace(alloc, limits, 0)
     }
 
-    /// Such a registry where the boards of a connection with a key wait so many seconds for one with the same key, after that has gone. With
-    /// 0 no key is looked at.
+    /// A registry in which the boards of a connection with a key wait this many seconds for one with the same key after the connection has
+    /// gone. With 0 seconds no key is looked at.
     ///
     /// # Errors
     ///
@@ -107,8 +108,8 @@ impl Registry {
         })
     }
 
-    /// The same registry, at whose boards these look, by which so many watch. Each is woken where a board is rung for that is opened from now on,
-    /// or is opened.
+    /// The same registry, watched by these lookouts, through which `watching` spectators watch. Each lookout is woken when a board opened
+    /// from now on is opened or rung for.
     ///
     /// # Errors
     ///
@@ -130,7 +131,7 @@ impl Registry {
         }
     }
 
-    /// How many watch by those who look at all boards, where there are any.
+    /// How many spectators watch through lookouts, if there are any.
     pub(crate) fn watching(&self) -> Option<u32> {
         match &self.watching {
             Some(count) => Some(count.load(Ordering::SeqCst)),
@@ -138,7 +139,7 @@ impl Registry {
         }
     }
 
-    /// The board of this name, to look at.
+    /// The board of this name, to be looked at.
     ///
     /// # Errors
     ///
@@ -151,7 +152,7 @@ impl Registry {
         }
     }
 
-    /// The same registry, at which a peer that owns and follows nothing may send nothing for so many seconds; with 0 it always may.
+    /// The same registry, in which a peer that owns and follows nothing may send nothing for this many seconds; with 0 it always may.
     pub fn with_idle(mut self, seconds: u32) -> Registry
         ensures limits { result ≡ self }
     {
@@ -163,7 +164,7 @@ impl Registry {
         self
     }
 
-    /// The same registry, where what happens to boards is noted for the log.
+    /// The same registry, in which what happens to boards is noted for the log.
     pub fn with_log(mut self) -> Registry
         ensures limits { result ≡ self }
     {
@@ -171,12 +172,12 @@ impl Registry {
         self
     }
 
-    /// A patience for one peer, which has not begun.
+    /// A patience for one peer. It has not begun.
     pub(crate) fn patience(&self) -> Patience {
         Patience::new(self.idle)
     }
 
-    /// The board at this place, in the order of opening, to look at.
+    /// The board of this index, in the order of opening, to be looked at.
     ///
     /// # Errors
     ///
@@ -196,7 +197,7 @@ impl Registry {
         !self.grace.is_zero()
     }
 
-    /// Notes whether a thread ends boards that have waited long enough. Where none does, no board waits.
+    /// Notes whether a thread ends boards that have waited long enough. If none does, no board waits.
     pub(crate) fn watch<R: Wait>(&self, rt: &R, is_watched: bool) {
         self.hall.lock(rt).is_watched = is_watched;
     }
@@ -211,7 +212,7 @@ impl Registry {
         self.chronicle.followers.fetch_add(1, Ordering::SeqCst);
     }
 
-    /// Notes that one follows a board no more.
+    /// Notes that a connection no longer follows a board.
     pub(crate) fn unfollows(&self) {
         self.chronicle.followers.fetch_sub(1, Ordering::SeqCst);
     }
@@ -227,7 +228,7 @@ impl Registry {
         self.chronicle.connections.fetch_sub(1, Ordering::SeqCst);
     }
 
-    /// Notes that one has shaken hands, or failed to.
+    /// Notes that a connection has shaken hands, or failed to.
     pub(crate) fn has_come(&self) {
         self.coming.fetch_sub(1, Ordering::SeqCst);
         if self.is_closed.load(Ordering::SeqCst) {
@@ -248,7 +249,7 @@ impl Registry {
         self.is_closed.load(Ordering::SeqCst)
     }
 
-    /// Notes that serving is to end before its time. Whoever sleeps until serving goes on learns of it.
+    /// Notes that serving is to end early. Whoever sleeps while serving continues learns of it.
     pub(crate) fn set_ending(&self) {
         self.is_ending.store(true, Ordering::SeqCst);
         for chime in [&self.waiting, &self.ended] {
@@ -257,12 +258,12 @@ impl Registry {
         }
     }
 
-    /// Whether serving is to end before its time.
+    /// Whether serving is to end early.
     pub(crate) fn is_ending(&self) -> bool {
         self.is_ending.load(Ordering::SeqCst)
     }
 
-    /// Whether nobody can come back any more, or whoever does comes too late.
+    /// Whether nobody can come back any more, or only too late.
     pub(crate) fn is_over(&self) -> bool {
         self.is_closed() && (self.is_ending() || self.coming.load(Ordering::SeqCst) == 0)
     }
@@ -280,7 +281,7 @@ impl Registry {
         Ok(())
     }
 
-    /// Notes this of each board of a key whose game goes on.
+    /// Notes this event for each board of a key whose game goes on.
     fn note_own<R: Wait>(&self, rt: &R, key: &Key, what: What) {
         if !self.chronicle.is_kept {
             return;
@@ -299,7 +300,7 @@ impl Registry {
         self.hall.lock(rt).boards.len()
     }
 
-    /// A connection with this key goes. Where it was the last one, the key's boards wait, or are ended as abandoned.
+    /// A connection with this key goes. If it was the last one, the key's boards wait or are ended as abandoned.
     pub(crate) fn leave<R: Wait + Clock>(&self, rt: &R, key: &Key) {
         let until = match Instant::now(rt) {
             Ok(now) => now.checked_add(self.grace),
@@ -321,7 +322,7 @@ impl Registry {
         self.hall.lock(rt).holders.next()
     }
 
-    /// Ends as abandoned all boards that have waited until now; where no time is given, all that wait.
+    /// Ends as abandoned all boards that have waited until now; without a time, all that wait.
     pub(crate) fn end_forsaken<R: Wait>(&self, rt: &R, now: Option<Instant>) {
         for _ in rt.forever() {
             let Some(forsaken) = self.expire(rt, now) else {
@@ -336,8 +337,8 @@ impl Registry {
         self.hall.lock(rt).expire(now)
     }
 
-    /// Ends boards as abandoned, each under the lock that a connection which comes back takes: from then on none of its boards ends. A game
-    /// that has ended stays as it ended.
+    /// Ends boards as abandoned, each under the lock that a connection takes when it comes back: from then on none of its boards ends. A
+    /// game that has already ended stays as it is.
     fn end<R: Wait>(&self, rt: &R, forsaken: &Forsaken) {
         for at in 0..forsaken.count {
             let hall = self.hall.lock(rt);
@@ -347,7 +348,7 @@ impl Registry {
         }
     }
 
-    /// Ends a board of this key as abandoned, while the registry's lock is held and no connection with the key is there.
+    /// Ends a board of this key as abandoned, while the registry's lock is held and there is no connection with the key.
     fn abandon_own<R: Wait>(
         &self,
         rt: &R,
@@ -361,7 +362,8 @@ impl Registry {
         self.abandon(rt, broadcast);
     }
 
-    /// Ends all boards as abandoned. A game that has ended stays as it ended. A board that is opened meanwhile is ended with its connection.
+    /// Ends all boards as abandoned. A game that has already ended stays as it is. A board that is opened meanwhile is ended with its
+    /// connection.
     pub(crate) fn end_all<R: Wait>(&self, rt: &R) {
         for at in 0..self.count(rt) {
             if let Some(broadcast) = self.board_at(rt, at) {
@@ -379,7 +381,7 @@ impl Registry {
         broadcast.wake();
     }
 
-    /// The board at this place, in the order of opening.
+    /// The board of this index, in the order of opening.
     fn board_at<R: Wait>(&self, rt: &R, at: usize) -> Option<Arc<Broadcast, Global>> {
         match self.hall.lock(rt).boards.at(at) {
             Some(broadcast) => share(broadcast).ok(),
@@ -401,21 +403,21 @@ impl Registry {
         self.hall.lock(rt).boards.owns_any(key)
     }
 
-    /// How many wakes a connection puts off at most: so many that no queue fills while its follower sleeps.
+    /// How many wakes a connection may postpone: few enough that no queue fills while its follower sleeps.
     pub(crate) fn most_wakes(&self) -> u16
         ensures { result ≡ max (self.now.capacity / 4) 1 }
     {
         (self.limits.capacity() / 4).max(1)
     }
 
-    /// How many moves of its board's log a follower may lie behind.
+    /// How many moves of its board's log a follower may be behind.
     pub(crate) fn capacity(&self) -> u64
         ensures { result ≡ self.now.capacity }
     {
         u64::from(self.limits.capacity())
     }
 
-    /// No board, for a connection that keeps those that it opens.
+    /// An empty map, for the boards that a connection opens.
     pub(crate) fn no_boards(&self) -> BoardMap
         ensures { result.map.entries ≡ [] }
     {
@@ -433,7 +435,7 @@ impl Registry {
     ///
     /// # Errors
     ///
-    /// `NoSuchBoard`; `OutOfMemory` where it has too many owners.
+    /// `NoSuchBoard`; `OutOfMemory` if it has too many owners.
     pub(crate) fn find<R: Wait>(
         &self,
         rt: &R,
@@ -448,8 +450,8 @@ impl Registry {
         }
     }
 
-    /// Opens a board, and hands it to whoever opened it. Its memory is asked for without the lock, so whether it may be opened is asked
-    /// again before it is entered: of two connections that open one name at once, one does.
+    /// Opens a board, and returns it to the connection. Its memory is allocated without the lock, so whether it may be opened is checked
+    /// again before it is entered: if two connections open one name at once, one succeeds.
     ///
     /// # Errors
     ///
@@ -473,7 +475,7 @@ impl Registry {
         Ok(opened)
     }
 
-    /// Makes a board of this name, which stands nowhere yet.
+    /// Makes a board of this name, not yet entered in the registry.
     ///
     /// # Errors
     ///
@@ -500,11 +502,11 @@ impl Registry {
     }
 }
 
-/// One more owner of the board.
+/// Another owner of the board.
 ///
 /// # Errors
 ///
-/// `OutOfMemory` where it has as many as can be counted.
+/// `OutOfMemory` if it has as many as can be counted.
 pub(crate) fn share(broadcast: &Arc<Broadcast, Global>) -> Result<Arc<Broadcast, Global>, Refusal>
     ensures value { IfOk result (λ b. arc_value b ≡ arc_value broadcast.now) }
     ensures refusals { IfErr result (λ r. r ≡ Refusal.OutOfMemory) }

@@ -4,12 +4,12 @@ ghost use Rattle.std.specs.Prelude.{◌≡◌, ◌≤◌, None, length, take, If
 ghost use Rattle.std.specs.Io.KnownBytes.{Appends};
 ghost use Rattle.relay_frames.specs.Requests.{Accepts, IsAnswered, answer_text};
 
+use crate::buffered_stream::write_out;
 use crate::drain::end_and_drain;
 use crate::head::{Head, HeadFault};
-use crate::line::write_out;
 use crate::sessions::{SessionEnd, end_unshaken};
 use crate::stream::Stream;
-use relay_frames::{Acceptance, Refusal, acceptance_of};
+use relay_frames::{Acceptance, RequestRefusal, acceptance_of};
 use std::alloc::Global;
 use std::io;
 use std::io::Write;
@@ -23,7 +23,7 @@ pub(crate) struct Request {
     pub(crate) acceptance: Acceptance,
 }
 
-/// Reads a request that is accepted. One that is refused is answered, and the connection ends behind that.
+/// Reads a request that is accepted. One that is refused is answered, and then the connection ends.
 pub(crate) fn receive<C: Clock, S: Stream>(
     clock: &C,
     alloc: Global,
@@ -43,7 +43,7 @@ pub(crate) fn receive<C: Clock, S: Stream>(
     }
 }
 
-/// Reads a request's head, and looks whether the request is accepted.
+/// Reads a request's head, and checks whether the request is accepted.
 fn read_request<C: Clock, S: Stream>(
     clock: &C,
     alloc: Global,
@@ -60,14 +60,18 @@ fn read_request<C: Clock, S: Stream>(
     }
 }
 
-/// Answers a request that is refused, and ends the connection. What still comes is read for a while, as a reset would take the answer away.
-fn refuse<C: Clock, S: Stream>(clock: &C, stream: &mut S, refusal: Refusal) -> io::Result<()> {
+/// Answers a request that is refused, and ends the connection. What still arrives is read for a while, as a reset would destroy the answer.
+fn refuse<C: Clock, S: Stream>(
+    clock: &C,
+    stream: &mut S,
+    refusal: RequestRefusal,
+) -> io::Result<()> {
     tell(stream, refusal)?;
     end_and_drain(clock, stream)
 }
 
 /// Writes the answer to a request that is refused.
-fn tell<S: Write>(stream: &mut S, refusal: Refusal) -> io::Result<()>
+fn tell<S: Write>(stream: &mut S, refusal: RequestRefusal) -> io::Result<()>
     ensures whole { OnOk result (Appends (S.contents stream.old) (S.contents stream.new) (answer_text refusal)) }
 {
     let (_, done) = write_out(refusal.answer(), stream);

@@ -1,6 +1,6 @@
 //! The thread that writes the log.
 
-use crate::chronicle::Notes;
+use crate::chronicle::LogNotes;
 use crate::deadline::Deadline;
 use crate::registry::Registry;
 use log::sink::Console;
@@ -14,17 +14,17 @@ use std::time::{Clock, Duration};
 /// How many bytes the thread's stack has.
 const STACK_BYTES: usize = 256 * 1024;
 
-/// How many seconds lie between two lines of counts.
+/// How many seconds pass between two lines of counts.
 const BETWEEN_COUNTS_SECONDS: u64 = 60;
 
-/// The thread, where there is one.
+/// The thread, if there is one.
 #[derive(Drop)]
 pub(crate) struct Scribe {
     handle: Option<JoinHandle<()>>,
 }
 
 impl Scribe {
-    /// Starts the thread, where the registry keeps a chronicle. Where it cannot be started nothing is written.
+    /// Starts the thread if the registry keeps a chronicle. If it cannot be started, nothing is written.
     pub(crate) fn start<R>(rt: &R, registry: &Arc<Registry, Global>) -> Scribe
     where
         R: Threads + Wait + Clock + Eprint + Clone + Send + Drop + 'static,
@@ -37,7 +37,7 @@ impl Scribe {
         }
     }
 
-    /// Lets the thread write what it has not, and joins it.
+    /// Lets the thread write what is left, and joins it.
     pub(crate) fn end<R: Threads>(self, rt: &R, registry: &Registry) {
         registry.chronicle.end();
         if let Some(handle) = self.handle {
@@ -85,8 +85,8 @@ fn run<R: Wait + Clock + Eprint>(rt: &R, registry: &Registry) {
     }
 }
 
-/// Writes a line for each note, and one where some were left out.
-fn write_notes<R: Eprint>(rt: &R, notes: &Notes) {
+/// Writes a line for each note, and one if some were left out.
+fn write_notes<R: Eprint>(rt: &R, notes: &LogNotes) {
     let rt = Logged::new(rt, Level::Info, Console(rt));
     for note in notes.kept.iter() {
         info!(rt; target: "relay960", "{note}");

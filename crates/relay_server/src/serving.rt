@@ -1,12 +1,12 @@
-//! Serving: connections are accepted one by one, and each gets a thread. Those that follow go over to loops.
+//! Serving: connections are accepted one by one, and each gets a thread. Those that follow move to loops.
 
 ghost use Rattle.std.specs.Prelude.{◌≡◌, ◌≤◌, ◌<◌, ◌+◌, IfSome, false, true};
 
 use crate::deadline::Deadline;
-use crate::door::{Door, Newcomer, turn_away};
-use crate::ending::watch_input;
+use crate::door::{Caller, Door, turn_away};
 use crate::gallery::{Connection, Gallery, start_gallery};
 use crate::grace::Grace;
+use crate::input_watch::watch_input;
 use crate::interruptible::Interruptible;
 use crate::patience::Patience;
 use crate::registry::Registry;
@@ -29,7 +29,7 @@ use std::time::{Clock, Duration};
 pub struct ServeEnd {
     /// How many connections were served.
     pub served: u32,
-    /// How many could not be accepted, or were turned away for want of a descriptor or a thread.
+    /// How many could not be accepted, or were turned away for lack of a descriptor or a thread.
     pub failed: u32,
 }
 
@@ -37,15 +37,15 @@ pub struct ServeEnd {
 /// session does not touch takes no memory.
 const STACK_BYTES: usize = 512 * 1024;
 
-/// How many connections are accepted from one look for threads that have ended to the next. Joining one whose last act is still
-/// under way would hold up the next connection, and each look goes over all threads.
+/// How many connections are accepted before threads that have ended are joined again. Joining one whose last act is still
+/// under way would delay the next connection, and each such check goes over all threads.
 const BETWEEN_JOINS: u32 = 64;
 
 /// How many seconds sessions have to end once serving is to end.
 const MOST_LEAVING_SECONDS: u64 = 4;
 
-/// How many milliseconds are waited after a connection could not be accepted or got no thread: the next would likely fail at
-/// once, too.
+/// How long, in milliseconds, the server pauses after a connection could not be accepted or got no thread: the next would likely fail
+/// at once, too.
 const PAUSE_MILLIS: u64 = 20;
 
 /// Serving, while connections are accepted.
@@ -56,12 +56,12 @@ struct Reception<'a, R, G> {
     registry: &'a Arc<Registry, Global>,
     gate: &'a Arc<G, Global>,
     door: Door,
-    /// Where those go who follow, if there is such a place.
+    /// The loops that followers move to, if there are any.
     gallery: Option<Arc<Gallery, Global>>,
     /// The threads of its loops.
     loops: Vec<Running>,
     running: Vec<Running>,
-    /// How many connections were met with, or how often that failed.
+    /// How many connections were met, including failures.
     met: u32,
     /// How many of them failed.
     failed: u32,
@@ -73,13 +73,13 @@ struct Reception<'a, R, G> {
     until_input_ends: bool,
 }
 
-/// Accepts so many connections, or where there is no such number as many as come; numbers them from 1 in the order of accepting, gives
-/// each a thread, and waits until all sessions have ended. One that follows goes over to a loop, and its thread ends. The listener is
-/// closed behind the last accept, so that the system refuses whoever comes later. A newcomer for which there is no descriptor or no thread is told so by the status 503; the first of several in a
-/// row is told of on standard error.
+/// Accepts `most` connections, or without that number as many as come. Numbers them from 1 in the order of accepting, gives
+/// each a thread, and waits until all sessions have ended. A connection that follows moves to a loop, and its thread ends. The listener is
+/// closed after the last accept, so that the system refuses later ones. A newcomer for which there is no descriptor or no thread is told so
+/// by the status 503; the first of several in a row is reported on standard error.
 ///
-/// Where it is to end when standard input does, it then accepts no more connections, and all boards end as abandoned. Followers get
-/// what they have not had, the other peers are told by the close code 1001, and four seconds later it waits for nobody any more.
+/// If serving ends with standard input, it then accepts no more connections, and all boards end as abandoned. Followers get
+/// what they have not had, the other peers are told by the close code 1001, and four seconds later it stops waiting for anybody.
 pub fn serve<R, G>(
     rt: &R,
     alloc: Global,
@@ -137,7 +137,7 @@ where
     R: Threads + Wait + Clock + Eprint + Clone + Send + Drop + 'static,
     G: Gate + Send + Sync + Drop + 'static,
 {
-    /// Meets with so many connections, unless serving is to end before.
+    /// Meets this many connections, unless serving is to end before.
     fn meet_all(&mut self, most: u32)
         requires none_met { self.now.met ≡ 0 }
         requires none_failed { self.now.failed ≡ 0 }
@@ -153,7 +153,7 @@ where
         }
     }
 
-    /// Meets with connections until serving is to end.
+    /// Meets connections until serving is to end.
     fn meet_forever(&mut self)
         requires none_failed { self.now.failed ≡ 0 }
         ensures failed { self.new.failed ≤ self.new.met }
@@ -169,14 +169,14 @@ where
         unreachable!()
     }
 
-    /// Whether no more connections are met with, since serving is to end.
+    /// Whether no more connections are met, because serving is to end.
     fn is_over(&self) -> bool
         ensures { result ≡ true → self.now.until_input_ends ≡ true }
     {
         self.until_input_ends && self.registry.is_ending()
     }
 
-    /// Waits for the next connection and meets with it, in its turn. One that comes when serving is to end is not met with.
+    /// Waits for the next connection and meets it, in its turn. One that comes when serving is to end is not met.
     fn meet(&mut self, turn: u32)
         requires counted { self.now.failed ≤ self.now.met }
         ensures most { self.new.met ≤ self.old.met + 1 }
@@ -198,8 +198,8 @@ where
         self.receive(newcomer, heard);
     }
 
-    /// Starts the session of a newcomer. After a failure a moment is waited: the next would likely fail at once, too.
-    fn receive(&mut self, newcomer: io::Result<Newcomer>, heard: u64)
+    /// Starts the session of a newcomer. After a failure it pauses for a moment: the next would likely fail at once, too.
+    fn receive(&mut self, newcomer: io::Result<Caller>, heard: u64)
         ensures met { self.new.met ≡ self.old.met }
         ensures failed { self.old.failed ≤ self.old.met → self.new.failed ≤ self.new.met }
         ensures until { self.new.until_input_ends ≡ self.old.until_input_ends }
@@ -219,17 +219,17 @@ where
     }
 
     /// Starts the session of a newcomer, or turns it away.
-    fn welcome(&mut self, newcomer: io::Result<Newcomer>) -> Option<()>
+    fn welcome(&mut self, newcomer: io::Result<Caller>) -> Option<()>
         ensures met { self.new.met ≡ self.old.met }
         ensures failed { self.new.failed ≡ self.old.failed }
         ensures until { self.new.until_input_ends ≡ self.old.until_input_ends }
     {
         match newcomer.ok()? {
-            Newcomer::Welcome(stream) => {
+            Caller::Welcome(stream) => {
                 self.accepted = self.accepted.saturating_add(1);
                 self.start(stream)
             }
-            Newcomer::TooMany(stream) => {
+            Caller::TooMany(stream) => {
                 turn_away(self.rt, stream);
                 self.door.restore();
                 None
@@ -237,7 +237,7 @@ where
         }
     }
 
-    /// Tells on standard error that a newcomer was turned away, unless the one before was, too.
+    /// Reports on standard error that a newcomer was turned away, unless the one before was, too.
     fn tell_of_failure(&mut self)
         ensures met { self.new.met ≡ self.old.met }
         ensures failed { self.new.failed ≡ self.old.failed }
@@ -251,8 +251,8 @@ where
         self.is_short = true;
     }
 
-    /// Starts the session of a connection on a thread of its own, which joins those that run. Room for it there is asked for before it is
-    /// started, so that no accept waits for a session.
+    /// Starts the session of a connection on a thread of its own, which is added to the running ones. Room for it there is reserved before
+    /// it is started, so that no accept waits for a session.
     fn start(&mut self, stream: TcpStream) -> Option<()>
         ensures met { self.new.met ≡ self.old.met }
         ensures failed { self.new.failed ≡ self.old.failed }
@@ -278,7 +278,7 @@ where
         started
     }
 
-    /// Closes the listener, and waits until all sessions have ended; where serving is to end before its time, for so long at most. The boards
+    /// Closes the listener, and waits until all sessions have ended; if serving is to end early, for a bounded time. The boards
     /// that wait are ended first.
     fn close(self, grace: Grace, scribe: Scribe) -> ServeEnd
         requires counted { self.failed ≤ self.met }
@@ -320,7 +320,7 @@ where
     }
 }
 
-/// Nobody follows any more but those who are there.
+/// From now on, no more followers move to the loops.
 fn close_gallery(gallery: &Option<Arc<Gallery, Global>>) {
     if let Some(gallery) = gallery {
         gallery.close();
@@ -345,7 +345,7 @@ fn come_in<'a, R: Wait + Clock>(
     come(own, alloc, registry, stream)
 }
 
-/// The gallery, if there is one, for one more thread.
+/// The gallery, if there is one, for another thread.
 ///
 /// # Errors
 ///

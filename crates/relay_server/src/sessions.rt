@@ -5,23 +5,23 @@ ghost use Rattle.std.specs.Io.KnownBytes.{Appends};
 ghost use Rattle.relay_frames.specs.Requests.{acceptance_text};
 ghost use Rattle.relay_pushing.specs.Connections.{Ends};
 ghost use Rattle.relay_server.specs.Heads.{left};
-ghost use Rattle.relay_server.specs.Lines.{written as line_written};
+ghost use Rattle.relay_server.specs.BufferedStreams.{written as buffered_written};
 ghost use Rattle.relay_server.specs.Memory.{LacksMemory};
-ghost use Rattle.relay_server.specs.Seating.{Replies};
+ghost use Rattle.relay_server.specs.Keeping.{Replies};
 ghost use Rattle.relay_server.specs.Spectating.{Conversed, Followed, HasBeenTold, Pushed};
 ghost use Rattle.relay_server.specs.Talking.{TalkEnds};
 
+use crate::buffered_stream::BufferedStream;
 use crate::chronicle::What;
+use crate::connection_keeper::ConnectionKeeper;
 use crate::gallery::{Connection, Gallery, hand_over};
 use crate::head::Head;
 use crate::key::Key;
-use crate::line::Line;
 use crate::memory::is_want_of_memory;
 use crate::outlet::{MOST_SILENT_SECONDS, SocketOutlet};
 use crate::patience::Patience;
 use crate::registry::Registry;
 use crate::request::{Request, receive};
-use crate::seat::Seat;
 use crate::spectating::Spectating;
 use crate::stream::Stream;
 use crate::talk::{Stop, Talk, TalkEnd};
@@ -36,7 +36,7 @@ use tungstenite::Error;
 /// How a session ended.
 #[derive(Clone, Copy, PartialEq, Eq, Debug)]
 pub enum SessionEnd {
-    /// The peer closed, or as many messages were read as may be.
+    /// The peer closed, or the greatest number of messages was read.
     Closed,
     /// The peer broke the protocol, and was told so.
     Broken,
@@ -50,26 +50,26 @@ pub enum SessionEnd {
     NoHandshake,
     /// Serving was to end, and the peer was told so.
     Ending,
-    /// The peer owned and followed nothing, said nothing for too long, and was told to go.
+    /// The peer owned and followed nothing, sent nothing for too long, and was told to go.
     Idle,
 }
 
-/// The close code after `Over`, and where as many messages were read as may be: a normal end (RFC 6455, section 7.4.1).
+/// The close code after `Over`, and if the greatest number of messages was read: a normal end (RFC 6455, section 7.4.1).
 const NORMAL: u16 = 1000;
 
-/// The close code where serving is to end, or patience with a peer is over: the server goes away (RFC 6455, section 7.4.1).
+/// The close code if serving is to end, or if the patience with a peer is over: the server goes away (RFC 6455, section 7.4.1).
 const GOING_AWAY: u16 = 1001;
 
-/// The close code after `Cut`: this server's own, of those for private use (RFC 6455, section 7.4.2).
+/// The close code after `Cut`: the server's own, from the range for private use (RFC 6455, section 7.4.2).
 pub(crate) const CUT_OFF: u16 = 4001;
 
-/// One connection from its handshake to its end: it answers commands, and once it follows a board, pushes that board's moves and is
-/// read no more. The request's head may have 8,192 bytes and take 10 seconds; a request that is refused is answered with its status.
+/// One connection from its handshake to its end. It answers commands. Once it follows a board, it pushes that board's moves and is
+/// no longer read. The request's head may have 8,192 bytes and take 10 seconds; a request that is refused is answered with its status.
 /// At most 1,000,000 messages are read. A peer that is silent
-/// for 30 seconds is sent a ping, and after 30 more another one; 30 seconds behind that it is taken to have gone. A message of which a
-/// part has come has 10 seconds. At its end each board that it opened and that has not ended is ended as abandoned, and its follower leaves.
-/// Where the connection has a key, its boards are not ended while another one with that key is there, nor while they wait for one. Where
-/// serving is to end before its time, the peer is told so by the close code 1001.
+/// for 30 seconds is sent a ping, and after 30 more another one; 30 seconds after that it is taken to have gone. A message that has partly
+/// arrived has 10 seconds. At its end each board that it opened and that has not ended is ended as abandoned, and its follower leaves.
+/// If the connection has a key, its boards are not ended while another one with that key exists, nor while they wait for one. If
+/// serving is to end early, the peer is told so by the close code 1001.
 pub fn session<'a, R: Wait + Clock, S: Stream + Drop, G: Gate>(
     rt: &'a R,
     alloc: Global,
@@ -85,14 +85,14 @@ pub fn session<'a, R: Wait + Clock, S: Stream + Drop, G: Gate>(
     }
 }
 
-/// A connection that has shaken hands. Where it has a key, it counts among those that hold it.
+/// A connection that has shaken hands. If it has a key, it counts among that key's holders.
 #[derive(Drop)]
 pub(crate) struct Arrival<S> {
     outlet: SocketOutlet<S>,
     key: Option<Key>,
 }
 
-/// Reads the request and answers it; and notes that a connection with its key is there, if it has one.
+/// Reads the request and answers it. If the connection has a key, notes that it has come.
 pub(crate) fn come<R: Wait + Clock, S: Stream + Drop>(
     rt: &R,
     alloc: Global,
@@ -119,21 +119,21 @@ fn attend<'a, 'g, R: Wait + Clock, S: Stream + Drop, G: Gate>(
     patience: &'g Patience,
 ) -> SessionEnd {
     let Arrival { outlet, key } = arrival;
-    let seat = Seat::new(rt, registry, key);
-    let mut talk = Talk::new(alloc, connection, outlet, seat, gate, patience);
+    let keeper = ConnectionKeeper::new(rt, registry, key);
+    let mut talk = Talk::new(alloc, connection, outlet, keeper, gate, patience);
     let end = converse(rt, &mut talk);
     let Talk {
         mut outlet,
         conn,
-        mut seat,
+        mut keeper,
         ..
     } = talk;
     outlet.give_up();
-    end_own(conn, &mut seat);
-    end_session(rt, registry, outlet, seat, &key, end)
+    end_own(conn, &mut keeper);
+    end_session(rt, registry, outlet, keeper, &key, end)
 }
 
-/// Answers a connection that has come, until it follows or to its end. Where it follows it is handed over to a loop, if one takes it.
+/// Answers a connection that has come, until it follows or to its end. If it follows, it moves to a loop if one takes it.
 pub(crate) fn attend_or_hand_over<'a, 'g, R: Wait + Clock, G: Gate>(
     rt: &'a R,
     alloc: Global,
@@ -145,60 +145,63 @@ pub(crate) fn attend_or_hand_over<'a, 'g, R: Wait + Clock, G: Gate>(
     gallery: &Option<Arc<Gallery, Global>>,
 ) {
     let Arrival { outlet, key } = arrival;
-    let seat = Seat::new(rt, registry, key);
-    let mut talk = Talk::new(alloc, connection, outlet, seat, gate, patience);
+    let keeper = ConnectionKeeper::new(rt, registry, key);
+    let mut talk = Talk::new(alloc, connection, outlet, keeper, gate, patience);
     let talked = talk.run(rt);
     if let (TalkEnd::Follows, Some(gallery)) = (talked, gallery) {
-        // It has opened no board, so that none is to be ended behind it.
-        let Talk { outlet, seat, .. } = talk;
-        follow_in_loop(rt, alloc, registry, gallery, outlet, seat, &key);
+        // It has opened no board, so none is to be ended after it.
+        let Talk { outlet, keeper, .. } = talk;
+        follow_in_loop(rt, alloc, registry, gallery, outlet, keeper, &key);
         return;
     }
     let end = conclude(rt, &mut talk, talked);
     let Talk {
         mut outlet,
         conn,
-        mut seat,
+        mut keeper,
         ..
     } = talk;
     outlet.give_up();
-    end_own(conn, &mut seat);
-    let _ = end_session(rt, registry, outlet, seat, &key, end);
+    end_own(conn, &mut keeper);
+    let _ = end_session(rt, registry, outlet, keeper, &key, end);
     registry.goes();
 }
 
-/// Hands a connection that follows over to a loop. Where none takes it, the board's moves are pushed to it here.
+/// Moves a connection that follows to a loop. If none takes it, the board's moves are pushed to it here.
 fn follow_in_loop<'a, R: Wait + Clock>(
     rt: &'a R,
     alloc: Global,
     registry: &'a Registry,
     gallery: &Gallery,
     outlet: SocketOutlet<Connection<'a, R>>,
-    seat: Seat<'a, R>,
+    keeper: ConnectionKeeper<'a, R>,
     key: &Option<Key>,
 )
-    requires told { HasBeenTold seat.follower outlet.texts.items }
+    requires told { HasBeenTold keeper.follower outlet.texts.items }
 {
-    let (mut outlet, mut seat) = match hand_over(rt, alloc, registry, gallery, outlet, seat, key) {
+    let (mut outlet, mut keeper) = match hand_over(
+        rt, alloc, registry, gallery, outlet, keeper, key,
+    ) {
         Some(back) => back,
         None => return,
     };
-    let end = follow(rt, alloc, &mut outlet, &mut seat);
+    let end = follow(rt, alloc, &mut outlet, &mut keeper);
     outlet.give_up();
-    let _ = end_session(rt, registry, outlet, seat, key, end);
+    let _ = end_session(rt, registry, outlet, keeper, key, end);
     registry.goes();
 }
 
-/// Ends a session that ended so and whose boards were ended: its follower leaves, and what the peer still sends is read for a while.
+/// Ends a session that ended in this way and whose boards were ended: its follower leaves, and what the peer still sends is read for a
+/// while.
 fn end_session<'a, R: Wait + Clock, S: Stream + Drop>(
     rt: &'a R,
     registry: &'a Registry,
     mut outlet: SocketOutlet<S>,
-    seat: Seat<'a, R>,
+    keeper: ConnectionKeeper<'a, R>,
     key: &Option<Key>,
     end: SessionEnd,
 ) -> SessionEnd {
-    seat.leave();
+    keeper.leave();
     if let Some(key) = key {
         registry.leave(rt, key);
     }
@@ -208,16 +211,16 @@ fn end_session<'a, R: Wait + Clock, S: Stream + Drop>(
     end
 }
 
-/// Ends the boards that a connection opened as abandoned, where its seat has no key. With one no step is made: its boards may outlive it.
-fn end_own<R: Wait>(conn: Conn, seat: &mut Seat<'_, R>)
-    ensures unkeyed { seat.old.key ≡ None → Ends Replies seat.old conn seat.new }
-    ensures keyed { is_some seat.old.key ≡ true → seat.new ≡ seat.old }
-    ensures nothing { conn ≡ [] → seat.new ≡ seat.old }
+/// Ends as abandoned the boards that a connection opened, if its keeper has no key. With a key no step is made: its boards may outlive it.
+fn end_own<R: Wait>(conn: Conn, keeper: &mut ConnectionKeeper<'_, R>)
+    ensures unkeyed { keeper.old.key ≡ None → Ends Replies keeper.old conn keeper.new }
+    ensures keyed { is_some keeper.old.key ≡ true → keeper.new ≡ keeper.old }
+    ensures nothing { conn ≡ [] → keeper.new ≡ keeper.old }
 {
-    if seat.has_key() {
+    if keeper.has_key() {
         let _ = conn.part();
     } else {
-        conn.finish(seat);
+        conn.finish(keeper);
     }
 }
 
@@ -237,31 +240,30 @@ fn shake_hands<C: Clock, S: Stream + Drop>(
     } else {
         None
     };
-    match welcome(alloc, stream, head, acceptance, registry.most_wakes()) {
+    match welcome(alloc, stream, head, acceptance) {
         Ok(outlet) => Ok(Arrival { outlet, key }),
         Err(_) => Err(SessionEnd::Failed),
     }
 }
 
-/// Answers a request that is accepted. The answer comes first in all that the peer is sent, and what came behind the head is still read.
+/// Answers a request that is accepted. The answer is the first thing that the peer is sent, and what followed the head is still read.
 fn welcome<S: Read + Write + Drop>(
     alloc: Global,
     stream: S,
     head: Head,
     acceptance: Acceptance,
-    most_wakes: u16,
 ) -> Result<SocketOutlet<S>, AllocError>
-    ensures answered { IfOk result (λ outlet. Appends (S.contents stream) (line_written S.contents outlet.line) (acceptance_text acceptance.value)) }
-    ensures behind { IfOk result (λ outlet. left outlet.line.head ≡ left head) }
+    ensures answered { IfOk result (λ outlet. Appends (S.contents stream) (buffered_written S.contents outlet.buffered) (acceptance_text acceptance.value)) }
+    ensures behind { IfOk result (λ outlet. left outlet.buffered.head ≡ left head) }
     ensures texts { IfOk result (λ outlet. outlet.texts.items ≡ []) }
 {
     let mut answer = Vec::new(alloc);
     acceptance.write(&mut answer)?;
-    let line = Line::new(alloc, stream, head, answer, most_wakes);
-    Ok(SocketOutlet::new(alloc, line))
+    let buffered = BufferedStream::new(alloc, stream, head, answer);
+    Ok(SocketOutlet::new(alloc, buffered))
 }
 
-/// How a session ends whose handshake failed: for want of memory, or because there was no handshake.
+/// How a session ends if its handshake failed: for lack of memory, or because there was no handshake.
 pub(crate) fn end_unshaken(error: &Error) -> SessionEnd
     ensures failed { (result ≡ SessionEnd.Failed) ↔ LacksMemory error.now }
     ensures none { (result ≡ SessionEnd.NoHandshake) ↔ (LacksMemory error.now → ⊥) }
@@ -278,19 +280,19 @@ fn converse<'a, R: Wait + Clock, S: Stream + Drop, G: Gate>(
     rt: &'a R,
     talk: &mut Talk<'a, '_, R, S, G>,
 ) -> SessionEnd
-    ensures { talk.old.seat.follower ≡ None → Conversed talk.new.outlet.texts.items result }
+    ensures { talk.old.keeper.follower ≡ None → Conversed talk.new.outlet.texts.items result }
 {
     let talked = talk.run(rt);
     conclude(rt, talk, talked)
 }
 
-/// Ends a session whose talk ended so: where the connection follows a board, that board's moves are pushed to it.
+/// Ends a session whose talk ended in this way. If the connection follows a board, that board's moves are pushed to it.
 fn conclude<'a, R: Wait + Clock, S: Stream + Drop, G: Gate>(
     rt: &'a R,
     talk: &mut Talk<'a, '_, R, S, G>,
     talked: TalkEnd,
 ) -> SessionEnd
-    ensures { TalkEnds talked talk.old.seat.follower talk.old.outlet.texts.items → Conversed talk.new.outlet.texts.items result }
+    ensures { TalkEnds talked talk.old.keeper.follower talk.old.outlet.texts.items → Conversed talk.new.outlet.texts.items result }
 {
     match talked {
         TalkEnd::Closed(code) => match talk.outlet.put_close(code) {
@@ -305,12 +307,12 @@ fn conclude<'a, R: Wait + Clock, S: Stream + Drop, G: Gate>(
             Ok(()) => SessionEnd::Broken,
             Err(Stop) => SessionEnd::Failed,
         },
-        TalkEnd::Follows => follow(rt, talk.alloc, &mut talk.outlet, &mut talk.seat),
+        TalkEnd::Follows => follow(rt, talk.alloc, &mut talk.outlet, &mut talk.keeper),
         TalkEnd::Idle => {
             let _ = talk.outlet.close(GOING_AWAY);
             SessionEnd::Idle
         }
-        TalkEnd::Failed if talk.seat.registry().is_ending() => {
+        TalkEnd::Failed if talk.keeper.registry().is_ending() => {
             let _ = talk.outlet.close(GOING_AWAY);
             SessionEnd::Ending
         }
@@ -323,12 +325,12 @@ fn follow<R: Wait, S: Stream + Drop>(
     rt: &R,
     alloc: Global,
     outlet: &mut SocketOutlet<S>,
-    seat: &mut Seat<'_, R>,
+    keeper: &mut ConnectionKeeper<'_, R>,
 ) -> SessionEnd
-    ensures { Followed seat.old.follower seat.new.follower outlet.old.texts.items outlet.new.texts.items result }
+    ensures { Followed keeper.old.follower keeper.new.follower outlet.old.texts.items outlet.new.texts.items result }
 {
-    let registry = seat.registry();
-    match &mut seat.spectating {
+    let registry = keeper.registry();
+    match &mut keeper.spectating {
         Some(spectating) => push(rt, alloc, registry, outlet, spectating),
         None => SessionEnd::Failed,
     }

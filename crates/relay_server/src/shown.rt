@@ -1,4 +1,4 @@
-//! A board that is shown to those who only watch.
+//! A board that is shown to spectators who only watch.
 
 ghost use Rattle.relay_server.specs.Showing.{IsNews, IsPositionAt, IsSummary};
 
@@ -9,7 +9,7 @@ use relay_messages::BoardSummary;
 use std::alloc::{AllocError, Global};
 use std::sync::{Arc, Wait};
 
-/// A board of a registry, to look at: nothing can be done with it. Its lock is taken for one look at a time.
+/// A board of a registry, to be looked at: nothing can be done to it. Its lock is taken for one look at a time.
 #[derive(Drop)]
 pub struct Shown {
     broadcast: Arc<Broadcast, Global>,
@@ -21,12 +21,12 @@ impl Shown {
         Shown { broadcast }
     }
 
-    /// How often it was rung for, wrapping: behind each move and behind the end, before anybody is woken.
+    /// How often it was rung for, wrapping: after each move and after the end, before anybody is woken.
     pub fn rings(&self) -> u64 {
         self.broadcast.chime.count()
     }
 
-    /// Puts the moves of its log from a place on behind `moves`, and tells the outcome of its game.
+    /// Appends the moves of its log from a place on to `moves`. Returns the outcome of its game.
     ///
     /// # Errors
     ///
@@ -42,7 +42,7 @@ impl Shown {
         self.broadcast.news(rt, from, moves)
     }
 
-    /// How it stands.
+    /// Its present state.
     pub fn summary<R: Wait>(&self, rt: &R) -> BoardSummary
         ensures { IsSummary result }
     {

@@ -1,4 +1,4 @@
-//! Since when one who follows in a loop is waited for, in seconds of the loop's clock.
+//! Since when the server has waited for a follower in a loop, in seconds of the loop's clock.
 
 ghost use Rattle.std.specs.Prelude.{◌≡◌};
 
@@ -8,14 +8,14 @@ const MOST_HALF_SECONDS: u64 = 10;
 /// How many seconds a connection may take over what is kept for it.
 const MOST_WAIT_SECONDS: u64 = 30;
 
-/// How many seconds a peer is silent until it is sent a ping, and then another one. Peers are looked at once a second, so that 30 would notice one that
-/// vanished after more than 90.
+/// After how many seconds of silence a peer is sent a ping, and then another one. Peers are looked at once a second, so with 30 a vanished
+/// peer would be noticed only after more than 90.
 const MOST_SILENT_SECONDS: u64 = 29;
 
-/// How many pings in a row a peer is sent from which nothing is heard.
+/// How many pings in a row are sent to a peer that stays silent.
 const MOST_PINGS: u64 = 2;
 
-/// How many seconds a peer that has been sent all may take to end its connection.
+/// How many seconds a peer that has been sent everything may take to end its connection.
 const MOST_LEAVING_SECONDS: u64 = 10;
 
 /// What is to be done with a peer.
@@ -25,25 +25,25 @@ pub(crate) enum Verdict {
     Stays,
     /// It is sent a ping.
     Ping,
-    /// It goes without a word.
+    /// It goes without a close.
     Gone,
 }
 
-/// Since when a peer is waited for.
+/// Since when the server has waited for a peer.
 #[derive(Clone, Copy, Debug)]
 pub(crate) struct Since {
     heard_at: u64,
     pings: u64,
-    /// Since when something is kept for it that its connection does not take.
+    /// Since when something has been kept for it that its connection does not take.
     waits_since: Option<u64>,
-    /// Since when it is in the middle of a message.
+    /// Since when it has been in the middle of a message.
     midway_since: Option<u64>,
-    /// When it had been sent all, if it has.
+    /// When everything had been sent to it, if it has.
     left_at: Option<u64>,
 }
 
 impl Since {
-    /// With one who comes now.
+    /// Of a peer that comes now.
     pub(crate) fn new(now: u64) -> Since {
         Since {
             heard_at: now,
@@ -54,12 +54,12 @@ impl Since {
         }
     }
 
-    /// It has been sent all.
+    /// Everything has been sent to it.
     pub(crate) fn leaves(&mut self, now: u64) {
         self.left_at = Some(now);
     }
 
-    /// A message of it has come whole: what stands behind that began now.
+    /// A message of it is complete: what follows began now.
     pub(crate) fn has_heard_all(&mut self) {
         self.midway_since = None;
     }
@@ -69,12 +69,12 @@ impl Since {
         self.midway_since = None;
     }
 
-    /// It is heard again, and is in the middle of a message or not.
+    /// It is heard again, and may be in the middle of a message.
     pub(crate) fn is_heard_again(&mut self, now: u64, is_midway: bool) {
         self.midway_since = if is_midway { Some(now) } else { None };
     }
 
-    /// Something came from it; behind that it is in the middle of a message or not.
+    /// Something came from it; after that it may be in the middle of a message.
     pub(crate) fn hears(&mut self, now: u64, is_midway: bool)
         ensures heard { self.new.heard_at ≡ now }
         ensures pings { self.new.pings ≡ 0 }
@@ -88,7 +88,7 @@ impl Since {
         };
     }
 
-    /// Its connection took all that was kept for it.
+    /// Its connection took everything that was kept for it.
     pub(crate) fn is_served(&mut self) {
         self.waits_since = None;
     }
@@ -117,8 +117,8 @@ impl Since {
         self.ping_if_due(now)
     }
 
-    /// Whether one that was not heard of is sent a ping, or is gone. One whose connection does not take what is kept for it is sent none: a ping stands
-    /// behind that.
+    /// Whether a peer that was not heard from is sent a ping, or is gone. If its connection does not take what is kept for it, it is sent
+    /// none: a ping would come after that.
     fn ping_if_due(&mut self, now: u64) -> Verdict {
         let silent = now.saturating_sub(self.heard_at) / MOST_SILENT_SECONDS;
         if silent <= self.pings {
@@ -135,7 +135,7 @@ impl Since {
     }
 }
 
-/// Whether so many seconds have passed since then.
+/// Whether this many seconds have passed since then.
 fn has_passed(since: Option<u64>, now: u64, most: u64) -> bool {
     match since {
         Some(since) => now.saturating_sub(since) >= most,

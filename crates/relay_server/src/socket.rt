@@ -16,23 +16,24 @@ use std::time::{Clock, Duration};
 /// How many seconds a peer may take over what it is sent.
 const MOST_SECONDS: u64 = 30;
 
-/// How many milliseconds the first write of something waits. Who writes may have others to wake, and looks after them before it waits longer.
+/// How many milliseconds the first write of something waits. The writer may have others to wake, and does so before it waits longer.
 const MOMENT_MILLIS: u64 = 10;
 
-/// A socket whose peer has one deadline for what it is sent, from the first write to the flush behind the last one, however often it takes
-/// some of it. The first write waits for a moment only: where the peer takes nothing then, it is told as interrupted, so that it is tried again.
+/// A socket whose peer has one deadline for what it is sent, from the first write to the flush after the last one, however often it takes
+/// some of it. The first write waits only for a moment: if the peer takes nothing then, it is reported as interrupted, so that it is
+/// retried.
 #[derive(Drop)]
 pub(crate) struct Socket<'a, C> {
     clock: &'a C,
     stream: TcpStream,
-    /// By when what was begun to be sent is to be taken.
+    /// By when the output that was begun has to be taken.
     due: Option<Deadline>,
-    /// Whether the next write waits until then, and not for a moment alone.
+    /// Whether the next write waits until then, and not just for a moment.
     is_bounded: bool,
 }
 
 impl<'a, C: Clock> Socket<'a, C> {
-    /// The socket of a connection, to whose peer nothing was sent.
+    /// The socket of a connection to whose peer nothing has been sent.
     ///
     /// # Errors
     ///
@@ -50,19 +51,19 @@ impl<'a, C: Clock> Socket<'a, C> {
         Ok(socket)
     }
 
-    /// The connection alone.
+    /// The underlying connection.
     pub(crate) fn into_inner(self) -> TcpStream {
         let Socket { stream, .. } = self;
         stream
     }
 
-    /// Lets the next write wait for so long at most.
+    /// Bounds the wait of the next write.
     fn bound_write(&self, most: Duration) -> io::Result<()> {
         self.stream.set_write_timeout(Some(most))
     }
 
-    /// Sees to it that the next write waits no longer than the peer may take over what it is sent, the first one for a moment. What was begun
-    /// to be sent keeps its time.
+    /// Ensures that the next write waits no longer than the peer may take over what it is sent, the first one only for a moment. Output
+    /// that was begun keeps its deadline.
     ///
     /// # Errors
     ///
@@ -84,7 +85,7 @@ impl<'a, C: Clock> Socket<'a, C> {
         }
     }
 
-    /// What was sent was taken. What is sent next has its own time.
+    /// What was sent was taken. What is sent next has a deadline of its own.
     fn end_write(&mut self) -> io::Result<()>
         ensures { self.new.due ≡ None }
     {

@@ -1,9 +1,9 @@
-//! What a connection follows, and what it is sent of it.
+//! What a connection follows, and what it is sent of that.
 
 ghost use Rattle.std.specs.Prelude.{◌≡◌};
 ghost use Rattle.relay_pushing.specs.Pushing.{Turned};
-ghost use Rattle.live_steps.specs.Views.{next_of};
-ghost use Rattle.relay_server.specs.Spectating.{Gives, Sent};
+ghost use Rattle.live_board.specs.Views.{next_of};
+ghost use Rattle.relay_server.specs.Spectating.{Gives, SentUntil};
 
 use crate::broadcast::Broadcast;
 use crate::chime::BoardBell;
@@ -14,7 +14,7 @@ use std::alloc::Global;
 use std::marker::Model;
 use std::sync::{Arc, Wait};
 
-/// A follower as the source of what its connection is sent. It takes without a lock. To a contract it is what the follower is.
+/// A follower as the source of what its connection is sent. It takes without a lock. To a contract it is the follower.
 #[derive(Drop)]
 pub(crate) struct FollowerSource {
     follower: Follower,
@@ -69,7 +69,7 @@ impl Spectating {
         alloc: Global,
         outlet: &mut O,
     ) -> PushEnd
-        ensures { Sent self.old.source self.new.source (O.sent outlet.old) (O.sent outlet.new) result }
+        ensures { SentUntil self.old.source self.new.source (O.sent outlet.old) (O.sent outlet.new) result }
     {
         let bell = BoardBell {
             rt,
@@ -78,7 +78,7 @@ impl Spectating {
         push_all(rt, alloc, outlet, &mut self.source, &bell)
     }
 
-    /// Sends what the follower takes as long as the outlet has room: a turn, which another one may follow.
+    /// Sends what the follower takes as long as the outlet has room: one turn, which another may follow.
     pub(crate) fn push_some<O: Outlet>(&mut self, alloc: Global, outlet: &mut O) -> Turn
         ensures { Turned Gives self.old.source self.new.source (O.sent outlet.old) (O.sent outlet.new) result }
     {
@@ -99,7 +99,7 @@ impl Spectating {
         ))
     }
 
-    /// The follower leaves, and its place on the board is free.
+    /// The follower leaves, and its slot on the board is free.
     pub(crate) fn leave(self) {
         self.broadcast.give_back_place();
         let _ = self.source.follower.leave();

@@ -1,15 +1,15 @@
-//! One that follows a board in a loop: what it is pushed, and what it says meanwhile. The loop's poll and its clock stand elsewhere.
+//! A connection that follows a board in a loop: what is pushed to it, and what it says meanwhile. The loop's poll and clock are elsewhere.
 
 ghost use Rattle.std.specs.Prelude.{◌≡◌, ◌≤◌, ◌↔◌, IsTrue, true, [], length, None, Some, option_map, IfErr, IfOk, IsOk, OnOk, OnErr};
 ghost use Rattle.std.specs.Io.KnownBytes.{Appends, Keeps};
 ghost use Rattle.relay_frames.specs.Events.{is_last, number_of, told};
 ghost use Rattle.relay_frames.specs.Frames.{close_frame, ping_frame, pong_frame};
 ghost use Rattle.relay_pushing.specs.declared.pushing.Turn.TheVariants as turns;
-ghost use Rattle.live_steps.specs.Views.{next_of};
+ghost use Rattle.live_board.specs.Views.{next_of};
 ghost use Rattle.live_board.specs.Seats.{FollowerSeat};
 ghost use Rattle.relay_frames.specs.Reading.{is_midway};
 ghost use Rattle.relay_server.specs.Heads.{left};
-ghost use Rattle.relay_server.specs.Lines.{written as line_written};
+ghost use Rattle.relay_server.specs.BufferedStreams.{written as buffered_written};
 ghost use Rattle.relay_server.specs.Served.{Ended, Following, Heeded, IsAnswered, IsClosed, IsGone, IsLeftWith, IsNext, IsPassedOver, IsPeers, IsTakenIn, NoneTakenIn, TookTurn, standing_of};
 ghost use Rattle.relay_server.specs.Spectating.{HasBeenTold, close_code, session_end};
 
@@ -30,10 +30,10 @@ use std::sync::Wait;
 use std::time::Clock;
 use std::{io, mem};
 
-/// How many bytes of messages a spectator may send in vain.
+/// How many bytes of messages a spectator may send that nobody answers.
 const MOST_UNREAD: u64 = 65536;
 
-/// What a message counts beside its payload: the least head of a peer's frame.
+/// What a message counts in addition to its payload: the smallest head of a peer's frame.
 const HEAD_BYTES: u64 = 6;
 
 /// How many bytes may be kept for a spectator that is heard.
@@ -43,41 +43,41 @@ const MOST_KEPT: usize = 16384;
 #[derive(Drop)]
 pub(crate) struct Lost;
 
-/// How a spectator stands to its board.
+/// How a spectator relates to its board.
 #[derive(Drop)]
-pub(crate) enum State {
+pub(crate) enum SpectatorState {
     /// It follows the board.
     Follows(Spectating),
-    /// It follows no more: it ended so.
+    /// It no longer follows: it ended in this way.
     Ended(SessionEnd),
 }
 
-/// One that was told of its follower and is pushed to by turns. However many turns it has had, the texts that it was sent are those of all that its
-/// follower took, and behind the end there is none.
+/// A spectator that was told of its follower and is pushed to in turns. However many turns it has had, the texts that it was sent are those
+/// of all that its follower took, and after the end there is none.
 #[derive(Drop)]
 pub(crate) struct Spectator<S: Read + Write> {
     outlet: SocketOutlet<S>,
-    state: State,
+    state: SpectatorState,
     /// The key that the connection has.
     key: Option<Key>,
-    /// How many bytes of messages it sent in vain.
+    /// How many bytes of unanswered messages it sent.
     unread: u64,
 }
 
 impl<S: Read + Write> Model for Spectator<S> {
     ghost use Rattle.relay_server.specs.Heads.{left};
-    ghost use Rattle.relay_server.specs.Lines.{written as line_written};
+    ghost use Rattle.relay_server.specs.BufferedStreams.{written as buffered_written};
     ghost use Rattle.relay_server.specs.Served.{IsServed, Served, standing_of};
 
     ghost Value = { Served };
 
-    ghost view = { λ s. record { standing = standing_of s.state; texts = s.outlet.texts.items; written = line_written S.contents s.outlet.line; kept = s.outlet.line.output.items; peer = s.outlet.peer; behind = left s.outlet.line.head; remaining = S.remaining s.outlet.line.stream; unread = s.unread } };
+    ghost view = { λ s. record { standing = standing_of s.state; texts = s.outlet.texts.items; written = buffered_written S.contents s.outlet.buffered; kept = s.outlet.buffered.output.items; peer = s.outlet.peer; behind = left s.outlet.buffered.head; remaining = S.remaining s.outlet.buffered.stream; unread = s.unread } };
 
     ghost invariant = { λ s. IsServed (standing_of s.state) s.outlet.texts.items };
 }
 
 impl<S: Stream + Drop> Spectator<S> {
-    /// One that was told of this follower, over a connection that does not wait.
+    /// A spectator that was told of this follower, over a connection that does not wait.
     pub(crate) fn new(
         outlet: SocketOutlet<S>,
         spectating: Spectating,
@@ -86,25 +86,25 @@ impl<S: Stream + Drop> Spectator<S> {
         requires told { HasBeenTold (Some spectating.source) outlet.texts.items }
         ensures follows { result.standing ≡ Following spectating.source }
         ensures texts { result.texts ≡ outlet.texts.items }
-        ensures written { result.written ≡ line_written S.contents outlet.line }
-        ensures kept { result.kept ≡ outlet.line.output.items }
+        ensures written { result.written ≡ buffered_written S.contents outlet.buffered }
+        ensures kept { result.kept ≡ outlet.buffered.output.items }
         ensures peer { result.peer ≡ outlet.peer }
-        ensures behind { result.behind ≡ left outlet.line.head }
+        ensures behind { result.behind ≡ left outlet.buffered.head }
         ensures unread { result.unread ≡ 0 }
     {
         Spectator {
             outlet,
-            state: State::Follows(spectating),
+            state: SpectatorState::Follows(spectating),
             key,
             unread: 0,
         }
     }
 
-    /// Whether it follows no more.
+    /// Whether it no longer follows.
     pub(crate) fn has_ended(&self) -> bool
         ensures { IsTrue result ↔ IsGone self.now.standing }
     {
-        matches!(self.state, State::Ended(_))
+        matches!(self.state, SpectatorState::Ended(_))
     }
 
     /// The place of the move that it takes next, while it follows.
@@ -113,33 +113,33 @@ impl<S: Stream + Drop> Spectator<S> {
         ensures none { IsGone self.now.standing → result ≡ None }
     {
         match &self.state {
-            State::Follows(spectating) => Some(spectating.next()),
-            State::Ended(_) => None,
+            SpectatorState::Follows(spectating) => Some(spectating.next()),
+            SpectatorState::Ended(_) => None,
         }
     }
 
-    /// Sends what there is to be taken, as long as there is room. Behind the end it has left its board, whose place is free then, and the texts
-    /// that it is due still stand before the close.
+    /// Sends what can be taken, as long as there is room. After the end it has left its board, whose slot is then free, and the texts
+    /// that are due come before the close.
     pub(crate) fn push<R: Wait>(&mut self, rt: &R, alloc: Global, registry: &Registry) -> Turn
         ensures turned { (f : FollowerSeat) → self.old.standing ≡ Following f → TookTurn f self.old.texts self.new.standing self.new.texts result }
         ensures gone { IsGone self.old.standing → (self.new ≡ self.old) × (result ≡ turns.Waits) }
         ensures unread { self.new.unread ≡ self.old.unread }
     {
-        let State::Follows(spectating) = &mut self.state else {
+        let SpectatorState::Follows(spectating) = &mut self.state else {
             return Turn::Waits;
         };
         let board = spectating.board();
         let turn = spectating.push_some(alloc, &mut self.outlet);
         if let Turn::Ended(end) = turn {
             leave(&mut self.state, ending_of(&end), registry);
-            // Without memory for the close the texts alone are sent, and then the end of the output.
+            // Without memory for the close, only the texts are sent, and then the end of the output.
             let _ = self.is_told_to_go(&end, registry.is_ending());
             note_if_cut(rt, registry, board, &end);
         }
         turn
     }
 
-    /// Behind the text of pushing's end the close is put, if one is due.
+    /// Puts the close after the text of pushing's end, if one is due.
     ///
     /// # Errors
     ///
@@ -157,7 +157,7 @@ impl<S: Stream + Drop> Spectator<S> {
         }
     }
 
-    /// Puts a close with this code or none behind all that was written.
+    /// Puts a close with this code or none after all that was written.
     ///
     /// # Errors
     ///
@@ -185,14 +185,14 @@ impl<S: Stream + Drop> Spectator<S> {
         turn
     }
 
-    /// From now on there is room for a text more, however much is kept for it, or there is only where that is little.
+    /// If lifted, there is room for one more text from now on, however much is kept for it; if not, there is only while that is little.
     fn lift(&mut self, is_lifted: bool)
         ensures { self.new ≡ self.old }
     {
         self.outlet.lift(is_lifted);
     }
 
-    /// Heeds what it says. A ping and a close are answered; a message is not, and of messages without end it is told by a close. Behind a close
+    /// Handles what it says. A ping and a close are answered; a message is not, and a close reports messages without end. After a close
     /// or a breach it has left its board.
     ///
     /// # Errors
@@ -221,7 +221,7 @@ impl<S: Stream + Drop> Spectator<S> {
         }
     }
 
-    /// Answers a ping of these bytes.
+    /// Answers a ping that has these bytes.
     fn answers(&mut self, payload: &[u8]) -> Result<(), Lost>
         ensures answered { OnOk result (IsAnswered self.old self.new (pong_frame payload.now)) }
         ensures failed { OnErr result (Keeps self.old.written self.new.written) }
@@ -232,7 +232,7 @@ impl<S: Stream + Drop> Spectator<S> {
         or_lost(self.outlet.pong(payload).is_ok())
     }
 
-    /// Passes over a message of so many bytes. One that sends too many is closed.
+    /// Skips a message of this many bytes. A spectator that sends too many is closed.
     fn passes_over(&mut self, registry: &Registry, bytes: usize) -> Result<(), Lost>
         requires follows { IsGone self.old.standing → ⊥ }
         ensures passed { OnOk result (IsPassedOver self.old self.new bytes) }
@@ -251,7 +251,7 @@ impl<S: Stream + Drop> Spectator<S> {
         Ok(())
     }
 
-    /// It leaves its board, and a close with this code or none is the last that it is sent.
+    /// It leaves its board, and a close with this code or none is the last thing that it is sent.
     fn closes(
         &mut self,
         registry: &Registry,
@@ -270,7 +270,7 @@ impl<S: Stream + Drop> Spectator<S> {
         self.puts_close(code)
     }
 
-    /// Sends a ping, unless it follows no more.
+    /// Sends a ping, if it still follows.
     ///
     /// # Errors
     ///
@@ -289,11 +289,11 @@ impl<S: Stream + Drop> Spectator<S> {
         or_lost(self.outlet.ping().is_ok())
     }
 
-    /// Reads once, and tells how many bytes came.
+    /// Reads once, and returns how many bytes came.
     ///
     /// # Errors
     ///
-    /// Nothing is there now (`WouldBlock`), the stream failed, or there was no memory.
+    /// Nothing has arrived (`WouldBlock`), the stream failed, or there was no memory.
     pub(crate) fn take_in(&mut self) -> io::Result<usize>
         ensures came { IfOk result (λ n. IsTakenIn self.old self.new n) }
         ensures nothing { IfErr result (λ error. NoneTakenIn self.old self.new error) }
@@ -305,7 +305,7 @@ impl<S: Stream + Drop> Spectator<S> {
         self.outlet.take_in()
     }
 
-    /// What it says next of what was read, if it says anything.
+    /// What it says next in what was read, if anything.
     ///
     /// # Errors
     ///
@@ -334,7 +334,7 @@ impl<S: Stream + Drop> Spectator<S> {
         self.outlet.kept() >= MOST_KEPT
     }
 
-    /// Sends of what is kept for it as much as its connection takes. Whether that was all is told.
+    /// Sends as much of what is kept for it as its connection takes. Returns whether that was all.
     ///
     /// # Errors
     ///
@@ -359,7 +359,7 @@ impl<S: Stream + Drop> Spectator<S> {
         self.outlet.end_output();
     }
 
-    /// It goes: it leaves its board, if it has not, and its connection counts no more.
+    /// It goes: it leaves its board, if it has not yet, and its connection is no longer counted.
     pub(crate) fn go<R: Wait + Clock>(self, rt: &R, registry: &Registry) {
         let Spectator { mut state, key, .. } = self;
         leave(&mut state, SessionEnd::Failed, registry);
@@ -370,29 +370,29 @@ impl<S: Stream + Drop> Spectator<S> {
     }
 }
 
-/// Leaves the board, where that was not done. It ended so.
-fn leave(state: &mut State, ended: SessionEnd, registry: &Registry)
+/// Leaves the board, unless that was done before. It ended in this way.
+fn leave(state: &mut SpectatorState, ended: SessionEnd, registry: &Registry)
     ensures left { (f : FollowerSeat) → standing_of state.old ≡ Following f → standing_of state.new ≡ Ended ended }
     ensures gone { IsGone (standing_of state.new) }
     ensures once { IsGone (standing_of state.old) → state.new ≡ state.old }
 {
-    if matches!(state, State::Ended(_)) {
+    if matches!(state, SpectatorState::Ended(_)) {
         return;
     }
-    if let State::Follows(spectating) = mem::replace(state, State::Ended(ended)) {
+    if let SpectatorState::Follows(spectating) = mem::replace(state, SpectatorState::Ended(ended)) {
         spectating.leave();
         registry.unfollows();
     }
 }
 
-/// Notes for the log that a follower of a board was cut off, where pushing ended so.
+/// Notes for the log that a follower of a board was cut off, if pushing ended in that way.
 fn note_if_cut<R: Wait>(rt: &R, registry: &Registry, board: BoardName, end: &PushEnd) {
     if matches!(end, PushEnd::Cut) {
         registry.note(rt, board, What::Cut);
     }
 }
 
-/// How a session ends whose pushing ended so.
+/// How a session ends whose pushing ended in this way.
 fn ending_of(end: &PushEnd) -> SessionEnd
     ensures { result ≡ session_end end.now }
 {
@@ -403,7 +403,7 @@ fn ending_of(end: &PushEnd) -> SessionEnd
     }
 }
 
-/// The code of the close behind pushing that ended so, if one is sent.
+/// The code of the close after pushing that ended in this way, if one is sent.
 #[tactic(auto, unfolding(relay_frames::specs::Codes::may_be_sent))]
 fn code_of_end(end: &PushEnd, is_ending: bool) -> Option<Code>
     ensures { option_map (λ code. code.number) result ≡ close_code is_ending end.now }
@@ -416,7 +416,7 @@ fn code_of_end(end: &PushEnd, is_ending: bool) -> Option<Code>
     }
 }
 
-/// An error where that was not done.
+/// An error if that was not done.
 fn or_lost(is_done: bool) -> Result<(), Lost>
     ensures { IsOk result ↔ IsTrue is_done }
 {

@@ -1,12 +1,13 @@
-//! All spectators of a loop, and what becomes of them.
+//! All spectators of a loop, and what happens to them.
 
 ghost use Rattle.std.specs.Prelude.{◌≡◌, None};
 ghost use Rattle.slab.specs.Slab.{get};
 
+use crate::attendee::{Attendee, Delivery, Intake};
 use crate::audience::Audience;
 use crate::broadcast::Broadcast;
+use crate::courtesy::Courtesy;
 use crate::registry::Registry;
-use crate::seated::{Came, Seated, Sent};
 use crate::since::Verdict;
 use crate::spectator::{Lost, Spectator};
 use crate::wire::Wire;
@@ -24,7 +25,7 @@ use std::time::Clock;
 /// How many pieces of what a spectator sends are read before the others have their turn.
 const MOST_PIECES: u32 = 4;
 
-/// One that comes to a loop.
+/// A connection that arrives at a loop.
 #[derive(Drop)]
 pub(crate) struct Newcomer {
     pub(crate) spectator: Spectator<Wire>,
@@ -32,51 +33,53 @@ pub(crate) struct Newcomer {
     pub(crate) board: Arc<Broadcast, Global>,
 }
 
-/// All spectators of a loop. One is known by its key, which is the token of its connection too.
+/// All spectators of a loop. Each is known by its key, which is also the token of its connection.
 #[derive(Drop)]
 pub(crate) struct Spectators<'a, R> {
     rt: &'a R,
     alloc: Global,
     registry: &'a Registry,
-    seated: Slab<Seated>,
+    attendees: Slab<Attendee>,
     audiences: Slab<Audience>,
-    /// Those that have a turn again though nobody tells of them: there is more to be read of them, or more for them.
+    /// Those that get another turn although the system reports nothing of them: there is more to be read from them, or more for them.
     due: Vec<usize>,
     /// How many seconds have passed.
     now: u64,
-    /// In which second they were looked at last.
+    /// The second in which they were last looked at.
     looked_at: u64,
+    courtesy: Courtesy,
 }
 
 impl<'a, R: Wait + Clock> Spectators<'a, R> {
-    /// Nobody is there yet.
+    /// No spectators yet.
     pub(crate) fn new(rt: &'a R, alloc: Global, registry: &'a Registry) -> Spectators<'a, R> {
         Spectators {
             rt,
             alloc,
             registry,
-            seated: Slab::new(alloc),
+            attendees: Slab::new(alloc),
             audiences: Slab::new(alloc),
             due: Vec::new(alloc),
             now: 0,
             looked_at: 0,
+            courtesy: Courtesy::new(),
         }
     }
 
-    /// Whether nobody is there.
+    /// Whether there are no spectators.
     pub(crate) fn is_empty(&self) -> bool {
-        self.seated.is_empty()
+        self.attendees.is_empty()
     }
 
-    /// Whether somebody has a turn again though nobody tells of it.
+    /// Whether a spectator gets another turn although the system reports nothing of it.
     pub(crate) fn has_due(&self) -> bool {
         !self.due.is_empty()
     }
 
-    // ---- Coming and going.
+    // ---- Arriving and leaving.
 
-    /// A newcomer, which is pushed at once what there is. What was read behind its command to follow is heeded. The system is to tell when it may be
-    /// read and written.
+    /// Adds a newcomer, and at once pushes to it what there is. What was read after its command to follow is handled. The system is to
+    /// report when it may be read and written.
     pub(crate) fn enters(&mut self, poll: &mio::Registry, newcomer: Newcomer) {
         let Newcomer {
             spectator,
@@ -87,7 +90,10 @@ impl<'a, R: Wait + Clock> Spectators<'a, R> {
             spectator.go(self.rt, self.registry);
             return;
         };
-        match self.seated.insert(Seated::new(spectator, at, self.now)) {
+        match self
+            .attendees
+            .insert(Attendee::new(spectator, at, self.now))
+        {
             Ok(key) => {
                 self.count_one_more(at);
                 if is_registered(poll, descriptor, key) && self.heed_all(key).is_ok() {
@@ -98,59 +104,59 @@ impl<'a, R: Wait + Clock> Spectators<'a, R> {
             }
             Err(failed) => {
                 self.drop_if_empty(at);
-                let seated = failed.value;
-                seated.spectator.go(self.rt, self.registry);
+                let attendee = failed.value;
+                attendee.spectator.go(self.rt, self.registry);
             }
         }
     }
 
     /// A spectator goes, and its connection with it.
     pub(crate) fn remove(&mut self, key: usize)
-        ensures gone { get self.new.seated key ≡ None }
+        ensures gone { get self.new.attendees key ≡ None }
     {
         self.rests(key);
-        if let Some(seated) = self.seated.try_remove(key) {
-            let Seated {
+        if let Some(attendee) = self.attendees.try_remove(key) {
+            let Attendee {
                 spectator,
                 audience,
                 ..
-            } = seated;
+            } = attendee;
             self.count_one_less(audience);
             spectator.go(self.rt, self.registry);
         }
     }
 
-    /// All go.
+    /// All of them go.
     pub(crate) fn remove_all(&mut self) {
-        for key in 0..self.seated.capacity() {
+        for key in 0..self.attendees.capacity() {
             self.remove(key);
         }
     }
 
-    /// A spectator was sent all: its output ends, and what it still sends is read for a while, since a reset would else take the last of it
-    /// away.
+    /// A spectator was sent everything. Its output ends, and what it still sends is read for a while, since a reset would otherwise destroy
+    /// the end of it.
     fn lets_go(&mut self, key: usize) {
         self.rests(key);
         let now = self.now;
-        let Some(seated) = self.seated.get_mut(key) else {
+        let Some(attendee) = self.attendees.get_mut(key) else {
             return;
         };
-        if seated.is_mute {
+        if attendee.is_mute {
             self.remove(key);
             return;
         }
-        seated.has_left = true;
-        seated.spectator.end_output();
-        seated.since.leaves(now);
-        if seated.is_stuffed {
-            seated.is_stuffed = false;
+        attendee.has_left = true;
+        attendee.spectator.end_output();
+        attendee.since.leaves(now);
+        if attendee.is_stuffed {
+            attendee.is_stuffed = false;
             self.stands_due(key);
         }
     }
 
     // ---- Audiences.
 
-    /// The audience of a board, which is made where there is none.
+    /// The audience of a board, which is created if there is none.
     fn audience_of(&mut self, board: Arc<Broadcast, Global>) -> Result<usize, AllocError> {
         for (at, audience) in self.audiences.iter() {
             if audience.board.name == board.name {
@@ -170,9 +176,9 @@ impl<'a, R: Wait + Clock> Spectators<'a, R> {
         }
     }
 
-    /// Counts one less in an audience. One that nobody is in any more goes.
+    /// Counts one less in an audience. An empty audience is dropped.
     fn count_one_less(&mut self, at: usize)
-        ensures { self.new.seated ≡ self.old.seated }
+        ensures { self.new.attendees ≡ self.old.attendees }
     {
         if let Some(audience) = self.audiences.get_mut(at) {
             audience.count = audience.count.saturating_sub(1);
@@ -180,9 +186,9 @@ impl<'a, R: Wait + Clock> Spectators<'a, R> {
         self.drop_if_empty(at);
     }
 
-    /// An audience that nobody is in goes.
+    /// Drops an audience that is empty.
     fn drop_if_empty(&mut self, at: usize)
-        ensures { self.new.seated ≡ self.old.seated }
+        ensures { self.new.attendees ≡ self.old.attendees }
     {
         if let Some(audience) = self.audiences.get(at) {
             if audience.count == 0 {
@@ -191,53 +197,54 @@ impl<'a, R: Wait + Clock> Spectators<'a, R> {
         }
     }
 
-    /// A spectator stands among those that are pushed to as soon as their board is rung for.
+    /// Adds a spectator to those that are pushed to as soon as their board is rung for.
     fn stands_ready(&mut self, key: usize) {
-        let Some(seated) = self.seated.get_mut(key) else {
+        let Some(attendee) = self.attendees.get_mut(key) else {
             return;
         };
-        if seated.place.is_some() {
+        if attendee.ready_index.is_some() {
             return;
         }
-        let Some(audience) = self.audiences.get_mut(seated.audience) else {
+        let Some(audience) = self.audiences.get_mut(attendee.audience) else {
             return;
         };
         match audience.ready.add(key) {
-            Ok(place) => seated.place = Some(place),
+            Ok(index) => attendee.ready_index = Some(index),
             Err(_) => self.remove(key),
         }
     }
 
-    /// A spectator stands there no more.
+    /// Removes a spectator from those.
     fn rests(&mut self, key: usize) {
-        let Some(seated) = self.seated.get_mut(key) else {
+        let Some(attendee) = self.attendees.get_mut(key) else {
             return;
         };
-        let Some(place) = seated.place.take() else {
+        let Some(index) = attendee.ready_index.take() else {
             return;
         };
-        let moved = match self.audiences.get_mut(seated.audience) {
-            Some(audience) => audience.ready.remove(place),
+        let moved = match self.audiences.get_mut(attendee.audience) {
+            Some(audience) => audience.ready.remove(index),
             None => None,
         };
         if let Some(moved) = moved {
-            if let Some(other) = self.seated.get_mut(moved) {
-                other.place = Some(place);
+            if let Some(other) = self.attendees.get_mut(moved) {
+                other.ready_index = Some(index);
             }
         }
     }
 
     // ---- Pushing.
 
-    /// Sends a spectator what is kept for it, and where its connection takes that pushes what there is to be taken.
+    /// Sends a spectator what is kept for it. If its connection takes that, pushes whatever can be taken.
     pub(crate) fn serve(&mut self, key: usize) {
+        self.courtesy.serve(self.rt);
         if !self.is_sent(key) {
             return;
         }
-        let Some(seated) = self.seated.get_mut(key) else {
+        let Some(attendee) = self.attendees.get_mut(key) else {
             return;
         };
-        let turn = seated.spectator.push(self.rt, self.alloc, self.registry);
+        let turn = attendee.spectator.push(self.rt, self.alloc, self.registry);
         if matches!(turn, Turn::Ended(PushEnd::Failed(_))) {
             self.remove(key);
             return;
@@ -247,43 +254,43 @@ impl<'a, R: Wait + Clock> Spectators<'a, R> {
         }
     }
 
-    /// Sends a spectator what is kept for it. Whether its connection took all is told.
+    /// Sends a spectator what is kept for it. Returns whether its connection took everything.
     fn is_sent(&mut self, key: usize) -> bool {
         let now = self.now;
-        let Some(seated) = self.seated.get_mut(key) else {
+        let Some(attendee) = self.attendees.get_mut(key) else {
             return false;
         };
-        if seated.has_left {
+        if attendee.has_left {
             return false;
         }
-        match seated.send(now) {
-            Sent::All => true,
-            Sent::Blocked => {
+        match attendee.send(now) {
+            Delivery::All => true,
+            Delivery::Blocked => {
                 self.rests(key);
                 false
             }
-            Sent::Failed => {
+            Delivery::Failed => {
                 self.remove(key);
                 false
             }
         }
     }
 
-    /// A spectator whose connection has taken all that was kept for it goes on, or lets go where that was the end. Where there is more for it, it
-    /// has its next turn behind the others.
+    /// A spectator whose connection has taken all that was kept for it continues, or is let go if that was the end. If there is more for
+    /// it, it has its next turn after the others.
     fn goes_on(&mut self, key: usize, has_more: bool) {
-        let Some(seated) = self.seated.get_mut(key) else {
+        let Some(attendee) = self.attendees.get_mut(key) else {
             return;
         };
-        if seated.spectator.has_ended() {
+        if attendee.spectator.has_ended() {
             self.lets_go(key);
             return;
         }
         let mut is_due = has_more;
-        if seated.is_stuffed {
-            seated.is_stuffed = false;
-            let is_midway = seated.spectator.is_midway();
-            seated.since.is_heard_again(self.now, is_midway);
+        if attendee.is_stuffed {
+            attendee.is_stuffed = false;
+            let is_midway = attendee.spectator.is_midway();
+            attendee.since.is_heard_again(self.now, is_midway);
             is_due = true;
         }
         if is_due {
@@ -292,29 +299,29 @@ impl<'a, R: Wait + Clock> Spectators<'a, R> {
         self.stands_ready(key);
     }
 
-    /// A spectator has a turn again, once however much there is.
+    /// Gives a spectator another turn, only once however much there is.
     fn stands_due(&mut self, key: usize) {
-        let Some(seated) = self.seated.get_mut(key) else {
+        let Some(attendee) = self.attendees.get_mut(key) else {
             return;
         };
-        if seated.is_due {
+        if attendee.is_due {
             return;
         }
-        seated.is_due = true;
+        attendee.is_due = true;
         if self.due.push(key).is_err() {
             self.remove(key);
         }
     }
 
-    /// Gives those their turn that are due one.
+    /// Gives those a turn that are due one.
     pub(crate) fn serve_due(&mut self) {
         let due = mem::replace(&mut self.due, Vec::new(self.alloc));
         for key in due {
-            let Some(seated) = self.seated.get_mut(key) else {
+            let Some(attendee) = self.attendees.get_mut(key) else {
                 continue;
             };
-            if seated.is_due {
-                seated.is_due = false;
+            if attendee.is_due {
+                attendee.is_due = false;
                 self.hear(key);
                 self.serve(key);
             }
@@ -328,7 +335,7 @@ impl<'a, R: Wait + Clock> Spectators<'a, R> {
         }
     }
 
-    /// Pushes to those of an audience that are ready, where their board was rung for.
+    /// Pushes to the ready ones of an audience, if their board was rung for.
     fn tell(&mut self, at: usize) {
         let Some(audience) = self.audiences.get_mut(at) else {
             return;
@@ -338,16 +345,16 @@ impl<'a, R: Wait + Clock> Spectators<'a, R> {
         }
     }
 
-    /// Pushes to those of an audience that are ready. One that goes or rests is replaced by the last of them.
+    /// Pushes to the ready ones of an audience. One that goes or rests is replaced by the last of them.
     fn serve_ready(&mut self, at: usize) {
-        let mut place = 0usize;
+        let mut index = 0usize;
         for _ in 0..self.ready_count(at) {
-            let Some(key) = self.ready_at(at, place) else {
+            let Some(key) = self.ready_at(at, index) else {
                 return;
             };
             self.serve(key);
-            if self.ready_at(at, place) == Some(key) {
-                place = place.saturating_add(1);
+            if self.ready_at(at, index) == Some(key) {
+                index = index.saturating_add(1);
             }
         }
     }
@@ -360,43 +367,43 @@ impl<'a, R: Wait + Clock> Spectators<'a, R> {
         }
     }
 
-    /// The key of the one at this place of those of an audience that are ready.
-    fn ready_at(&self, at: usize, place: usize) -> Option<usize> {
-        self.audiences.get(at)?.ready.at(place)
+    /// The key of the spectator at this index among the ready ones of an audience.
+    fn ready_at(&self, at: usize, index: usize) -> Option<usize> {
+        self.audiences.get(at)?.ready.at(index)
     }
 
     // ---- Hearing.
 
-    /// Reads a spectator of whom the system tells that something came. One that is due a turn is read then.
+    /// Reads a spectator from which, as the system reports, something came. One that is due a turn is read in that turn.
     pub(crate) fn hear_of(&mut self, key: usize) {
-        match self.seated.get(key) {
-            Some(seated) if !seated.is_due => self.hear(key),
+        match self.attendees.get(key) {
+            Some(attendee) if !attendee.is_due => self.hear(key),
             _ => {}
         }
     }
 
-    /// Reads what a spectator sends, for a while, and heeds it.
+    /// Reads what a spectator sends, for a while, and handles it.
     fn hear(&mut self, key: usize) {
         for _ in 0..MOST_PIECES {
             if self.is_deaf_to(key) {
                 return;
             }
-            let Some(seated) = self.seated.get_mut(key) else {
+            let Some(attendee) = self.attendees.get_mut(key) else {
                 return;
             };
-            match seated.receive() {
-                Came::Nothing => return,
-                Came::Bytes => {
+            match attendee.receive() {
+                Intake::Nothing => return,
+                Intake::Bytes => {
                     if self.heed_all(key).is_err() {
                         self.remove(key);
                         return;
                     }
                 }
-                Came::End => {
+                Intake::End => {
                     self.is_mute(key);
                     return;
                 }
-                Came::Failed => {
+                Intake::Failed => {
                     self.remove(key);
                     return;
                 }
@@ -405,63 +412,64 @@ impl<'a, R: Wait + Clock> Spectators<'a, R> {
         self.stands_due(key);
     }
 
-    /// A spectator's output has ended. It goes, but for one that is still to be sent the end.
+    /// A spectator's output has ended. It goes, unless the end has yet to be sent to it.
     fn is_mute(&mut self, key: usize) {
-        let Some(seated) = self.seated.get_mut(key) else {
+        let Some(attendee) = self.attendees.get_mut(key) else {
             return;
         };
-        if seated.spectator.has_ended() && !seated.has_left {
-            seated.is_mute = true;
+        if attendee.spectator.has_ended() && !attendee.has_left {
+            attendee.is_mute = true;
         } else {
             self.remove(key);
         }
     }
 
-    /// Heeds all that a spectator said, and sends what is due for it.
+    /// Handles everything that a spectator said, and sends what is due to it.
     fn heed_all(&mut self, key: usize) -> Result<(), Lost> {
         for _ in 0..u64::MAX {
-            let Some(seated) = self.seated.get_mut(key) else {
+            let Some(attendee) = self.attendees.get_mut(key) else {
                 return Ok(());
             };
-            let Some(event) = seated.spectator.heard_next()? else {
+            let Some(event) = attendee.spectator.heard_next()? else {
                 break;
             };
             if matches!(event, Event::Text(_) | Event::Binary(_)) {
-                seated.since.has_heard_all();
+                attendee.since.has_heard_all();
             }
-            seated.spectator.heed(self.registry, &event)?;
+            attendee.spectator.heed(self.registry, &event)?;
         }
         let now = self.now;
-        if let Some(seated) = self.seated.get_mut(key) {
-            seated.has_heard(now);
+        if let Some(attendee) = self.attendees.get_mut(key) {
+            attendee.has_heard(now);
         }
         self.serve(key);
         Ok(())
     }
 
-    /// Whether a spectator is not heard now, since too much is kept for it. It is heard again once that is written.
+    /// Whether a spectator is not heard now, because too much is kept for it. It is heard again once that is written.
     fn is_deaf_to(&mut self, key: usize) -> bool {
-        let Some(seated) = self.seated.get_mut(key) else {
+        let Some(attendee) = self.attendees.get_mut(key) else {
             return true;
         };
-        if seated.is_mute || !seated.spectator.is_stuffed() {
-            return seated.is_mute;
+        if attendee.is_mute || !attendee.spectator.is_stuffed() {
+            return attendee.is_mute;
         }
-        seated.is_stuffed = true;
-        seated.since.is_not_heard();
+        attendee.is_stuffed = true;
+        attendee.since.is_not_heard();
         true
     }
 
     // ---- Time.
 
-    /// How many seconds had passed when that was last told.
+    /// How many seconds had passed at the last call of `is_now`.
     pub(crate) fn now(&self) -> u64 {
         self.now
     }
 
-    /// So many seconds have passed.
+    /// Begins a turn, at which this many seconds have passed.
     pub(crate) fn is_now(&mut self, now: u64) {
         self.now = now;
+        self.courtesy.begin();
     }
 
     /// Looks at each spectator, once a second. All that they had sent by the second `now` has been heard.
@@ -470,17 +478,17 @@ impl<'a, R: Wait + Clock> Spectators<'a, R> {
             return;
         }
         self.looked_at = now;
-        for key in 0..self.seated.capacity() {
+        for key in 0..self.attendees.capacity() {
             self.look_at(key, now);
         }
     }
 
-    /// Does what is due with a spectator.
+    /// Does what is due for a spectator.
     fn look_at(&mut self, key: usize, now: u64) {
-        let Some(seated) = self.seated.get_mut(key) else {
+        let Some(attendee) = self.attendees.get_mut(key) else {
             return;
         };
-        match seated.since.verdict(now) {
+        match attendee.since.verdict(now) {
             Verdict::Stays => self.look_behind(key),
             Verdict::Ping => self.ping(key),
             Verdict::Gone => self.remove(key),
@@ -489,41 +497,41 @@ impl<'a, R: Wait + Clock> Spectators<'a, R> {
 
     /// Sends a spectator a ping.
     fn ping(&mut self, key: usize) {
-        let Some(seated) = self.seated.get_mut(key) else {
+        let Some(attendee) = self.attendees.get_mut(key) else {
             return;
         };
-        if seated.spectator.ping().is_err() {
+        if attendee.spectator.ping().is_err() {
             self.remove(key);
         } else {
             self.serve(key);
         }
     }
 
-    /// One whose connection takes nothing takes no moves, and so does not learn that it was closed as one whose queue is full. Where it must have been, it
-    /// takes all that is left to it, and its place on the board is free.
+    /// A spectator whose connection takes nothing takes no moves, and so does not learn that it was closed for a full queue. If it must
+    /// have been, it takes everything that is left to it, and its slot on the board is freed.
     fn look_behind(&mut self, key: usize) {
-        let Some(seated) = self.seated.get_mut(key) else {
+        let Some(attendee) = self.attendees.get_mut(key) else {
             return;
         };
-        if seated.place.is_some() {
+        if attendee.ready_index.is_some() {
             return;
         }
         let (Some(next), Some(audience)) = (
-            seated.spectator.next(),
-            self.audiences.get(seated.audience),
+            attendee.spectator.next(),
+            self.audiences.get(attendee.audience),
         ) else {
             return;
         };
         let most = next.saturating_add(self.registry.capacity());
         if audience.rings() > most {
-            let _ = seated
+            let _ = attendee
                 .spectator
                 .push_all(self.rt, self.alloc, self.registry);
         }
     }
 }
 
-/// Registers a connection. Whether that succeeded is told.
+/// Registers a connection. Returns whether that succeeded.
 fn is_registered(poll: &mio::Registry, descriptor: RawFd, key: usize) -> bool {
     poll.register(
         &mut SourceFd(&descriptor),

@@ -1,4 +1,4 @@
-//! The streams that a session speaks over.
+//! The streams that sessions use.
 
 ghost use Rattle.std.specs.Io.{ReadsAtMost};
 ghost use Rattle.std.specs.Io.KnownBytes.{ReadConsumes};
@@ -8,10 +8,10 @@ use std::io::{ErrorKind, Read, Write};
 use std::time::Duration;
 use tungstenite::Duplex;
 
-/// A stream of which a session asks, beside reading and writing, that it does not wait for ever. The peer has one time for all that is
+/// A stream that, besides reading and writing, can be kept from waiting for ever. The peer has one deadline for all that is
 /// written until the stream is flushed.
 pub trait Stream: Read + Write {
-    /// Lets each later read wait for so long at most, or for as long as it takes. Where nothing came in that time, it fails.
+    /// Bounds the wait of each later read, or lets it take as long as it needs. If nothing came in that time, the read fails.
     fn bound_reads(&mut self, most: Option<Duration>) -> io::Result<()>;
 
     /// Ends the output: the peer reads what was written, and then the end.
@@ -29,8 +29,8 @@ impl<R: Read, W: Write> Stream for Duplex<R, W> {
     }
 }
 
-/// Reads once, and again as often as that was interrupted, as by a process that is stopped and goes on. Where the time of a read is
-/// bounded, each has that time.
+/// Reads once, and again whenever it was interrupted, for example when the process is stopped and continued. If the time of a read is
+/// bounded, each attempt has that time.
 pub(crate) fn read_some<S: Read>(stream: &mut S, buf: &mut [u8]) -> io::Result<usize>
     ensures bound { ReadsAtMost result buf.new }
     ensures bytes { ReadConsumes (S.remaining stream.old) (S.remaining stream.new) result buf.new }

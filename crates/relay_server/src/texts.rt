@@ -5,7 +5,7 @@ ghost use Rattle.std.specs.Borrow.{ftrue};
 
 use std::marker::Model;
 
-/// Texts, one after another. Only clauses read them: they take no memory, and nothing is done with them when the program runs.
+/// Texts, one after another. Only clauses read them: they take no memory, and nothing is done with them at run time.
 #[derive(Drop)]
 pub(crate) struct Texts {
     ghost items: { List (List ℕ) },
@@ -16,7 +16,7 @@ impl Model for Texts {
     ghost also_owns = { λ _. ftrue };
 }
 
-// It owns nothing, so another thread may have it: a session's thread hands it over to a loop.
+// It owns nothing, so another thread may have it: a session's thread passes it to a loop.
 unsafe impl Send for Texts {}
 
 impl Texts {

@@ -1,4 +1,4 @@
-//! The threads of sessions, joined as they end.
+//! The threads of sessions, which are joined as they end.
 
 use crate::deadline::Deadline;
 use crate::registry::Registry;
@@ -9,7 +9,7 @@ use std::sync::{Arc, Mutex, Wait};
 use std::thread::{JoinHandle, Threads};
 use std::time::Clock;
 
-/// What a session's thread shares with who started it: the connection, until one of them takes it, and whether the session has ended.
+/// What a session's thread shares with its starter: the connection, until one of them takes it, and whether the session has ended.
 #[derive(Drop)]
 pub(crate) struct Shared {
     stream: Mutex<Option<TcpStream>>,
@@ -39,14 +39,14 @@ impl Shared {
     }
 }
 
-/// The thread of a session or of a loop. Its last act is to note that it has ended, so that it can be joined without waiting.
+/// The thread of a session or of a loop. Its last act is to note that it has ended, so that joining it does not wait.
 #[derive(Drop)]
 pub(crate) struct Running {
     pub(crate) handle: JoinHandle<()>,
     pub(crate) shared: Arc<Shared, Global>,
 }
 
-/// Joins the threads whose sessions have ended. A thread that has ended and is not joined keeps its stack.
+/// Joins the threads whose sessions have ended. A thread that has ended but is not joined keeps its stack.
 pub(crate) fn join_ended<R: Threads>(rt: &R, running: &mut Vec<Running>) {
     let mut at = 0;
     for _ in 0..running.len() {
@@ -69,7 +69,7 @@ pub(crate) fn join_all<R: Threads>(rt: &R, running: Vec<Running>) {
     }
 }
 
-/// Joins threads as their sessions end, until none is left or serving is to end. Those that are left are given back.
+/// Joins threads as their sessions end, until none is left or serving is to end. Returns those that are left.
 pub(crate) fn join_until_ending<R: Threads + Wait>(
     rt: &R,
     registry: &Registry,
@@ -86,7 +86,7 @@ pub(crate) fn join_until_ending<R: Threads + Wait>(
     unreachable!()
 }
 
-/// Joins threads as their sessions end, until then at most. Those that are left then run on.
+/// Joins threads as their sessions end, until the deadline at most. Those that are left run on.
 pub(crate) fn join_until_due<R: Threads + Wait + Clock>(
     rt: &R,
     registry: &Registry,

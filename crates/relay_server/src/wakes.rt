@@ -1,22 +1,24 @@
-//! Wakes that are put off.
+//! Postponed wakes.
 
 ghost use Rattle.std.specs.Prelude.{◌≡◌, ◌+◌, ◌<◌, ◌≤◌, Some, true, false, is_some};
+ghost use Rattle.relay_server.specs.BufferedStreams.{IsOffered};
 
 use crate::broadcast::Broadcast;
+use crate::outlet::SocketOutlet;
 use std::alloc::Global;
 use std::sync::Arc;
 
-/// The wakes that a connection has put off: those of one board at a time, and at most so many.
+/// The wakes that a connection has postponed: those of one board at a time, and at most `most`.
 #[derive(Drop)]
 pub(crate) struct Wakes {
-    /// The board that was rung, whose sleepers are still to be woken.
+    /// The board that was rung, whose sleepers have yet to be woken.
     rung: Option<Arc<Broadcast, Global>>,
     put_off: u16,
     most: u16,
 }
 
 impl Wakes {
-    /// None were put off yet.
+    /// No wakes are pending yet.
     pub(crate) fn new(most: u16) -> Wakes
         ensures none { is_some result.rung ≡ false }
         ensures count { result.put_off ≡ 0 }
@@ -29,7 +31,14 @@ impl Wakes {
         }
     }
 
-    /// Whether others are to be woken before a wake of this board is put off: those who sleep on another one.
+    /// Whether any wake is pending.
+    pub(crate) fn are_put_off(&self) -> bool
+        ensures { result ≡ is_some self.now.rung }
+    {
+        self.rung.is_some()
+    }
+
+    /// Whether others are to be woken before a wake of this board is postponed: the sleepers of another one.
     pub(crate) fn is_due_before(&self, rung: &Broadcast) -> bool {
         match &self.rung {
             Some(earlier) => earlier.name != rung.name && earlier.has_sleepers(),
@@ -37,7 +46,7 @@ impl Wakes {
         }
     }
 
-    /// Whether as many wakes were put off as may be.
+    /// Whether as many wakes are pending as may be.
     pub(crate) fn is_full(&self) -> bool
         ensures full { result ≡ true → self.now.most ≤ self.now.put_off }
         ensures few { result ≡ false → self.now.put_off < self.now.most }
@@ -45,7 +54,8 @@ impl Wakes {
         self.put_off >= self.most
     }
 
-    /// Puts a wake off. Another board, on which nobody slept behind its last ring, is forgotten: whoever goes to sleep there later has heard of it.
+    /// Postpones a wake. Another board, on which nobody slept after its last ring, is forgotten: whoever goes to sleep there later has
+    /// heard of it.
     pub(crate) fn put_off(&mut self, rung: Arc<Broadcast, Global>)
         ensures kept { self.new.rung ≡ Some rung }
         ensures count { self.new.put_off ≤ self.old.put_off + 1 }
@@ -55,8 +65,10 @@ impl Wakes {
         self.rung = Some(rung);
     }
 
-    /// Wakes whom it was put off to wake.
-    pub(crate) fn wake(&mut self)
+    /// Makes the pending wakes, after an offer of what this outlet keeps back: the player was answered before, as far as its stream took
+    /// the answers.
+    pub(crate) fn wake_behind<S>(&mut self, _outlet: &SocketOutlet<S>)
+        requires offered { IsOffered _outlet.now.buffered }
         ensures none { is_some self.new.rung ≡ false }
         ensures count { self.new.put_off ≡ 0 }
         ensures most { self.new.most ≡ self.old.most }

@@ -1,4 +1,4 @@
-//! The connection of one that follows in a loop: it never waits.
+//! The connection of a follower in a loop: it never waits.
 
 ghost use Rattle.std.specs.Io.{ReadsAtMost, WritesAtMost};
 ghost use Rattle.std.specs.Io.KnownBytes.{ReadConsumes, WriteAppends};
@@ -12,14 +12,14 @@ use std::os::fd::{AsRawFd, RawFd};
 use std::time::Duration;
 use std::{io, net};
 
-/// A connection whose reads and writes fail with `WouldBlock` where they would wait.
+/// A connection whose reads and writes fail with `WouldBlock` instead of waiting.
 #[derive(Drop)]
 pub(crate) struct Wire {
     stream: TcpStream,
 }
 
 impl Wire {
-    /// A connection that waits no more. Whether the system lets it is told.
+    /// A connection that no longer waits. Returns with it whether the system allows that.
     pub(crate) fn new(stream: net::TcpStream) -> (Wire, bool) {
         let is_ready = stream.set_nonblocking(true).is_ok();
         let wire = Wire {

@@ -1,4 +1,4 @@
--- What a connection does over a keeper that stands on a relay.
+-- What a connection does over a keeper of a relay.
 use Rattle.std.proofs.Common.{◌≡◌, ◌≢◌, ◌⊎◌, inl, inr, ℕ, true, false, cond, List, [], ◌∷◌, Result, Ok, Err, refl, sym, ap, ◌∙◌, subst}
 use Rattle.c960_game.specs.declared.ending.Ending.TheVariants.{Abandoned}
 use Rattle.c960_game.specs.declared.refusal.Refusal.{Refusal}
@@ -12,7 +12,7 @@ use Rattle.relay_core.specs.History.{History}
 use Rattle.relay_core.specs.Replies.{IsAllowed, reply_to}
 use Rattle.relay_core.specs.Stands.{Stands}
 use Rattle.relay_core.specs.State.{RelayRecord}
-use Rattle.relay_core.proofs.Grounds.{sure}
+use Rattle.relay_core.proofs.lemmas.Grounds.{sure}
 use Rattle.relay_messages.specs.declared.answer.Answer.{Answer}
 use Rattle.relay_messages.specs.declared.answer.Answer.TheVariants as answers
 use Rattle.relay_messages.specs.declared.fault.MessageFault.{MessageFault}
@@ -23,7 +23,7 @@ use Rattle.relay_pushing.specs.Connections as conn
 use Rattle.relay_tests.specs.Asked.{IsAnswered, IsAsked, IsAt, IsUnanswered, abandoned, answer_asked, are_none, boards_asked, history_asked, may_make, not_its_own, why_not}
 use Rattle.relay_tests.specs.Keeping.{Tells, Makes}
 
--- a text that was read as a step says it
+-- a text that was read as a step means it
 read : (text : List ℕ) (step : Step) → IsDecoding text (Ok step) → decoded text ≡ Ok step
 read text step (inl e) = sym e
 read text step (inr m) = let never = m.1 in cc
@@ -45,7 +45,7 @@ may k boards (Follow who b from) m = ap are_none m.0
 may k boards (Take who) m = absurd m
 may k boards (Leave who) m = absurd m
 
--- one that is barred from following has opened a board
+-- a connection that is barred from following has opened a board
 has_opened : (k : RelayRecord) (boards : List (List ℕ)) → ((boards ≢ []) ⊎ Tells k conn.OwnsAny true) → are_none boards ≡ false
 has_opened k boards (inl e) = not_none boards e
 has_opened k boards (inr e) = cc
@@ -74,7 +74,7 @@ module _ (limits : LimitNumbers) (h : History) (k : RelayRecord) (st : Stands li
   }
 
   module _ (text bytes : List ℕ) (now : List (List ℕ)) (later : RelayRecord) where
-    -- a text that says this was answered so, and this was made
+    -- a text that means this got this answer, and this was made
     asked : (said : Result Step MessageFault) → decoded text ≡ said → bytes ≡ answer_text (answer_asked limits h boards said)
         → IsAt limits (history_asked limits h boards said) (boards_asked limits h boards said) later now
         → IsAsked limits h boards text bytes later now

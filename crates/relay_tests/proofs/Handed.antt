@@ -4,7 +4,7 @@ use Rattle.std.specs.Map.{lookup}
 use Rattle.std.proofs.lemmas.Option.{none-some, same_Some}
 use Rattle.c960_game.specs.Game960.{Game960}
 use Rattle.c960_game.specs.Limits.{LimitNumbers}
-use Rattle.c960_game.specs.Record.{GameRecord}
+use Rattle.c960_game.specs.GameRecord.{GameRecord}
 use Rattle.relay_core.specs.Headline.{Headline}
 use Rattle.relay_core.specs.History.{History, start_of, log, end_of}
 use Rattle.relay_core.specs.Name.{same_name}
@@ -18,7 +18,7 @@ use Rattle.relay_tests.specs.Handing.{HandedOut}
 abbrev pub game : BoardSeat → GameRecord
 game b = game_of b.knows
 
--- by whether the name was opened
+-- depending on whether the name was opened
 by_start : (limits : LimitNumbers) (h : History) (name : List ℕ) (found : Option BoardSeat) (start : Option ℕ) → start_of h name ≡ start
     → ((n : ℕ) → start_of h name ≡ Some n → Game960 n (log h name))
     → option_map game found ≡ option_map (history_game limits h name) start → HandedOut h name found

@@ -14,8 +14,8 @@ use Rattle.relay_core.specs.Name.{same_name}
 use Rattle.relay_core.specs.Replies.{IsAllowed}
 use Rattle.relay_core.specs.Stands.{Stands, game_of}
 use Rattle.relay_core.specs.State.{RelayRecord}
-use Rattle.relay_core.proofs.Grounds.{told}
-use Rattle.relay_core.proofs.NameFacts.{same_name_is, is_same_name}
+use Rattle.relay_core.proofs.lemmas.Grounds.{told}
+use Rattle.relay_core.proofs.lemmas.Names.{same_name_is, is_same_name}
 use Rattle.relay_pushing.specs.Connections.{is_among}
 use Rattle.relay_tests.specs.Keeping.{IsKeeping, Knows, Makes, board_opened, names_with}
 
@@ -31,7 +31,7 @@ same_name_sym a b =
     same_tests (same_name a b) (same_name b a) (λ e. is_same_name b a (sym (same_name_is a b e)))
     (λ e. is_same_name a b (sym (same_name_is b a e)))
 
--- a board is among the names exactly where its look-up finds an entry
+-- a board is among the names exactly if its look-up finds an entry
 among_names : (board : List ℕ) (xs : List (List ℕ × ℕ)) → is_among board (map (λ e. e.0) xs) ≡ is_some (lookup (same_name board) xs)
 among_names board [] = refl
 among_names board (x ∷ xs) = by (same_name x.0 board) (same_name board x.0) (same_name_sym x.0 board) (among_names board xs)
@@ -47,21 +47,21 @@ some_mapped : {A B : Type 0} (f : A → B) (o : Option A) → is_some (option_ma
 some_mapped f None = refl
 some_mapped f (Some a) = refl
 
--- a relay has just the boards that were opened
+-- a relay has exactly the boards that were opened
 has_opened : (limits : LimitNumbers) (r : RelayRecord) (h : History) (board : List ℕ) → Stands limits r h
     → is_some (lookup (same_name board) r.boards) ≡ is_some (start_of h board)
 has_opened limits r h board st = ap is_some (st.boards board) ∙ some_mapped (game_of limits h board) (start_of h board)
 
--- so the names tell what any history at which the relay stands has opened
+-- so the names show what any history at which the relay stands has opened
 pub known_by_names : (r : RelayRecord) (names : List (List ℕ)) (room : ℕ) (board : List ℕ) (known : Bool) → IsKeeping r names room
     → known ≡ is_among board names → Knows r board known
 known_by_names r names room board known kept is limits h st =
     is ∙ ap (is_among board) kept.named ∙ among_names board (opened kept.history)
     ∙ sym (has_opened r.limits r kept.history board kept.stands) ∙ has_opened limits r h board st
 
--- ---- A step more.
+-- ---- One more step.
 
--- a board is opened only where fewer than the limit were
+-- a board is opened only if fewer than the limit were
 had_room : (limits : LimitNumbers) (h : History) (b : List ℕ) (n : ℕ) (reply : Reply) → IsAllowed limits h (Open b n) reply
     → is_accepted reply ≡ true → length (opened h) < limits.boards
 had_room limits h b n reply ok took =
@@ -76,7 +76,7 @@ had_room limits h b n reply ok took =
     by false false true e g = absurd (true≢false (sym g))
     by false false false e g = grind (arith, nat_tests)
 
--- the names of the history that goes on
+-- the names of the extended history
 named_after : (names : List (List ℕ)) (h : History) (step : Step) (reply : Reply) → names ≡ map (λ e. e.0) (opened h)
     → names_with names (board_opened step reply) ≡ map (λ e. e.0) (opened ((step, reply) ∷ h))
 named_after names h (Open b n) reply e = by (is_accepted reply)
@@ -92,7 +92,7 @@ named_after names h (Leave who) reply e = e
 
 module _ (old later : RelayRecord) (names : List (List ℕ)) (room : ℕ) (step : Step) (reply : Reply) (kept : IsKeeping old names room)
     (made : Makes old step reply later) where
-  -- the history that goes on
+  -- the extended history
   new : Stands old.limits later ((step, reply) ∷ kept.history)
   new = made old.limits kept.history kept.stands
 

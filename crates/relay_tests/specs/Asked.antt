@@ -1,4 +1,4 @@
--- What a connection is answered by a relay that stands at a history, and what is made then. Nothing here is said of a keeper: the answer
+-- The answer of a relay that stands at a history to a connection, and what is made then. No keeper is mentioned here: the answer
 -- is computed from the history and the boards that the connection has opened.
 use Rattle.std.specs.Prelude.{◌≡◌, ◌≤◌, ◌⊎◌, ℕ, List, [], ◌∷◌, length, Bool, true, false, cond, is_some, Result, Ok, Err}
 use Rattle.c960_game.specs.declared.ending.Ending.TheVariants.{Abandoned}
@@ -21,7 +21,7 @@ use Rattle.relay_messages.specs.declared.fault.MessageFault.TheVariants as fault
 use Rattle.relay_messages.specs.Decoding.{decoded, most_bytes}
 use Rattle.relay_pushing.specs.Connections.{is_among, opened_after}
 
--- ---- The answer that is asked for, where there is memory.
+-- ---- The answer that is required, if there is memory.
 
 abbrev pub are_none : List (List ℕ) → Bool
 are_none [] = true
@@ -40,7 +40,7 @@ may_make boards (Leave who) = false
 abbrev pub not_its_own : History → List ℕ → Refusal
 not_its_own h board = cond (is_some (start_of h board)) refusals.NotYourBoard refusals.NoSuchBoard
 
--- why it may not make the step, where it may not
+-- why it may not make the step, if it may not
 abbrev pub why_not : History → Step → Refusal
 why_not h (Submit board m) = not_its_own h board
 why_not h (End board ending) = not_its_own h board
@@ -55,7 +55,7 @@ abbrev pub answer_asked : LimitNumbers → History → List (List ℕ) → Resul
 answer_asked limits h boards (Ok step) = answers.Reply (reply_asked limits h boards step)
 answer_asked limits h boards (Err fault) = answers.Fault fault
 
--- the history then: it has the step more where the connection may make it
+-- the history then: it has the further step if the connection may make it
 abbrev pub history_asked : LimitNumbers → History → List (List ℕ) → Result Step MessageFault → History
 history_asked limits h boards (Ok step) = cond (may_make boards step) ((step, reply_to limits h step) ∷ h) h
 history_asked limits h boards (Err fault) = h
@@ -65,19 +65,19 @@ abbrev pub boards_asked : LimitNumbers → History → List (List ℕ) → Resul
 boards_asked limits h boards (Ok step) = opened_after boards step (reply_asked limits h boards step)
 boards_asked limits h boards (Err fault) = boards
 
--- ---- What a text is answered, also where there is no memory.
+-- ---- How a text is answered, even if there is no memory.
 
 -- the relay stands at this history now, and the connection has opened these boards
 pub record IsAt (limits : LimitNumbers) (h : History) (boards : List (List ℕ)) (later : RelayRecord) (now : List (List ℕ)) : Type 0 where
   pub stands : Stands limits later h
   pub boards_are : now ≡ boards
 
--- the text was answered as it is asked for, and that was made
+-- the text got the required answer, and that was made
 pub record IsAsked (limits : LimitNumbers) (h : History) (boards : List (List ℕ)) (text bytes : List ℕ) (later : RelayRecord) (now : List (List ℕ)) : Type 0 where
   pub text_is : bytes ≡ answer_text (answer_asked limits h boards (decoded text))
   pub made : IsAt limits (history_asked limits h boards (decoded text)) (boards_asked limits h boards (decoded text)) later now
 
--- there was no memory to read the text, which is no longer than it may be, and nothing was made
+-- there was no memory to read the text, which is not too long, and nothing was made
 pub record IsUnread (limits : LimitNumbers) (h : History) (boards : List (List ℕ)) (text bytes : List ℕ) (later : RelayRecord) (now : List (List ℕ)) : Type 0 where
   pub short : length text ≤ most_bytes
   pub text_is : bytes ≡ answer_text (answers.Fault faults.OutOfMemory)
@@ -111,7 +111,7 @@ IsUnanswered limits h boards text later now = IsMade limits h boards text later 
 
 -- ---- The end of a connection.
 
--- the history after these boards were ended as abandoned, in this order, each with the reply that is asked for there
+-- the history after these boards were ended as abandoned, in this order, each with the reply that is required there
 abbrev pub abandoned : LimitNumbers → History → List (List ℕ) → History
 abandoned limits h [] = h
 abandoned limits h (board ∷ boards) = abandoned limits ((End board Abandoned, reply_to limits h (End board Abandoned)) ∷ h) boards

@@ -1,4 +1,4 @@
--- What a keeper that stands on a relay keeps, tells and makes.
+-- What a keeper over a relay keeps, says and makes.
 use Rattle.std.specs.Prelude.{◌≡◌, ℕ, ◌≤◌, Bool, false, cond, is_some, List, [], ◌∷◌, ◌++◌, map, Option, Some, None}
 use Rattle.c960_game.specs.Limits.{LimitNumbers}
 use Rattle.relay_core.specs.declared.step.Step.{Step}
@@ -23,21 +23,21 @@ abbrev pub board_opened : Step → Reply → Option (List ℕ)
 board_opened (Open board start) reply = cond (is_accepted reply) (Some board) None
 board_opened _ reply = None
 
--- the names with that of a board more
+-- the names with that of another board
 abbrev pub names_with : List (List ℕ) → Option (List ℕ) → List (List ℕ)
 names_with names None = names
 names_with names (Some board) = names ++ board ∷ []
 
--- asked for a board, the keeper tells whether one of this name was opened in the history
+-- asked about a board, the keeper says whether one of this name was opened in the history
 abbrev pub Knows : RelayRecord → List ℕ → Bool → Type 0
 Knows relay board known = (limits : LimitNumbers) (h : History) → Stands limits relay h → known ≡ is_some (start_of h board)
 
--- asked, the keeper tells whether it knows a board, and that none belongs to a connection but those that this one opened
+-- asked, the keeper says whether it knows a board, and that none belongs to a connection except those that this one opened
 abbrev pub Tells : RelayRecord → asks.Question → Bool → Type 0
 Tells relay (asks.Knows board) known = Knows relay board known
 Tells relay (asks.Owns board) owned = owned ≡ false
 Tells relay asks.OwnsAny owned = owned ≡ false
 
--- the history goes on by the step with this reply, which it asks for
+-- the history is extended by the step with this reply, which it requires
 abbrev pub Makes : RelayRecord → Step → Reply → RelayRecord → Type 0
 Makes old step reply later = Leads old later step reply

@@ -10,8 +10,8 @@ use relay_core::{BoardName, Reply, Step};
 use relay_live::{Board, LiveRelay};
 use std::alloc::{AllocError, Global};
 
-/// Makes these steps at a new relay, and hands out the board of that name as they left it; the replies to the steps come with it. None
-/// exactly where no Open of that name was accepted. Else the log is the moves that were accepted for it, in order: a legal game from the
+/// Makes these steps on a new relay, and hands out the board of that name as they left it, with the replies to the steps. None
+/// exactly if no Open of that name was accepted. Otherwise the log is the moves that were accepted for it, in order: a legal game from the
 /// start that the Open named, with that game's end.
 pub fn play_and_hand_out(
     alloc: Global,

@@ -1,4 +1,4 @@
-//! An outlet in memory that tells its texts.
+//! An outlet in memory that reports its texts.
 
 ghost use Rattle.std.specs.Prelude.{◌≡◌, Err};
 ghost use Rattle.relay_pushing.specs.Sending.{Counts};
@@ -6,7 +6,7 @@ ghost use Rattle.relay_pushing.specs.Sending.{Counts};
 use relay_pushing::{Outlet, SendFault};
 use std::alloc::Global;
 
-/// An outlet that keeps the texts sent. Its device takes so many texts, and so many flushes, and then fails.
+/// An outlet that keeps the texts sent. Its device takes a number of texts, and a number of flushes, and then fails.
 #[derive(Drop)]
 pub struct ListOutlet {
     pub alloc: Global,

@@ -1,5 +1,5 @@
-//! A keeper that stands on a relay, and what connections are answered over it. Its relations say which reply a step gets and what
-//! is made, so that what is proved of a connection over any keeper is tried here with relations that fail.
+//! A keeper over a relay, and what connections are answered over it. Its relations say which reply a step gets and what
+//! is made, so that what is proved of a connection over any keeper is tried here with relations that can be false.
 
 ghost use Rattle.std.specs.Prelude.{◌≡◌, [], IfOk, OnErr, string_bytes};
 ghost use Rattle.c960_game.specs.Limits.{LimitNumbers};
@@ -70,7 +70,7 @@ impl RelayKeeper {
     }
 
     /// Answers a text of a connection by `Conn::answer`. At whatever history the relay stands, the answer is the text of what this
-    /// history asks for, and the relay stands then at the history with the step that the connection might make.
+    /// history requires, and the relay then stands at the history with the step that the connection might make.
     ///
     /// # Errors
     ///
@@ -85,7 +85,7 @@ impl RelayKeeper {
         conn.answer(text, self)
     }
 
-    /// Ends a connection by `Conn::finish`: the history goes on by the ends of the boards that it opened, as abandoned and in the order
+    /// Ends a connection by `Conn::finish`: the history is extended by the ends of the boards that it opened, as abandoned and in the order
     /// of opening, and by nothing else.
     pub fn finish(&mut self, conn: Conn)
         ensures { (limits : LimitNumbers) (h : History) → Stands limits self.old h

@@ -1,4 +1,4 @@
-//! A small example of a caller: what a relay of either kind stands at after two steps.
+//! A small example of a caller: the history at which a relay of either kind stands after two steps.
 
 ghost use Rattle.std.specs.Prelude.{◌∷◌, None};
 ghost use Rattle.c960_game.specs.Limits.{LimitNumbers};
@@ -7,7 +7,7 @@ ghost use Rattle.relay_core.specs.Stands.{Stands};
 
 use relay_core::{BoardName, Reply, Spectator, Step, Stepper};
 
-/// Lets a spectator follow a board and leave again, and gives both replies.
+/// Makes a spectator follow a board and leave again, and returns both replies.
 pub fn visit<S: Stepper>(relay: &mut S, who: Spectator, board: BoardName) -> (Reply, Reply)
     ensures { (limits : LimitNumbers) (h : History) → Stands limits (S.record_of relay.old) h
         → Stands limits (S.record_of relay.new) ((Step.Leave who, result.1) ∷ (Step.Follow who board None, result.0) ∷ h) }

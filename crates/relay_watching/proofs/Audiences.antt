@@ -1,4 +1,4 @@
--- All that happens leaves each spectator served.
+-- Whatever happens leaves each spectator served.
 use Rattle.std.proofs.Common.{◌≡◌, ℕ, zero, suc, leb, Bool, true, false, cond, Option, Some, None, is_some, List, [], ◌∷◌, ◌++◌, length, take, refl}
 use Rattle.std.specs.Prelude.{⊤}
 use Rattle.std.proofs.lemmas.Bool.{leb-true}

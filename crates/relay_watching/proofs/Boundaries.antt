@@ -1,4 +1,4 @@
--- Where no frame is written in part, what was written are whole frames.
+-- If no frame is partly written, what was written are whole frames.
 use Rattle.std.proofs.Common.{◌≡◌, ℕ, zero, suc, ◌+◌, ◌-◌, ◌≤◌, ◌==◌, ◌&&◌, not, leb, is_some, Bool, true, false, Decides, List, [], ◌∷◌, ◌++◌, length, take, drop, refl, sym, ap, ◌∙◌, arith, add-zero, append_assoc, length-append, length-drop, inl, inr}
 use Rattle.std.specs.List.{concat}
 use Rattle.std.proofs.lemmas.Bool.{eqb-true, eq-eqb, leb-false}
@@ -42,7 +42,7 @@ is_end_decides c at = (
   λ (k, within, is). told_end (tape_frames c) at 0 k within (is ∙ omega arith),
 )
 
--- what ends at the first k frames of fewer than n ends at those of n, where it does not end before them
+-- what ends at the first k frames of fewer than n ends at those of n, if it does not end before them
 same_end : (frames : List (List ℕ)) (k n at : ℕ) → k ≤ n → at ≡ length (concat (take k frames)) → length (concat (take n frames)) ≤ at
     → at ≡ length (concat (take n frames))
 same_end frames k n at before is behind =
@@ -51,7 +51,7 @@ same_end frames k n at before is behind =
     let most : length (concat (take k frames)) ≤ length (concat (take n frames)) = rw same at low in
     omega arith
 
--- a frame ends there that is not before the place
+-- a frame ends there, not before the place
 end_behind : (c : Course) (place at : ℕ) → IsEnd c at → offset c place ≤ at
     → (k : ℕ) × (place ≤ k) × (at ≡ length (concat (take k (tape_frames c))))
 end_behind c place at (k, within, is) begun = elim (leb_tells place k) [
@@ -59,14 +59,14 @@ end_behind c place at (k, within, is) begun = elim (leb_tells place k) [
   | inr p ↦ (place, omega arith, same_end (tape_frames c) k place at (omega (arith, p.1)) is begun)
 ]
 
--- frames behind the first n, up to the first k of all, and those behind them
+-- the frames after the first n, up to the first k of all, and those after them
 cut_behind : (frames : List (List ℕ)) (n k : ℕ) → n ≤ k → concat (drop n frames) ≡ concat (take (k - n) (drop n frames)) ++ concat (drop k frames)
 cut_behind frames n k before =
     let rest : drop (k - n) (drop n frames) ≡ drop k frames = drop-drop (k - n) n frames ∙ ap (λ m. drop m frames) (omega arith) in
     ap concat (sym (take-append-drop (k - n) (drop n frames))) ∙ concat-append (take (k - n) (drop n frames)) (drop (k - n) (drop n frames))
     ∙ ap (λ l. concat (take (k - n) (drop n frames)) ++ concat l) rest
 
--- while the close is not written, behind the end of the game there is something to come
+-- as long as the close is not written, something is to come after the end of the game
 none_left_case : (c : Course) (at : ℕ) (over closed : Bool) → is_some c.outcome ≡ over → leb (length (tape_bytes c)) at ≡ closed → over ≡ true
     → not (over && closed) ≡ true → drop at (tape_bytes c) ≡ [] → ⊥
 none_left_case c at false closed is test over still none = cc over

@@ -6,7 +6,7 @@ use Rattle.std.proofs.lemmas.Bool.Decides.{leb_tells, same_from_decides}
 use Rattle.std.proofs.lemmas.List.Folds.{concat-append}
 use Rattle.relay_watching.specs.Course.{Course, opened, with_move, with_outcome}
 use Rattle.relay_frames.specs.Frames.{text_frame}
-use Rattle.relay_watching.specs.Inner.Kept.{Holds}
+use Rattle.relay_watching.specs.Inner.TapeFields.{Holds}
 use Rattle.relay_watching.specs.Between.{is_end}
 use Rattle.relay_watching.specs.Promised.{done_frame}
 use Rattle.relay_watching.specs.Taped.{tape_frames, offset}
@@ -30,7 +30,7 @@ end_more frames bytes ends f k held (inr last) =
 cases : (k n : ℕ) → k < n + 1 → (k < n) ⊎ (k ≡ n)
 cases k n within = elim (leb_tells n k) [ inl p ↦ inr (let from : n ≤ k = p.1 in omega arith) | inr p ↦ inl p.1 ]
 
--- one frame more
+-- one more frame
 pub holds_more : (frames : List (List ℕ)) (bytes ends f : List ℕ) → Holds frames bytes ends
     → Holds (frames ++ f ∷ []) (bytes ++ f) (ends ++ length (bytes ++ f) ∷ [])
 holds_more frames bytes ends f held = record {

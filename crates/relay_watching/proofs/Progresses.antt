@@ -1,4 +1,4 @@
--- What was sent goes on with the board, and with what is written.
+-- What was sent stays correct as the board goes on, and as more is written.
 use Rattle.std.proofs.Common.{◌≡◌, ℕ, ◌≤◌, List, [], ◌∷◌, ◌++◌, length, take, drop, None, sym, ap, ◌∙◌, arith, append_assoc, length-append, length-drop}
 use Rattle.std.specs.List.{concat}
 use Rattle.std.proofs.lemmas.List.{take-append-drop, drop-append-le, drop-drop}
@@ -35,7 +35,7 @@ sent_goes_on c d more j written r on sent = record {
       ) (sym (append_assoc written (r.left ++ drop r.at (tape_bytes c)) (concat more) ∙ ap (λ l. written ++ l) (append_assoc r.left (drop r.at (tape_bytes c)) (concat more))));
 }
 
--- where nothing is offered, nothing is due
+-- if nothing is offered, nothing is due
 due_none_parts : (c : Course) (left : List ℕ) (at : ℕ) → offered c (record { left = left; at = at }) ≡ [] → due c (record { left = left; at = at }) ≡ []
 unfolding due
 due_none_parts c [] at none = none
@@ -44,7 +44,7 @@ due_none_parts c (x ∷ left) at none = cc none
 pub due_none : (c : Course) (r : Progress) → offered c r ≡ [] → due c r ≡ []
 due_none c r none = due_none_parts c r.left r.at none
 
--- what is offered is written first, and the rest is due then
+-- what is offered is written first, and then the rest is due
 due_after_left : (left rest : List ℕ) (n : ℕ) → n ≤ length left → left ++ rest ≡ take n left ++ (drop n left ++ rest)
 due_after_left left rest n within =
     ap (λ l. l ++ rest) (sym (take-append-drop n left)) ∙ append_assoc (take n left) (drop n left) rest

@@ -1,4 +1,4 @@
--- What is promised lies on the tape behind the greeting, and grows with the board.
+-- What is promised is on the tape after the greeting, and grows with the board.
 use Rattle.std.proofs.Common.{◌≡◌, ◌≢◌, ℕ, ◌+◌, ◌≤◌, suc, zero, List, [], ◌∷◌, ◌++◌, map, length, take, drop, None, refl, sym, ap, ◌∙◌, arith, append_assoc, append-nil, length-append, add-zero}
 use Rattle.std.specs.List.{concat}
 use Rattle.std.proofs.lemmas.List.{take-append-drop, drop_at, take-append-le, drop-append-le, map-append, length-map, drop-map}
@@ -36,7 +36,7 @@ tape_texts c = move_texts 0 c.moves ++ end_texts c.outcome
 length-tape_texts : (c : Course) → length c.moves ≤ length (tape_texts c)
 length-tape_texts c = omega (arith, length-append (move_texts 0 c.moves) (end_texts c.outcome), length-move_texts 0 c.moves)
 
--- from a place on they are those of that place and of the places behind it
+-- from a place on they are those of that place and of the places after it
 drop-tape_texts : (c : Course) (place : ℕ) → place ≤ length c.moves → drop place (tape_texts c) ≡ move_texts place (drop place c.moves) ++ end_texts c.outcome
 drop-tape_texts c place within =
     let enough : place ≤ length (move_texts 0 c.moves) = omega (arith, length-move_texts 0 c.moves) in
@@ -83,7 +83,7 @@ promised_on_tape c j within =
 
 -- ---- A board goes on.
 
--- The course goes on, and its tape has these frames more.
+-- The course goes on, and its tape has these further frames.
 pub record Continues (c d : Course) (more : List (List ℕ)) : Type 0 where
   pub longer : length c.moves ≤ length d.moves
   pub frames : tape_frames d ≡ tape_frames c ++ more

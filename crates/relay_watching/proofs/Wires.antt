@@ -11,17 +11,17 @@ use Rattle.relay_watching.specs.Between.{IsWhole}
 use Rattle.relay_watching.specs.Course.{Course}
 use Rattle.relay_watching.specs.Progress.{WasSent, due}
 use Rattle.relay_watching.specs.Promised.{Joining, promised_texts, done_frame, close_frames, promised_frames}
-use Rattle.relay_watching.specs.Wire.{Sent, told, other, bytes_of, told_of, others_of, IsWire}
+use Rattle.relay_watching.specs.Wire.{WireFrame, told, other, bytes_of, told_of, others_of, IsWire}
 use Rattle.relay_watching.proofs.Promises.{Continues, promised_frames_grow}
 
 -- ---- Frames of both kinds.
 
-told_of-append : (xs ys : List Sent) → told_of (xs ++ ys) ≡ told_of xs ++ told_of ys
+told_of-append : (xs ys : List WireFrame) → told_of (xs ++ ys) ≡ told_of xs ++ told_of ys
 told_of-append [] ys = refl
 told_of-append (told f ∷ xs) ys = ap (λ l. f ∷ l) (told_of-append xs ys)
 told_of-append (other f ∷ xs) ys = told_of-append xs ys
 
-others_of-append : (xs ys : List Sent) → others_of (xs ++ ys) ≡ others_of xs ++ others_of ys
+others_of-append : (xs ys : List WireFrame) → others_of (xs ++ ys) ≡ others_of xs ++ others_of ys
 others_of-append [] ys = refl
 others_of-append (told f ∷ xs) ys = others_of-append xs ys
 others_of-append (other f ∷ xs) ys = ap (λ l. f ∷ l) (others_of-append xs ys)
@@ -38,7 +38,7 @@ bytes_of-told : (fs : List (List ℕ)) → map bytes_of (map told fs) ≡ fs
 bytes_of-told [] = refl
 bytes_of-told (f ∷ fs) = ap (λ l. f ∷ l) (bytes_of-told fs)
 
-bytes-append : (xs ys : List Sent) → concat (map bytes_of (xs ++ ys)) ≡ concat (map bytes_of xs) ++ concat (map bytes_of ys)
+bytes-append : (xs ys : List WireFrame) → concat (map bytes_of (xs ++ ys)) ≡ concat (map bytes_of xs) ++ concat (map bytes_of ys)
 bytes-append xs ys = ap concat (map-append bytes_of xs ys) ∙ concat-append (map bytes_of xs) (map bytes_of ys)
 
 -- ---- Two ways to cut a list.
@@ -66,11 +66,11 @@ last_of (x ∷ xs) rest [] z is some =
     absurd (some (nil_from_length rest (omega (arith, none, length-append xs rest))))
 last_of (x ∷ xs) rest (y ∷ before) z is some = last_of xs rest before z (same_tail x y (xs ++ rest) (before ++ z ∷ []) is) some
 
--- ---- How what was written stands.
+-- ---- The state of what was written.
 
--- Up to the last frame that was injected it is whole frames. Behind them stands a part of what is promised.
+-- Up to the last frame that was injected it is whole frames. After them comes a part of what is promised.
 pub record Stands (c : Course) (s : Spectator) : Type 0 where
-  pub front : List Sent
+  pub front : List WireFrame
   pub rest : List (List ℕ)
   pub part : List ℕ
   pub all : told_of front ++ rest ≡ promised_frames c s.joining
@@ -126,7 +126,7 @@ stands_with_bytes c bytes n s st = record {
 abbrev with_other : List ℕ → Spectator → Spectator
 with_other f s = record s { wire = s.wire ++ f; others = s.others ++ f ∷ [] }
 
--- the part behind the front is whole frames, and these others follow
+-- the part after the front is whole frames, and these others follow
 stands_behind : (c : Course) (f : List ℕ) (s : Spectator) (st : Stands c s) (mid rest : List (List ℕ)) → st.rest ≡ mid ++ rest → st.part ≡ concat mid
     → (is_some c.outcome ≡ true → rest ≢ []) → Stands c (with_other f s)
 stands_behind c f s st mid rest is part some =
@@ -156,7 +156,7 @@ stands_behind c f s st mid rest is part some =
       some = some;
     }
 
--- where more whole frames were written than those up to the last that was injected
+-- if more whole frames were written than those up to the last that was injected
 stands_further : (c : Course) (f : List ℕ) (s : Spectator) (whole : IsWhole c s.joining s.written) (st : Stands c s)
     → length (told_of st.front) ≤ length whole.sent → Stands c (with_other f s)
 stands_further c f s whole st more =
@@ -166,7 +166,7 @@ stands_further c f s whole st more =
     sym st.written ∙ whole.whole ∙ ap concat cut.0 ∙ concat-append (told_of st.front) mid in
     stands_behind c f s st mid whole.rest cut.1 (append_cancel_left (concat (told_of st.front)) st.part (concat mid) same) whole.open_still
 
--- where these are all
+-- if these are all
 stands_there : (c : Course) (f : List ℕ) (s : Spectator) (whole : IsWhole c s.joining s.written) (st : Stands c s)
     → length whole.sent ≤ length (told_of st.front) → Stands c (with_other f s)
 stands_there c f s whole st fewer =
@@ -184,7 +184,7 @@ stands_with_other c f s whole st = elim (leb_tells (length (told_of st.front)) (
   | inr p ↦ stands_there c f s whole st (omega (arith, p.1))
 ]
 
--- ---- So all that is written are whole frames.
+-- ---- Hence everything that is written is whole frames.
 
 close_of : (o : Option Outcome) → is_some o ≡ true → close_frames o ≡ done_frame ∷ []
 close_of (Some outcome) over = refl
@@ -195,7 +195,7 @@ unfolding promised_frames
 ends_with_close c j over = (map text_frame (promised_texts c j), ap (λ l. map text_frame (promised_texts c j) ++ l) (close_of c.outcome over))
 
 wire_closed : (c : Course) (s : Spectator) (st : Stands c s) → is_some c.outcome ≡ true
-    → (before : List Sent) × (st.front ++ map told st.rest ≡ before ++ told done_frame ∷ [])
+    → (before : List WireFrame) × (st.front ++ map told st.rest ≡ before ++ told done_frame ∷ [])
 wire_closed c s st over =
     let end = ends_with_close c s.joining over in
     let last = last_of (told_of st.front) st.rest end.0 done_frame (st.all ∙ end.1) (st.some over) in (

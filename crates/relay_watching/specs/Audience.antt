@@ -1,4 +1,4 @@
--- A board and any number of spectators, through all that happens.
+-- A board and any number of spectators, whatever happens.
 use Rattle.std.specs.Prelude.{ℕ, zero, suc, nat_le, cond, is_some, List, [], ◌∷◌, ◌++◌, length, take, ⊤}
 use Rattle.c960_board.specs.Moves.{Triple}
 use Rattle.c960_game.specs.declared.outcome.Outcome.{Outcome}
@@ -8,7 +8,8 @@ use Rattle.relay_watching.specs.Progress.{Progress, WasSent, newcomer, offered, 
 use Rattle.relay_watching.specs.Promised.{Joining}
 use Rattle.relay_watching.specs.Wire.{IsWire}
 
--- a spectator: how it joined; what was written to it of what it is promised, and in all; the other frames written to it; how far it was sent
+-- a spectator: how it joined; what was written to it of what it is promised, and in all; the other frames written to it; how far it was
+-- sent
 pub record Spectator : Type 0 where
   pub joining : Joining
   pub written : List ℕ
@@ -28,7 +29,7 @@ pub data Happening : Type 0 where
   moved : Triple → Happening
   ended : Outcome → Happening
   joined : Joining → Happening
-  -- so many of the bytes offered are written
+  -- n of the bytes offered are written
   wrote : ℕ → ℕ → Happening
   -- another frame is written
   injected : ℕ → List ℕ → Happening
@@ -58,7 +59,7 @@ with_one f (suc who) (s ∷ spectators) = s ∷ with_one f who spectators
 
 -- ---- All that happens.
 
--- what cannot be changes nothing: a move or an end behind the end, a place beyond the log
+-- what is impossible changes nothing: a move or an end after the end, a place beyond the log
 abbrev pub after : Audience → Happening → Audience
 after a (moved m) = cond (is_some a.course.outcome) a (record a { course = with_move a.course m })
 after a (ended o) = cond (is_some a.course.outcome) a (record a { course = with_outcome a.course o })

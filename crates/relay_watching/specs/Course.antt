@@ -8,15 +8,15 @@ pub record Course : Type 0 where
   pub moves : List Triple
   pub outcome : Option Outcome
 
--- of a board on which no move was made yet
+-- of a board on which no move has been made yet
 abbrev pub opened : Course
 opened = record { moves = []; outcome = None }
 
--- the log has one move more
+-- the log has another move
 abbrev pub with_move : Course → Triple → Course
 with_move c m = record c { moves = c.moves ++ m ∷ [] }
 
--- the log has these moves more, in order
+-- the log has these further moves, in order
 abbrev pub with_moves : Course → List Triple → Course
 with_moves c moves = record c { moves = c.moves ++ moves }
 
@@ -24,6 +24,6 @@ with_moves c moves = record c { moves = c.moves ++ moves }
 abbrev pub with_outcome : Course → Outcome → Course
 with_outcome c o = record c { outcome = Some o }
 
--- the log has some of these moves more, from the first on
+-- the log has some of these further moves, from the first on
 abbrev pub HasSomeMore : Course → List Triple → Course → Type 0
 HasSomeMore c moves d = (k : ℕ) × (k ≤ length moves) × (d ≡ with_moves c (take k moves))

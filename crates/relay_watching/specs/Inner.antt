@@ -1,2 +1,2 @@
--- What serves the code and its proofs alone: what a tape keeps beside what its contracts show.
-pub mod Kept
+-- What only the code and its proofs use: what a tape keeps in addition to what its contracts show.
+pub mod TapeFields

@@ -10,12 +10,12 @@ use Rattle.relay_watching.specs.Texts.{following_answer, move_answer, over_answe
 
 -- ---- Texts.
 
--- how a spectator joins: at which place of the log, and which position it is told to stand there
+-- how a spectator joins: at which place of the log, and which position it is told for that place
 pub record Joining : Type 0 where
   pub place : ℕ
   pub position : Parts
 
--- the texts of moves: the first stands at this place of the log, the others at the places behind it
+-- the texts of moves: the first is at this place of the log, the others are at the places after it
 abbrev pub move_texts : ℕ → List Triple → List (List ℕ)
 move_texts place [] = []
 move_texts place (m ∷ moves) = move_answer place m ∷ move_texts (place + 1) moves
@@ -31,11 +31,11 @@ promised_texts c j = following_answer j.place j.position ∷ (move_texts j.place
 
 -- ---- Frames, RFC 6455 section 5.2.
 
--- the close that says that all is done, section 7.4.1
+-- the close that says that everything was sent, section 7.4.1
 abbrev pub done_frame : List ℕ
 done_frame = close_frame (Some 1000)
 
--- behind the end of the game comes the close
+-- the close comes after the end of the game
 abbrev pub close_frames : Option Outcome → List (List ℕ)
 close_frames None = []
 close_frames (Some outcome) = done_frame ∷ []

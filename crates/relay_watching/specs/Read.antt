@@ -42,7 +42,7 @@ abbrev pub AreRead : List ℕ → List Message → Type 0
 AreRead bytes [] = bytes ≡ []
 AreRead bytes (m ∷ messages) = (rest : List ℕ) × BeginsWith bytes m rest × AreRead rest messages
 
--- each is shorter than 2^63 bytes, as the longest frame is
+-- each is shorter than 2^63 bytes, as is the longest frame
 abbrev pub AreShort : List (List ℕ) → Type 0
 AreShort [] = ⊤
 AreShort (text ∷ texts) = (length text < 2 ^ 63) × AreShort texts

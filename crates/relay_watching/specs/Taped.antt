@@ -1,4 +1,4 @@
--- What lies on the tape of a board.
+-- What is on the tape of a board.
 use Rattle.std.specs.Prelude.{ℕ, List, ◌++◌, map, length, take}
 use Rattle.std.specs.List.{concat}
 use Rattle.relay_frames.specs.Frames.{text_frame}
@@ -12,6 +12,6 @@ tape_frames c = map text_frame (move_texts 0 c.moves ++ end_texts c.outcome) ++ 
 abbrev pub tape_bytes : Course → List ℕ
 tape_bytes c = concat (tape_frames c)
 
--- behind how many bytes the frame of a place begins
+-- after how many bytes the frame of a place begins
 abbrev pub offset : Course → ℕ → ℕ
 offset c place = length (concat (take place (tape_frames c)))

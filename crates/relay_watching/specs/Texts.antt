@@ -8,7 +8,7 @@ use Rattle.relay_core.specs.declared.reply.Taken.TheVariants.{Move, Over}
 use Rattle.relay_messages.specs.Answers.{answer_text}
 use Rattle.relay_messages.specs.declared.answer.Answer.TheVariants.{Reply}
 
--- of one who joins at this place of the log, where this position stands
+-- of a spectator that joins at this place of the log, with this position
 unfoldable pub following_answer : ℕ → Parts → List ℕ
 following_answer place position = answer_text (Reply (Following place position))
 

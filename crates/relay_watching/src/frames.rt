@@ -1,4 +1,4 @@
-//! The frames that are put on a tape or greet a spectator, each in a row of its own.
+//! The frames that are put on a tape or greet a spectator, each as a vector of its own.
 
 ghost use Rattle.std.specs.Prelude.{◌≡◌, IfOk};
 ghost use Rattle.relay_frames.specs.Frames.{text_frame};
@@ -23,7 +23,7 @@ fn reply_frame(alloc: Global, reply: Reply) -> Result<Vec<u8>, AllocError>
     Ok(frame)
 }
 
-/// The frame of the answer to one who joins at a place where this position stands.
+/// The frame of the answer to a spectator that joins at a place with this position.
 #[tactic(auto, unfolding(crate::specs::Texts::following_answer))]
 pub(crate) fn following(
     alloc: Global,
@@ -58,7 +58,7 @@ pub(crate) fn over(alloc: Global, outcome: Outcome) -> Result<Vec<u8>, AllocErro
     reply_frame(alloc, Reply::Took(Taken::Over(outcome)))
 }
 
-/// The close that says that all is done.
+/// The close that says that everything was sent.
 pub(crate) fn done(alloc: Global) -> Result<Vec<u8>, AllocError>
     ensures { IfOk result (λ frame. frame.items ≡ done_frame) }
 {

@@ -1,4 +1,4 @@
-//! The tape of a board: the bytes that all its spectators are sent behind their greetings.
+//! The tape of a board: the bytes that all its spectators are sent after their greetings.
 
 ghost use Rattle.std.specs.Prelude.{◌≡◌, ◌+◌, ◌<◌, ◌≤◌, [], ◌∷◌, ◌++◌, length, drop, take, None, is_some, OnOk, OnErr, IfOk, vec_len, vec_capacity};
 ghost use Rattle.relay_watching.specs.Between.{is_closed, is_end};
@@ -13,15 +13,15 @@ use c960_game::Outcome;
 use std::alloc::{AllocError, Global};
 use std::marker::Model;
 
-/// The frames of a board's moves, of its end and of the close, made once for all its spectators (RFC 6455, section 5.2). To a contract it is
-/// what it was told of the board.
+/// The frames of a board's moves, of its end and of the close, made once for all its spectators (RFC 6455, section 5.2). To a contract it
+/// is what it was told of the board.
 #[derive(Drop)]
 pub struct Tape {
     alloc: Global,
     moves: Vec<Move>,
     outcome: Option<Outcome>,
     bytes: Vec<u8>,
-    /// Behind how many bytes each frame ends.
+    /// The number of bytes after which each frame ends.
     ends: Vec<usize>,
 }
 
@@ -30,7 +30,7 @@ impl Model for Tape {
 
     ghost Value = { Course };
 
-    ghost use Rattle.relay_watching.specs.Inner.Kept.{IsKept, course_of};
+    ghost use Rattle.relay_watching.specs.Inner.TapeFields.{IsKept, course_of};
 
     ghost view = { course_of };
 
@@ -38,7 +38,7 @@ impl Model for Tape {
 }
 
 impl Tape {
-    /// The tape of a board on which no move was made yet.
+    /// The tape of a board on which no move has been made yet.
     pub fn new(alloc: Global) -> Tape
         ensures { result ≡ opened }
     {
@@ -65,7 +65,7 @@ impl Tape {
         self.outcome.is_some()
     }
 
-    /// A move was made. It has the place that `len` tells.
+    /// A move was made. Its place is the one that `len` returns.
     ///
     /// # Errors
     ///
@@ -90,7 +90,7 @@ impl Tape {
     ///
     /// # Errors
     ///
-    /// There was no memory. Then some of them are told, from the first on, and `len` says how many.
+    /// There was no memory. Then some of them were added, from the first on, and `len` says how many.
     pub fn push_all(&mut self, moves: &[Move]) -> Result<(), AllocError>
         requires going { self.old.outcome ≡ None }
         requires numbered { length self.old.moves + length moves.now ≤ 65536 }
@@ -104,7 +104,7 @@ impl Tape {
         Ok(())
     }
 
-    /// The game is over, as told. The close follows at once.
+    /// The game is over with this outcome. The close follows at once.
     ///
     /// # Errors
     ///
@@ -140,7 +140,7 @@ impl Tape {
         self.bytes.len()
     }
 
-    /// The bytes behind so many.
+    /// The bytes after the first `at`.
     pub(crate) fn behind(&self, at: usize) -> &[u8]
         ensures { result.now ≡ drop at (tape_bytes self.now) }
     {
@@ -151,7 +151,7 @@ impl Tape {
         }
     }
 
-    /// Of the bytes behind so many those up to the next end of a frame.
+    /// Of the bytes after the first `at`, those up to the next end of a frame.
     pub(crate) fn frame_behind(&self, at: usize) -> &[u8]
         ensures part { result.now ≡ take (length result.now) (drop at (tape_bytes self.now)) }
         ensures all { result.now ≡ [] → drop at (tape_bytes self.now) ≡ [] }
@@ -165,21 +165,21 @@ impl Tape {
         if length == 0 { rest } else { &rest[..length] }
     }
 
-    /// Whether a frame ends behind so many bytes, or the first begins.
+    /// Whether a frame ends after `at` bytes, or the first one begins there.
     pub(crate) fn is_end(&self, at: usize) -> bool
         ensures { result ≡ is_end self.now at }
     {
         at == 0 || self.ends.binary_search(&at).is_ok()
     }
 
-    /// Whether the close lies before so many bytes.
+    /// Whether the close lies within the first `at` bytes.
     pub(crate) fn is_closed(&self, at: usize) -> bool
         ensures { result ≡ is_closed self.now at }
     {
         self.is_over() && self.end() <= at
     }
 
-    /// A spectator joins at a place of the log, from 0 to its length, and is greeted with the position that stands there.
+    /// A spectator joins at a place of the log, from 0 to its length, and is greeted with the position at that place.
     ///
     /// # Errors
     ///
@@ -194,7 +194,7 @@ impl Tape {
     }
 }
 
-/// Puts one frame more behind the others, for which there is room: nothing can fail.
+/// Appends another frame to the others. There is room for it, so that nothing can fail.
 fn append(bytes: &mut Vec<u8>, ends: &mut Vec<usize>, frame: &[u8])
     requires room { vec_len bytes.old + length frame.now ≤ vec_capacity bytes.old }
     requires end_room { vec_len ends.old < vec_capacity ends.old }

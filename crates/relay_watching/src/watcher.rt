@@ -1,4 +1,4 @@
-//! A spectator of a tape: what it is due, and what was written to it.
+//! A spectator of a tape: what is due to it, and what was written to it.
 
 ghost use Rattle.std.specs.Prelude.{◌≡◌, ◌≤◌, ℕ, List, [], ◌++◌, length, take, is_some, true};
 ghost use Rattle.relay_watching.specs.Between.{IsWhole, is_between};
@@ -9,11 +9,11 @@ use crate::tape::Tape;
 use std::alloc::Global;
 use std::marker::Model;
 
-/// How far a spectator was sent what it is promised. Each call is handed the tape that the spectator joined.
+/// How far a spectator was sent what it is promised. Each call is passed the tape that the spectator joined.
 #[derive(Drop)]
 pub struct Watcher {
     alloc: Global,
-    /// The frame of the greeting, and nothing once it is written.
+    /// The frame of the greeting, or nothing once it is written.
     greeting: Vec<u8>,
     /// How many bytes of the greeting are written.
     greeted: usize,
@@ -32,7 +32,7 @@ impl Model for Watcher {
 }
 
 impl Watcher {
-    /// One to whom this greeting is still to be written, and then the tape from there on.
+    /// A spectator to which this greeting has yet to be written, and then the tape from there on.
     pub(crate) fn new(alloc: Global, greeting: Vec<u8>, at: usize) -> Watcher
         ensures { result ≡ record { left = greeting.items; at = at } }
     {
@@ -67,8 +67,8 @@ impl Watcher {
         }
     }
 
-    /// The bytes that are to be written next. They are all that is due, or the greeting's, which lie apart from the tape's. There are
-    /// none only where nothing is due.
+    /// The bytes that are to be written next. They are all that is due, or the greeting's, which are stored apart from the tape's. There
+    /// are none only if nothing is due.
     #[tactic(auto, using(crate::proofs::Progresses::due_none))]
     pub fn due<'a>(&'a self, tape: &'a Tape) -> &'a [u8]
         ensures offered { result.now ≡ offered tape.now self.now }
@@ -77,7 +77,7 @@ impl Watcher {
         self.offered(tape)
     }
 
-    /// Of the bytes that are to be written next those of one frame: of the one that is written in part, or else of the next.
+    /// Of the bytes that are to be written next, those of one frame: of the one that is partly written, or else of the next.
     #[tactic(auto, using(crate::proofs::Progresses::due_none))]
     pub fn due_of_frame<'a>(&'a self, tape: &'a Tape) -> &'a [u8]
         ensures part { result.now ≡ take (length result.now) (offered tape.now self.now) }
@@ -91,13 +91,13 @@ impl Watcher {
         }
     }
 
-    /// Counts so many of the bytes offered as written.
+    /// Counts `n` of the bytes offered as written.
     fn advance(&mut self, tape: &Tape, n: usize)
         requires { n ≤ length (offered tape.now self.old) }
         ensures { self.new ≡ after_write self.old n }
     {
         if self.left().is_empty() {
-            // So the sum is no more than the tape has.
+            // Hence the sum is no more than the tape has.
             prove!(n == 0 || self.at <= tape.end());
             self.at += n;
         } else {
@@ -109,7 +109,7 @@ impl Watcher {
         }
     }
 
-    /// The first `n` of the bytes that `due` gives were written.
+    /// The first `n` of the bytes that `due` returns were written.
     pub fn wrote(&mut self, tape: &Tape, n: usize)
         requires { n ≤ length (offered tape.now self.old) }
         ensures written { self.new ≡ after_write self.old n }
@@ -119,7 +119,7 @@ impl Watcher {
         self.advance(tape, n);
     }
 
-    /// Whether all is written that the spectator will ever be due, the close too.
+    /// Whether everything that the spectator will ever be due is written, including the close.
     pub fn is_done(&self, tape: &Tape) -> bool
         ensures over { result ≡ true → is_some tape.now.outcome ≡ true }
         ensures written { result ≡ true → due tape.now self.now ≡ [] }
@@ -128,8 +128,8 @@ impl Watcher {
         tape.is_over() && self.offered(tape).is_empty()
     }
 
-    /// Whether another frame may be written, as a pong: the greeting is written, no frame of the tape in part, and not the close
-    /// (RFC 6455, sections 5.4 and 5.5.1).
+    /// Whether another frame, such as a pong, may be written: the greeting is written, no frame of the tape is partly written, and the
+    /// close is not written (RFC 6455, sections 5.4 and 5.5.1).
     #[tactic(auto, using(crate::proofs::Boundaries::whole_between), unfolding(crate::specs::Between::is_between))]
     pub fn is_between_frames(&self, tape: &Tape) -> bool
         ensures between { result ≡ is_between tape.now self.now }

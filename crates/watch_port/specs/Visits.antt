@@ -1,6 +1,6 @@
--- What is written to a visitor next, and what became of it. A visitor has output, which is whole frames, and may watch a board, of which it is
--- sent the tape. Output is written before what is watched, but within no frame of that.
-use Rattle.std.specs.Prelude.{◌≡◌, ℕ, ◌==◌, ◌&&◌, ◌||◌, not, Bool, true, false, List, [], ◌++◌, length, take, drop, Option, None, Some}
+-- What is written to a visitor next, and its effect. A visitor has output, which is whole frames, and may watch a board, whose
+-- tape it is sent. Output is written before what is watched, but never within a frame of that.
+use Rattle.std.specs.Prelude.{◌≡◌, ℕ, ◌≤◌, ◌==◌, ◌&&◌, ◌||◌, not, Bool, true, false, List, [], ◌++◌, length, take, drop, Option, None, Some}
 use Rattle.relay_watching.specs.Between.{is_between, is_none}
 use Rattle.relay_watching.specs.Course.{Course}
 use Rattle.relay_watching.specs.Progress.{Progress, WasSent, after_write, offered}
@@ -17,7 +17,7 @@ watched Asks = None
 watched (Watches w) = Some w
 watched (WatchesAll change) = None
 
--- a frame of what it watches is written in part, or the end of that is written: nothing may be written there but the rest of it
+-- a frame of what it watches is partly written, or the end of that is written: nothing may be written there but the rest of it
 abbrev pub is_within : Course → Watching → Bool
 is_within c w = w.has_begun && not (is_between c w.watcher)
 
@@ -25,11 +25,11 @@ is_within c w = w.has_begun && not (is_between c w.watcher)
 abbrev pub has_no_output : Visitor → Bool
 has_no_output v = is_none v.output.items && not v.is_leaving
 
--- what it watches is written next: no output is written in part, and either a frame of it is or there is no output
+-- what it watches is written next: no output is partly written, and either a frame of it is or there is no output
 abbrev pub is_tapes_turn : Course → Visitor → Watching → Bool
 is_tapes_turn c v w = v.written == 0 && (is_within c w || has_no_output v)
 
--- what of the output is not written
+-- the part of the output that has not been written
 abbrev pub output_left : Visitor → List ℕ
 output_left v = drop v.written v.output.items
 
@@ -41,15 +41,18 @@ is_next_of c v (Some w) = is_tapes_turn c v w
 abbrev pub is_next : Course → Visitor → Bool
 is_next c v = is_next_of c v (watched v.doing)
 
--- so many bytes of the tape were written to one that watches
+-- n bytes of the tape were written to a visitor that watches
 pub record HasWrittenTape (w : Watching) (n : ℕ) (old new : Visitor) : Type 0 where
   pub doing : new.doing ≡ Watches (record w { watcher = after_write w.watcher n; has_begun = true })
   pub output : new.output.items ≡ old.output.items
   pub written : new.written ≡ old.written
   pub leaving : new.is_leaving ≡ old.is_leaving
 
--- so many bytes of the output were written
+-- n bytes of the output were written
 pub record HasWrittenOutput (n : ℕ) (old new : Visitor) : Type 0 where
   pub left : output_left new ≡ drop n (output_left old)
+  -- what is written is not kept
+  pub none : length (output_left old) ≤ n → new.output.items ≡ []
+  pub begins : length (output_left old) ≤ n → new.written ≡ 0
   pub doing : new.doing ≡ old.doing
   pub leaving : new.is_leaving ≡ old.is_leaving

@@ -6,9 +6,9 @@ use relay_core::BoardName;
 use relay_messages::BoardSummary;
 use std::alloc::AllocError;
 
-/// The boards that one loop of a port shows. Others play them meanwhile.
+/// The boards that one loop of a port shows. Others play them in the meantime.
 pub trait Boards {
-    /// A board, by which it is asked for again.
+    /// A handle to a board, for later calls.
     type Board: Drop;
 
     /// The board of a name.
@@ -18,27 +18,27 @@ pub trait Boards {
     /// There was no memory.
     fn find(&self, name: &BoardName) -> Result<Option<Self::Board>, AllocError>;
 
-    /// The board that was opened so many boards behind the first, if so many were.
+    /// The board of this index, counted from 0 in the order of opening, if there are that many.
     ///
     /// # Errors
     ///
     /// There was no memory.
     fn board_at(&self, at: usize) -> Result<Option<Self::Board>, AllocError>;
 
-    /// How the board stands.
+    /// The present state of the board.
     fn summary(&self, board: &Self::Board) -> BoardSummary;
 
     /// Whether its game is over.
     fn is_over(&self, board: &Self::Board) -> bool;
 
-    /// How often the board was rung for, wrapping. It is rung for behind each move and behind the end.
+    /// How often the board was rung for, wrapping. It is rung for after each move and after the end.
     fn rings(&self, board: &Self::Board) -> u64;
 
-    /// Puts the moves of the board's log from a place on behind `moves`, and tells the outcome of its game.
+    /// Appends the moves of the board's log from a place on to `moves`. Returns the outcome of its game.
     ///
     /// # Errors
     ///
-    /// There was no memory. Then some of the moves may stand there.
+    /// There was no memory. Then some of the moves may have been appended.
     fn news(
         &self,
         board: &Self::Board,
@@ -49,6 +49,6 @@ pub trait Boards {
     /// The position at a place of the board's log, if the log has reached it.
     fn position_at(&self, board: &Self::Board, place: u16) -> Option<Position>;
 
-    /// Notes that the loop looks for news now: the next ring wakes it again.
+    /// Notes that the loop now looks for news: the next ring wakes it again.
     fn heed(&self);
 }

@@ -1,8 +1,8 @@
-//! All guests of a loop, and what becomes of them.
+//! All guests of a loop, and what happens to them.
 
-use crate::audience::Audience;
+use crate::audience::{Audience, drop_empty, tape_at};
 use crate::boards::Boards;
-use crate::guest::{Came, Guest, Sent};
+use crate::guest::{Delivery, Guest, Intake};
 use crate::patience::{Patience, Stage, Verdict};
 use crate::port::Port;
 use crate::ready::Ready;
@@ -15,12 +15,11 @@ use mio::{Interest, Registry, Token};
 use relay_core::{BoardName, Reply, Step};
 use relay_frames::{Breach, Code, Event, outgoing};
 use relay_messages::{Answer, Decoder, MessageFault, WatchCommand, encode};
-use relay_watching::Tape;
 use slab::Slab;
 use std::alloc::{AllocError, Global};
 use std::mem;
 
-/// The close code where serving ends, or a guest asks for nothing (RFC 6455, section 7.4.1).
+/// The close code if serving ends, or if a guest asks for nothing (RFC 6455, section 7.4.1).
 const AWAY: u16 = 1001;
 
 /// The close code for a guest that takes nothing (RFC 6455, section 7.4.1).
@@ -32,35 +31,38 @@ const MOST_PIECES: u32 = 4;
 /// How many bytes a piece has.
 const PIECE_BYTES: usize = 4096;
 
-/// All guests of a loop. A guest is known by its key, which is the token of its connection too.
+/// All guests of a loop. Each is known by its key, which is also the token of its connection.
 #[derive(Drop)]
 pub(crate) struct Crowd<'a, H: Boards> {
     alloc: Global,
     port: &'a Port,
+    /// The number of the door at which they come in.
+    door: usize,
     boards: &'a H,
     guests: Slab<Guest>,
     audiences: Slab<Audience<H::Board>>,
-    /// All boards, and those who watch them all and are written to as soon as there is news.
+    /// All boards, and the guests that watch them all and are written to as soon as there is news.
     round: Round<H::Board>,
     round_ready: Ready,
     round_count: usize,
-    /// The number of the last change that was sent to those who are ready. It is 0 where one of them was not sent it yet.
+    /// The number of the last change that was sent to the ready guests. It is 0 if one of them has not been sent it yet.
     round_told: u64,
     decoder: Decoder,
-    /// Those who are to be read on though the system tells nothing of them.
+    /// Guests that are to be read on although the system reports nothing of them.
     unread: Vec<usize>,
     /// How many seconds have passed.
     now: u64,
-    /// In which second the guests were looked at last.
+    /// The second in which the guests were last looked at.
     looked_at: u64,
 }
 
 impl<'a, H: Boards> Crowd<'a, H> {
-    /// Nobody is there yet.
-    pub(crate) fn new(alloc: Global, port: &'a Port, boards: &'a H) -> Crowd<'a, H> {
+    /// No guests yet.
+    pub(crate) fn new(alloc: Global, port: &'a Port, door: usize, boards: &'a H) -> Crowd<'a, H> {
         Crowd {
             alloc,
             port,
+            door,
             boards,
             guests: Slab::new(alloc),
             audiences: Slab::new(alloc),
@@ -75,26 +77,26 @@ impl<'a, H: Boards> Crowd<'a, H> {
         }
     }
 
-    /// Whether nobody is there.
+    /// Whether there are no guests.
     pub(crate) fn is_empty(&self) -> bool {
         self.guests.is_empty()
     }
 
-    /// Whether somebody is to be read on though the system tells nothing.
+    /// Whether a guest is to be read on although the system reports nothing of it.
     pub(crate) fn has_unread(&self) -> bool {
         !self.unread.is_empty()
     }
 
-    // ---- Coming and going.
+    // ---- Arriving and leaving.
 
-    /// A newcomer. The system is to tell when it may be read and written.
+    /// Adds a newcomer. The system is to report when it may be read and written.
     pub(crate) fn enters(&mut self, registry: &Registry, stream: TcpStream) {
-        let has_room = self.port.enters();
+        let has_room = self.port.enters(self.door);
         let guest = Guest {
             stream,
             visitor: Visitor::new(self.alloc),
             patience: Patience::new(self.now),
-            place: None,
+            ready_index: None,
             has_room,
             has_left: false,
             is_stuffed: false,
@@ -106,11 +108,11 @@ impl<'a, H: Boards> Crowd<'a, H> {
                     self.remove(key);
                 }
             }
-            Err(_) => self.port.leaves(),
+            Err(_) => self.port.leaves(self.door),
         }
     }
 
-    /// Registers a guest's connection. Whether that succeeded is told.
+    /// Registers a guest's connection. Returns whether that succeeded.
     fn is_registered(&mut self, registry: &Registry, key: usize) -> bool {
         match self.guests.get_mut(key) {
             Some(guest) => registry
@@ -128,12 +130,12 @@ impl<'a, H: Boards> Crowd<'a, H> {
     pub(crate) fn remove(&mut self, key: usize) {
         self.watches_no_more(key);
         if self.guests.try_remove(key).is_some() {
-            self.port.leaves();
+            self.port.leaves(self.door);
         }
     }
 
-    /// A guest was sent all: its output ends, and what it still sends is read for a while, since a reset would else take the last of it
-    /// away.
+    /// A guest was sent everything. Its output ends, and what it still sends is read for a while, since a reset would otherwise destroy the
+    /// end of it.
     fn lets_go(&mut self, key: usize) {
         self.watches_no_more(key);
         let now = self.now;
@@ -146,7 +148,7 @@ impl<'a, H: Boards> Crowd<'a, H> {
 
     // ---- Watching.
 
-    /// The audience of a board, where it has one.
+    /// The audience of a board, if it has one.
     fn audience_of(&self, name: &BoardName) -> Option<usize> {
         for (at, audience) in self.audiences.iter() {
             if audience.name == *name {
@@ -156,7 +158,7 @@ impl<'a, H: Boards> Crowd<'a, H> {
         None
     }
 
-    /// The audience of a board, with all that has happened there; or none, where there is no such board.
+    /// The audience of a board, with everything that has happened there, or none if there is no such board.
     fn find(&mut self, name: &BoardName) -> Result<Option<usize>, AllocError> {
         if let Some(at) = self.audience_of(name) {
             return Ok(Some(at));
@@ -173,7 +175,7 @@ impl<'a, H: Boards> Crowd<'a, H> {
         }
     }
 
-    /// A guest follows a board from a place of its log, or from its present length; or it is refused.
+    /// Lets a guest follow a board from a place of its log, or from its present length, or refuses.
     fn follow(
         &mut self,
         key: usize,
@@ -191,7 +193,7 @@ impl<'a, H: Boards> Crowd<'a, H> {
         joined
     }
 
-    /// A guest joins an audience, in which it is counted already.
+    /// Lets a guest join an audience, in which it is already counted.
     fn join(
         &mut self,
         key: usize,
@@ -220,18 +222,15 @@ impl<'a, H: Boards> Crowd<'a, H> {
         }
     }
 
-    /// Counts one less in an audience. One that nobody is in any more goes, and its tape with it.
+    /// Counts one less in an audience.
     fn count_one_less(&mut self, at: usize) {
-        let Some(audience) = self.audiences.get_mut(at) else {
-            return;
-        };
-        audience.count = audience.count.saturating_sub(1);
-        if audience.count == 0 {
-            let _ = self.audiences.try_remove(at);
+        if let Some(audience) = self.audiences.get_mut(at) {
+            audience.count = audience.count.saturating_sub(1);
+            audience.left_at = self.now;
         }
     }
 
-    /// A guest watches nothing any more.
+    /// A guest no longer watches anything.
     fn watches_no_more(&mut self, key: usize) {
         self.rests(key);
         let Some(guest) = self.guests.get_mut(key) else {
@@ -245,12 +244,12 @@ impl<'a, H: Boards> Crowd<'a, H> {
         }
     }
 
-    /// A guest stands among those that are written to as soon as there is news.
+    /// Adds a guest to those that are written to as soon as there is news.
     fn stands_ready(&mut self, key: usize) {
         let Some(guest) = self.guests.get_mut(key) else {
             return;
         };
-        if guest.place.is_some() {
+        if guest.ready_index.is_some() {
             return;
         }
         let added = match guest.visitor.doing {
@@ -262,38 +261,38 @@ impl<'a, H: Boards> Crowd<'a, H> {
             _ => return,
         };
         match added {
-            Ok(place) => guest.place = Some(place),
+            Ok(index) => guest.ready_index = Some(index),
             Err(_) => self.remove(key),
         }
     }
 
-    /// A guest stands there no more.
+    /// Removes a guest from those.
     fn rests(&mut self, key: usize) {
         let Some(guest) = self.guests.get_mut(key) else {
             return;
         };
-        let Some(place) = guest.place.take() else {
+        let Some(index) = guest.ready_index.take() else {
             return;
         };
         let moved = match guest.visitor.doing {
             Doing::Watches(Watching { audience, .. }) => match self.audiences.get_mut(audience) {
-                Some(audience) => audience.ready.remove(place),
+                Some(audience) => audience.ready.remove(index),
                 None => None,
             },
-            Doing::WatchesAll(_) => self.round_ready.remove(place),
+            Doing::WatchesAll(_) => self.round_ready.remove(index),
             _ => None,
         };
         if let Some(moved) = moved {
             if let Some(other) = self.guests.get_mut(moved) {
-                other.place = Some(place);
+                other.ready_index = Some(index);
             }
         }
     }
 
     // ---- Writing.
 
-    /// Writes to a guest what is due, as far as its connection takes it. What of the boards' changes there was no memory for is due at the next
-    /// turn again.
+    /// Writes to a guest what is due, as far as its connection takes it. If there was no memory for some changes of the boards, they are
+    /// due again at the next turn.
     pub(crate) fn send(&mut self, key: usize) {
         if self.put_changes(key).is_err() {
             self.round_told = 0;
@@ -306,12 +305,12 @@ impl<'a, H: Boards> Crowd<'a, H> {
         }
         let tape = tape_at(&self.audiences, guest.visitor.audience());
         let sent = guest.send(tape, self.now);
-        let is_done = sent == Sent::All && guest.visitor.is_done(tape);
+        let is_done = sent == Delivery::All && guest.visitor.is_done(tape);
         match sent {
-            Sent::Failed => self.remove(key),
-            Sent::Blocked => self.rests(key),
-            Sent::All if is_done => self.lets_go(key),
-            Sent::All => {
+            Delivery::Failed => self.remove(key),
+            Delivery::Blocked => self.rests(key),
+            Delivery::All if is_done => self.lets_go(key),
+            Delivery::All => {
                 self.stands_ready(key);
                 self.reads_on(key);
                 self.tells_on(key);
@@ -319,8 +318,8 @@ impl<'a, H: Boards> Crowd<'a, H> {
         }
     }
 
-    /// Puts what has changed of the boards into the output of a guest that watches them all, where all before is written. So one whose
-    /// connection takes it slowly is not told of what was overtaken.
+    /// Puts the changes of the boards into the output of a guest that watches them all, if everything before is written. So a guest whose
+    /// connection takes it slowly is not sent what is out of date.
     fn put_changes(&mut self, key: usize) -> Result<(), AllocError> {
         let Some(guest) = self.guests.get_mut(key) else {
             return Ok(());
@@ -337,7 +336,7 @@ impl<'a, H: Boards> Crowd<'a, H> {
         Ok(())
     }
 
-    /// A guest that watches all boards and was sent all is told at the end of the turn what has changed while that was written.
+    /// At the end of the turn, sends a guest that watches all boards and was sent everything what has changed while that was written.
     fn tells_on(&mut self, key: usize) {
         let Some(guest) = self.guests.get(key) else {
             return;
@@ -349,7 +348,7 @@ impl<'a, H: Boards> Crowd<'a, H> {
         }
     }
 
-    /// A guest that was not heard until what it is owed is written is heard again. What it is in the middle of has its time from now on.
+    /// A guest that was not heard until what it is owed is written is heard again. Its unfinished message has its time from now on.
     fn reads_on(&mut self, key: usize) {
         if self.is_owed_first(key) {
             return;
@@ -365,27 +364,30 @@ impl<'a, H: Boards> Crowd<'a, H> {
         }
     }
 
-    /// Puts on the tape of an audience what has happened, and writes it to those that are ready.
+    /// Puts what has happened on the tape of an audience, and writes it to those that are ready.
     fn tell(&mut self, at: usize) -> Result<(), AllocError> {
         let Some(audience) = self.audiences.get_mut(at) else {
             return Ok(());
         };
+        if audience.count == 0 {
+            return Ok(());
+        }
         if audience.refresh(self.alloc, self.boards)? {
             self.send_to_ready(at);
         }
         Ok(())
     }
 
-    /// Writes to those of an audience that are ready. One that goes or rests is replaced by the last of them.
+    /// Writes to the ready ones of an audience. One that goes or rests is replaced by the last of them.
     fn send_to_ready(&mut self, at: usize) {
-        let mut place = 0;
+        let mut index = 0;
         for _ in 0..self.ready_count(at) {
-            let Some(key) = self.ready_at(at, place) else {
+            let Some(key) = self.ready_at(at, index) else {
                 return;
             };
             self.send(key);
-            if self.ready_at(at, place) == Some(key) {
-                place = place.saturating_add(1);
+            if self.ready_at(at, index) == Some(key) {
+                index = index.saturating_add(1);
             }
         }
     }
@@ -398,12 +400,12 @@ impl<'a, H: Boards> Crowd<'a, H> {
         }
     }
 
-    /// The key of the one at this place of those of an audience that are ready.
-    fn ready_at(&self, at: usize, place: usize) -> Option<usize> {
-        self.audiences.get(at)?.ready.at(place)
+    /// The key of the guest at this index among the ready ones of an audience.
+    fn ready_at(&self, at: usize, index: usize) -> Option<usize> {
+        self.audiences.get(at)?.ready.at(index)
     }
 
-    /// Looks for news of all boards that are watched. Where there is no memory for them they are asked for again a second later.
+    /// Looks for news of all boards that are watched. If there is no memory for them, they are asked for again a second later.
     pub(crate) fn tell_all(&mut self) {
         self.boards.heed();
         for at in 0..self.audiences.capacity() {
@@ -412,8 +414,8 @@ impl<'a, H: Boards> Crowd<'a, H> {
         let _ = self.tell_round();
     }
 
-    /// Looks for what has changed of any board, where somebody watches them all, and writes it to those that are ready. A newcomer that watches
-    /// them all too may have found changes before.
+    /// If any guest watches all boards, looks for changes of any board, and writes them to those that are ready. A newcomer that watches
+    /// them all too may already have found changes.
     fn tell_round(&mut self) -> Result<(), AllocError> {
         if self.round_count == 0 {
             return Ok(());
@@ -427,34 +429,34 @@ impl<'a, H: Boards> Crowd<'a, H> {
         refreshed
     }
 
-    /// Writes to those who watch all boards and are ready.
+    /// Writes to the guests that watch all boards and are ready.
     fn send_to_round(&mut self) {
-        let mut place = 0usize;
+        let mut index = 0usize;
         for _ in 0..self.round_ready.len() {
-            let Some(key) = self.round_ready.at(place) else {
+            let Some(key) = self.round_ready.at(index) else {
                 return;
             };
             self.send(key);
-            if self.round_ready.at(place) == Some(key) {
-                place = place.saturating_add(1);
+            if self.round_ready.at(index) == Some(key) {
+                index = index.saturating_add(1);
             }
         }
     }
 
     // ---- Hearing.
 
-    /// Reads those who are to be read on.
+    /// Reads the guests that are to be read on.
     pub(crate) fn hear_unread(&mut self) {
         let unread = mem::replace(&mut self.unread, Vec::new(self.alloc));
         for key in unread {
             if let Some(guest) = self.guests.get_mut(key) {
                 guest.is_unread = false;
-                self.hear(key);
+                self.hear(key, true);
             }
         }
     }
 
-    /// A guest stands among those that are to be read on, once however much it sends.
+    /// Adds a guest to those that are to be read on, only once however much it sends.
     fn stands_unread(&mut self, key: usize) {
         let Some(guest) = self.guests.get_mut(key) else {
             return;
@@ -468,23 +470,25 @@ impl<'a, H: Boards> Crowd<'a, H> {
         }
     }
 
-    /// Reads a guest of whom the system tells that something came. One that is to be read on at the next turn has had this one.
-    pub(crate) fn hear_of(&mut self, key: usize) {
+    /// Reads a guest from which, as the system reports, something came, perhaps the end. One that is to be read on has had its turn.
+    pub(crate) fn hear_of(&mut self, key: usize, has_ended: bool) {
         match self.guests.get(key) {
-            Some(guest) if !guest.is_unread => self.hear(key),
+            Some(guest) if !guest.is_unread => self.hear(key, has_ended),
             _ => {}
         }
     }
 
-    /// Reads what a guest sends, for a while, and answers it.
-    fn hear(&mut self, key: usize) {
+    /// Reads what a guest sends, for a while, and answers it. A piece that is not full was the last of what had come, except for the end:
+    /// the system reports everything that comes later.
+    fn hear(&mut self, key: usize, may_have_ended: bool) {
         let mut piece = [0; PIECE_BYTES];
+        let mut was_last = false;
         if self.answer(key).is_err() {
             self.remove(key);
             return;
         }
         for _ in 0..MOST_PIECES {
-            if self.is_deaf_to(key) {
+            if self.is_deaf_to(key) || was_last {
                 self.send(key);
                 return;
             }
@@ -492,19 +496,20 @@ impl<'a, H: Boards> Crowd<'a, H> {
                 return;
             };
             match guest.receive(&mut piece) {
-                Came::Nothing => {
+                Intake::Nothing => {
                     self.send(key);
                     return;
                 }
-                Came::End => {
+                Intake::End => {
                     self.remove(key);
                     return;
                 }
-                Came::Bytes(n) => {
+                Intake::Bytes(n) => {
                     if self.take_in(key, piece.get(..n).unwrap_or(&[])).is_err() {
                         self.remove(key);
                         return;
                     }
+                    was_last = n < PIECE_BYTES && !may_have_ended;
                 }
             }
         }
@@ -539,8 +544,8 @@ impl<'a, H: Boards> Crowd<'a, H> {
         }
     }
 
-    /// Whether a guest is not heard now, since too much is kept for it, or since it is owed what it is told first. It is heard again once that is
-    /// written.
+    /// Whether a guest is not heard now, because too much is kept for it, or because it is still owed what it has to be sent first. It is
+    /// heard again once that is written.
     fn is_deaf_to(&mut self, key: usize) -> bool {
         let is_owed_first = self.is_owed_first(key);
         let Some(guest) = self.guests.get_mut(key) else {
@@ -554,7 +559,7 @@ impl<'a, H: Boards> Crowd<'a, H> {
         true
     }
 
-    /// Whether nothing was written to a guest yet of what it watches. That stands before the answers to what it said later.
+    /// Whether nothing has been written yet to a guest of what it watches. That comes before the answers to what it said later.
     fn is_owed_first(&self, key: usize) -> bool {
         match self.guests.get(key) {
             Some(guest) => guest.visitor.is_owed_first(self.round.changes()),
@@ -562,7 +567,7 @@ impl<'a, H: Boards> Crowd<'a, H> {
         }
     }
 
-    /// Whether a guest is owed what it is told first, though it was written to.
+    /// Whether a guest is still owed what it has to be sent first, although it was written to.
     fn stays_owed_first(&mut self, key: usize) -> bool {
         if !self.is_owed_first(key) {
             return false;
@@ -571,7 +576,7 @@ impl<'a, H: Boards> Crowd<'a, H> {
         self.is_owed_first(key)
     }
 
-    /// Answers what a guest has said, until it is owed what it is told first.
+    /// Answers what a guest has said, until it is owed what it has to be sent first.
     fn answer(&mut self, key: usize) -> Result<(), AllocError> {
         for _ in 0..u64::MAX {
             if self.stays_owed_first(key) {
@@ -607,7 +612,7 @@ impl<'a, H: Boards> Crowd<'a, H> {
         }
     }
 
-    /// A guest has said something whole: it has its time again.
+    /// A guest has sent something complete: its time begins again.
     fn has_said(&mut self, key: usize) {
         let now = self.now;
         if let Some(guest) = self.guests.get_mut(key) {
@@ -615,7 +620,7 @@ impl<'a, H: Boards> Crowd<'a, H> {
         }
     }
 
-    /// Answers a text: a command to follow, where nothing is watched yet, and else a refusal or a fault.
+    /// Answers a text: a command to follow if nothing is watched yet; otherwise with a refusal or a fault.
     fn answer_text(&mut self, key: usize, text: &str) -> Result<(), AllocError> {
         if self.is_watching(key) {
             return self.put_answer(key, &Answer::Reply(Reply::Refused(Refusal::WrongMode)));
@@ -627,7 +632,7 @@ impl<'a, H: Boards> Crowd<'a, H> {
         }
     }
 
-    /// A guest watches all boards from now on.
+    /// Lets a guest watch all boards from now on.
     fn watch_all(&mut self, key: usize) -> Result<(), AllocError> {
         self.round.refresh(self.boards, self.now)?;
         if let Some(guest) = self.guests.get_mut(key) {
@@ -637,7 +642,7 @@ impl<'a, H: Boards> Crowd<'a, H> {
         Ok(())
     }
 
-    /// Answers a command: one to follow, and else a refusal.
+    /// Answers a command: one to follow, or any other with a refusal.
     fn answer_step(&mut self, key: usize, step: &Step) -> Result<(), AllocError> {
         let refusal = match *step {
             Step::Follow(_, board, from) => self.follow(key, &board, from)?,
@@ -681,7 +686,7 @@ impl<'a, H: Boards> Crowd<'a, H> {
         }
     }
 
-    /// Puts into a guest's output the frame that is due for what it said, if one is. Behind a close it leaves.
+    /// Puts into a guest's output the frame that is due for what it said, if there is one. After a close it leaves.
     fn put_event(&mut self, key: usize, event: &Event) -> Result<(), AllocError> {
         let frame = event.answer(self.alloc)?;
         let Some(guest) = self.guests.get_mut(key) else {
@@ -698,29 +703,30 @@ impl<'a, H: Boards> Crowd<'a, H> {
 
     // ---- Time.
 
-    /// How many seconds had passed when that was last told.
+    /// How many seconds had passed at the last call of `is_now`.
     pub(crate) fn now(&self) -> u64 {
         self.now
     }
 
-    /// So many seconds have passed.
+    /// This many seconds have passed.
     pub(crate) fn is_now(&mut self, now: u64) {
         self.now = now;
     }
 
-    /// Looks at each guest, once a second; whether that was now is told. All that guests had sent by the second `now` has been heard.
+    /// Looks at each guest, once a second. Returns whether that was now. All that guests had sent by the second `now` has been heard.
     pub(crate) fn look_around(&mut self, now: u64) -> bool {
         if now <= self.looked_at {
             return false;
         }
         self.looked_at = now;
+        drop_empty(&mut self.audiences, self.now);
         for key in 0..self.guests.capacity() {
             self.look_at(key, now);
         }
         true
     }
 
-    /// Does what is due with a guest.
+    /// Does what is due for a guest.
     fn look_at(&mut self, key: usize, now: u64) {
         let most_idle = self.port.most_idle();
         let Some(guest) = self.guests.get_mut(key) else {
@@ -732,10 +738,7 @@ impl<'a, H: Boards> Crowd<'a, H> {
             Verdict::Ping => self.ping(key),
             Verdict::Tries => self.send(key),
             Verdict::Idle => self.close(key, AWAY),
-            Verdict::Stuck => {
-                self.close(key, POLICY);
-                self.remove(key);
-            }
+            Verdict::Stuck => self.close(key, POLICY),
             Verdict::Gone => self.remove(key),
         }
     }
@@ -766,7 +769,7 @@ impl<'a, H: Boards> Crowd<'a, H> {
         self.send(key);
     }
 
-    /// Serving ends: who asks for nothing is told so, and who watches a board whose game goes on.
+    /// Serving ends: guests that ask for nothing are told so, and so are those that watch a board whose game goes on.
     pub(crate) fn end(&mut self) {
         for key in 0..self.guests.capacity() {
             self.end_one(key);
@@ -789,9 +792,4 @@ impl<'a, H: Boards> Crowd<'a, H> {
             Stage::Watches | Stage::Leaves => {}
         }
     }
-}
-
-/// The tape of an audience.
-fn tape_at<B>(audiences: &Slab<Audience<B>>, at: Option<usize>) -> Option<&Tape> {
-    Some(&audiences.get(at?)?.tape)
 }

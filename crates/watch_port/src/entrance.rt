@@ -1,4 +1,4 @@
-//! Where newcomers come in, and how one is turned away for whom there is no descriptor.
+//! The entrance for newcomers, and how one is turned away if there is no descriptor for it.
 
 use crate::port::{Port, is_nobody};
 use mio::net::TcpStream;
@@ -6,20 +6,20 @@ use std::io::Write;
 use std::net;
 use std::net::{Shutdown, TcpListener};
 
-/// What a newcomer is told for whom there is no descriptor (RFC 9110, section 15.6.4).
+/// What a newcomer is told if there is no descriptor for it (RFC 9110, section 15.6.4).
 const NO_ROOM: &[u8] =
     b"HTTP/1.1 503 Service Unavailable\r\nConnection: close\r\nContent-Length: 0\r\n\r\n";
 
-/// What an accept came to.
+/// The result of an accept.
 #[derive(Drop)]
 pub(crate) enum Entry {
     /// A newcomer.
     Newcomer(TcpStream),
-    /// One was turned away for want of a descriptor.
+    /// A newcomer was turned away for lack of a descriptor.
     TurnedAway,
-    /// Nobody is there.
+    /// Nobody is waiting.
     Nobody,
-    /// It failed. It is tried again later.
+    /// It failed, and is tried again later.
     Failed,
 }
 
@@ -37,7 +37,7 @@ impl Entrance {
         }
     }
 
-    /// Accepts the next newcomer. Where there is no descriptor for it, the one in reserve is given back for as long as it takes to say that.
+    /// Accepts the next newcomer. If there is no descriptor for it, the one in reserve is given up for as long as it takes to say so.
     pub(crate) fn accept(&mut self, port: &Port) -> Entry {
         match port.listener().accept() {
             Ok((stream, _)) => return welcomed(stream),

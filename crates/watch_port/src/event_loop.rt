@@ -2,11 +2,11 @@
 
 use crate::boards::Boards;
 use crate::crowd::Crowd;
+use crate::doors::LISTENER;
 use crate::entrance::{Entrance, Entry};
 use crate::port::Port;
 use mio::event::Event;
-use mio::unix::SourceFd;
-use mio::{Events, Interest, Poll, Registry, Token, Waker};
+use mio::{Events, Poll, Registry, Token, Waker};
 use std::alloc::Global;
 use std::io;
 use std::io::ErrorKind;
@@ -14,22 +14,19 @@ use std::net::Net;
 use std::sync::Wait;
 use std::time::{Clock, Duration, Instant};
 
-/// The token of the port's listener.
-const LISTENER: Token = Token(usize::MAX);
-
 /// The token of the loop's waker.
 const WAKER: Token = Token(usize::MAX - 1);
 
-/// How many events the system tells at a time.
+/// How many events the system reports at a time.
 const MOST_EVENTS: usize = 1024;
 
 /// How many newcomers are accepted before the others have their turn.
-const MOST_NEWCOMERS: u32 = 64;
+const MOST_NEWCOMERS: usize = 64;
 
 /// How many milliseconds a turn waits at most.
 const TURN_MILLIS: u64 = 1000;
 
-/// How many seconds guests have to go once the port closes.
+/// How many seconds guests have to leave once the port closes.
 const MOST_CLOSING_SECONDS: u64 = 4;
 
 /// A loop that serves guests of a port, ready to run.
@@ -38,32 +35,31 @@ pub struct EventLoop {
     alloc: Global,
     poll: Poll,
     events: Events,
+    door: usize,
 }
 
 impl EventLoop {
-    /// A loop, and what wakes it where there is news of a board, or the port closes.
+    /// A loop of this port, and the waker that wakes it if there is news of a board or the port closes.
     ///
     /// # Errors
     ///
     /// As the system's own calls, or there was no memory.
-    pub fn new<N: Net>(net: &N, alloc: Global, port: &Port) -> io::Result<(EventLoop, Waker)> {
+    pub fn new<N: Net>(net: &N, alloc: Global, port: &mut Port) -> io::Result<(EventLoop, Waker)> {
         let poll = Poll::new(net)?;
         let waker = Waker::new(poll.registry(), WAKER)?;
-        let descriptor = port.descriptor();
-        poll.registry()
-            .register(&mut SourceFd(&descriptor), LISTENER, Interest::READABLE)?;
         let Ok(events) = Events::with_capacity(alloc, MOST_EVENTS) else {
             return Err(io::Error::from(ErrorKind::OutOfMemory));
         };
         let event_loop = EventLoop {
             alloc,
+            door: port.add_door(poll.registry())?,
             poll,
             events,
         };
         Ok((event_loop, waker))
     }
 
-    /// Serves guests until the port closes and they have gone, or a while behind that.
+    /// Serves guests of its port until the port closes and they have gone, or until a while after that.
     ///
     /// # Errors
     ///
@@ -74,10 +70,19 @@ impl EventLoop {
         port: &Port,
         boards: &H,
     ) -> io::Result<()> {
+        let door = self.door;
+        let served = self.serve(rt, port, boards);
+        port.doors().end(door);
+        served
+    }
+
+    /// Serves guests. At the end it leaves its door as it is.
+    fn serve<R: Clock + Wait, H: Boards>(self, rt: &R, port: &Port, boards: &H) -> io::Result<()> {
         let mut turns = Turns {
-            crowd: Crowd::new(self.alloc, port, boards),
+            crowd: Crowd::new(self.alloc, port, self.door, boards),
             entrance: Entrance::new(port),
             port,
+            door: self.door,
             began: Instant::now(rt)?,
             has_newcomers: true,
             heard_by: 0,
@@ -104,12 +109,14 @@ struct Turns<'a, H: Boards> {
     crowd: Crowd<'a, H>,
     entrance: Entrance,
     port: &'a Port,
+    /// The number of its door.
+    door: usize,
     began: Instant,
-    /// Whether there may be newcomers of whom the system tells nothing more.
+    /// Whether there may be newcomers that the system does not report again.
     has_newcomers: bool,
-    /// By which second all that guests had sent is heard, or told of in this turn.
+    /// Everything that guests had sent by this second has been heard, or is reported in this turn.
     heard_by: u64,
-    /// In which second the loop ends though guests are there, once the port closes.
+    /// The second in which the loop ends even if guests remain, once the port closes.
     closes_at: Option<u64>,
 }
 
@@ -123,7 +130,7 @@ impl<'a, H: Boards> Turns<'a, H> {
         }
     }
 
-    /// Does what the system told of, and what is due. Whether it was the last turn is told.
+    /// Handles what the system reported, and what is due. Returns whether it was the last turn.
     fn take<C: Clock>(&mut self, clock: &C, poll: &Poll, events: &Events) -> io::Result<bool> {
         let asked = self.crowd.now();
         let began = self.look_at_clock(clock)?;
@@ -135,15 +142,15 @@ impl<'a, H: Boards> Turns<'a, H> {
             told = told.saturating_add(1);
         }
         if told < MOST_EVENTS {
-            // The system has told of all that had come when it was asked.
+            // The system has reported everything that had arrived when it was asked.
             self.heard_by = asked;
         }
         self.look_at_clock(clock)?;
-        self.accept(poll.registry());
-        // The boards have ended where the port closes, so what is told now is the last.
+        self.accept(poll.registry(), told);
+        // The boards have ended if the port closes, so what is sent now is the last.
         let is_closing = self.port.is_closing();
         self.crowd.tell_all();
-        // However long a turn took, or the program stood still, nobody goes for what it had sent in time.
+        // However long a turn took, or the program was suspended, no guest is dropped for what it had sent in time.
         if self.crowd.look_around(self.heard_by) {
             // An accept that failed is tried again.
             self.has_newcomers = true;
@@ -158,7 +165,7 @@ impl<'a, H: Boards> Turns<'a, H> {
         Ok(passed)
     }
 
-    /// Does what the system told of.
+    /// Handles what the system reported.
     fn heed(&mut self, event: &Event) {
         match event.token() {
             LISTENER => self.has_newcomers = true,
@@ -168,31 +175,37 @@ impl<'a, H: Boards> Turns<'a, H> {
                     self.crowd.send(key);
                 }
                 if event.is_readable() {
-                    self.crowd.hear_of(key);
+                    self.crowd.hear_of(key, event.is_read_closed());
                 }
             }
         }
     }
 
-    /// Accepts newcomers.
-    fn accept(&mut self, registry: &Registry) {
-        if !self.has_newcomers || self.port.is_closing() {
-            self.has_newcomers = false;
-            return;
-        }
-        for _ in 0..MOST_NEWCOMERS {
+    /// Accepts newcomers while they come in here, but no more of them than the system reported events. An accept with nobody waiting takes
+    /// as long as any other, so it is left to the system to report whether somebody still waits.
+    fn accept(&mut self, registry: &Registry, told: usize) {
+        for _ in 0..told.clamp(1, MOST_NEWCOMERS) {
+            if !self.accepts() {
+                break;
+            }
             match self.entrance.accept(self.port) {
-                Entry::Newcomer(stream) => self.crowd.enters(registry, stream),
-                Entry::TurnedAway => {}
-                Entry::Nobody | Entry::Failed => {
-                    self.has_newcomers = false;
-                    return;
+                Entry::Newcomer(stream) => {
+                    self.crowd.enters(registry, stream);
+                    self.port.doors().even_out(self.door);
                 }
+                Entry::TurnedAway => {}
+                Entry::Nobody | Entry::Failed => self.has_newcomers = false,
             }
         }
+        self.has_newcomers = self.accepts() && !self.port.doors().tells_again(self.door);
     }
 
-    /// The port closes. Guests are told, and then waited for. Whether it is over is told.
+    /// Whether newcomers may be waiting, and come in here.
+    fn accepts(&self) -> bool {
+        self.has_newcomers && !self.port.is_closing() && self.port.doors().is_open(self.door)
+    }
+
+    /// The port closes. Guests are told, and then waited for. Returns whether this is over.
     fn is_over(&mut self, now: u64) -> bool {
         let closes_at = match self.closes_at {
             Some(closes_at) => closes_at,

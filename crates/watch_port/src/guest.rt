@@ -6,29 +6,30 @@ use mio::net::TcpStream;
 use relay_frames::{Code, outgoing};
 use relay_watching::Tape;
 use std::alloc::AllocError;
-use std::io::{ErrorKind, Read, Write};
+use std::io;
+use std::io::{ErrorKind, IoSlice, Read, Write};
 use std::net::Shutdown;
 
-/// The close code for a guest for whom there is no room now (IANA's registry of close codes).
+/// The close code for a guest for which there is no room now (IANA's registry of close codes).
 const AGAIN: u16 = 1013;
 
 /// How a connection took what was written to it.
 #[derive(Clone, Copy, PartialEq, Eq, Debug)]
-pub(crate) enum Sent {
-    /// It took all that is due.
+pub(crate) enum Delivery {
+    /// It took everything that is due.
     All,
-    /// It takes no more now. The system tells when it does again.
+    /// It takes no more now. The system reports when it does again.
     Blocked,
     /// It has failed.
     Failed,
 }
 
-/// What came of a connection.
+/// What came from a connection.
 #[derive(Clone, Copy, PartialEq, Eq, Debug)]
-pub(crate) enum Came {
-    /// So many bytes came.
+pub(crate) enum Intake {
+    /// This many bytes came.
     Bytes(usize),
-    /// Nothing more is there now. The system tells when something is.
+    /// Nothing more has arrived yet. The system reports when something has.
     Nothing,
     /// It has ended or failed.
     End,
@@ -40,56 +41,65 @@ pub(crate) struct Guest {
     pub(crate) stream: TcpStream,
     pub(crate) visitor: Visitor,
     pub(crate) patience: Patience,
-    /// At which place of its audience it stands among those that are written to as soon as there is news, if it does.
-    pub(crate) place: Option<usize>,
-    /// Whether there was room for it as it came.
+    /// Its index in its audience among those that are written to as soon as there is news, if it is among them.
+    pub(crate) ready_index: Option<usize>,
+    /// Whether there was room for it when it came.
     pub(crate) has_room: bool,
-    /// Whether it was sent all, and its output has ended.
+    /// Whether everything was sent to it, and its output has ended.
     pub(crate) has_left: bool,
-    /// Whether it is heard no more until what it is owed is written.
+    /// Whether it is not heard until what it is owed is written.
     pub(crate) is_stuffed: bool,
-    /// Whether it stands among those that are to be read on though the system tells nothing of them.
+    /// Whether it is among those that are to be read on although the system reports nothing of them.
     pub(crate) is_unread: bool,
 }
 
 impl Guest {
     /// Writes what is due, until nothing is or the connection takes no more. The tape is that of the board that it watches.
-    pub(crate) fn send(&mut self, tape: Option<&Tape>, now: u64) -> Sent {
+    pub(crate) fn send(&mut self, tape: Option<&Tape>, now: u64) -> Delivery {
         for _ in 0..u64::MAX {
             let piece = self.visitor.offered(tape);
             if piece.is_empty() {
                 self.patience.is_served();
-                return Sent::All;
+                return Delivery::All;
             }
-            match self.stream.write(piece) {
-                Ok(0) => return Sent::Failed,
+            let length = piece.len();
+            match write(&self.stream, piece, self.visitor.offered_behind(tape)) {
+                Ok(0) => return Delivery::Failed,
                 Ok(n) => {
                     self.patience.is_served();
-                    self.visitor.wrote(tape, n);
+                    self.wrote(tape, n, length);
                 }
                 Err(error) if error.kind() == ErrorKind::WouldBlock => {
                     self.patience.is_kept_waiting(now);
-                    return Sent::Blocked;
+                    return Delivery::Blocked;
                 }
                 Err(error) if error.kind() == ErrorKind::Interrupted => {}
-                Err(_) => return Sent::Failed,
+                Err(_) => return Delivery::Failed,
             }
         }
-        Sent::Failed
+        Delivery::Failed
     }
 
-    /// Reads once.
-    pub(crate) fn receive(&mut self, buf: &mut [u8]) -> Came {
+    /// `n` bytes were written: of those offered, which have this length, and then of those after them.
+    fn wrote(&mut self, tape: Option<&Tape>, n: usize, length: usize) {
+        self.visitor.wrote(tape, n.min(length));
+        if n > length {
+            self.visitor.wrote(tape, n - length);
+        }
+    }
+
+    /// Reads once from its connection.
+    pub(crate) fn receive(&mut self, buf: &mut [u8]) -> Intake {
         for _ in 0..u64::MAX {
             match self.stream.read(buf) {
-                Ok(0) => return Came::End,
-                Ok(n) => return Came::Bytes(n),
-                Err(error) if error.kind() == ErrorKind::WouldBlock => return Came::Nothing,
+                Ok(0) => return Intake::End,
+                Ok(n) => return Intake::Bytes(n),
+                Err(error) if error.kind() == ErrorKind::WouldBlock => return Intake::Nothing,
                 Err(error) if error.kind() == ErrorKind::Interrupted => {}
-                Err(_) => return Came::End,
+                Err(_) => return Intake::End,
             }
         }
-        Came::End
+        Intake::End
     }
 
     /// The stage at which it is.
@@ -104,7 +114,7 @@ impl Guest {
         }
     }
 
-    /// One that has shaken hands and for whom there was no room is told so, and leaves. Another one asks from now on.
+    /// A guest that has shaken hands but for which there was no room is told so, and leaves. Any other asks from now on.
     pub(crate) fn turn_away_if_full(&mut self, now: u64) -> Result<(), AllocError> {
         if !matches!(self.visitor.doing, Doing::Asks) {
             return Ok(());
@@ -121,4 +131,12 @@ impl Guest {
     pub(crate) fn end_output(&mut self) {
         let _ = self.stream.shutdown(Shutdown::Write);
     }
+}
+
+/// Writes once, of this piece and then of what follows it. At a `&mut` of the stream the last line would be a call for each.
+fn write(mut stream: &TcpStream, piece: &[u8], behind: &[u8]) -> io::Result<usize> {
+    if behind.is_empty() {
+        return stream.write(piece);
+    }
+    stream.write_vectored(&[IoSlice::new(piece), IoSlice::new(behind)])
 }

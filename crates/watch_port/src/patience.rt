@@ -1,4 +1,4 @@
-//! How long is waited for a guest, in seconds of its loop's clock.
+//! How long a guest is waited for, in seconds of its loop's clock.
 
 /// How many seconds a request may take.
 const MOST_REQUEST_SECONDS: u64 = 10;
@@ -6,21 +6,24 @@ const MOST_REQUEST_SECONDS: u64 = 10;
 /// How many seconds half a message may take.
 const MOST_HALF_SECONDS: u64 = 10;
 
-/// How many seconds a connection may take nothing of what is due.
+/// How many seconds a connection may take nothing of what is due. The last attempt is made once they have passed.
 const MOST_WAIT_SECONDS: u64 = 30;
 
-/// After how many seconds it is tried whether a connection takes something. The system tells of it only where a good part of what it keeps was
-/// taken, so a guest that takes a few bytes now and then would go as one that takes nothing.
+/// How many further seconds it has to take its close.
+const MOST_CLOSE_SECONDS: u64 = 10;
+
+/// How many seconds pass between attempts to write to a connection. The system reports only when a good part of what it keeps was
+/// taken, so a guest that takes a few bytes now and then would be dropped like one that takes nothing.
 const TRIED_AFTER_SECONDS: u64 = 5;
 
-/// How many seconds a guest is silent until it is sent a ping, and then another one. Guests are looked at once a second, so that 30 would notice one
-/// that vanished after more than 90.
+/// After how many seconds of silence a guest is sent a ping, and then another one. Guests are looked at once a second, so with 30 a
+/// vanished guest would be noticed only after more than 90.
 const MOST_SILENT_SECONDS: u64 = 29;
 
-/// How many pings in a row a guest is sent from which nothing is heard.
+/// How many pings in a row are sent to a guest that stays silent.
 const MOST_PINGS: u64 = 2;
 
-/// How many seconds a guest that has been sent all may take to end its connection.
+/// How many seconds a guest that has been sent everything may take to end its connection.
 const MOST_LEAVING_SECONDS: u64 = 10;
 
 /// What is to be done with a guest.
@@ -30,32 +33,34 @@ pub(crate) enum Verdict {
     Stays,
     /// It is sent a ping.
     Ping,
-    /// It is tried whether its connection takes something.
+    /// An attempt is made to write to its connection.
     Tries,
-    /// It goes, since it asked for nothing for too long.
+    /// It goes, because it asked for nothing for too long.
     Idle,
-    /// It goes, since it takes nothing.
+    /// It goes, because it took nothing for too long. It has a while to take its close.
     Stuck,
-    /// It goes without a word.
+    /// It goes without a close.
     Gone,
 }
 
-/// Since when a guest is waited for.
+/// Since when the loop has waited for a guest.
 #[derive(Clone, Copy, Debug)]
 pub(crate) struct Patience {
-    /// When it came, shook hands, or was sent all: it has a time for what comes then.
+    /// When it came, shook hands, or was sent everything: each stage has its own time.
     pub(crate) stage_began: u64,
     heard_at: u64,
     pings: u64,
-    /// Since when it takes nothing of what is due.
+    /// Since when it has taken nothing of what is due.
     waits_since: Option<u64>,
-    /// How often it was to be tried since then.
+    /// How many attempts to write were due since then.
     tries: u64,
-    /// Since when it is in the middle of a message.
+    /// Since when it has had to take its close, because it took nothing for too long.
+    stuck_since: Option<u64>,
+    /// Since when it has been in the middle of a message.
     midway_since: Option<u64>,
 }
 
-/// At which stage a guest is.
+/// The stage of a guest.
 #[derive(Clone, Copy, PartialEq, Eq, Debug)]
 pub(crate) enum Stage {
     /// It sends its request.
@@ -64,12 +69,12 @@ pub(crate) enum Stage {
     Asks,
     /// It watches.
     Watches,
-    /// All was written to it.
+    /// Everything was written to it.
     Leaves,
 }
 
 impl Patience {
-    /// With one who comes now.
+    /// Of a guest that comes now.
     pub(crate) fn new(now: u64) -> Patience {
         Patience {
             stage_began: now,
@@ -77,6 +82,7 @@ impl Patience {
             pings: 0,
             waits_since: None,
             tries: 0,
+            stuck_since: None,
             midway_since: None,
         }
     }
@@ -86,7 +92,7 @@ impl Patience {
         self.stage_began = now;
     }
 
-    /// A message of it has come whole: it has its time again, and what stands behind that message began now.
+    /// A message of it is complete: its time begins again, and what follows that message began now.
     pub(crate) fn has_heard_all(&mut self, now: u64) {
         self.stage_began = now;
         self.midway_since = None;
@@ -97,12 +103,12 @@ impl Patience {
         self.midway_since = None;
     }
 
-    /// It is heard again, and is in the middle of a message or not.
+    /// It is heard again, and may be in the middle of a message.
     pub(crate) fn is_heard_again(&mut self, now: u64, is_midway: bool) {
         self.midway_since = if is_midway { Some(now) } else { None };
     }
 
-    /// Something came from it; behind that it is in the middle of a message or not.
+    /// Something came from it; after that it may be in the middle of a message.
     pub(crate) fn hears(&mut self, now: u64, is_midway: bool) {
         self.heard_at = now;
         self.pings = 0;
@@ -117,6 +123,7 @@ impl Patience {
     pub(crate) fn is_served(&mut self) {
         self.waits_since = None;
         self.tries = 0;
+        self.stuck_since = None;
     }
 
     /// It takes nothing of what is due.
@@ -126,7 +133,8 @@ impl Patience {
         }
     }
 
-    /// What is to be done with a guest at this stage now; one that asks for nothing is waited for so long, or for ever where that is none.
+    /// What is to be done with a guest at this stage now. A guest that asks for nothing is waited for `most_idle` seconds, or for ever
+    /// without that.
     pub(crate) fn verdict(&mut self, now: u64, stage: Stage, most_idle: Option<u64>) -> Verdict {
         let staged = now.saturating_sub(self.stage_began);
         match stage {
@@ -135,24 +143,24 @@ impl Patience {
             Stage::Comes | Stage::Leaves => return Verdict::Stays,
             Stage::Asks | Stage::Watches => {}
         }
-        if has_passed(self.waits_since, now, MOST_WAIT_SECONDS) {
-            return Verdict::Stuck;
-        }
         if has_passed(self.midway_since, now, MOST_HALF_SECONDS) {
             return Verdict::Gone;
+        }
+        if self.is_to_be_tried(now) {
+            return Verdict::Tries;
+        }
+        if has_passed(self.waits_since, now, MOST_WAIT_SECONDS) {
+            return self.stuck(now);
         }
         if let (Stage::Asks, Some(most)) = (stage, most_idle) {
             if staged >= most {
                 return Verdict::Idle;
             }
         }
-        if self.is_to_be_tried(now) {
-            return Verdict::Tries;
-        }
         self.ping_if_due(now)
     }
 
-    /// Whether it is tried now whether a guest takes something of what is due. Each time comes once.
+    /// Whether an attempt to write to a guest is due now. Each attempt comes once.
     fn is_to_be_tried(&mut self, now: u64) -> bool {
         let Some(since) = self.waits_since else {
             return false;
@@ -163,8 +171,19 @@ impl Patience {
         is_due
     }
 
-    /// Whether a guest that was not heard of is sent a ping, or is gone. One that takes nothing of what is due is sent none: a ping stands behind
-    /// that.
+    /// What is to be done with a guest that took nothing for too long.
+    fn stuck(&mut self, now: u64) -> Verdict {
+        if has_passed(self.stuck_since, now, MOST_CLOSE_SECONDS) {
+            return Verdict::Gone;
+        }
+        if self.stuck_since.is_none() {
+            self.stuck_since = Some(now);
+        }
+        Verdict::Stuck
+    }
+
+    /// Whether a guest that was not heard from is sent a ping, or is gone. If it takes nothing of what is due, it is sent none: a ping
+    /// would come after that.
     fn ping_if_due(&mut self, now: u64) -> Verdict {
         let silent = now.saturating_sub(self.heard_at) / MOST_SILENT_SECONDS;
         if silent <= self.pings {
@@ -181,7 +200,7 @@ impl Patience {
     }
 }
 
-/// Whether so many seconds have passed since then.
+/// Whether this many seconds have passed since then.
 fn has_passed(since: Option<u64>, now: u64, most: u64) -> bool {
     match since {
         Some(since) => now.saturating_sub(since) >= most,

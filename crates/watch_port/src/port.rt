@@ -1,28 +1,31 @@
 //! The port that several loops serve.
 
+use crate::doors::Doors;
+use mio::Registry;
 use std::alloc::{AllocError, Global};
 use std::io;
 use std::io::ErrorKind;
 use std::net::TcpListener;
-use std::os::fd::{AsRawFd, RawFd};
+use std::os::fd::AsRawFd;
 use std::sync::Arc;
 use std::sync::atomic::{AtomicBool, AtomicU32, Ordering};
 
-/// A port whose newcomers several loops accept, each those that it comes to first.
+/// A port whose newcomers several loops share evenly.
 #[derive(Drop)]
 pub struct Port {
     listener: TcpListener,
+    doors: Doors,
     /// How many guests there may be, and how many there are.
     most: u32,
     count: Arc<AtomicU32, Global>,
-    /// For how many seconds one who asks for nothing is waited for.
+    /// For how many seconds a guest that asks for nothing is waited for.
     most_idle: Option<u64>,
     is_closing: AtomicBool,
 }
 
 impl Port {
-    /// A port at this listener, which is made not to wait, for so many spectators at once. One who asks for nothing goes after so many
-    /// seconds, or never.
+    /// A port at this listener, which is made non-blocking, for `most` spectators at once. A guest that asks for nothing goes after
+    /// `most_idle` seconds, or never. No loop serves the port yet.
     ///
     /// # Errors
     ///
@@ -37,8 +40,10 @@ impl Port {
         let Ok(count) = Arc::new(alloc, AtomicU32::new(0)) else {
             return Err(io::Error::from(ErrorKind::OutOfMemory));
         };
+        let doors = Doors::new(alloc, listener.as_raw_fd());
         Ok(Port {
             listener,
+            doors,
             most,
             count,
             most_idle,
@@ -46,7 +51,7 @@ impl Port {
         })
     }
 
-    /// How many guests there are, to be looked at by others.
+    /// How many guests there are, for others to read.
     ///
     /// # Errors
     ///
@@ -58,17 +63,17 @@ impl Port {
         }
     }
 
-    /// Nobody is accepted any more, and the loops end once their guests have gone, or after a while. They are still to be woken.
+    /// No more guests are accepted, and the loops end once theirs have gone, or after a while. The loops have yet to be woken.
     pub fn close(&self) {
         self.is_closing.store(true, Ordering::SeqCst);
     }
 
-    /// Whether it closes.
+    /// Whether it is closing.
     pub(crate) fn is_closing(&self) -> bool {
         self.is_closing.load(Ordering::SeqCst)
     }
 
-    /// For how many seconds one who asks for nothing is waited for.
+    /// For how many seconds a guest that asks for nothing is waited for.
     pub(crate) fn most_idle(&self) -> Option<u64> {
         self.most_idle
     }
@@ -78,23 +83,34 @@ impl Port {
         &self.listener
     }
 
-    /// The listener's descriptor.
-    pub(crate) fn descriptor(&self) -> RawFd {
-        self.listener.as_raw_fd()
+    /// Adds the door of the loop to which this registry reports newcomers. Returns its number.
+    ///
+    /// # Errors
+    ///
+    /// As the system's own calls, or there was no memory.
+    pub(crate) fn add_door(&mut self, registry: &Registry) -> io::Result<usize> {
+        self.doors.add(registry)
     }
 
-    /// Counts a newcomer, and tells whether there is room for it.
-    pub(crate) fn enters(&self) -> bool {
+    /// The doors of the loops.
+    pub(crate) fn doors(&self) -> &Doors {
+        &self.doors
+    }
+
+    /// Counts a newcomer that came in at this door, and returns whether there is room for it.
+    pub(crate) fn enters(&self, door: usize) -> bool {
+        self.doors.enters(door);
         self.count.fetch_add(1, Ordering::SeqCst) < self.most
     }
 
-    /// Counts one who goes.
-    pub(crate) fn leaves(&self) {
+    /// Counts off a guest that goes and had come in at this door.
+    pub(crate) fn leaves(&self, door: usize) {
+        self.doors.leaves(door);
         self.count.fetch_sub(1, Ordering::SeqCst);
     }
 }
 
-/// Whether there is nobody to be accepted now.
+/// Whether the error means that nobody is waiting to be accepted.
 pub(crate) fn is_nobody(error: &io::Error) -> bool {
     error.kind() == ErrorKind::WouldBlock
 }

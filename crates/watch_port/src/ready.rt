@@ -1,4 +1,4 @@
-//! Those of an audience that are written to as soon as there is news: all but those whose connections take no more now.
+//! The guests of an audience that are written to as soon as there is news: all but those whose connections take no more now.
 
 use std::alloc::{AllocError, Global};
 
@@ -9,16 +9,16 @@ pub(crate) struct Ready {
 }
 
 impl Ready {
-    /// Nobody.
+    /// No guests.
     pub(crate) fn new(alloc: Global) -> Ready {
         Ready {
             keys: Vec::new(alloc),
         }
     }
 
-    /// The key at a place.
-    pub(crate) fn at(&self, place: usize) -> Option<usize> {
-        self.keys.get(place).copied()
+    /// The key at an index.
+    pub(crate) fn at(&self, index: usize) -> Option<usize> {
+        self.keys.get(index).copied()
     }
 
     /// How many there are.
@@ -26,19 +26,19 @@ impl Ready {
         self.keys.len()
     }
 
-    /// Adds a guest and tells its place.
+    /// Adds a guest and returns its index.
     pub(crate) fn add(&mut self, key: usize) -> Result<usize, AllocError> {
-        let place = self.keys.len();
+        let index = self.keys.len();
         self.keys.push(key)?;
-        Ok(place)
+        Ok(index)
     }
 
-    /// Takes out the guest at a place. The guest that comes there in its place, if one does, is told.
-    pub(crate) fn remove(&mut self, place: usize) -> Option<usize> {
-        if place >= self.keys.len() {
+    /// Removes the guest at an index. Returns the one that moves to that index, if any.
+    pub(crate) fn remove(&mut self, index: usize) -> Option<usize> {
+        if index >= self.keys.len() {
             return None;
         }
-        let _ = self.keys.swap_remove(place);
-        self.at(place)
+        let _ = self.keys.swap_remove(index);
+        self.at(index)
     }
 }

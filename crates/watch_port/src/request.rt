@@ -1,11 +1,11 @@
 //! A visitor's request, as it comes, and its answer.
 
 use crate::visitor::{Doing, Visitor};
-use relay_frames::{Refusal, acceptance_of};
+use relay_frames::{RequestRefusal, acceptance_of};
 use std::alloc::{AllocError, Global};
 use std::mem;
 
-/// What a head ends with.
+/// The bytes that end a head.
 const BLANK_LINE: &[u8; 4] = b"\r\n\r\n";
 
 /// How many bytes a head may have.
@@ -16,14 +16,14 @@ const MOST_BYTES: usize = 8192;
 enum Head {
     /// A part.
     Part(Vec<u8>),
-    /// All of it, and so many bytes of the last piece.
+    /// All of it, ending after this many bytes of the last piece.
     Whole(Vec<u8>, usize),
     /// It is refused before its end.
-    Refused(Refusal),
+    Refused(RequestRefusal),
 }
 
-/// Takes what came of a visitor that sends its request. How many of these bytes belong to the request is told. The request is answered
-/// once it is whole; where it is refused the visitor leaves.
+/// Takes what came from a visitor that sends its request. Returns how many of these bytes belong to the request. The request is answered
+/// once it is complete; if it is refused, the visitor leaves.
 ///
 /// # Errors
 ///
@@ -59,33 +59,33 @@ pub(crate) fn take_request(
     }
 }
 
-/// Tells a visitor that its request is refused, behind which it leaves.
-fn refuse(visitor: &mut Visitor, refusal: Refusal) -> Result<(), AllocError> {
+/// Tells a visitor that its request is refused, after which it leaves.
+fn refuse(visitor: &mut Visitor, refusal: RequestRefusal) -> Result<(), AllocError> {
     visitor.output().extend_from_slice(refusal.answer())?;
     visitor.doing = Doing::Asks;
     visitor.leaves();
     Ok(())
 }
 
-/// A head of which a piece more has come.
+/// A head to which another piece has come.
 fn grow(mut head: Vec<u8>, piece: &[u8]) -> Result<Head, AllocError> {
     let seen = head.len();
     head.extend_from_slice(piece)?;
     if matches!(head.first(), Some(b'\r' | b'\n')) {
-        return Ok(Head::Refused(Refusal::BadRequest));
+        return Ok(Head::Refused(RequestRefusal::BadRequest));
     }
     if let Some(end) = end_of_head(head.as_slice(), seen) {
         head.truncate(end);
         return Ok(Head::Whole(head, end.saturating_sub(seen)));
     }
     if head.len() >= MOST_BYTES {
-        return Ok(Head::Refused(Refusal::HeadTooLarge));
+        return Ok(Head::Refused(RequestRefusal::HeadTooLarge));
     }
     Ok(Head::Part(head))
 }
 
-/// Where the head ends: behind the first blank line, which does not end within the bytes seen before. One that ends beyond the
-/// greatest number of bytes is none.
+/// The end of the head: after the first blank line, which does not end within the bytes seen before. An end beyond the
+/// greatest number of bytes does not count.
 fn end_of_head(bytes: &[u8], seen: usize) -> Option<usize> {
     for at in seen.max(3)..bytes.len().min(MOST_BYTES) {
         if &bytes[at - 3..at + 1] == BLANK_LINE.as_slice() {

@@ -1,24 +1,24 @@
-//! All boards of a relay, for those who watch them all: the text of each, and when it last changed.
+//! All boards of a relay, for guests that watch them all: the text of each, and when it last changed.
 
 use crate::boards::Boards;
 use relay_frames::outgoing;
 use relay_messages::encode_board;
 use std::alloc::{AllocError, Global};
 
-/// All boards, in the order of opening. Each change of a text has a number, and they rise.
+/// All boards, in the order of opening. Each change of a text has a number, and the numbers rise.
 #[derive(Drop)]
 pub(crate) struct Round<B> {
     alloc: Global,
-    entries: Vec<Entry<B>>,
+    entries: Vec<RoundEntry<B>>,
     /// The number of the last change.
     changes: u64,
 }
 
-/// A board, and what is told of it.
+/// A board, and what is sent of it.
 #[derive(Drop)]
-struct Entry<B> {
+struct RoundEntry<B> {
     board: B,
-    /// How often it had been rung for when its text was made, once one was.
+    /// The board's count of rings when its text was made, once one was.
     heard: Option<u64>,
     /// In which second that was.
     made_at: u64,
@@ -28,8 +28,8 @@ struct Entry<B> {
     change: u64,
 }
 
-impl<B> Entry<B> {
-    /// Makes its text again, which is told with this number.
+impl<B> RoundEntry<B> {
+    /// Makes its text again. The change has this number.
     fn make<H: Boards<Board = B>>(
         &mut self,
         alloc: Global,
@@ -48,7 +48,7 @@ impl<B> Entry<B> {
         Ok(())
     }
 
-    /// Whether its text is to be made again: there is news, and it was not made within this second, or its game has ended.
+    /// Whether its text has to be made again: there is news, and it was not made within this second, or its game has ended.
     fn is_due<H: Boards<Board = B>>(&self, boards: &H, now: u64) -> bool {
         if self.heard == Some(boards.rings(&self.board)) {
             return false;
@@ -58,7 +58,7 @@ impl<B> Entry<B> {
 }
 
 impl<B: Drop> Round<B> {
-    /// No board is known yet.
+    /// No boards are known yet.
     pub(crate) fn new(alloc: Global) -> Round<B> {
         Round {
             alloc,
@@ -72,11 +72,11 @@ impl<B: Drop> Round<B> {
         self.changes
     }
 
-    /// Takes in boards that were opened, and makes the texts again that are to be.
+    /// Adds the boards that were opened, and makes the texts that are due again.
     ///
     /// # Errors
     ///
-    /// There was no memory. What is missing is made by the next call.
+    /// There was no memory. The next call makes what is missing.
     pub(crate) fn refresh<H: Boards<Board = B>>(
         &mut self,
         boards: &H,
@@ -89,13 +89,13 @@ impl<B: Drop> Round<B> {
         Ok(())
     }
 
-    /// Takes in boards that were opened.
+    /// Adds the boards that were opened.
     fn take_in<H: Boards<Board = B>>(&mut self, boards: &H) -> Result<(), AllocError> {
         for _ in 0..u64::MAX {
             let Some(board) = boards.board_at(self.entries.len())? else {
                 return Ok(());
             };
-            self.entries.push(Entry {
+            self.entries.push(RoundEntry {
                 board,
                 heard: None,
                 made_at: 0,
@@ -106,7 +106,7 @@ impl<B: Drop> Round<B> {
         Ok(())
     }
 
-    /// Makes the text of the board at this place again, if it is to be.
+    /// Makes the text of the board of this index again, if that is due.
     fn refresh_one<H: Boards<Board = B>>(
         &mut self,
         at: usize,
@@ -124,11 +124,11 @@ impl<B: Drop> Round<B> {
         Ok(())
     }
 
-    /// Puts the frames that changed after this number behind `output`.
+    /// Appends the frames that changed after this number to `output`.
     ///
     /// # Errors
     ///
-    /// There was no memory. Then nothing was put there.
+    /// There was no memory. Then nothing was appended.
     pub(crate) fn put_changes(&self, after: u64, output: &mut Vec<u8>) -> Result<(), AllocError> {
         let mut length = 0usize;
         for entry in self.entries.iter() {

@@ -1,4 +1,4 @@
-//! One who came to the port, with no reading and no writing: what is to be written next, and what was.
+//! A spectator that came to the port, without reading and writing: what is to be written next, and what was.
 
 ghost use Rattle.std.specs.Prelude.{◌≡◌, ◌≤◌, ℕ, List, [], ◌++◌, length, take, drop, None, Some, IfSome, IfNone, true, false, option_copied};
 ghost use Rattle.relay_watching.specs.Between.{is_none};
@@ -12,7 +12,7 @@ use relay_watching::{Tape, Watcher};
 use std::alloc::{AllocError, Global};
 use std::mem;
 
-/// How many bytes of answers may be kept for a visitor until it is heard no more.
+/// How many bytes of answers may be kept for a visitor before it is no longer heard.
 const MOST_OUTPUT: usize = 16384;
 
 /// What a visitor does.
@@ -28,7 +28,7 @@ pub(crate) enum Doing {
     WatchesAll(u64),
 }
 
-/// What a visitor watches, and how far it was sent that.
+/// What a visitor watches, and how far it was sent.
 #[derive(Drop)]
 pub(crate) struct Watching {
     /// The key of the audience that it is in.
@@ -60,7 +60,7 @@ impl Watching {
     }
 }
 
-/// One who came. Output is whole frames, and stands before what is watched, between two frames of that.
+/// A visitor. Its output is whole frames, and is written before what it watches, between two frames of that.
 #[derive(Drop)]
 pub(crate) struct Visitor {
     alloc: Global,
@@ -69,12 +69,12 @@ pub(crate) struct Visitor {
     output: Vec<u8>,
     /// How many bytes of the output are written.
     written: usize,
-    /// Whether nothing is written behind the output any more.
+    /// Whether nothing more is written after the output.
     is_leaving: bool,
 }
 
 impl Visitor {
-    /// One of whom nothing has come yet.
+    /// A visitor from which nothing has come yet.
     pub(crate) fn new(alloc: Global) -> Visitor {
         Visitor {
             alloc,
@@ -103,22 +103,22 @@ impl Visitor {
         });
     }
 
-    /// It watches all boards from now on, of which it was told nothing yet.
+    /// It watches all boards from now on, and has not been sent any of them yet.
     pub(crate) fn watch_all(&mut self) {
         self.doing = Doing::WatchesAll(0);
     }
 
-    /// It watches nothing any more. What it did is told.
+    /// It no longer watches anything. Returns what it did.
     pub(crate) fn watch_no_more(&mut self) -> Doing {
         mem::replace(&mut self.doing, Doing::Asks)
     }
 
-    /// Feeds what came behind its request.
+    /// Feeds it what came after its request.
     pub(crate) fn feed(&mut self, bytes: &[u8]) -> Result<(), AllocError> {
         self.peer.feed(bytes)
     }
 
-    /// What it said next, if all of that has come.
+    /// What it said next, if that has come completely.
     pub(crate) fn next(&mut self) -> Result<Option<Event>, AllocError> {
         self.peer.next()
     }
@@ -128,7 +128,7 @@ impl Visitor {
         self.peer.is_midway()
     }
 
-    /// Whether nothing was written yet of what it watches. Of all boards there have been so many changes.
+    /// Whether nothing has been written yet of what it watches. Of all boards there have been `changes` changes.
     pub(crate) fn is_owed_first(&self, changes: u64) -> bool {
         match &self.doing {
             Doing::Watches(watching) => !watching.has_begun,
@@ -147,12 +147,12 @@ impl Visitor {
         &mut self.output
     }
 
-    /// Nothing is to be written behind the output, of which the last frame is a close, or which ends the handshake.
+    /// Nothing is to be written after the output, whose last frame is a close, or which ends the handshake.
     pub(crate) fn leaves(&mut self) {
         self.is_leaving = true;
     }
 
-    /// Whether nothing is to be written behind the output.
+    /// Whether nothing is to be written after the output.
     pub(crate) fn is_leaving(&self) -> bool {
         self.is_leaving
     }
@@ -171,7 +171,7 @@ impl Visitor {
         self.output.is_empty() && !self.is_leaving
     }
 
-    /// The bytes that are to be written next. There are none only where nothing is due. The tape is that of the board that it watches.
+    /// The bytes that are to be written next. There are none only if nothing is due. The tape is that of the board that it watches.
     pub(crate) fn offered<'a>(&'a self, tape: Option<&'a Tape>) -> &'a [u8] {
         match (&self.doing, tape) {
             (Doing::Watches(watching), Some(tape)) => self.offered_of(tape, watching),
@@ -179,8 +179,8 @@ impl Visitor {
         }
     }
 
-    /// The bytes that are to be written next to one that watches: of the tape, where a frame of that is begun, up to the end of it at most where
-    /// there is output; and else the output.
+    /// The bytes that are to be written next to a visitor that watches. If a frame of the tape is begun, they are of the tape, at most up
+    /// to the end of that frame if there is output; otherwise they are the output.
     fn offered_of<'a>(&'a self, tape: &'a Tape, watching: &'a Watching) -> &'a [u8]
         ensures tape { is_tapes_turn tape.now self.now watching.now ≡ true → result.now ≡ take (length result.now) (offered tape.now watching.now.watcher) }
         ensures output { is_tapes_turn tape.now self.now watching.now ≡ false → result.now ≡ output_left self.now }
@@ -195,7 +195,28 @@ impl Visitor {
         }
     }
 
-    /// What of the output is not written.
+    /// The bytes that are to be written after those offered, once all of these are written: what it watches, after its output.
+    pub(crate) fn offered_behind<'a>(&'a self, tape: Option<&'a Tape>) -> &'a [u8] {
+        match (&self.doing, tape) {
+            (Doing::Watches(watching), Some(tape)) => self.offered_behind_output(tape, watching),
+            _ => &[],
+        }
+    }
+
+    /// The bytes of the tape that are to be written after the output to a visitor that watches, if the output is offered and it stays.
+    fn offered_behind_output<'a>(&'a self, tape: &'a Tape, watching: &'a Watching) -> &'a [u8]
+        ensures part { result.now ≡ take (length result.now) (offered tape.now watching.now.watcher) }
+        ensures alone { is_tapes_turn tape.now self.now watching.now ≡ true → result.now ≡ [] }
+        ensures behind { (next : Visitor) → HasWrittenOutput (length (output_left self.now)) self.now next
+            → is_tapes_turn tape.now next watching.now ≡ false → result.now ≡ [] }
+    {
+        if self.is_leaving || self.is_tapes_turn(tape, watching) {
+            return &[];
+        }
+        watching.watcher.due(tape)
+    }
+
+    /// The part of the output that has not been written.
     fn output_left(&self) -> &[u8]
         ensures { result.now ≡ output_left self.now }
     {
@@ -232,7 +253,7 @@ impl Visitor {
         }
     }
 
-    /// The first `n` of the bytes offered of what it watches were written. More are not counted.
+    /// The first `n` of the bytes offered of what it watches were written. Any beyond those offered are not counted.
     fn wrote_tape(&mut self, tape: &Tape, n: usize)
         ensures { (w : Watching) → watched self.old.doing ≡ Some w → n ≤ length (offered tape.now w.watcher) → HasWrittenTape w n self.old self.new }
     {
@@ -254,7 +275,7 @@ impl Visitor {
         }
     }
 
-    /// Whether all is written that it will ever be sent.
+    /// Whether everything that it will ever be sent is written.
     pub(crate) fn is_done(&self, tape: Option<&Tape>) -> bool {
         if let (Doing::Watches(watching), Some(tape)) = (&self.doing, tape) {
             if watching.watcher.is_done(tape) {

@@ -1,10 +1,12 @@
 """Peers that break the protocol: each gets the close code that RFC 6455 names for what it did, and no reset in its place."""
 
+import socket
 import struct
+import time
 import unittest
 
 from relay_client.connection import Connection
-from relay_client.frames import CLOSE, MASK, PING, PONG, TEXT, masked
+from relay_client.frames import CLOSE, MASK, PING, PONG, TEXT, head, masked
 from relay_client.tests.sessions import main_port, watch_port
 from relay_client.texts import BAD_FIELD, NOT_JSON
 
@@ -50,25 +52,43 @@ PLACES = {
     "a fragment of nothing (5.4)": masked(MIDDLE, b"[]"),
     "a text within a text (5.4)": masked(FIRST_OF_TEXT, b"[") + masked(TEXT, b"]"),
     "a binary message within a text (5.4)": masked(FIRST_OF_TEXT, b"[") + masked(BINARY, b"]"),
+    "a first fragment within a text (5.4)": masked(FIRST_OF_TEXT, b"[") + masked(FIRST_OF_TEXT, b"]"),
+    "a first fragment of a binary message within a text (5.4)": masked(FIRST_OF_TEXT, b"[") + masked(FIRST_OF_BINARY, b"]"),
     "a first fragment within a binary message (5.4)": masked(FIRST_OF_BINARY, b"[") + masked(FIRST_OF_TEXT, b"]"),
 }
 
 TEXTS = {
     **{f"a text of {text} (8.1)": masked(TEXT, text) for text in NO_TEXTS},
     **{f"a text of {text} in fragments (8.1)": masked(FIRST_OF_TEXT, text[:1]) + masked(LAST, text[1:]) for text in NO_TEXTS},
+    **{f"a text of a and {text} in fragments (8.1)": masked(FIRST_OF_TEXT, b"a") + masked(LAST, text) for text in NO_TEXTS},
     **{f"a close with the reason {text} (8.1)": code(1000, text) for text in NO_TEXTS},
 }
 
 LONG = {
     **{f"a text of {size} bytes": masked(TEXT, bytes(size)) for size in (65_537, 100_000, 1_000_000)},
     "a text of 100,000 bytes in two fragments": masked(FIRST_OF_TEXT, bytes(50_000)) + masked(LAST, bytes(50_000)),
-    "the head of a text of 2^40 bytes": b"\x81\xff" + struct.pack(">Q", 1 << 40) + MASK,
+    **{f"a last fragment of {size} bytes behind 32,768": masked(FIRST_OF_TEXT, bytes(32_768)) + head(LAST, size) for size in (32_769, 50_000)},
+}
+
+# Each is told once the head is there.
+LONG_HEADS = {
+    f"the head of a {kind} of {size} bytes": head(first, size)
+    for kind, first in (("text", TEXT), ("fragment", FIRST_OF_BINARY)) for size in (65_537, 100_000, 1_000_000, 1 << 40)
 }
 
 FRAGMENTS = {
     "1,025 empty fragments": masked(FIRST_OF_TEXT, b"") + masked(MIDDLE, b"") * 1023 + masked(LAST, b""),
     "1,025 fragments of a byte": masked(FIRST_OF_TEXT, b"[") + masked(MIDDLE, b"]") * 1024,
 }
+
+# The bytes of a breach that are sent in pieces; its rest, if there is one, is sent at once.
+IN_PIECES = 24
+
+
+def pieces(sent, size):
+    """A breach in pieces, and a text behind it."""
+    first = sent[:IN_PIECES]
+    return [first[at:at + size] for at in range(0, len(first), size)] + [sent[IN_PIECES:] + masked(TEXT, b"[]")]
 
 
 class Breaches(unittest.TestCase):
@@ -96,7 +116,7 @@ class Breaches(unittest.TestCase):
 
     def test_a_text_of_more_than_65536_bytes_is_answered_24_and_told_1009(self):
         """Before, the connection was reset, or ended without an answer and without a close."""
-        self.get(LONG, BAD_FIELD, TOO_BIG)
+        self.get({**LONG, **LONG_HEADS}, BAD_FIELD, TOO_BIG)
 
     def test_a_message_of_more_than_1024_fragments_is_told_1009(self):
         """Before, empty fragments were taken without end, and others up to the bytes that a text may have."""
@@ -108,6 +128,29 @@ class Breaches(unittest.TestCase):
             peer.stream.sendall(masked(FIRST_OF_TEXT, b"") + masked(MIDDLE, b"") * 1022 + masked(LAST, b"["))
             peer.hears(NOT_JSON)
             peer.close()
+
+    def test_a_breach_in_pieces_is_told_as_at_once_and_a_text_behind_it_is_not_answered(self):
+        breaches = [
+            *[(name, sent, [PROTOCOL]) for name, sent in {**UNMASKED, **HEADS, **CONTROLS, **PLACES}.items()],
+            *[(name, sent, [NOT_UTF8]) for name, sent in TEXTS.items()],
+            *[(name, sent, [BAD_FIELD, TOO_BIG]) for name, sent in LONG_HEADS.items()],
+        ]
+        for size in 1, 2, 7:
+            with self.listening(len(breaches)) as port:
+                peers = [Connection(port) for _ in breaches]
+                for peer in peers:
+                    peer.stream.setsockopt(socket.IPPROTO_TCP, socket.TCP_NODELAY, 1)
+                    peer.send("[")
+                sends = [pieces(sent, size) for _, sent, _ in breaches]
+                for at in range(max(map(len, sends))):
+                    for peer, parts in zip(peers, sends):
+                        peer.stream.sendall(b"".join(parts[at:at + 1]))
+                    time.sleep(0.01)
+                for peer, (name, _, told) in zip(peers, breaches):
+                    with self.subTest(name, size=size):
+                        self.assertEqual([peer.receive_any() for _ in range(1 + len(told))], [NOT_JSON, *told])
+                        peer.has_ended()
+                        peer.close()
 
     def test_a_peer_that_sends_on_behind_its_breach_still_reads_why(self):
         """What still comes is read and dropped: a reset would take the close away. Before, there was no close, and a reset."""

@@ -7,7 +7,7 @@ import time
 import unittest
 
 from relay_client.connection import Connection
-from relay_client.frames import MASK, PING, TEXT, frame, head
+from relay_client.frames import MASK, PING, TEXT, frame, head, pong
 from relay_client.program import PATIENCE
 from relay_client.server import Server
 from relay_client.tests.sessions import ABANDONED, guest_of, owner_of
@@ -84,6 +84,13 @@ class Deadlines(unittest.TestCase):
                 stream.recv(4096)
             except (TimeoutError, ConnectionResetError):
                 pass
+
+    def answers_the_second_ping(self, peer, heard):
+        """Leaves a ping unanswered, answers the second, and waits for a third."""
+        for _ in range(2):
+            heard.append(peer.receive_any())
+        peer.stream.sendall(pong())
+        heard.append(peer.receive_any())
 
     def test_what_a_board_is_sent_has_thirty_seconds_in_all_whether_it_takes_none_or_some(self):
         """The board is abandoned. Before, each part that was taken started the thirty seconds again."""
@@ -198,13 +205,16 @@ class Deadlines(unittest.TestCase):
             server.has_served(3)
 
     def test_an_operator_that_answers_no_ping_has_gone_after_ninety_seconds_and_one_that_does_stays(self):
-        """Before, none was sent a ping, and a board stayed open as long as its operator's connection did."""
-        with Server("--connections", "4") as server:
+        """One that answers the second stays too, and from then on it is waited for as before. Before, none was sent a ping, and a board stayed
+        open as long as its operator's connection did."""
+        with Server("--connections", "5") as server:
             began, heard = time.monotonic(), {}
             vanished, guest = owner_of(server), guest_of(server)
             present, next_guest = owner_of(server, board="b2"), guest_of(server, board="b2")
             # They answer pings while they wait.
             waiting = [threading.Thread(target=lambda it=it: heard.update({it: it.receive()})) for it in (present, next_guest)]
+            late, pings = owner_of(server, board="b3"), []
+            waiting.append(threading.Thread(target=self.answers_the_second_ping, args=(late, pings)))
             for it in waiting:
                 it.start()
             guest.hears(ABANDONED, "close 1000")
@@ -215,11 +225,13 @@ class Deadlines(unittest.TestCase):
             for it in waiting:
                 it.join(PATIENCE)
             self.assertEqual(heard, {present: played(0), next_guest: moved("e2e4", 0)})
+            self.assertEqual(pings, ["ping"] * 3)
+            late.asks(submits("b3", "e2e4"), played(0))
             present.close()
             next_guest.hears(ABANDONED, "close 1000")
-            for connection in vanished, guest, next_guest:
+            for connection in vanished, guest, next_guest, late:
                 connection.close()
-            server.has_served(4)
+            server.has_served(5)
 
     def test_an_operator_whose_machine_has_vanished_has_gone_after_ninety_seconds_though_no_move_is_played(self):
         """Nothing is acknowledged any more, and no end of the connection comes. Before, there

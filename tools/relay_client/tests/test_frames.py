@@ -1,15 +1,34 @@
-"""Frames that are broken, and texts that are too long or too deep."""
+"""Frames that are broken or cut off, texts that are too long or too deep, and whole sessions."""
 
+import socket
 import time
 import unittest
 
 from relay_client.connection import Connection
-from relay_client.frames import MASK, frame, head
+from relay_client.frames import MASK, PING, REQUEST, frame, head, masked, pong
+from relay_client.program import PATIENCE
 from relay_client.server import Server
 from relay_client.tests.sessions import ABANDONED, guest_of, owner_of
-from relay_client.texts import BAD_FIELD, NOT_JSON, NOT_OBJECT, OPENED, ended, ends, moved, opens, over, played, submits
+from relay_client.tests.test_events import BINARY, FIRST_OF_TEXT, GOES, GONE, LAST, heard, told
+from relay_client.texts import (BAD_FIELD, NOT_JSON, NOT_OBJECT, OPENED, ended, ends, following, follows, moved, opens, over, played, refused,
+                                submits, takes)
 
 NO_KIND = b"\x83\x80" + MASK
+WRONG_MODE = refused(14, "WrongMode")
+AFTER_E4 = "rnbqkbnr/pppppppp/8/8/4P3/8/PPPP1PPP/RNBQKBNR b HAha e3 0 1"
+MOST_MESSAGES = 1_000_000
+# What peers of one server send, one after another, and what each gets behind the handshake until the connection ends.
+ROWS = {
+    "no command": (masked(PING, b"") + GOES, b"\x8a\x00" + GONE),
+    "a ping, a binary message, texts too long and not, a text in two parts, a command that nobody may make": (
+        frame(opens("b1")) + masked(PING, b"here") + masked(BINARY, opens("b1").encode()) + frame(" " * 1025) + frame(" " * 1024)
+        + masked(FIRST_OF_TEXT, b'{"cmd":"submit","bo') + masked(LAST, b'ard":"b1","move":"e2e4"}') + frame(takes(1)) + GOES,
+        told(OPENED) + b"\x8a\x04here" + told(NOT_JSON) + told(BAD_FIELD) + told(NOT_JSON) + told(played(0)) + told(WRONG_MODE) + GONE),
+    "its board is over": (frame(follows("b1", 9)), told(following(1, AFTER_E4)) + told(ABANDONED) + GONE),
+    "a binary message at first": (masked(BINARY, opens("b2").encode()) + GOES, told(NOT_JSON) + GONE),
+    "an end in the middle of a frame": (frame(opens("b2")) + frame(opens("b2"))[:-9], told(OPENED)),
+    "the board that was opened before": (frame(follows("b2", 9)), told(following()) + told(ABANDONED) + GONE),
+}
 
 
 class BrokenFrames(unittest.TestCase):
@@ -65,5 +84,46 @@ class LongTexts(unittest.TestCase):
             peer.asks("[" * 127 + "]" * 127, NOT_OBJECT)
             peer.asks("[" * 128 + "]" * 128, NOT_JSON)
             peer.asks("[" * 1024, NOT_JSON)
+            peer.close()
+            server.has_served(1)
+
+
+class Sessions(unittest.TestCase):
+    def test_sessions_end_as_their_bytes_say(self):
+        with Server("--connections", str(len(ROWS))) as server:
+            for name, (sent, wanted) in ROWS.items():
+                with self.subTest(name):
+                    peer = Connection(server.port)
+                    peer.stream.sendall(sent)
+                    if not wanted.endswith(GONE):
+                        peer.stream.shutdown(socket.SHUT_WR)
+                    self.assertEqual(heard(peer), wanted)
+            server.has_served(len(ROWS))
+
+    def test_a_handshake_that_is_cut_off_is_none_and_neither_is_a_command(self):
+        """Wherever it is cut off. A request that does not come to its end has no answer."""
+        whole = REQUEST + frame(opens("b1"))
+        with Server("--connections", str(len(whole) + 1)) as server:
+            for until in range(len(whole)):
+                with self.subTest(until), socket.create_connection(("127.0.0.1", server.port), timeout=PATIENCE) as peer:
+                    peer.sendall(whole[:until])
+                    peer.shutdown(socket.SHUT_WR)
+                    answer = b""
+                    while piece := peer.recv(4096):
+                        answer += piece
+                    if until < len(REQUEST):
+                        self.assertEqual(answer, b"")
+                    else:
+                        self.assertRegex(answer, rb"\AHTTP/1\.1 101 [^\n]*\n([^\r\n]+\r\n)+\r\n\Z")
+            # None of them has opened the board.
+            owner_of(server).close()
+            server.has_served(len(whole) + 1)
+
+    def test_the_millionth_message_is_the_last(self):
+        with Server("--connections", "1") as server:
+            peer = Connection(server.port)
+            peer.stream.sendall(pong() * (MOST_MESSAGES - 1) + frame(opens("b1")) * 2)
+            peer.hears(OPENED, "close 1000")
+            peer.has_ended()
             peer.close()
             server.has_served(1)

@@ -28,6 +28,18 @@ class Heads(unittest.TestCase):
                     self.is_answered(peer, status)
             server.has_served(2)
 
+    def test_a_head_byte_by_byte_may_have_8192_bytes_and_not_8193(self):
+        with Server("--connections", "2") as server:
+            for size, status in (8192, 101), (8193, 431):
+                with socket.create_connection(("127.0.0.1", server.port), timeout=PATIENCE) as peer:
+                    peer.setsockopt(socket.IPPROTO_TCP, socket.TCP_NODELAY, 1)
+                    request = REQUEST[:-2] + b"A: " + b"x" * (size - len(REQUEST) - 5) + b"\r\n\r\n"
+                    self.assertEqual(len(request), size)
+                    for byte in request:
+                        peer.sendall(bytes([byte]))
+                    self.is_answered(peer, status)
+            server.has_served(2)
+
     def test_a_request_may_have_64_header_fields_and_not_65(self):
         """Each takes room on its session's stack. Before, 65 were let in."""
         with Server("--connections", "2") as server:

@@ -361,6 +361,8 @@ class WhoseBoard(Keys):
             for connection in owner, before, after:
                 for board in "b1", "b2":
                     connection.asks(follows(board), WRONG_MODE)
+                # A board of another one stays another's.
+                self.is_foreign(connection, "b2")
             owner.reset()
             back = Connection(server.port, key=KEY)
             back.asks(follows("b2"), WRONG_MODE)

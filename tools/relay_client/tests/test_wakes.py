@@ -8,8 +8,8 @@ import unittest
 from relay_client.connection import Connection
 from relay_client.frames import frame
 from relay_client.server import Server
-from relay_client.tests.sessions import guest_of, moves_without_a_draw, owner_of
-from relay_client.texts import follows, moved, played, submits
+from relay_client.tests.sessions import guest_of, moves_without_a_draw, owner_of, without_loops
+from relay_client.texts import OPENED, follows, moved, opens, played, submits
 
 SO_TIMESTAMPNS = 35  # Linux, asm-generic/socket.h: what is received comes with the time at which the system had it.
 FOLLOWERS = 256
@@ -48,34 +48,58 @@ def moves_until_it_stops(server):
 
 
 class Wakes(unittest.TestCase):
-    def is_early(self, owner, guests, place, move):
-        """Plays a move while all sleep, and says whether the system had a follower's text before the operator's answer."""
+    server = staticmethod(Server)
+
+    def is_early(self, owner, guests, *burst):
+        """Plays moves in one piece while all sleep, and says whether the system had a follower's text before the operator's answers. Each is a
+        board, a place and a move, and the followers are those of b1."""
         time.sleep(0.05)
-        owner.send(submits("b1", move))
+        owner.send(*(submits(board, move) for board, _, move in burst))
         answered, told = came_at(owner), min(map(came_at, guests))
-        owner.hears(played(place))
+        owner.hears(*(played(place) for _, place, _ in burst))
         for guest in guests:
-            guest.hears(moved(move, place))
+            guest.hears(*(moved(move, place) for board, place, move in burst if board == "b1"))
         return told < answered
 
-    def test_an_operator_is_answered_before_its_followers_wake(self):
+    def few_are_early(self, bursts, *words):
         """Before, the followers were woken first, and the answer came late at each of 20 moves. A follower that does not sleep yet
         may have its move at once: so a few may come early."""
         count = FOLLOWERS + 1
-        with Server("--connections", str(count), "--followers", str(FOLLOWERS)) as server:
+        with self.server("--connections", str(count), "--followers", str(FOLLOWERS), *words) as server:
             owner = noted(owner_of(server))
+            owner.asks(opens("b2"), OPENED)
             guests = [noted(guest_of(server)) for _ in range(FOLLOWERS)]
-            moves = list(moves_without_a_draw())[:MOVES]
-            early = sum(self.is_early(owner, guests, place, move) for place, move in enumerate(moves))
-            self.assertLessEqual(early, MOVES // 4)
+            early = sum(self.is_early(owner, guests, *burst) for burst in bursts)
+            self.assertLessEqual(early, len(bursts) // 4)
             for connection in owner, *guests:
                 connection.close()
             server.has_served(count)
 
+    def test_an_operator_is_answered_before_its_followers_wake(self):
+        self.few_are_early([[("b1", place, move)] for place, move in enumerate(list(moves_without_a_draw())[:MOVES])])
+
+    def test_an_operator_is_answered_before_its_followers_wake_for_two_moves_in_one_piece(self):
+        """As many wakes as may be are postponed at the second, since queues hold eight."""
+        moves = [("b1", place, move) for place, move in enumerate(list(moves_without_a_draw())[:2 * MOVES])]
+        self.few_are_early([moves[at:at + 2] for at in range(0, len(moves), 2)], "--capacity", "8")
+
+    def test_an_operator_is_answered_before_its_followers_wake_for_moves_on_two_boards_in_one_piece(self):
+        """None is postponed at the second, since it is another board's."""
+        moves = enumerate(list(moves_without_a_draw())[:MOVES])
+        self.few_are_early([[(board, place, move) for board in ("b1", "b2")] for place, move in moves])
+
+
+class WakesWithoutLoops(Wakes):
+    server = staticmethod(without_loops)
+
+
+class Unread(unittest.TestCase):
+    server = staticmethod(Server)
+
     def test_an_operator_that_reads_no_answers_does_not_hold_up_its_followers(self):
         """They have all its moves within ten seconds, while the server tries for thirty to write the answers. Each piece that the server
         reads has a move, and so does the one whose answers it cannot write."""
-        with Server("--forever", "--capacity", "1024") as server:
+        with self.server("--forever", "--capacity", "1024") as server:
             owner, guest = owner_of(server, room=4096, segment=536), guest_of(server)
             moves = list(moves_without_a_draw())
             owner.stream.sendall(b"".join(frame(submits("b1", move)) + frame("[") * 300 for move in moves))
@@ -85,3 +109,7 @@ class Wakes(unittest.TestCase):
             guest.hears(*(moved(move, place) for place, move in enumerate(moves[:made])))
             owner.close()
             guest.close()
+
+
+class UnreadWithoutLoops(Unread):
+    server = staticmethod(without_loops)

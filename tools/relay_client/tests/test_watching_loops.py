@@ -6,9 +6,11 @@ import itertools
 import os
 import pathlib
 import random
+import re
 import resource
 import signal
 import socket
+import struct
 import time
 import unittest
 
@@ -35,8 +37,11 @@ NO_WORDS_PING = b"\x89\x00"  # As the server sends one.
 SLOW = {"room": 1024, "segment": 536}
 LONG = 1400  # More moves than such a connection takes.
 FEW = 40  # Texts of some 45 bytes.
-# Seconds. The last try comes by the 27th, and the end not before the 29th.
-TAKEN_AFTER = [24 + at / 2 for at in range(16)]
+# Seconds. A connection takes something by itself for some five of them, so the last try comes by the 39th, and the end by the 49th.
+TAKEN_AFTER = [24 + at / 2 for at in range(57)]
+LOOPS = 4
+MOST_APART = 6  # How many guests more than another loop one may have, beside a sixteenth: the last comes in before another door opens.
+DATA_SEGMENTS_IN = 152  # Where Linux's tcp_info has how many segments with data came.
 
 
 def long_game(count):
@@ -322,6 +327,28 @@ class ComingAndGoing(unittest.TestCase):
                 resource.prlimit(server.process.pid, resource.RLIMIT_NOFILE, (most, most))
                 self.assertEqual(newcomer.recv(13), b"HTTP/1.1 101 ")
 
+    def test_those_whose_end_comes_with_their_last_bytes_have_gone_at_once(self):
+        """Behind a piece that fills no room nothing more is read, unless the system tells that the end came with it."""
+        with Server("--forever", "--watch-threads", "1", watch=True) as server:
+            owner, stays = owner_of(server), watcher_of(server)
+            held = len(list(open_descriptors(server)))
+            watchers = [watcher_of(server) for _ in range(3)]
+            with Stopped(server):
+                newcomer = socket.create_connection(("127.0.0.1", server.watch_port), timeout=SOON)
+                newcomer.sendall(request() + frame(follows("b1")))
+                newcomer.shutdown(socket.SHUT_WR)
+                for watcher, said in zip(watchers, (ONE_PING, ONE_PING[:60], frame("{}"))):
+                    watcher.stream.sendall(said)
+                    watcher.stream.shutdown(socket.SHUT_WR)
+            began = time.monotonic()
+            while len(list(open_descriptors(server))) > held:
+                self.assertLess(time.monotonic() - began, SOON)
+                time.sleep(0.05)
+            owner.asks(submits("b1", "e2e4"), played(0))
+            stays.hears(moved("e2e4", 0))
+            newcomer.close()
+            close_all(owner, stays, *watchers)
+
     def test_one_that_was_told_all_has_the_end_at_once_and_ten_seconds_to_go(self):
         with Server("--forever", "--watch-most", "1", watch=True) as server:
             told = Connection(server.watch_port)
@@ -367,6 +394,83 @@ class ComingAndGoing(unittest.TestCase):
             server.has_served(1)
             self.assertLess(time.monotonic() - began, 9)
             watcher.close()
+
+
+class Sharing(unittest.TestCase):
+    """Each loop has its share of the guests, who stay with it."""
+
+    def loops(self, server):
+        """What the epoll of each loop of the port watches: its guests, the listener, and what wakes the loop."""
+        watched = set()
+        for descriptor in open_descriptors(server):
+            with contextlib.suppress(FileNotFoundError):
+                if os.readlink(descriptor) == "anon_inode:[eventpoll]":
+                    told = pathlib.Path(f"/proc/{server.process.pid}/fdinfo/{descriptor.name}").read_text()
+                    watched.add(frozenset(re.findall(r"tfd: +(\d+) .* ino:([0-9a-f]+) ", told)))
+        return [loop for loop in watched if len(loop) > 1]
+
+    def guests(self, server):
+        return sorted(len(loop) - 2 for loop in self.loops(server))
+
+    def has(self, server, count):
+        """So many are there within a while; how many each loop has."""
+        until = time.monotonic() + 4
+        while sum(guests := self.guests(server)) != count and time.monotonic() < until:
+            time.sleep(0.05)
+        self.assertEqual((len(guests), sum(guests)), (LOOPS, count))
+        return guests
+
+    def has_even_shares(self, server, count):
+        fewest, *_, most = self.has(server, count)
+        self.assertLessEqual(most - fewest, MOST_APART + fewest // 16)
+
+    def inode(self, server, connection):
+        """That of the server's end, as the system tells it of an epoll."""
+        ends = [f":{server.watch_port:04X}", f":{connection.stream.getsockname()[1]:04X}"]
+        for line in pathlib.Path("/proc/net/tcp").read_text().splitlines()[1:]:
+            words = line.split()
+            if [words[1][-5:], words[2][-5:]] == ends:
+                return f"{int(words[9]):x}"
+        return None
+
+    def test_those_who_come_one_by_one_are_spread_over_all_loops(self):
+        with Server("--forever", "--watch-threads", str(LOOPS), watch=True) as server:
+            crowd = [Connection(server.watch_port) for _ in range(CROWD)]
+            self.has_even_shares(server, CROWD)
+            close_all(*crowd)
+
+    def test_those_who_come_at_once_are_spread_over_all_loops(self):
+        """Nobody comes behind them, so of those who wait where one loop has its share another one has to be told."""
+        with Server("--forever", "--watch-threads", str(LOOPS), watch=True) as server:
+            with Stopped(server):
+                burst = [socket.create_connection(("127.0.0.1", server.watch_port), timeout=SOON) for _ in range(BURST)]
+            self.has_even_shares(server, BURST)
+            close_all(*burst)
+
+    def test_newcomers_come_where_others_have_gone(self):
+        with Server("--forever", "--watch-threads", str(LOOPS), watch=True) as server:
+            crowd = [Connection(server.watch_port) for _ in range(CROWD)]
+            left = {inode for _, inode in self.loops(server)[0]}
+            going = [guest for guest in crowd if self.inode(server, guest) in left]
+            self.assertTrue(going)
+            close_all(*going)
+            self.assertEqual(self.has(server, CROWD - len(going))[0], 0)
+            newcomers = [Connection(server.watch_port) for _ in going]
+            self.has_even_shares(server, CROWD)
+            close_all(*newcomers, *(guest for guest in crowd if guest not in going))
+
+    def test_one_that_sends_all_at_once_has_its_answers_in_one_segment(self):
+        with Server("--forever", watch=True) as server:
+            owner = owner_of(server)
+            with socket.create_connection(("127.0.0.1", server.watch_port), timeout=SOON) as newcomer:
+                newcomer.sendall(request() + frame(follows("b1")))
+                received = b""
+                while not received.endswith(following().encode()):
+                    received += (piece := newcomer.recv(1024))
+                    self.assertTrue(piece, received)
+                told = newcomer.getsockopt(socket.IPPROTO_TCP, socket.TCP_INFO, 256)
+                self.assertEqual(struct.unpack_from("I", told, DATA_SEGMENTS_IN), (1,))
+            owner.close()
 
 
 class Floods(unittest.TestCase):
@@ -497,34 +601,42 @@ class Full(unittest.TestCase):
             self.assertEqual(received, wanted)
             close_all(owner, slow)
 
-    def test_one_that_takes_too_little_too_late_is_told_why_it_goes(self):
-        """Each takes less than what the system would tell the loop of. Who does so before the last try stays. Who does so between that and the end of
-        its thirty seconds has room for the close. Who does so later is lost without one."""
-        with Server("--forever", "--watch-threads", "1", "--plies", "8192", watch=True) as server:
+    def test_one_that_takes_a_little_in_thirty_seconds_stays_and_who_does_so_in_ten_more_is_told_why_it_goes(self):
+        """Each takes less than what the system would tell the loop of, and some seconds later all. Whoever comes later than that is lost."""
+        with (Server("--forever", "--watch-threads", "1", "--plies", "8192", watch=True) as server,
+              concurrent.futures.ThreadPoolExecutor(len(TAKEN_AFTER)) as pool):
             owner = owner_of(server)
             texts = [following(), *play(owner, long_game(LONG))]
-            crowd = [Connection(server.watch_port, **SLOW) for _ in TAKEN_AFTER]
             began = time.monotonic()
-            for slow in crowd:
-                slow.send(follows("b1", place=0))
-            received = []
-            for slow, seconds in zip(crowd, TAKEN_AFTER):
-                time.sleep(max(0, began + seconds - time.monotonic()))
-                received.append([slow.receive_any() for _ in range(FEW)])
-            time.sleep(SOON)
-            closes = [self.close_of(slow, had, texts) for slow, had in zip(crowd, received)]
-            self.assertIn("close 1008", closes)
-            close_all(owner, *crowd)
 
-    def close_of(self, slow, received, texts):
-        """The close that comes behind some of the texts, if one does."""
+            def end(seconds):
+                slow = Connection(server.watch_port, **SLOW)
+                slow.send(follows("b1", place=0))
+                time.sleep(max(0, began + seconds - time.monotonic()))
+                received = [slow.receive_any() for _ in range(FEW)]
+                time.sleep(SOON)
+                end = self.end_of(slow, received, texts)
+                slow.close()
+                return end
+
+            ends = list(pool.map(end, TAKEN_AFTER))
+            stayed, told, lost = map(ends.count, ["all", "close 1008", "lost"])
+            self.assertEqual(ends, ["all"] * stayed + ["close 1008"] * told + ["lost"] * lost)
+            self.assertTrue(stayed and lost)
+            self.assertTrue(8 <= told / 2 <= 13, told)
+            owner.close()
+
+    def end_of(self, slow, received, texts):
+        """How it ends behind these texts: they all come, a close comes behind some of them, or nothing."""
         slow.stream.settimeout(SOON)
-        with contextlib.suppress(AssertionError, OSError):
+        try:
             while len(received) < len(texts) and not received[-1].startswith("close"):
                 received.append(slow.receive())
-        close = received.pop() if received[-1].startswith("close") else None
+        except (AssertionError, OSError):
+            received.append("lost")
+        end = "all" if received[-1] == texts[-1] else received.pop()
         self.assertEqual(received, texts[:len(received)])
-        return close
+        return end
 
     def test_one_that_takes_nothing_is_given_up_however_often_it_sends_a_ping(self):
         with Server("--forever", "--watch-threads", "1", "--plies", "8192", watch=True) as server:

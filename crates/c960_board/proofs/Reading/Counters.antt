@@ -1,4 +1,4 @@
--- The two counters' fields name their numbers in one way.
+-- The fields of the two counters determine their numbers.
 use Rattle.std.proofs.Common.{◌≡◌, ℕ, List, sym, ◌∙◌, arith, decimal}
 use Rattle.std.proofs.lemmas.Fmt.{decimal_injective}
 use Rattle.c960_board.specs.Fen.Counters.{AreCounterFields}
@@ -12,7 +12,7 @@ number_is_not_zero half last h n k z e c =
     let same = decimal_injective k n (omega arith) (omega arith) (sym e ∙ c.number) in
     omega arith
 
--- two fields are those of one pair of numbers
+-- two fields belong to one pair of numbers
 pub same_counters : (half last : List ℕ) (h n i m : ℕ) → AreCounterFields half last h n →
     AreCounterFields half last i m → (h ≡ i) × (n ≡ m)
 same_counters half last h n i m x y =

@@ -1,4 +1,4 @@
--- A text is cut at its first such byte in one way.
+-- There is one way to cut a text at the first occurrence of a byte.
 use Rattle.std.proofs.Common.{◌≡◌, ◌≢◌, ℕ, zero, suc, List, [], ◌∷◌, ◌++◌, refl, arith}
 use Rattle.c960_board.specs.Fen.Fields.{Lacks}
 
@@ -10,7 +10,7 @@ Lacks-tail s b bs h k l = h (suc k) (omega arith)
 Lacks-head : (s b : ℕ) (bs : List ℕ) → Lacks s (b ∷ bs) → b ≢ s
 Lacks-head s b bs h = h 0 (omega arith)
 
--- a byte that is not the first and that the tail lacks
+-- a byte is lacking if it is not the first and the tail lacks it
 pub Lacks-cons : (s b : ℕ) (bs : List ℕ) → b ≢ s → Lacks s bs → Lacks s (b ∷ bs)
 Lacks-cons s b bs ne h zero l = ne
 Lacks-cons s b bs ne h (suc k) l = h k (omega arith)
@@ -20,7 +20,7 @@ pub no_cut : (s : ℕ) (a x : List ℕ) → Lacks s (a ++ s ∷ x) → ⊥
 no_cut s [] x h = Lacks-head s s x h refl
 no_cut s (b ∷ bs) x h = no_cut s bs x (Lacks-tail s b (bs ++ s ∷ x) h)
 
--- a text is cut at the first such byte in one way
+-- there is one way to cut a text at the first such byte
 pub same_cut : (s : ℕ) (a b x y : List ℕ) → Lacks s a → Lacks s b → a ++ s ∷ x ≡ b ++ s ∷ y → (a ≡ b) × (x ≡ y)
 same_cut s [] [] x y p q e = (refl, cc)
 same_cut s [] (b ∷ bs) x y p q e = absurd (Lacks-head s b bs q (cc))

@@ -12,7 +12,7 @@ use Rattle.c960_board.specs.Fen.Letters.{letter, letter_of}
 abbrev piece : Colour → Kind → Option Piece
 piece c k = Some (record { colour = c; kind = k })
 
--- the piece of a letter, by which two pieces of one letter are one
+-- the piece of a letter: two pieces with the same letter are equal
 abbrev piece_of : ℕ → Option Piece
 piece_of b =
     cond (b == 80) (piece White Pawn) (cond (b == 78) (piece White Knight) (cond (b == 66) (piece White Bishop)
@@ -21,7 +21,7 @@ piece_of b =
     (cond (b == 114) (piece Black Rook) (cond (b == 113) (piece Black Queen) (cond (b == 107) (piece Black King)
     None)))))))))))
 
--- the letter of a piece is its own
+-- the letter of a piece yields that piece
 read_back : (c : Colour) (k : Kind) → piece_of (letter_of c k) ≡ piece c k
 read_back White Pawn = refl
 read_back White Knight = refl
@@ -36,7 +36,7 @@ read_back Black Rook = refl
 read_back Black Queen = refl
 read_back Black King = refl
 
--- a letter is one piece's
+-- a letter belongs to one piece
 pub letter_injective : (p q : Piece) → letter p ≡ letter q → p ≡ q
 letter_injective p q e =
     let a : piece_of (letter p) ≡ Some p = read_back p.colour p.kind in

@@ -21,7 +21,7 @@ use Rattle.c960_board.proofs.Reading.RanksText.{same_ranks}
 use Rattle.c960_board.proofs.Reading.RightsText.{same_rights_field}
 use Rattle.c960_board.proofs.Reading.Counters.{same_counters}
 
--- texts of two different bytes differ
+-- texts of one byte differ if their bytes do
 other_letter : (a b : ℕ) → a ≢ b → a ∷ [] ≡ b ∷ [] → ⊥
 other_letter a b ne e = ne (cc)
 
@@ -43,11 +43,11 @@ same_target (Some s) (Some t) e =
     let same : s ≡ t = omega arith in
     ap (λ (x : ℕ). Some x) same
 
--- a field is one placement's
+-- a field belongs to one placement
 pub same_placement : (text : List ℕ) (x y : List Cell) → IsPlacementField text x → IsPlacementField text y → x ≡ y
 same_placement text x y a b = same_ranks 7 text x y a.ranks b.ranks
 
--- parts are equal where each is
+-- parts are equal if each one is
 same_parts : (p q : Parts) → p.placement ≡ q.placement → p.turn ≡ q.turn → p.rights ≡ q.rights → p.target ≡ q.target →
     p.half_moves ≡ q.half_moves → p.number ≡ q.number → p ≡ q
 same_parts p q a b c d e f = rw (a, b, c, d, e, f) refl
@@ -132,7 +132,7 @@ fen_fault_code-le Castling = omega arith
 fen_fault_code-le EnPassant = omega arith
 fen_fault_code-le Counters = omega arith
 
--- of two faults in a field, one stands in an earlier field than the other, for which that field is none
+-- of two faults in different fields, one is in an earlier field than the other, and that field has no fault
 one_before : (f : Six) (d e : FenFault) → FaultIn d f → FaultIn e f → fen_fault_code d < fen_fault_code e → ⊥
 one_before f Fields e x y l = x
 one_before f Placement Turn x y l = x y.0 y.1
@@ -147,7 +147,7 @@ one_before f Castling Counters x y l = x.4 y.2 (rights_at f y.0 x.0 y.2 y.4 x.2 
 one_before f EnPassant Counters x y l = x.6 y.3 (target_at f y.0 x.0 y.1 x.1 y.3 y.4 x.3 y.5 x.4 y.7)
 one_before f d e x y l = absurd (omega (arith, fen_fault_code-le e))
 
--- the code tells the fault
+-- the code determines the fault
 same_code : (d e : FenFault) → fen_fault_code d ≡ fen_fault_code e → d ≡ e
 same_code Fields Fields h = refl
 same_code Placement Placement h = refl

@@ -9,20 +9,20 @@ use Rattle.c960_board.specs.Fen.Placement.{empties, SpellsSquares, SpellsRank}
 use Rattle.c960_board.specs.Fen.Reading.{IsRunOf, IsNoSymbol}
 use Rattle.c960_board.proofs.Reading.Letters.{letter_injective, letter-least}
 
--- squares that are spelt behind a piece's letter
+-- squares that are spelled after a piece's letter
 pub record BehindMan (p : Piece) (bs : List ℕ) (cells : List Cell) : Type 0 where
   pub more : List Cell
   pub whole : cells ≡ Some p ∷ more
   pub rest : SpellsSquares false bs more
 
--- squares that are spelt behind a run's digit
+-- squares that are spelled after a run's digit
 pub record BehindRun (after : Bool) (n : ℕ) (bs : List ℕ) (cells : List Cell) : Type 0 where
   pub more : List Cell
   pub first : IsFalse after
   pub whole : cells ≡ empties n ++ more
   pub rest : SpellsSquares true bs more
 
--- behind a piece's letter the text goes on with the squares behind that piece
+-- after a piece's letter the text continues with the squares after that piece
 pub spelt_man : (after : Bool) (b : ℕ) (bs : List ℕ) (cells : List Cell) (p : Piece) → b ≡ letter p →
     SpellsSquares after (b ∷ bs) cells → BehindMan p bs cells
 spelt_man after b bs cells p e (inl x) =
@@ -31,7 +31,7 @@ spelt_man after b bs cells p e (inl x) =
 spelt_man after b bs cells p e (inr x) =
     let high = letter-least p in let bound = x.4 in let digit = x.5 in absurd (omega arith)
 
--- behind a run's digit the text goes on with the squares behind that run
+-- after a run's digit the text continues with the squares after that run
 pub spelt_run : (after : Bool) (b : ℕ) (bs : List ℕ) (cells : List Cell) (n : ℕ) → IsRunOf n b →
     SpellsSquares after (b ∷ bs) cells → BehindRun after n bs cells
 spelt_run after b bs cells n e (inl x) = let high = letter-least x.0 in let at = x.2 in absurd (omega arith)
@@ -100,7 +100,7 @@ fronts_man front after b bs text p e f =
           };
     }
 
--- a run's digit more, behind no other
+-- one more run's digit, not after another
 pub fronts_run : (front : List Cell) (b : ℕ) (bs text : List ℕ) (n : ℕ) → IsRunOf n b →
     Fronts front false (b ∷ bs) text → Fronts (front ++ empties n) true bs text
 fronts_run front b bs text n e f =
@@ -124,7 +124,7 @@ pub length-empties : (n : ℕ) → length (empties n) ≡ n
 length-empties zero = refl
 length-empties (suc n) = ap suc (length-empties n)
 
--- a piece behind eight squares
+-- a piece after eight squares
 pub man_too_long : (front : List Cell) (after : Bool) (text : List ℕ) (i : ℕ) (p : Piece) → Reads front after text i →
     i < length text → get_or text i 0 ≡ letter p →
     8 ≤ length front → (all : List Cell) → SpellsRank text all → ⊥
@@ -151,7 +151,7 @@ run_too_long front after text i n r l e long all rank =
     let full = rank.full in
     omega (arith, length-empties n)
 
--- a digit behind a digit
+-- a digit after a digit
 pub run_twice : (front : List Cell) (after : Bool) (text : List ℕ) (i n : ℕ) → Reads front after text i →
     i < length text → IsRunOf n (get_or text i 0) → after ≡ true →
     (all : List Cell) → SpellsRank text all → ⊥
@@ -161,7 +161,7 @@ run_twice front after text i n r l e on all rank =
     let off : after ≡ false = behind.first in
     cc
 
--- a byte that stands for nothing
+-- a byte that means nothing
 pub other_byte : (front : List Cell) (after : Bool) (text : List ℕ) (i : ℕ) → Reads front after text i →
     i < length text → IsNoSymbol (get_or text i 0) →
     (all : List Cell) → SpellsRank text all → ⊥
@@ -188,7 +188,7 @@ too_short front after text i r l short all rank =
     let full = rank.full in
     omega arith
 
--- the empty squares behind the front
+-- the empty squares after the front
 pub take_empties : (cells : List Cell) (file n : ℕ) → ((k : ℕ) → file ≤ k → get_or cells k None ≡ None) →
     file + n ≤ length cells → take (file + n) cells ≡ take file cells ++ empties n
 take_empties [] zero zero h l = refl

@@ -9,7 +9,7 @@ use Rattle.c960_board.proofs.Reading.Cuts.{Lacks-cons, same_cut, no_cut}
 use Rattle.c960_board.proofs.Reading.Letters.{letter-least}
 use Rattle.c960_board.proofs.Reading.RankText.{same_squares}
 
--- a byte below the digits, as the slash and the space are, stands in no rank
+-- a byte below the digits, such as the slash and the space, does not occur in a rank
 pub Lacks-low : (s : ℕ) → s < 49 → (after : Bool) (text : List ℕ) (cells : List Cell) →
     SpellsSquares after text cells → Lacks s text
 Lacks-low s low after [] cells h = λ k l. absurd (omega arith)
@@ -22,15 +22,15 @@ Lacks-low s low after (b ∷ bs) cells (inr x) =
     let digit = x.5 in
     Lacks-cons s b bs (omega arith) (Lacks-low s low true bs x.1 x.7)
 
--- no slash stands in a rank
+-- no slash occurs in a rank
 pub Lacks-slash : (text : List ℕ) (cells : List Cell) → SpellsRank text cells → Lacks 47 text
 Lacks-slash text cells rank = Lacks-low 47 (omega arith) false text cells rank.spelt
 
--- a text without a slash is no two ranks
+-- a text without a slash is not two ranks
 pub no_ranks : (n : ℕ) (text : List ℕ) → Lacks 47 text → (all : List Cell) → SpellsRanks (suc n) text all → ⊥
 no_ranks n text h all ranks = no_cut 47 ranks.0 ranks.1 (subst (Lacks 47) ranks.2 h)
 
--- the highest rank and the others are those that the first slash parts
+-- the highest rank and the others are the two parts around the first slash
 pub parted : (n : ℕ) (text first rest : List ℕ) → text ≡ first ++ 47 ∷ rest → Lacks 47 first → (all : List Cell) →
     SpellsRanks (suc n) text all →
     SpellsRank first (drop (8 * suc n) all) × SpellsRanks n rest (take (8 * suc n) all)
@@ -68,7 +68,7 @@ ranks_up b (suc n) text first rest low row l e h rank len given =
     (subst (λ (j : ℕ). MatchBool b (SpellsRanks j rest low) ((all : List Cell) → SpellsRanks j rest all → ⊥)) m
     given)
 
--- a highest rank that is none
+-- a highest rank that is not one
 pub no_high : (k : ℕ) (text first rest : List ℕ) → 0 < k → text ≡ first ++ 47 ∷ rest → Lacks 47 first →
     ((row : List Cell) → SpellsRank first row → ⊥) → (all : List Cell) → SpellsRanks k text all → ⊥
 no_high zero text first rest l e h none all ranks = absurd (omega arith)

@@ -7,17 +7,17 @@ use Rattle.c960_board.specs.declared.piece.Colour.{Colour}
 use Rattle.c960_board.specs.declared.piece.Colour.TheVariants.{White, Black}
 use Rattle.c960_board.specs.declared.rights.CastlingRights.{CastlingRights}
 use Rattle.c960_board.specs.Pieces.{Cell}
-use Rattle.c960_board.specs.Position.{has_right}
+use Rattle.c960_board.specs.Cells.{has_right}
 use Rattle.c960_board.specs.Fen.Letters.{right_letter, dash}
 use Rattle.c960_board.specs.Fen.Rights.{IsRightLetter, times, once, SpellsRights, IsRightsField}
 use Rattle.c960_board.specs.Fen.Reading.{NamesRights}
 
--- once is one time at most
+-- `once` is at most one
 once-le : (x : Bool) → once x ≤ 1
 once-le true = omega arith
 once-le false = omega arith
 
--- once tells whether
+-- `once` determines whether
 once_is : (x y : Bool) → once x ≡ once y → x ≡ y
 once_is true true e = refl
 once_is true false e = absurd (omega arith)
@@ -34,7 +34,7 @@ pub record SpellsSoFar (text : List ℕ) (i : ℕ) (r : CastlingRights) : Type 0
   pub letters : (k : ℕ) → k < i → IsRightLetter (get_or text k 0)
   pub each : (c : Colour) (f : ℕ) → f < 8 → times (right_letter c f) (take i text) ≡ once (has_right r c f)
 
--- a letter that stands twice names no rights
+-- a letter that occurs twice names no rights
 pub letter_again : (text : List ℕ) (i : ℕ) (r : CastlingRights) (c : Colour) (f : ℕ) → SpellsSoFar text i r →
     i < length text → f < 8 → get_or text i 0 ≡ right_letter c f → has_right r c f ≡ true →
     (s : CastlingRights) → SpellsRights text s → ⊥
@@ -50,7 +50,7 @@ letter_again text i r c f so l m e held s spelt =
     let least = once-le (has_right s c f) in
     omega arith
 
--- a dash is no letter
+-- a dash is not a letter
 no_dash : (c : Colour) (f : ℕ) → 45 ≡ right_letter c f → ⊥
 no_dash White f e = omega arith
 no_dash Black f e = omega arith
@@ -62,7 +62,7 @@ dash_is_none text r e spelt =
     let letter : IsRightLetter 45 = here.letters 0 (omega arith) in
     no_dash letter.colour letter.file letter.letter
 
--- a text that is no dash names rights by their letters
+-- a text that is not a dash names rights by their letters
 pub named_by_letters : (x : Option CastlingRights) (text : List ℕ) → text ≢ dash →
     MatchOption x ((r : CastlingRights) → SpellsRights text r → ⊥) (λ r. SpellsRights text r) → MatchOption x
     ((r : CastlingRights) → NamesRights text r → ⊥) (λ r. NamesRights text r)
@@ -83,7 +83,7 @@ pub record HaveFiles (r : CastlingRights) : Type 0 where
   pub white : length r.white ≡ 8
   pub black : length r.black ≡ 8
 
--- rights are equal where those of each side are
+-- rights are equal if those of each side are
 rights_is : (r s : CastlingRights) → r.white ≡ s.white → r.black ≡ s.black → r ≡ s
 rights_is r s a b = rw (a, b) refl
 

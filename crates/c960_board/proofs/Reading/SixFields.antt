@@ -57,21 +57,21 @@ counters_are text a r b s d t g u h v f p q o n m six =
 abbrev pub HasNoFront : List ℕ → Type 0
 HasNoFront r = (a x : List ℕ) → IsFront r a x → ⊥
 
--- a text with no first field is not six
+-- a text with no first field is not six fields
 pub no_placement : (text : List ℕ) → HasNoFront text → (f : Six) → IsSix f text → ⊥
 no_placement text none f six = none f.placement (from_turn f) (record { whole = six.whole; field = six.placement })
 
--- a text with no second field is not six
+-- a text with no second field is not six fields
 pub no_turn : (text a r : List ℕ) → IsFront text a r → HasNoFront r → (f : Six) → IsSix f text → ⊥
 no_turn text a r p none f six =
     none f.turn (from_rights f) (record { whole = (placement_is text a r f p six).1; field = six.turn })
 
--- a text with no third field is not six
+-- a text with no third field is not six fields
 pub no_rights : (text a r b s : List ℕ) → IsFront text a r → IsFront r b s → HasNoFront s → (f : Six) → IsSix f text → ⊥
 no_rights text a r b s p q none f six =
     none f.rights (from_target f) (record { whole = (turn_is text a r b s f p q six).1; field = six.rights })
 
--- a text with no fourth field is not six
+-- a text with no fourth field is not six fields
 pub no_target : (text a r b s d t : List ℕ) → IsFront text a r → IsFront r b s → IsFront s d t → HasNoFront t →
     (f : Six) →
     IsSix f text → ⊥
@@ -79,20 +79,20 @@ no_target text a r b s d t p q o none f six =
     none f.target (from_half_moves f)
     (record { whole = (rights_are text a r b s d t f p q o six).1; field = six.target })
 
--- a text with no fifth field is not six
+-- a text with no fifth field is not six fields
 pub no_half_moves : (text a r b s d t g u : List ℕ) → IsFront text a r → IsFront r b s → IsFront s d t → IsFront t g u →
     HasNoFront u → (f : Six) → IsSix f text → ⊥
 no_half_moves text a r b s d t g u p q o n none f six =
     none f.half_moves f.number
     (record { whole = (target_is text a r b s d t g u f p q o n six).1; field = six.half_moves })
 
--- a text whose end is no field is not six
+-- a text whose end is not a field is not six fields
 pub no_number : (text a r b s d t g u h v : List ℕ) → IsFront text a r → IsFront r b s → IsFront s d t → IsFront t g u →
     IsFront u h v → ¬ (IsField v) → (f : Six) → IsSix f text → ⊥
 no_number text a r b s d t g u h v p q o n m none f six =
     none (subst IsField (sym (counters_are text a r b s d t g u h v f p q o n m six).1) six.number)
 
--- six fields are equal where each is
+-- six fields are equal if each one is
 six_is : (f g : Six) → f.placement ≡ g.placement → f.turn ≡ g.turn → f.rights ≡ g.rights → f.target ≡ g.target →
     f.half_moves ≡ g.half_moves → f.number ≡ g.number → f ≡ g
 six_is f g a b c d e h = rw (a, b, c, d, e, h) refl

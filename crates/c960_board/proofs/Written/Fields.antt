@@ -1,4 +1,4 @@
--- No field of the written text is empty or has a space.
+-- No field of the written text is empty or contains a space.
 use Rattle.std.proofs.Common.{◌≡◌, ◌≢◌, ℕ, zero, suc, ◌+◌, ◌*◌, ◌/◌, ◌%◌, ◌<◌, ◌≤◌, ◌^◌, false, List, [], ◌∷◌, ◌++◌, length, get_or, take, drop, Option, Some, None, sym, ap, subst, ◌∙◌, arith, inl, inr, decimal, length-append}
 use Rattle.std.specs.Prelude.{◌⊎◌}
 use Rattle.std.proofs.lemmas.Fmt.{decimal_by_steps, decimal_nonempty}
@@ -14,11 +14,11 @@ use Rattle.c960_board.specs.Fen.Target.{target_text}
 use Rattle.c960_board.proofs.Reading.Cuts.{Lacks-cons}
 use Rattle.c960_board.proofs.Reading.RanksText.{Lacks-low}
 
--- no byte stands in the empty text
+-- no byte occurs in the empty text
 lacks-none : (s : ℕ) → Lacks s []
 lacks-none s = λ k l. absurd (omega arith)
 
--- one text behind another
+-- one text after another
 lacks-append : (s : ℕ) (l m : List ℕ) → Lacks s l → Lacks s m → Lacks s (l ++ m)
 lacks-append s [] m p q = q
 lacks-append s (b ∷ bs) m p q =
@@ -61,7 +61,7 @@ target_field (Some s) =
 
 -- ---- the rights
 
--- a right's letter is no space
+-- a right's letter is not a space
 right_no_space : (c : Colour) (f : ℕ) → right_letter c f ≢ 32
 right_no_space White f e = omega arith
 right_no_space Black f e = omega arith

@@ -1,4 +1,4 @@
--- The written text has 93 bytes at most.
+-- The written text has at most 93 bytes.
 use Rattle.std.proofs.Common.{◌≡◌, ℕ, zero, suc, ◌+◌, ◌*◌, ◌≤◌, List, [], ◌∷◌, length, take, drop, Option, Some, None, refl, arith, decimal, length-append, length-drop}
 use Rattle.std.proofs.lemmas.Fmt.{length-decimal-le}
 use Rattle.std.proofs.lemmas.List.{length-take}
@@ -20,7 +20,7 @@ run_length : (n : ℕ) → length (run_text n) ≤ n
 run_length zero = omega arith
 run_length (suc n) = omega arith
 
--- a square takes a byte at most
+-- a square takes at most one byte
 squares_length : (cells : List Cell) (n : ℕ) → length (squares_text cells n) ≤ length cells + n
 unfolding squares_text
 squares_length [] n = omega (arith, run_length n)
@@ -45,7 +45,7 @@ dash_length : (text : List ℕ) (n : ℕ) → length text ≤ n → 1 ≤ n → 
 dash_length [] n l m = m
 dash_length (b ∷ bs) n l m = l
 
--- two rights a side at most
+-- at most two rights a side
 rights_length : (cells : List Cell) (r : CastlingRights) → IsPlacement cells → ((c : Colour) → AreRights cells r c)
     → length (rights_text r) ≤ 4
 unfolding rights_text
@@ -59,7 +59,7 @@ turn_length : (c : Colour) → length (turn_text c) ≡ 1
 turn_length White = refl
 turn_length Black = refl
 
--- two bytes at most for the target
+-- at most two bytes for the target
 target_length : (t : Option ℕ) → length (target_text t) ≤ 2
 target_length None = omega arith
 target_length (Some s) = omega arith
@@ -99,6 +99,6 @@ FieldsFit p =
     length (ranks_text 7 p.placement) + length (turn_text p.turn) + length (rights_text p.rights)
     + length (target_text p.target) + length (decimal p.half_moves) + length (decimal p.number) + 5 ≤ 93
 
--- those of a position do
+-- the fields of a position fit
 pub fields_fit : (p : Parts) → IsPosition p → FieldsFit p
 fields_fit p valid = omega (arith, canonical_length p, canonical_short p valid)

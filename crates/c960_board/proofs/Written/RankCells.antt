@@ -1,4 +1,4 @@
--- The cells of the ranks, as sets of squares tell of them.
+-- The cells of the ranks, according to sets of squares.
 use Rattle.std.proofs.Common.{◌≡◌, ℕ, ◌+◌, ◌*◌, ◌≤◌, ◌<◌, List, ◌∷◌, ◌++◌, length, get_or, take, drop, map, Some, None, refl, sym, ◌∙◌, arith, length-drop}
 use Rattle.std.specs.List.{range_with_len}
 use Rattle.std.proofs.lemmas.List.{get_or-drop, ext_get_or}
@@ -62,7 +62,7 @@ pub lower_text_last : (s : Sets) (ranks n : ℕ) → ranks ≡ 1 → n ≡ 0
 unfolding lower_cells rank_cells
 lower_text_last s ranks n e f = rw e (ranks_text_last (lower_cells s 1) n f)
 
--- a piece of a rank behind a run of empty squares
+-- a piece of a rank after a run of empty squares
 pub rank_text_piece : (s : Sets) (rank file n : ℕ) (p : Piece) → file < 8 → cell_in s (8 * rank + file) ≡ Some p
     → squares_text (drop file (rank_cells s rank)) n ≡ run_text n ++ letter p ∷ squares_text (drop (file + 1) (rank_cells s rank)) 0
 rank_text_piece s rank file n p l e =

@@ -7,12 +7,12 @@ use Rattle.c960_board.specs.Fen.Letters.{letter}
 use Rattle.c960_board.specs.Fen.Placement.{empties, SpellsSquares, SpellsRank, SpellsRanks}
 use Rattle.c960_board.specs.Fen.Canonical.{run_text, squares_text, ranks_text}
 
--- a piece's letter, whatever stands before it
+-- a piece's letter, whatever comes before it
 piece_first : (after : Bool) (p : Piece) (bytes : List ℕ) (cells : List Cell) → SpellsSquares false bytes cells
     → SpellsSquares after (letter p ∷ bytes) (Some p ∷ cells)
 piece_first after p bytes cells h = inl (p, cells, refl, refl, h)
 
--- a run's digit, and what may stand behind any byte
+-- a run's digit, and what may come after any byte
 run_first : (n : ℕ) (bytes : List ℕ) (cells : List Cell) → n ≤ 8 → ((after : Bool) → SpellsSquares after bytes cells)
     → SpellsSquares false (run_text n ++ bytes) (empties n ++ cells)
 run_first zero bytes cells l h = h false
@@ -25,7 +25,7 @@ empties_more (suc n) cells =
     let e : suc n + 1 ≡ suc (n + 1) = omega arith in
     ap (λ (m : ℕ). empties m ++ cells) e ∙ ap (λ (x : List Cell). None ∷ x) (empties_more n cells)
 
--- the text of the squares that are left spells them behind the run before them
+-- the text of the remaining squares spells them after the run before them
 squares_spelt : (cells : List Cell) (n : ℕ) → n + length cells ≤ 8
     → SpellsSquares false (squares_text cells n) (empties n ++ cells)
 unfolding squares_text

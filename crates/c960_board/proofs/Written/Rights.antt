@@ -9,19 +9,19 @@ use Rattle.c960_board.specs.declared.piece.Colour.{Colour}
 use Rattle.c960_board.specs.declared.piece.Colour.TheVariants.{White, Black}
 use Rattle.c960_board.specs.declared.rights.CastlingRights.{CastlingRights}
 use Rattle.c960_board.specs.Pieces.{other}
-use Rattle.c960_board.specs.Position.{rights_of, has_right}
+use Rattle.c960_board.specs.Cells.{rights_of, has_right}
 use Rattle.c960_board.specs.Fen.Letters.{right_letter}
 use Rattle.c960_board.specs.Fen.Rights.{times, once, IsRightLetter, SpellsRights, SpellsNoRights}
 use Rattle.c960_board.specs.Fen.Canonical.{side_text, or_dash, rights_text}
 use Rattle.c960_board.proofs.Written.Steps.{both_sides}
 
--- ---- how often a letter stands in a side's text
+-- ---- how often a letter occurs in a side's text
 
--- how often a byte stands in a text with one byte more
+-- how often a byte occurs in a text with one more byte
 times-cons : (x b : ℕ) (bs : List ℕ) → times x (b ∷ bs) ≡ cond (b == x) 1 0 + times x bs
 times-cons x b bs = sum_by-cons (λ y. cond (y == x) 1 0) b bs
 
--- how often a byte stands in two texts
+-- how often a byte occurs in two texts
 times-append : (x : ℕ) (l m : List ℕ) → times x (l ++ m) ≡ times x l + times x m
 times-append x l m = sum_by-append (λ b. cond (b == x) 1 0) l m
 
@@ -51,7 +51,7 @@ outside r c x (suc n) ne =
 same_letter : (c : Colour) (f g : ℕ) → right_letter c f ≡ right_letter c g → f ≡ g
 same_letter c f g e = omega arith
 
--- the letter of each file once where the right is held
+-- the letter of each file once if the right is held
 inside : (r : CastlingRights) (c : Colour) (f n : ℕ) → f < n
     → times (right_letter c f) (side_text r c n) ≡ once (has_right r c f)
 unfolding side_text
@@ -74,11 +74,11 @@ other_letter : (c : Colour) (f g : ℕ) → f < 8 → g < 8 → right_letter (ot
 other_letter White f g l m e = omega arith
 other_letter Black f g l m e = omega arith
 
--- a letter does not stand in the other side's text
+-- a letter does not occur in the other side's text
 other_times : (r : CastlingRights) (c : Colour) (f : ℕ) → f < 8 → times (right_letter c f) (side_text r (other c) 8) ≡ 0
 other_times r c f l = outside r (other c) (right_letter c f) 8 (λ g m. other_letter c f g l m)
 
--- each letter once where the right is held
+-- each letter once if the right is held
 each_once : (r : CastlingRights) (c : Colour) (f : ℕ) → f < 8
     → times (right_letter c f) (both_sides r) ≡ once (has_right r c f)
 each_once r White f l =
@@ -120,12 +120,12 @@ side_letters r c (suc n) l =
 
 -- ---- no rights
 
--- a right whose letter stands nowhere is not held
+-- a right whose letter occurs nowhere is not held
 none_once : (held : Bool) → once held ≡ 0 → held ≡ false
 none_once true e = absurd (omega arith)
 none_once false e = refl
 
--- where no letter is written, no right is held
+-- if no letter is written, no right is held
 none_held : (r : CastlingRights) (c : Colour) (f : ℕ) → length (rights_of r c) ≡ 8 → both_sides r ≡ []
     → has_right r c f ≡ false
 none_held r c f width e =

@@ -1,4 +1,4 @@
--- A side holds two rights at most: one on each side of its king.
+-- A side holds at most two rights: one on each side of its king.
 use Rattle.std.proofs.Common.{◌≡◌, ℕ, zero, suc, ◌+◌, ◌<◌, ◌≤◌, Bool, true, false, cond, List, [], ◌∷◌, length, get_or, None, refl, sym, ap, ◌∙◌, arith, inl, inr, IsTrue}
 use Rattle.std.specs.Prelude.{count_by}
 use Rattle.std.proofs.lemmas.Bool.{cases_lt, lt-ltb, le-ltb}
@@ -8,14 +8,15 @@ use Rattle.c960_board.specs.declared.piece.Kind.TheVariants.{King}
 use Rattle.c960_board.specs.declared.rights.CastlingRights.{CastlingRights}
 use Rattle.c960_board.specs.Squares.{file_of}
 use Rattle.c960_board.specs.Pieces.{Cell, man, holds}
-use Rattle.c960_board.specs.Position.{cell_at, has_right, IsPlacement, AreRights}
+use Rattle.c960_board.specs.Position.{IsPlacement, AreRights}
+use Rattle.c960_board.specs.Cells.{cell_at, has_right}
 use Rattle.c960_board.specs.Fen.Letters.{right_letter}
 use Rattle.c960_board.specs.Fen.Canonical.{side_text}
-use Rattle.c960_board.proofs.SetFacts.{man_says}
+use Rattle.c960_board.proofs.lemmas.SetFacts.{man_says}
 
 -- ---- the king's square
 
--- a king that is counted stands somewhere
+-- a king that is counted is somewhere
 some_place : (c : Colour) (cells : List Cell) → 0 < count_by (holds c King) cells
     → (s : ℕ) × (s < length cells) × (get_or cells s None ≡ man c King)
 some_place c [] l = absurd (omega arith)
@@ -30,7 +31,7 @@ some_place c (x ∷ xs) l =
           (suc rest.0, omega (arith, rest.1), rest.2)
     ] refl
 
--- a side's king stands on the board
+-- a side's king is on the board
 pub king_stands : (cells : List Cell) (c : Colour) → IsPlacement cells
     → (s : ℕ) × (s < 64) × (cell_at cells s ≡ man c King)
 king_stands cells c p =
@@ -45,7 +46,7 @@ king_stands cells c p =
 abbrev NoneFrom : CastlingRights → Colour → ℕ → ℕ → Type 0
 NoneFrom r c m n = (f : ℕ) → m ≤ f → f < n → IsTrue (has_right r c f) → ⊥
 
--- where no right is held, nothing is written
+-- if no right is held, nothing is written
 none_length : (r : CastlingRights) (c : Colour) (m n : ℕ) → m ≤ n → NoneFrom r c m n
     → length (side_text r c n) ≡ length (side_text r c m)
 unfolding side_text
@@ -60,12 +61,12 @@ none_length r c m (suc n) l none =
           ] refl
     ]
 
--- any two rights from m on below n are one
+-- any two rights from m on below n are equal
 abbrev OneFrom : CastlingRights → Colour → ℕ → ℕ → Type 0
 OneFrom r c m n =
     (f g : ℕ) → m ≤ f → f < n → m ≤ g → g < n → IsTrue (has_right r c f) → IsTrue (has_right r c g) → f ≡ g
 
--- where one right at most is held, one letter at most is written
+-- if at most one right is held, at most one letter is written
 one_length : (r : CastlingRights) (c : Colour) (m n : ℕ) → m ≤ n → OneFrom r c m n
     → length (side_text r c n) ≤ length (side_text r c m) + 1
 unfolding side_text
@@ -84,7 +85,7 @@ one_length r c m (suc n) l one =
           ] refl
     ]
 
--- the letters of a side's rights are two at most
+-- a side's rights have at most two letters
 pub side_length : (cells : List Cell) (r : CastlingRights) (c : Colour) → IsPlacement cells → AreRights cells r c
     → length (side_text r c 8) ≤ 2
 unfolding side_text

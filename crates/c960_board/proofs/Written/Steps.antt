@@ -7,12 +7,12 @@ use Rattle.c960_board.specs.declared.piece.Piece.{Piece}
 use Rattle.c960_board.specs.declared.rights.CastlingRights.{CastlingRights}
 use Rattle.c960_board.specs.declared.parts.Parts.{Parts}
 use Rattle.c960_board.specs.Pieces.{Cell}
-use Rattle.c960_board.specs.Position.{has_right}
+use Rattle.c960_board.specs.Cells.{has_right}
 use Rattle.c960_board.specs.Fen.Letters.{letter, turn_text, right_letter, dash}
 use Rattle.c960_board.specs.Fen.Target.{target_text}
 use Rattle.c960_board.specs.Fen.Canonical.{run_text, squares_text, ranks_text, side_text, or_dash, rights_text, fields_of, canonical}
 
--- a piece behind a run of empty squares
+-- a piece after a run of empty squares
 pub squares_text_piece : (cells : List Cell) (i n : ℕ) (p : Piece) → i < length cells → get_or cells i None ≡ Some p
     → squares_text (drop i cells) n ≡ run_text n ++ letter p ∷ squares_text (drop (i + 1) cells) 0
 unfolding squares_text
@@ -24,12 +24,12 @@ pub squares_text_empty : (cells : List Cell) (i n : ℕ) → i < length cells �
 unfolding squares_text
 squares_text_empty cells i n l e = let next : i + 1 ≡ suc i = omega arith in rw (next, drop-cons cells i None, e) refl
 
--- behind the last square the run alone is left
+-- after the last square only the run is left
 pub squares_text_end : (cells : List Cell) (i n : ℕ) → length cells ≤ i → squares_text (drop i cells) n ≡ run_text n
 unfolding squares_text
 squares_text_end cells i n l = at_drop_all (λ (left : List Cell). squares_text left n) cells i l
 
--- the first part of what is left has room where all of it had
+-- the first part of what is left has room if all of it had
 pub first_fits : (old whole text first rest : List ℕ) → length old + length whole ≤ 93
     → old ++ whole ≡ text ++ (first ++ rest) → length text + length first ≤ 93
 first_fits old whole text first rest l e =
@@ -76,7 +76,7 @@ written all text more left first rest e f h = rw (e, append_assoc) (rw f at h)
 pub all_written : (all text left : List ℕ) → left ≡ [] → all ≡ text ++ left → text ≡ all
 all_written all text left e h = let f : all ≡ text ++ [] = rw e at h in sym (rw append-nil at f)
 
--- what is left has room where all of it had
+-- what is left has room if all of it had
 pub all_fits : (old whole text left : List ℕ) → length old + length whole ≤ 93 → old ++ whole ≡ text ++ left
     → length text + length left ≤ 93
 all_fits old whole text left l e =
@@ -96,12 +96,12 @@ or_dash_some : (text : List ℕ) → 0 < length text → or_dash text ≡ text
 or_dash_some [] l = absurd (omega arith)
 or_dash_some (b ∷ bs) l = refl
 
--- the text behind both sides' letters
+-- the text after both sides' letters
 sides_written : (r : CastlingRights) (old white both : List ℕ) → white ≡ old ++ side_text r White 8
     → both ≡ white ++ side_text r Black 8 → both ≡ old ++ both_sides r
 sides_written r old white both e f = rw (f, e, append_assoc) refl
 
--- no right is held: the dash stands behind the text that was there
+-- no right is held: the dash comes after the text that was there
 pub dash_written : (r : CastlingRights) (old white both more : List ℕ) → white ≡ old ++ side_text r White 8
     → both ≡ white ++ side_text r Black 8
     → length both ≡ length old → more ≡ both ++ dash → more ≡ old ++ rights_text r
@@ -128,7 +128,7 @@ or_dash_length : (text : List ℕ) → length text ≤ length (or_dash text)
 or_dash_length [] = omega arith
 or_dash_length (b ∷ bs) = omega arith
 
--- the letters of both sides fit where the rights do
+-- the letters of both sides fit if the rights do
 pub sides_length : (r : CastlingRights)
     → length (side_text r White 8) + length (side_text r Black 8) ≤ length (rights_text r)
 unfolding rights_text
@@ -144,7 +144,7 @@ pub rights_length_some : (r : CastlingRights) → 1 ≤ length (rights_text r)
 unfolding rights_text
 rights_length_some r = or_dash_length_some (both_sides r)
 
--- the written text, field by field behind what is there
+-- the written text, field by field after what is there
 pub canonical_written : (p : Parts)
     → (((((((((([] ++ ranks_text 7 p.placement) ++ 32 ∷ []) ++ turn_text p.turn) ++ 32 ∷ []) ++ rights_text p.rights) ++ 32 ∷ []) ++ target_text p.target) ++ 32 ∷ [])
     ++ decimal p.half_moves) ++ 32 ∷ []) ++ decimal p.number ≡ canonical p

@@ -1,4 +1,4 @@
--- The parts that the sets of a position and its other parts tell of.
+-- The parts described by the sets of a position and its other parts.
 use Rattle.std.proofs.Common.{◌≡◌, ℕ, Option}
 use Rattle.c960_board.specs.declared.piece.Colour.{Colour}
 use Rattle.c960_board.specs.declared.rights.CastlingRights.{CastlingRights}
@@ -6,7 +6,7 @@ use Rattle.c960_board.specs.declared.parts.Parts.{Parts}
 use Rattle.c960_board.specs.declared.sets.Sets.{Sets}
 use Rattle.c960_board.specs.Position.{IsPosition}
 use Rattle.c960_board.specs.Sets.{sets_of, parts_of}
-use Rattle.c960_board.proofs.SetCells.{parts_back}
+use Rattle.c960_board.proofs.lemmas.SetCells.{parts_back}
 
 -- they are the position's
 pub parts_told : (p : Parts) (s : Sets) (turn : Colour) (rights : CastlingRights) (target : Option ℕ) (half_moves number : ℕ)

@@ -28,7 +28,7 @@ fen_fault_name Castling = codes "Castling"
 fen_fault_name EnPassant = codes "EnPassant"
 fen_fault_name Counters = codes "Counters"
 
--- Every field before this one is good, and this one is not. The rights are judged by the placement, the target by the
+-- Every field before this one is good, and this one is not. The rights are judged against the placement, the target against the
 -- placement and the turn.
 abbrev pub FaultIn : FenFault → Six → Type 0
 FaultIn Fields f = ⊥

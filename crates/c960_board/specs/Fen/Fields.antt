@@ -1,4 +1,4 @@
--- The six fields of a text, parted by single spaces.
+-- The six fields of a text, separated by single spaces.
 use Rattle.std.specs.Prelude.{ℕ, ◌≡◌, ◌≢◌, ◌<◌, List, ◌∷◌, ◌++◌, length, slice_index}
 
 pub record Six : Type 0 where
@@ -9,7 +9,7 @@ pub record Six : Type 0 where
   pub half_moves : List ℕ
   pub number : List ℕ
 
--- the byte does not stand in the text
+-- the byte does not occur in the text
 abbrev pub Lacks : ℕ → List ℕ → Type 0
 Lacks b text = (k : ℕ) → k < length text → slice_index text k ≢ b
 

@@ -1,4 +1,4 @@
--- The placement's text: eight ranks from the eighth to the first, parted by slashes.
+-- The placement's text: eight ranks from the eighth to the first, separated by slashes.
 use Rattle.std.specs.Prelude.{ℕ, zero, suc, ◌≡◌, ◌≤◌, ◌+◌, ◌*◌, ◌⊎◌, List, [], ◌∷◌, ◌++◌, Some, None, Bool, true, false, IsFalse, length, take, drop}
 use Rattle.c960_board.specs.declared.piece.Piece.{Piece}
 use Rattle.c960_board.specs.Pieces.{Cell}
@@ -23,7 +23,7 @@ pub record SpellsRank (text : List ℕ) (cells : List Cell) : Type 0 where
   pub spelt : SpellsSquares false text cells
   pub full : length cells ≡ 8
 
--- the cells of the ranks 1 to n + 1, the highest rank first, parted by slashes
+-- the cells of the ranks 1 to n + 1, the highest rank first, separated by slashes
 abbrev pub SpellsRanks : ℕ → List ℕ → List Cell → Type 0
 SpellsRanks zero text cells = SpellsRank text cells
 SpellsRanks (suc n) text cells =

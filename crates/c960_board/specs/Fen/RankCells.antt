@@ -1,4 +1,4 @@
--- The cells of a rank, as sets of squares tell of them.
+-- The cells of a rank, according to sets of squares.
 use Rattle.std.specs.Prelude.{ℕ, ◌*◌, List, map}
 use Rattle.std.specs.List.{range_with_len}
 use Rattle.c960_board.specs.declared.sets.Sets.{Sets}

@@ -1,4 +1,4 @@
--- How the reader's inner functions speak of a text and its parts; only they cite it.
+-- How the reader's inner functions describe a text and its parts; only they cite this.
 use Rattle.std.specs.Prelude.{ℕ, ◌≡◌, ◌≢◌, ◌≤◌, ◌+◌, List, ◌∷◌, ◌++◌, ◌⊎◌}
 use Rattle.c960_board.specs.declared.piece.Piece.{Piece}
 use Rattle.c960_board.specs.declared.rights.CastlingRights.{CastlingRights}
@@ -21,7 +21,7 @@ six_of f =
       number = f.number.now;
     }
 
--- the text begins with this field, and a space and the rest stand behind it
+-- the text begins with this field, followed by a space and the rest
 pub record IsFront (text front rest : List ℕ) : Type 0 where
   pub whole : text ≡ front ++ 32 ∷ rest
   pub field : IsField front
@@ -32,12 +32,12 @@ pub record IsRunOf (n b : ℕ) : Type 0 where
   pub bound : n ≤ 8
   pub digit : b ≡ 48 + n
 
--- the byte is no piece's letter and no run's digit
+-- the byte is neither a piece's letter nor a run's digit
 pub record IsNoSymbol (b : ℕ) : Type 0 where
   pub no_man : (p : Piece) → b ≢ letter p
   pub no_run : (n : ℕ) → IsRunOf n b → ⊥
 
--- what a byte of a rank stands for
+-- what a byte of a rank means
 abbrev pub IsSymbol : Symbol → ℕ → Type 0
 IsSymbol (Man p) b = b ≡ letter p
 IsSymbol (Run n) b = IsRunOf n b

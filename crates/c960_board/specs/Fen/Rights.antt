@@ -1,16 +1,17 @@
--- The text of the castling rights, which stand in any order.
+-- The text of the castling rights, which come in any order.
 use Rattle.std.specs.Prelude.{ℕ, ◌≡◌, ◌<◌, ◌==◌, ◌⊎◌, List, Bool, true, false, count_by, length, slice_index}
 use Rattle.c960_board.specs.declared.piece.Colour.{Colour}
 use Rattle.c960_board.specs.declared.rights.CastlingRights.{CastlingRights}
 use Rattle.c960_board.specs.Pieces.{Cell}
-use Rattle.c960_board.specs.Position.{has_right, AreRights}
+use Rattle.c960_board.specs.Position.{AreRights}
+use Rattle.c960_board.specs.Cells.{has_right}
 use Rattle.c960_board.specs.Fen.Letters.{right_letter, dash}
 
--- how often a byte stands in a text
+-- how often a byte occurs in a text
 abbrev pub times : ℕ → List ℕ → ℕ
 times b text = count_by (λ x. x == b) text
 
--- once where the right is held, else never
+-- once if the right is held, and otherwise never
 abbrev pub once : Bool → ℕ
 once true = 1
 once false = 0

@@ -3,7 +3,7 @@ use Rattle.std.specs.Prelude.{ℕ, ◌≡◌, List, Option, Some, None}
 use Rattle.c960_board.specs.declared.piece.Colour.{Colour}
 use Rattle.c960_board.specs.Pieces.{Cell}
 use Rattle.c960_board.specs.Position.{IsTarget}
-use Rattle.c960_board.specs.Moves.{square_text}
+use Rattle.c960_board.specs.MoveTexts.{square_text}
 use Rattle.c960_board.specs.Fen.Letters.{dash}
 
 -- a dash for none

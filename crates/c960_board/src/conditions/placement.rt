@@ -1,9 +1,10 @@
 //! One king a side, and no pawn on the first or the last rank.
 
 ghost use Rattle.std.specs.Prelude.{◌≡◌, ◌≢◌, ◌↔◌, ◌<◌, ℕ, IsTrue, count_by};
-ghost use Rattle.c960_board.specs.Conditions.{IsSidePlacement};
+ghost use Rattle.c960_board.specs.Inner.Conditions.{IsSidePlacement};
 ghost use Rattle.c960_board.specs.Pieces.{holds, man};
-ghost use Rattle.c960_board.specs.Position.{cell_at, IsPlacement};
+ghost use Rattle.c960_board.specs.Position.{IsPlacement};
+ghost use Rattle.c960_board.specs.Cells.{cell_at};
 ghost use Rattle.c960_board.specs.Squares.{rank_of, IsEndRank};
 ghost use Rattle.c960_board.specs.declared.piece.Kind.TheVariants.{Pawn, King};
 

@@ -1,9 +1,10 @@
 //! The castling rights of one side.
 
 ghost use Rattle.std.specs.Prelude.{◌≡◌, ◌↔◌, ◌<◌, ◌≤◌, ◌+◌, ℕ, IsTrue, nat_lt};
-ghost use Rattle.c960_board.specs.Conditions.{RightsFitKing};
+ghost use Rattle.c960_board.specs.Inner.Conditions.{RightsFitKing};
 ghost use Rattle.c960_board.specs.Pieces.{man};
-ghost use Rattle.c960_board.specs.Position.{cell_at, has_right, rights_of, AreRights};
+ghost use Rattle.c960_board.specs.Position.{AreRights};
+ghost use Rattle.c960_board.specs.Cells.{cell_at, has_right, rights_of};
 ghost use Rattle.c960_board.specs.Squares.{file_of, rank_of, home_rank, home_square};
 ghost use Rattle.c960_board.specs.declared.piece.Kind.TheVariants.{Rook, King};
 
@@ -49,7 +50,7 @@ fn is_home(rights: &CastlingRights, colour: Colour, square: usize) -> bool
     true
 }
 
-/// Whether the right of the file is the only one on its side of the king.
+/// Whether the file's right is the only one on its side of the king.
 fn is_alone(rights: &CastlingRights, colour: Colour, king_file: u8, file: u8) -> bool
     ensures { IsTrue result ↔ ((g : ℕ) → g < 8 → IsTrue (has_right rights.now colour file) → IsTrue (has_right rights.now colour g) → nat_lt file king_file ≡ nat_lt g king_file → file ≡ g) }
 {
@@ -84,7 +85,7 @@ fn fit_king(rights: &CastlingRights, colour: Colour, square: usize) -> bool
     is_home(rights, colour, square) && one_each_side(rights, colour, (square % 8) as u8)
 }
 
-/// Whether the side's king does not stand on the square, or the rights fit it there.
+/// Whether the side's king is not on the square, or the rights fit it there.
 fn fit_square(
     placement: &[Option<Piece>; 64],
     rights: &CastlingRights,
@@ -97,7 +98,7 @@ fn fit_square(
     !holds(placement[square], colour, Kind::King) || fit_king(rights, colour, square)
 }
 
-/// Whether the rights fit wherever the side's king stands.
+/// Whether the rights fit wherever the side's king is.
 fn kings_fit(placement: &[Option<Piece>; 64], rights: &CastlingRights, colour: Colour) -> bool
     ensures { IsTrue result ↔ ((s : ℕ) → s < 64 → cell_at placement.now s ≡ man colour King → RightsFitKing rights.now colour s) }
 {

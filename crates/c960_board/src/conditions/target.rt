@@ -2,13 +2,14 @@
 
 ghost use Rattle.std.specs.Prelude.{◌≡◌, ◌↔◌, ◌<◌, IsTrue, None};
 ghost use Rattle.c960_board.specs.Pieces.{man};
-ghost use Rattle.c960_board.specs.Position.{cell_at, IsTarget};
+ghost use Rattle.c960_board.specs.Position.{IsTarget};
+ghost use Rattle.c960_board.specs.Cells.{cell_at};
 ghost use Rattle.c960_board.specs.declared.piece.Kind.TheVariants.{Pawn};
 
 use crate::piece::{Colour, Kind, Piece, holds};
 use crate::square::Square;
 
-/// Whether the square and the one behind it are empty, and a pawn of the colour stands before it.
+/// Whether the square and the one behind it are empty, and a pawn of the colour is in front of it.
 fn is_passed_over(
     placement: &[Option<Piece>; 64],
     square: usize,

@@ -5,11 +5,11 @@ ghost use Rattle.std.specs.Prelude.{◌≡◌, ◌≤◌, ◌==◌, length};
 use arrayvec::ArrayVec;
 use std::marker::Model;
 
-/// The bytes of a text. The longest has 93: 64 squares and 7 slashes, the letter of the turn, 4 rights, 2 bytes of a target, 5 digits
+/// The bytes of a text. The longest text has 93: 64 squares and 7 slashes, the letter of the turn, 4 rights, 2 bytes of a target, 5 digits
 /// of each counter, and 5 spaces.
 pub(super) type TextBytes = ArrayVec<u8, 93>;
 
-/// The text of a position in ASCII, at most 93 bytes, which lie in the value itself: nothing is allocated. Contracts
+/// The text of a position in ASCII, at most 93 bytes, which are stored in the value itself: nothing is allocated. Contracts
 /// see the list of the bytes.
 #[derive(Drop)]
 pub struct FenBytes {
@@ -48,7 +48,7 @@ impl FenBytes {
         self.bytes.len()
     }
 
-    /// Whether there is no byte, which is so of no written text.
+    /// Whether there are no bytes, which is never true of a written text.
     pub fn is_empty(&self) -> bool
         ensures { result ≡ (length self.now == 0) }
     {

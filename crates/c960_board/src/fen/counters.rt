@@ -5,7 +5,7 @@ ghost use Rattle.c960_board.specs.Fen.Counters.{AreCounterFields};
 
 use itoa::Buffer;
 
-/// The number that the text is in decimal, with no zero in front.
+/// The number that the text writes in decimal, without a leading zero.
 fn read_number(text: &[u8]) -> Option<u16>
     ensures { MatchOption result ((n : ℕ) → n ≤ 65535 → text.now ≡ decimal n → ⊥) (λ n. text.now ≡ decimal n) }
 {

@@ -1,23 +1,23 @@
-//! Why a text is no position's.
+//! Why a text is not a position's.
 
 ghost use Rattle.std.specs.Prelude.{◌≡◌};
 ghost use Rattle.c960_board.specs.Fen.Faults.{fen_fault_code, fen_fault_name};
 
-/// The first fault of a text that is no position's.
+/// The first fault of a text that is not a position's.
 #[derive(Clone, Copy, PartialEq, Eq, Debug)]
 pub enum FenFault {
-    /// The text has not exactly five spaces, or a field is empty.
+    /// The text does not have exactly five spaces, or a field is empty.
     Fields,
-    /// The first field is no placement, or a side has not exactly one king, or a pawn stands on rank 1 or 8.
+    /// The first field is not a placement, or a side does not have exactly one king, or a pawn is on rank 1 or 8.
     Placement,
     /// The second field is not `w` or `b`.
     Turn,
-    /// The third field is not `-` and not one to four rights, or a right is repeated, has no king or rook of its colour in
+    /// The third field is neither `-` nor one to four rights, or a right is repeated, has no king or rook of its colour in
     /// place, or is the second on one side of its king.
     Castling,
-    /// The fourth field is not `-` and no target that fits.
+    /// The fourth field is neither `-` nor a target that fits.
     EnPassant,
-    /// One of the last two fields is no number or is out of range.
+    /// One of the last two fields is not a number or is out of range.
     Counters,
 }
 

@@ -4,7 +4,7 @@ ghost use Rattle.std.specs.Prelude.{◌≡◌, ◌++◌, ◌∷◌, ◌↔◌, I
 ghost use Rattle.c960_board.specs.Fen.Fields.{Six, IsSix, IsField, Lacks};
 ghost use Rattle.c960_board.specs.Fen.Reading.{six_of, IsFront};
 
-/// The six fields of a text, none of them read yet.
+/// The six fields of a text, none of them parsed yet.
 #[derive(Clone, Copy)]
 pub(crate) struct Fields<'a> {
     pub(crate) placement: &'a [u8],
@@ -15,7 +15,7 @@ pub(crate) struct Fields<'a> {
     pub(crate) number: &'a [u8],
 }
 
-/// What stands before the first such byte, and what stands behind it.
+/// The text before the first byte `stop`, and the text after it.
 pub(crate) fn cut(text: &[u8], stop: u8) -> Option<(&[u8], &[u8])>
     ensures { MatchOption result
         (Lacks stop text.now)
@@ -39,7 +39,7 @@ fn is_field(text: &[u8]) -> bool
     }
 }
 
-/// The first field, and what stands behind its space.
+/// The first field, and the text after its space.
 fn front(text: &[u8]) -> Option<(&[u8], &[u8])>
     ensures { MatchOption result ((a x : List ℕ) → IsFront text.now a x → ⊥) (λ x. IsFront text.now x.0.now x.1.now) }
 {
@@ -50,7 +50,7 @@ fn front(text: &[u8]) -> Option<(&[u8], &[u8])>
     Some((field, rest))
 }
 
-/// The fields of a text of six, parted by single spaces.
+/// The fields of a text of six, separated by single spaces.
 pub(crate) fn six_fields(text: &[u8]) -> Option<Fields<'_>>
     ensures { MatchOption result ((f : Six) → IsSix f text.now → ⊥) (λ f. IsSix (six_of f) text.now) }
 {

@@ -9,7 +9,7 @@ use crate::fen::fields::cut;
 use crate::fen::rank::read_rank;
 use crate::piece::Piece;
 
-/// Reads the ranks from the highest one down to rank 1, which is 0, into the squares up to the highest one's.
+/// Reads the ranks from the highest one down to rank 1, which is 0, into the squares up to those of the highest.
 fn read_ranks(text: &[u8], highest: usize, cells: &mut [Option<Piece>]) -> bool
     requires { length cells.old ≡ 8 * highest + 8 }
     ensures { MatchBool result
@@ -34,7 +34,7 @@ fn read_ranks(text: &[u8], highest: usize, cells: &mut [Option<Piece>]) -> bool
     read_ranks(rest, highest - 1, low)
 }
 
-/// The squares that the field spells, where they are a placement.
+/// The squares that the field spells, if they are a placement.
 pub(crate) fn read_placement(text: &[u8]) -> Option<[Option<Piece>; 64]>
     ensures { MatchOption result
         ((cells : List Cell) → IsPlacementField text.now cells → ⊥)

@@ -7,7 +7,7 @@ ghost use Rattle.c960_board.specs.Pieces.{Cell};
 use crate::fen::symbol::{Symbol, symbol_of};
 use crate::piece::Piece;
 
-/// The squares of a rank's text.
+/// The squares that a rank's text spells.
 pub(crate) fn read_rank(text: &[u8]) -> Option<[Option<Piece>; 8]>
     ensures { MatchOption result
         ((cells : List Cell) → SpellsRank text.now cells → ⊥)

@@ -17,7 +17,7 @@ use crate::fen::turn::read_turn;
 use crate::parts::Parts;
 use crate::position::Position;
 
-/// The position that the fields spell, or the fault of the first field that is none.
+/// The position that the fields spell, or the fault of the first bad field.
 fn read_fields(fields: &Fields<'_>) -> Result<Position, FenFault>
     ensures { MatchResult result (λ p. Spells (six_of fields.now) p) (λ e. FaultIn e (six_of fields.now)) }
 {
@@ -38,13 +38,13 @@ fn read_fields(fields: &Fields<'_>) -> Result<Position, FenFault>
     Ok(Position::of_parts(parts))
 }
 
-/// The position whose text it is, in Shredder-FEN: six fields with single spaces between them, the castling rights by
-/// the files of their rooks (`HAha`), in any order. Every text is answered, in time linear in its length and without
+/// The position whose text this is, in Shredder-FEN: six fields with single spaces between them, the castling rights by
+/// the files of their rooks (`HAha`), in any order. Every text gets an answer, in time linear in its length and without
 /// memory.
 ///
 /// # Errors
 ///
-/// The first fault of a text that is no position's, in the order of `FenFault`.
+/// The first fault of a text that is not a position's, in the order of `FenFault`.
 pub fn read_fen(text: &[u8]) -> Result<Position, FenFault>
     ensures ok { IfOk result (λ p. FenText p text.now) }
     ensures fault { IfErr result (λ e. IsFault e text.now) }

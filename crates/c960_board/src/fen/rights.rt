@@ -4,7 +4,7 @@ ghost use Rattle.std.specs.Prelude.{◌≡◌, ◌≢◌, ◌<◌, MatchOption, 
 ghost use Rattle.c960_board.specs.Fen.Letters.{right_letter};
 ghost use Rattle.c960_board.specs.Fen.Reading.{NamesRights};
 ghost use Rattle.c960_board.specs.Fen.Rights.{IsRightLetter, SpellsRights, IsRightsField};
-ghost use Rattle.c960_board.specs.Position.{has_right};
+ghost use Rattle.c960_board.specs.Cells.{has_right};
 ghost use Rattle.c960_board.specs.declared.piece.Colour.{Colour};
 ghost use Rattle.c960_board.specs.declared.rights.CastlingRights.{CastlingRights};
 
@@ -12,7 +12,7 @@ use crate::conditions::are_rights;
 use crate::piece::{Colour, Piece};
 use crate::rights::CastlingRights;
 
-/// No right of either side.
+/// No rights on either side.
 fn no_rights() -> CastlingRights
     ensures { (c : Colour) (f : ℕ) → has_right result c f ≡ false }
 {
@@ -22,7 +22,7 @@ fn no_rights() -> CastlingRights
     }
 }
 
-/// The side and the file of the right whose letter the byte is.
+/// The side and the file of the right that has this letter.
 fn right_of(byte: u8) -> Option<(Colour, u8)>
     ensures { MatchOption result (IsRightLetter byte → ⊥) (λ x. (x.1 < 8) × (byte ≡ right_letter x.0 x.1)) }
 {
@@ -33,7 +33,7 @@ fn right_of(byte: u8) -> Option<(Colour, u8)>
     }
 }
 
-/// The rights and one more.
+/// The rights with one added.
 fn with_right(mut rights: CastlingRights, colour: Colour, file: u8) -> CastlingRights
     requires { file < 8 }
     ensures added { has_right result colour file ≡ true }
@@ -47,7 +47,7 @@ fn with_right(mut rights: CastlingRights, colour: Colour, file: u8) -> CastlingR
     rights
 }
 
-/// The rights whose letters the text is, each once.
+/// The rights whose letters make up the text, each once.
 fn read_letters(text: &[u8]) -> Option<CastlingRights>
     ensures { MatchOption result ((r : CastlingRights) → SpellsRights text.now r → ⊥) (λ r. SpellsRights text.now r) }
 {
@@ -75,7 +75,7 @@ fn read_names(text: &[u8]) -> Option<CastlingRights>
     read_letters(text)
 }
 
-/// The rights that the field names, where they fit the placement.
+/// The rights that the field names, if they fit the placement.
 pub(crate) fn read_rights(placement: &[Option<Piece>; 64], text: &[u8]) -> Option<CastlingRights>
     ensures { MatchOption result
         ((r : CastlingRights) → IsRightsField placement.now text.now r → ⊥)

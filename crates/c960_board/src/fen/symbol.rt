@@ -8,7 +8,7 @@ ghost use Rattle.c960_board.specs.declared.piece.Piece.{Piece};
 
 use crate::piece::{Colour, Kind, Piece};
 
-/// What a byte of a rank stands for.
+/// What a byte of a rank means.
 #[derive(Clone, Copy)]
 pub(crate) enum Symbol {
     /// A piece.
@@ -19,7 +19,7 @@ pub(crate) enum Symbol {
     Other,
 }
 
-/// The kind whose small letter the byte is.
+/// The kind that has this small letter.
 fn kind_of(byte: u8) -> Option<Kind>
     ensures { MatchOption result ((k : Kind) → byte ≢ small_letter k) (λ k. byte ≡ small_letter k) }
 {
@@ -34,7 +34,7 @@ fn kind_of(byte: u8) -> Option<Kind>
     }
 }
 
-/// The piece whose letter the byte is.
+/// The piece that has this letter.
 fn piece_of(byte: u8) -> Option<Piece>
     ensures { MatchOption result ((p : Piece) → byte ≢ letter p) (λ p. byte ≡ letter p) }
 {
@@ -46,7 +46,7 @@ fn piece_of(byte: u8) -> Option<Piece>
     Some(Piece { colour, kind })
 }
 
-/// What the byte stands for.
+/// What the byte means.
 pub(crate) fn symbol_of(byte: u8) -> Symbol
     ensures { IsSymbol result byte }
 {

@@ -2,7 +2,7 @@
 
 ghost use Rattle.std.specs.Prelude.{◌≡◌, ◌<◌, MatchOption, Option, ℕ};
 ghost use Rattle.c960_board.specs.Fen.Target.{IsTargetField};
-ghost use Rattle.c960_board.specs.Moves.{square_text};
+ghost use Rattle.c960_board.specs.MoveTexts.{square_text};
 
 use crate::conditions::is_target;
 use crate::piece::{Colour, Piece};
@@ -21,7 +21,7 @@ fn square_of(text: &[u8]) -> Option<Square>
     }
 }
 
-/// The target that the field names, where it fits; a dash names none.
+/// The target that the field names, if it fits; a dash names none.
 pub(crate) fn read_target(
     placement: &[Option<Piece>; 64],
     turn: Colour,

@@ -36,7 +36,7 @@ fn letter_of(piece: Piece) -> u8
     }
 }
 
-/// Appends the digit of a run of empty squares: nothing where there is none.
+/// Appends the digit of a run of empty squares, or nothing if there are none.
 fn write_run(text: &mut TextBytes, empty: u8)
     requires digit { empty ≤ 8 }
     requires room { array_vec_len text.old + length (run_text empty) ≤ 93 }
@@ -68,7 +68,7 @@ fn write_rank(text: &mut TextBytes, sets: &Sets, rank: u8)
     write_run(text, empty);
 }
 
-/// Appends the ranks from the eighth to the first, parted by slashes.
+/// Appends the ranks from the eighth to the first, separated by slashes.
 fn write_placement(text: &mut TextBytes, sets: &Sets)
     requires { array_vec_len text.old + length (ranks_text 7 (cells_of sets.now)) ≤ 93 }
     ensures text { text.new.items ≡ text.old.items ++ ranks_text 7 (cells_of sets.now) }
@@ -117,7 +117,7 @@ fn write_side(text: &mut TextBytes, rights: &CastlingRights, colour: Colour)
     }
 }
 
-/// Appends White's rights and then Black's, a dash where there is none.
+/// Appends White's rights and then Black's, or a dash if there are none.
 #[tactic(auto, using(crate::proofs::Written::Steps::sides_length))]
 fn write_rights(text: &mut TextBytes, rights: &CastlingRights)
     requires { array_vec_len text.old + length (rights_text rights.now) ≤ 93 }
@@ -132,7 +132,7 @@ fn write_rights(text: &mut TextBytes, rights: &CastlingRights)
     }
 }
 
-/// Appends the target's square, a dash for none.
+/// Appends the target's square, or a dash for none.
 fn write_target(text: &mut TextBytes, target: Option<Square>)
     requires { array_vec_len text.old + length (target_text target) ≤ 93 }
     ensures text { text.new.items ≡ text.old.items ++ target_text target }
@@ -155,11 +155,11 @@ fn write_number(text: &mut TextBytes, number: u16)
     ensures len { array_vec_len text.new ≡ array_vec_len text.old + length (decimal number) }
 {
     let mut buffer = Buffer::new();
-    // It returns `Err` only where there is no room.
+    // It returns `Err` only if there is no room.
     let _ = text.try_extend_from_slice(buffer.format(number).as_bytes());
 }
 
-/// The fields of a position's text, parted by spaces.
+/// The fields of a position's text, separated by spaces.
 fn fields(
     sets: &Sets,
     turn: Colour,
@@ -189,7 +189,7 @@ fn fields(
 
 /// The text of the position in Shredder-FEN: the placement from rank 8 to rank 1, the side to move, the castling
 /// rights, the en passant target, the half-move counter and the move number. A right is the letter of its rook's file,
-/// a capital for White. White's rights stand before Black's, and of a side's two rights the higher file is first.
+/// a capital for White. White's rights come before Black's, and of a side's two rights the higher file is first.
 pub fn write_fen(position: &Position) -> FenBytes
     ensures { result ≡ canonical position.now }
 {

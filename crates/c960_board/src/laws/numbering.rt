@@ -1,4 +1,4 @@
-//! The numbers, the lawful first ranks and the starting positions belong to each other (Guidelines II.2).
+//! How the numbers, the lawful first ranks and the starting positions correspond (Guidelines II.2).
 
 ghost use Rattle.std.specs.Prelude.{◌≡◌, ◌<◌, ℕ, List};
 ghost use Rattle.c960_board.specs.Array.{array};

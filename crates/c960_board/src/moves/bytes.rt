@@ -20,7 +20,7 @@ impl Model for MoveBytes {
 }
 
 impl MoveBytes {
-    /// The text with no byte.
+    /// The empty text.
     pub(crate) fn new() -> MoveBytes
         ensures { result ≡ [] }
     {
@@ -29,7 +29,7 @@ impl MoveBytes {
         }
     }
 
-    /// Writes a byte at the end.
+    /// Appends a byte.
     pub(crate) fn push(&mut self, byte: u8)
         requires { length self.old < 5 }
         ensures { self.new ≡ self.old ++ byte ∷ [] }

@@ -1,14 +1,14 @@
-//! Why a text is no move.
+//! Why a text is not a move.
 
 ghost use Rattle.std.specs.Prelude.{◌≡◌};
-ghost use Rattle.c960_board.specs.Moves.{move_fault_code, move_fault_name};
+ghost use Rattle.c960_board.specs.MoveTexts.{move_fault_code, move_fault_name};
 
-/// The first fault of a text that is no move.
+/// The first fault of a text that is not a move.
 #[derive(Clone, Copy, PartialEq, Eq, Debug)]
 pub enum MoveFault {
-    /// The text has not four or five bytes.
+    /// The text does not have four or five bytes.
     Length,
-    /// The first two bytes or the next two are no square's text.
+    /// The first two bytes or the next two are not a square's text.
     Square,
     /// The fifth byte is none of `n`, `b`, `r` and `q`.
     Promotion,

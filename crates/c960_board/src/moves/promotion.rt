@@ -1,7 +1,8 @@
-//! What a pawn becomes on the last rank: its code and its letter.
+//! What a pawn is promoted to: its code and its letter.
 
 ghost use Rattle.std.specs.Prelude.{◌≡◌, ◌<◌, Some, Option, IfSome, IsTrue};
-ghost use Rattle.c960_board.specs.Moves.{is_promotion, promotion_code, promotion_text};
+ghost use Rattle.c960_board.specs.Moves.{is_promotion};
+ghost use Rattle.c960_board.specs.MoveTexts.{promotion_code, promotion_text};
 ghost use Rattle.c960_board.specs.declared.piece.Kind.{Kind};
 
 use crate::piece::Kind;

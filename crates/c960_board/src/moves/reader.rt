@@ -1,7 +1,8 @@
 //! The reader of moves' texts.
 
 ghost use Rattle.std.specs.Prelude.{◌≡◌, ◌<◌, ℕ, ◌++◌, Ok, Err, Some, IfOk, IfErr, IfSome, IsSome};
-ghost use Rattle.c960_board.specs.Moves.{Triple, MoveText, IsMoveFault, square_text};
+ghost use Rattle.c960_board.specs.Moves.{Triple};
+ghost use Rattle.c960_board.specs.MoveTexts.{MoveText, IsMoveFault, square_text};
 ghost use Rattle.c960_board.specs.MoveReading.{move_read};
 ghost use Rattle.c960_board.specs.declared.moves.fault.MoveFault.{MoveFault};
 
@@ -29,7 +30,7 @@ fn read_squares(text: &[u8]) -> Option<(Square, Square)>
 ///
 /// # Errors
 ///
-/// The first fault of the text, in the order in which `MoveFault` has them.
+/// The first fault of the text, in the order of `MoveFault`.
 pub fn read_move(text: &[u8]) -> Result<Move, MoveFault>
     ensures value { result ≡ move_read text.now }
     ensures ok { IfOk result (λ m. MoveText m text.now) }

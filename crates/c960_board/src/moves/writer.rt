@@ -1,7 +1,7 @@
 //! The writer of moves' texts.
 
 ghost use Rattle.std.specs.Prelude.{◌≡◌, ◌≤◌, ◌++◌, length};
-ghost use Rattle.c960_board.specs.Moves.{move_text, square_text, promotion_text};
+ghost use Rattle.c960_board.specs.MoveTexts.{move_text, square_text, promotion_text};
 
 use crate::moves::{Move, MoveBytes};
 use crate::piece::Kind;
@@ -18,7 +18,7 @@ fn push_square(text: &mut MoveBytes, square: Square)
     text.push(rank);
 }
 
-/// Writes the letter of a promotion, and nothing for none.
+/// Writes the letter of a promotion, or nothing for none.
 fn push_promotion(text: &mut MoveBytes, promotion: Option<Kind>)
     requires { length text.old ≤ 4 }
     ensures { text.new ≡ text.old ++ promotion_text promotion }

@@ -11,13 +11,13 @@ ghost use Rattle.c960_game.specs.Game960.{Game960, MayFollow};
 ghost use Rattle.c960_game.specs.Positions.{last_position, positions};
 ghost use Rattle.c960_game.specs.Times.{recent_times, times};
 
-/// Each prefix of a legal game is one.
-#[tactic(auto, using(crate::proofs::LogFacts::prefix))]
+/// Each prefix of a legal game is a legal game.
+#[tactic(auto, using(crate::proofs::lemmas::LogFacts::prefix))]
 pub fn prefixes_are_games()
     ensures { (n : ℕ) (l later : List Triple) → Game960 n (l ++ later) → Game960 n l }
 {}
 
-/// Without a move each start is a legal game that goes on, and a legal game goes on by a legal move while it has no
+/// Each start without a move is a legal game that goes on. A legal game can go on with a legal move as long as it has no
 /// outcome.
 pub fn games_grow()
     ensures start { (n : ℕ) → n < 960 → Game960 n [] }
@@ -25,7 +25,7 @@ pub fn games_grow()
     ensures more { (n : ℕ) (l : List Triple) (m : Triple) → Game960 n l → MayFollow n l m → Game960 n (l ++ m ∷ []) }
 {}
 
-/// In a game that goes on the half-move counter is below 150, and the position has appeared four times at the most; so it was
+/// In a game that goes on the half-move counter is below 150, and the position has appeared at most four times; the same was true
 /// before each of its moves (FIDE Laws, Article 9.6).
 pub fn games_that_go_on_are_bounded()
     ensures present { (n : ℕ) (l : List Triple) → own_outcome n l ≡ None
@@ -34,8 +34,7 @@ pub fn games_that_go_on_are_bounded()
         → ((last_position n l).half_moves < 150) × (times n l ≤ 4) }
 {}
 
-/// A game that is over has no longer one.
-#[tactic(auto, using(crate::proofs::LogFacts::over))]
+/// A game that is over has no continuation.
 pub fn the_end_is_the_end()
     ensures { (n : ℕ) (l : List Triple) (m : Triple) (later : List Triple) → own_outcome n l ≢ None
         → Game960 n (l ++ m ∷ later) → ⊥ }
@@ -49,7 +48,7 @@ pub fn positions_are_determined()
     ensures last { (n : ℕ) (l : List Triple) (m : Triple) → last_position n (l ++ m ∷ []) ≡ after (last_position n l) m }
 {}
 
-/// The last position of a legal game is one, and the side that does not have the move is not in check. (The counters of a
+/// The last position of a legal game is a position, and the side that does not have the move is not in check. (The counters of a
 /// position go to 65,535.)
 pub fn games_have_positions()
     ensures position { (n : ℕ) (l : List Triple) → Game960 n l → length l < 65535 → IsPosition (last_position n l) }

@@ -6,7 +6,8 @@ ghost use Rattle.c960_board.specs.declared.piece.Kind.{Kind};
 ghost use Rattle.c960_board.specs.declared.piece.Kind.TheVariants.{King};
 ghost use Rattle.c960_board.specs.Moves.{IsMove, Triple};
 ghost use Rattle.c960_board.specs.Pieces.{man, other};
-ghost use Rattle.c960_board.specs.Position.{cell_at, has_right, IsPosition};
+ghost use Rattle.c960_board.specs.Position.{IsPosition};
+ghost use Rattle.c960_board.specs.Cells.{cell_at, has_right};
 ghost use Rattle.c960_rules.specs.After.{after};
 ghost use Rattle.c960_rules.specs.Castles.{Castles};
 ghost use Rattle.c960_rules.specs.Check.{InCheck, IsLawful};
@@ -23,7 +24,7 @@ pub fn legal_moves_are_safe()
 {}
 
 /// A legal move takes the piece on its goal or, en passant, the pawn behind it; every other piece of the other side
-/// stays, and none comes (Articles 3.1 and 3.7).
+/// stays, and no new one appears (Articles 3.1 and 3.7).
 pub fn other_pieces_stay()
     ensures stay { (p : Parts) (m : Triple) → IsPosition p → IsLawful p → Legal p m → (u : ℕ) (k : Kind) → u < 64
         → cell_at p.placement u ≡ man (other p.turn) k → (IsTakenOn p m u → ⊥)
@@ -35,7 +36,7 @@ pub fn other_pieces_stay()
         → cell_at p.placement u ≡ man (other p.turn) k }
 {}
 
-/// An ordinary move carries one piece to its goal, where a pawn may become another, and no other piece of its side
+/// An ordinary move takes one piece to its goal, where a pawn may become another, and moves no other piece of its side
 /// (Articles 3.1 and 3.7).
 pub fn one_piece_goes()
     ensures { (p : Parts) (m : Triple) → IsPosition p → IsLawful p → IsMove m → Reaches p m → CarriesOne p m }
@@ -49,27 +50,27 @@ pub fn castling_goals()
         → IsFalse (has_right (after p m).rights p.turn f) }
 {}
 
-/// Who is mated is in check and has no legal move, and is not stalemated (Articles 1.4.1, 5.1.1 and 5.2.1).
+/// A side that is mated is in check and has no legal move, and is not stalemated (Articles 1.4.1, 5.1.1 and 5.2.1).
 pub fn mate_is_check_without_moves()
     ensures check { (p : Parts) → Mate p → InCheck p.placement p.turn }
     ensures no_move { (p : Parts) (m : Triple) → Mate p → Legal p m → ⊥ }
     ensures not_both { (p : Parts) → Mate p → Stale p → ⊥ }
 {}
 
-/// A legal move of a lawful position leaves a lawful position, where the counters have room.
+/// A legal move of a lawful position leaves a lawful position, if the counters have room.
 pub fn after_is_a_position()
     ensures position { (p : Parts) (m : Triple) → IsPosition p → IsLawful p → Legal p m → p.half_moves < 65535
         → p.number < 65535 → IsPosition (after p m) }
     ensures lawful { (p : Parts) (m : Triple) → Legal p m → IsLawful (after p m) }
 {}
 
-/// A capture or a pawn move begins the half-move counter anew and cannot be undone: it raises the position's progress,
+/// A capture or a pawn move restarts the half-move counter and cannot be undone: it raises the position's progress,
 /// which no legal move lowers (Articles 9.2 and 9.3).
 pub fn moves_advance()
     ensures { (p : Parts) (m : Triple) → IsPosition p → IsLawful p → Legal p m → Advances p m }
 {}
 
-/// No move is an ordinary one and castling at once.
+/// No move is both an ordinary one and castling.
 pub fn one_way_to_go()
     ensures { (p : Parts) (m : Triple) → IsPosition p → Reaches p m → Castles p m → ⊥ }
 {}

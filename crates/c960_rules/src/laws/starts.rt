@@ -1,4 +1,4 @@
-//! What holds of each starting position before the first move (FIDE Laws, Articles 3.9 and 5; Guidelines II).
+//! What holds in each starting position before the first move (FIDE Laws, Articles 3.9 and 5; Guidelines II).
 
 ghost use Rattle.std.specs.Prelude.{◌<◌, ℕ};
 ghost use Rattle.c960_board.specs.Moves.{Triple};

@@ -1,4 +1,4 @@
-//! The worked examples, published numbers and round trips.
+//! Worked examples, published numbers and round trips.
 
 mod moves;
 mod numbering;

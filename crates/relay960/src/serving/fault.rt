@@ -1,16 +1,16 @@
-//! Why nothing is served.
+//! Why nothing was served.
 
 ghost use Rattle.std.specs.Prelude.{◌≡◌};
 ghost use Rattle.relay960.specs.ServeFaults.{serve_fault_code, serve_fault_name};
 
 use std::fmt;
 
-/// Why nothing is served. It is shown as `fault 41 Device`, with its number and its name.
+/// Why nothing was served. It is shown as `fault 41 Device`, with its number and its name.
 #[derive(Clone, Copy, PartialEq, Eq, Debug)]
 pub enum ServeFault {
-    /// The port cannot be listened on.
+    /// The server cannot listen on the port.
     Device,
-    /// The line that tells of listening could not be written.
+    /// The line that announces listening could not be written.
     Write,
     /// There was no memory.
     OutOfMemory,

@@ -1,4 +1,4 @@
-//! What is served, and serving it.
+//! Serving.
 
 ghost use Rattle.std.specs.Prelude.{IfOk};
 ghost use Rattle.relay960.specs.Serving.{MeetsWith};
@@ -15,12 +15,12 @@ use std::sync::{Arc, Wait};
 use std::thread::Threads;
 use std::time::Clock;
 
-/// Listens, writes the line `listening P` to standard output, and `watching A:P` where there is a watch port, and serves until all sessions
-/// have ended, or standard input where that is asked for.
+/// Listens, writes the line `listening P` to standard output, and `watching A:P` if there is a watch port. Serves until all sessions
+/// have ended, or until standard input ends if that is asked for.
 ///
 /// # Errors
 ///
-/// Nothing was served: a port cannot be listened on, the lines could not be written, or there was no memory.
+/// Nothing was served: the server cannot listen on a port, the lines could not be written, or there was no memory.
 pub fn serve_run<R>(rt: &R, alloc: Global, service: &Service) -> Result<ServeEnd, ServeFault>
 where
     R: Net<Listener = TcpListener, Stream = TcpStream>
@@ -52,11 +52,11 @@ where
     Ok(meet(rt, alloc, listener, &registry, &gate, service, loops))
 }
 
-/// Listens on the watch port, where there is to be one.
+/// Listens on the watch port, if there is to be one.
 ///
 /// # Errors
 ///
-/// It cannot be listened there, or there was no memory.
+/// The server cannot listen there, or there was no memory.
 fn open_watch<R: Net>(
     rt: &R,
     alloc: Global,
@@ -68,7 +68,7 @@ fn open_watch<R: Net>(
     }
 }
 
-/// The registry of what is served, which wakes the loops of the watch port where there is news.
+/// The registry of the service, which wakes the loops of the watch port when there is news.
 ///
 /// # Errors
 ///
@@ -94,7 +94,7 @@ fn shared_registry(
     }
 }
 
-/// Starts the loops of the watch port, where there is one.
+/// Starts the loops of the watch port, if there is one.
 ///
 /// # Errors
 ///
@@ -121,14 +121,14 @@ where
     }
 }
 
-/// Ends the loops of the watch port, where there is one.
+/// Ends the loops of the watch port, if there is one.
 fn end_loops<R: Threads>(rt: &R, loops: Option<Loops>) {
     if let Some(loops) = loops {
         loops.end(rt);
     }
 }
 
-/// Tells on standard output that all is ready: `listening P`, and `watching A:P` where there is a watch port.
+/// Announces on standard output that all is ready: `listening P`, and `watching A:P` if there is a watch port.
 ///
 /// # Errors
 ///
@@ -142,7 +142,7 @@ fn announce<R: Print>(rt: &R, service: &Service) -> io::Result<()> {
     }
 }
 
-/// Meets with connections until serving ends, and ends the loops of the watch port then.
+/// Meets connections until serving ends, and then ends the loops of the watch port.
 fn meet<R>(
     rt: &R,
     alloc: Global,
@@ -182,7 +182,7 @@ where
     end
 }
 
-/// For how many seconds one who asks for nothing is waited for.
+/// For how many seconds a guest that asks for nothing is waited for.
 fn most_idle(idle: u32) -> Option<u64> {
     if idle == 0 {
         None
@@ -191,7 +191,7 @@ fn most_idle(idle: u32) -> Option<u64> {
     }
 }
 
-/// The registry of what is served.
+/// The registry of the service.
 ///
 /// # Errors
 ///
@@ -206,7 +206,7 @@ fn registry_of(alloc: Global, service: &Service) -> Result<Registry, AllocError>
     }
 }
 
-/// Listens on this port of 127.0.0.1. As many newcomers as the system allows wait there until they are accepted: std's own `bind` allows 128.
+/// Listens on this port of 127.0.0.1. As many newcomers as the system allows may wait there to be accepted: std's own `bind` allows 128.
 ///
 /// # Errors
 ///

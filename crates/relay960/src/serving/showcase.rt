@@ -9,7 +9,7 @@ use std::alloc::AllocError;
 use std::sync::Wait;
 use watch_port::Boards;
 
-/// The boards of a registry, to look at by one loop.
+/// The boards of a registry, as one loop looks at them.
 #[derive(Drop)]
 pub(super) struct Showcase<'r, 'g, 'l, R> {
     pub(super) rt: &'r R,

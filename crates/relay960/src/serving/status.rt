@@ -1,4 +1,4 @@
-//! How serving ended: what standard error is told, and the status of the program.
+//! How serving ended: the line on standard error, and the exit status of the program.
 
 ghost use Rattle.std.specs.Prelude.{◌≡◌, MatchResult};
 ghost use Rattle.relay960.specs.ServeFaults.{serve_fault_status};
@@ -7,14 +7,14 @@ use crate::serving::fault::ServeFault;
 use relay_server::ServeEnd;
 use relay960_words::Status;
 
-/// Tells on standard error how serving ended, and gives the status: `Done` where all connections were met with, `DeviceFailed` where a
-/// device failed before, `OutOfMemory` where there was no memory.
+/// Reports on standard error how serving ended, and returns the status: `Done` if all connections were met, `DeviceFailed` if a
+/// device failed before that, `OutOfMemory` if there was no memory.
 pub fn status_of_end<E: Eprint>(rt: &E, ended: Result<ServeEnd, ServeFault>) -> Status
     ensures { MatchResult ended (λ end. result ≡ Status.Done) (λ fault. result ≡ serve_fault_status fault) }
 {
     match ended {
         Ok(end) => {
-            // The status tells of the end, also where standard error is closed.
+            // The status reports the end even if standard error is closed.
             let _ = eprintln!(rt; "served {}, failed {}", end.served, end.failed);
             Status::Done
         }

@@ -1,4 +1,4 @@
-//! The watch port beside the relay's own.
+//! The watch port, next to the relay's main port.
 
 use crate::serving::fault::ServeFault;
 use crate::serving::showcase::Showcase;
@@ -14,32 +14,32 @@ use std::thread::{Builder, JoinHandle, Threads};
 use std::time::Clock;
 use watch_port::{EventLoop, Port};
 
-/// How many bytes the stack of a loop's thread has. JSON of the greatest nesting, 127, takes some 144 KiB of it, and a request of 64
+/// How many bytes the stack of a loop's thread has. JSON of the greatest nesting, 127, takes some 144 KiB of it, and a request with 64
 /// header fields less.
 const STACK_BYTES: usize = 512 * 1024;
 
-/// A watch port that is listened on, and its loops, which do not run yet.
+/// A watch port that is listening, and its loops, which are not running yet.
 #[derive(Drop)]
 pub(super) struct Watch {
     port: Arc<Port, Global>,
     ready: Vec<Ready>,
 }
 
-/// A loop that does not run yet, and what wakes it.
+/// A loop that is not running yet, and its waker.
 #[derive(Drop)]
 struct Ready {
     event_loop: EventLoop,
     lookout: Arc<Lookout, Global>,
 }
 
-/// The loops that run.
+/// The running loops.
 #[derive(Drop)]
 pub(super) struct Loops {
     port: Arc<Port, Global>,
     running: Vec<Running>,
 }
 
-/// A loop that runs, and what wakes it.
+/// A running loop, and its waker.
 #[derive(Drop)]
 struct Running {
     handle: JoinHandle<()>,
@@ -47,11 +47,11 @@ struct Running {
 }
 
 impl Watch {
-    /// Listens.
+    /// Listens on the watch port.
     ///
     /// # Errors
     ///
-    /// It cannot be listened there, or there was no memory.
+    /// The server cannot listen there, or there was no memory.
     pub(super) fn open<R: Net>(
         rt: &R,
         alloc: Global,
@@ -62,16 +62,13 @@ impl Watch {
             return Err(ServeFault::Device);
         };
         let listener = TcpListener::from(listener);
-        let port = match Port::new(alloc, listener, asked.most, most_idle) {
+        let mut port = match Port::new(alloc, listener, asked.most, most_idle) {
             Ok(port) => port,
             Err(error) => return Err(fault_of(&error)),
         };
-        let Ok(port) = Arc::new(alloc, port) else {
-            return Err(ServeFault::OutOfMemory);
-        };
         let mut ready = Vec::new(alloc);
         for _ in 0..asked.threads {
-            let (event_loop, waker) = match EventLoop::new(rt, alloc, &port) {
+            let (event_loop, waker) = match EventLoop::new(rt, alloc, &mut port) {
                 Ok(made) => made,
                 Err(error) => return Err(fault_of(&error)),
             };
@@ -88,10 +85,13 @@ impl Watch {
                 return Err(ServeFault::OutOfMemory);
             }
         }
+        let Ok(port) = Arc::new(alloc, port) else {
+            return Err(ServeFault::OutOfMemory);
+        };
         Ok(Watch { port, ready })
     }
 
-    /// How many are there.
+    /// How many spectators there are.
     pub(super) fn count(&self) -> Result<Arc<AtomicU32, Global>, ServeFault> {
         match self.port.count() {
             Ok(count) => Ok(count),
@@ -99,7 +99,7 @@ impl Watch {
         }
     }
 
-    /// Those that are to be woken where there is news.
+    /// The lookouts to be woken when there is news.
     pub(super) fn lookouts(&self, alloc: Global) -> Result<Vec<Arc<Lookout, Global>>, ServeFault> {
         let mut lookouts = Vec::new(alloc);
         for ready in self.ready.iter() {
@@ -117,7 +117,7 @@ impl Watch {
     ///
     /// # Errors
     ///
-    /// There was no memory, or no thread. The loops that were started end.
+    /// There was no memory, or no thread. The loops that were started are ended.
     pub(super) fn start<R>(
         self,
         rt: &R,
@@ -153,7 +153,7 @@ impl Watch {
     }
 }
 
-/// Why the port or a loop could not be made.
+/// Why the port or a loop could not be created.
 fn fault_of(error: &io::Error) -> ServeFault {
     match error.kind() {
         ErrorKind::OutOfMemory => ServeFault::OutOfMemory,
@@ -212,7 +212,7 @@ where
 }
 
 impl Loops {
-    /// Ends the loops: guests have what they are due, or a while has passed.
+    /// Ends the loops once guests have what they are due, or after a while.
     pub(super) fn end<R: Threads>(self, rt: &R) {
         self.port.close();
         for running in self.running {

@@ -1,12 +1,12 @@
 -- A line of a live game is answered as its first 1,025 bytes are: no move's text is longer than five bytes.
 use Rattle.std.specs.Prelude.{ℕ, ◌≡◌, List, take, Option, Some, None, ⊤}
 use Rattle.std.proofs.Common.{ap, ◌∙◌, lit<}
-use Rattle.c960_board.proofs.MoveReading.{read_of_front}
+use Rattle.c960_board.proofs.lemmas.MoveReading.{read_of_front}
 use Rattle.c960_board.specs.MoveReading.{move_read}
-use Rattle.c960_game.specs.Record.{GameRecord}
+use Rattle.c960_game.specs.GameRecord.{GameRecord}
 use Rattle.relay960_engines.specs.Play.{line_answer, game_after, lines_read, game_read}
 
--- the bytes, where there was memory for them, are the answer to the line
+-- the bytes, if there was memory for them, are the answer to the line
 abbrev pub IsAnswer : GameRecord → List ℕ → Option (List ℕ) → Type 0
 IsAnswer g l (Some bytes) = bytes ≡ line_answer g l
 IsAnswer g l None = ⊤

@@ -1,11 +1,11 @@
--- What the answerer of a script gives: a line is answered by what the relay replies to its command, or by its fault. A line is
+-- What the answerer of a script gives: a line is answered by the relay's reply to its command, or by its fault. A line is
 -- answered as its first 1,025 bytes are, since a longer one is too long for a command.
 use Rattle.std.specs.Prelude.{ℕ, ◌≡◌, List, take, Option, Some, None, Ok, Err, false}
 use Rattle.std.proofs.Common.{refl}
 use Rattle.relay_core.specs.declared.step.Step.{Step}
 use Rattle.relay_core.specs.Leads.{Leads}
 use Rattle.relay_core.specs.State.{RelayRecord}
-use Rattle.relay_messages.proofs.Decoding.{decoding_of_front}
+use Rattle.relay_messages.proofs.lemmas.Decoding.{decoding_of_front}
 use Rattle.relay_messages.specs.declared.answer.Answer.{Answer}
 use Rattle.relay_messages.specs.declared.answer.Answer.TheVariants.{Reply, Fault}
 use Rattle.relay_messages.specs.Answers.{answer_text}
@@ -13,12 +13,12 @@ use Rattle.relay_messages.specs.Decoding.{IsDecoding}
 use Rattle.relay960_engines.specs.Script.{is_want}
 use Rattle.relay960_engines.specs.Writing.{line}
 
--- from relay r the line is answered so, which leads to relay q
+-- from relay r the line gets this answer, which leads to relay q
 abbrev pub LeadsTo : RelayRecord → List ℕ → Answer → RelayRecord → Type 0
 LeadsTo r l (Fault fault) q = IsDecoding l (Err fault) × (q ≡ r)
 LeadsTo r l (Reply reply) q = (step : Step) × IsDecoding l (Ok step) × Leads r q step reply
 
--- the bytes are the line of the answer; there are none for want of memory, which the line of an answer that tells of it does not take
+-- the bytes are the line of the answer; there are none for lack of memory, which cannot happen to an answer that itself reports it
 abbrev pub IsLineOf : Answer → Option (List ℕ) → Type 0
 IsLineOf answer (Some bytes) = bytes ≡ line (answer_text answer)
 IsLineOf answer None = is_want answer ≡ false

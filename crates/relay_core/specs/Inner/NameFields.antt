@@ -12,7 +12,7 @@ is_short text name =
     let rest = (and_parts (nat_le 1 (length text)) (nat_le (length text) 32 && list_all is_name_byte text) name).1 in
     leb-true (length text) 32 (and_parts (nat_le (length text) 32) (list_all is_name_byte text) rest).0
 
--- a text of at most 32 bytes is filled up to 32
+-- a text of at most 32 bytes is padded to 32
 pub length-filled : (text : List ℕ) → length text ≤ 32 → length (filled text) ≡ 32
 length-filled text short =
     let whole = length-append text (replicate {A = ℕ} (32 - length text) 0) in
@@ -20,7 +20,8 @@ length-filled text short =
     omega (arith, whole, zeros)
 
 -- the name in front of the zeros is as long as the length says
-pub length-front : (n : ℕ) (bytes : List ℕ) → n ≤ 32 → length (take n bytes) ≤ 32 → bytes ≡ filled (take n bytes) → length (take n bytes) ≡ n
+pub length-front : (n : ℕ) (bytes : List ℕ) → n ≤ 32 → length (take n bytes) ≤ 32 → bytes ≡ filled (take n bytes)
+    → length (take n bytes) ≡ n
 length-front n bytes small short rest =
     let all : length bytes ≡ 32 = ap length rest ∙ length-filled (take n bytes) short in
     omega (arith, all, length-take n bytes)

@@ -1,21 +1,12 @@
-//! Worked cases of sessions and of serving.
+//! Worked cases of sessions: what no session on the built server shows.
 
-mod abrupt;
-mod answered;
-mod between;
-mod client;
 mod drips;
 mod failing;
 mod frames;
-mod full;
 mod gates;
-mod held;
 mod journal;
-mod loopback;
-mod memory;
 mod nested;
 mod order;
 mod refusals;
-mod server;
-mod silent;
+mod rows;
 mod texts;

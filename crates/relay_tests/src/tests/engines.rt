@@ -1,18 +1,7 @@
-//! Tests of what no clause says: the texts at a bound, and which fault a device leads to.
+//! Tests of the engines that the program cannot show: bounds that no argument sets, devices that fail once and recover, and
+//! writers that take no byte.
 
 mod answerers;
 mod bounds;
 mod counting;
 mod failures;
-mod games;
-mod lines;
-mod readers;
-mod scripts;
-mod writers;
-
-use relay960_engines::{ScriptLimits, default_limits};
-
-/// The default limits, with the greatest bounds.
-fn greatest() -> ScriptLimits {
-    ScriptLimits::greatest(default_limits())
-}

@@ -6,6 +6,7 @@ use crate::relay_keeper::RelayKeeper;
 use c960_game::Limits;
 use relay_core::{BoardName, Relay, Reply, Spectator, Step, Taken};
 use relay_pushing::{Bell, Keeper, Source};
+use relay960_engines::default_limits;
 use std::alloc::{AllocError, Global};
 use std::cell::Cell;
 
@@ -24,33 +25,31 @@ fn board_of_no_name() -> BoardName {
     }
 }
 
-/// Limits by which queues have this capacity.
-fn limits(capacity: u16) -> Result<Limits, AllocError> {
-    Limits::new(16, 64, capacity, 1024).ok_or(AllocError)
+/// The limits of these numbers.
+fn limits_of(boards: u16, followers: u16, capacity: u16, plies: u16) -> Result<Limits, AllocError> {
+    Limits::new(boards, followers, capacity, plies).ok_or(AllocError)
 }
 
 /// A relay whose queues have this capacity.
 pub fn relay(alloc: Global, capacity: u16) -> Result<Relay, AllocError> {
-    Relay::new(alloc, limits(capacity)?)
+    Relay::new(alloc, limits_of(16, 64, capacity, 1024)?)
 }
 
-/// How many steps a desk notes.
+/// How many steps a keeper notes.
 const NOTED: usize = 64;
 
-/// A keeper over a relay, the boards that belong to whoever asks, the first steps that it was asked to make, and how many of all it accepted.
+/// A keeper over a relay, the first steps that it was asked to make, and how many steps it accepted in all.
 #[derive(Drop)]
-pub struct Desk {
+pub struct NotingKeeper {
     pub keeper: RelayKeeper,
-    pub owned: &'static [&'static str],
     pub steps: Vec<Step>,
     pub accepted: u32,
 }
 
-impl Desk {
-    pub fn new(alloc: Global, capacity: u16) -> Result<Desk, AllocError> {
-        Ok(Desk {
-            keeper: RelayKeeper::new(alloc, limits(capacity)?)?,
-            owned: &[],
+impl NotingKeeper {
+    pub fn new(alloc: Global) -> Result<NotingKeeper, AllocError> {
+        Ok(NotingKeeper {
+            keeper: RelayKeeper::new(alloc, default_limits())?,
             steps: Vec::with_capacity(alloc, NOTED)?,
             accepted: 0,
         })
@@ -71,10 +70,10 @@ impl Desk {
     }
 }
 
-impl Keeper for Desk {
+impl Keeper for NotingKeeper {
     ghost use Rattle.relay_tests.specs.Keeping.{Makes};
 
-    // What a desk tells is compared with what is wanted by the tests alone.
+    // Only the tests compare what it says with what is wanted.
     ghost tells = { λ _ _ _. Unit {0} };
 
     ghost makes = { λ old step reply later. Makes old.keeper step reply later.keeper };
@@ -83,14 +82,12 @@ impl Keeper for Desk {
         self.keeper.knows(board)
     }
 
-    fn owns(&self, board: &BoardName) -> bool {
-        self.owned
-            .iter()
-            .any(|name| BoardName::new(name.as_bytes()) == Some(*board))
+    fn owns(&self, _board: &BoardName) -> bool {
+        false
     }
 
     fn owns_any(&self) -> bool {
-        !self.owned.is_empty()
+        false
     }
 
     fn step(&mut self, step: Step) -> Reply {
@@ -100,12 +97,12 @@ impl Keeper for Desk {
 
 /// A follower of a relay.
 #[derive(Drop)]
-pub struct Seat {
+pub struct RelaySource {
     pub relay: Relay,
     pub spectator: Spectator,
 }
 
-impl Source for Seat {
+impl Source for RelaySource {
     ghost gives = { λ _ _ _. Unit {0} };
 
     fn take(&mut self) -> Taken {
@@ -136,7 +133,7 @@ impl Source for Answers<'_> {
     }
 }
 
-/// A bell that is rung as it is waited for, and counts these waits.
+/// A bell that is rung when it is waited for, and counts these waits.
 #[derive(Drop)]
 pub struct Ringing {
     pub rings: Cell<u64>,

@@ -1,4 +1,4 @@
-//! What becomes due between a look and the wait behind it.
+//! What becomes due between a look and the wait after it.
 
 use crate::list_outlet::ListOutlet;
 use relay_core::Taken;
@@ -33,7 +33,7 @@ impl Bell for Counted {
     }
 }
 
-/// A source that has nothing at first, and whose bell is rung right behind that answer; then it is closed.
+/// A source that has nothing at first, and whose bell is rung right after that answer; then it is closed.
 #[derive(Drop)]
 struct Late<'a> {
     bell: &'a Counted,

@@ -1,5 +1,5 @@
-//! What is pushed from a follower of a live board. The rows are written to hold with ample memory, and where one allocation is refused
-//! (`rt try --test --fail-alloc N`): then pushing ends behind the texts that were sent before.
+//! What is pushed from a follower of a live board. The rows hold with ample memory, and if one allocation is refused
+//! (`rt try --test --fail-alloc N`): then pushing ends after the texts that were sent before.
 
 use crate::list_outlet::ListOutlet;
 use crate::tests::fakes::Ringing;
@@ -29,7 +29,7 @@ impl Source for Live {
     }
 }
 
-/// A board that one may follow and whose queues hold two moves; it is opened again where it was refused for want of memory.
+/// A board that one spectator may follow and whose queues hold two moves; it is opened again if it was refused for lack of memory.
 fn open(rt: &impl Abort, alloc: Global) -> Board {
     let limits = Limits::new(1, 1, 2, 64).expect(rt, "limits");
     match Board::open(alloc, 518, limits) {
@@ -44,7 +44,7 @@ fn open(rt: &impl Abort, alloc: Global) -> Board {
     }
 }
 
-/// A follower from the present on, asked for again where it was refused for want of memory.
+/// A follower from the present on, asked for again if it was refused for lack of memory.
 fn follow(rt: &impl Abort, board: &mut Board) -> Live {
     match board.follow(None) {
         Ok(follower) => Live { follower },
@@ -71,7 +71,7 @@ fn full_queue(rt: &impl Abort, alloc: Global) -> (Board, Live) {
     (board, live)
 }
 
-/// Asserts that the follower leaves with that many moves taken, and that its place on the board is given back.
+/// Asserts that the follower leaves with this many moves taken, and that its slot on the board is given back.
 fn assert_leaves(rt: &impl Abort, mut board: Board, live: Live, taken: u16) {
     assert!(rt; matches!(board.follow(None), Err(Refusal::TooManyFollowers)));
     let (account, _) = live.follower.leave();
@@ -106,7 +106,7 @@ fn cut_pushed_from_a_live_board(rt: HostRuntime) {
             assert!(rt; sent == texts);
             assert!(rt; outlet.failures == u64::from(wanted == NO_DEVICE));
         }
-        // A move whose text is not sent was taken all the same.
+        // A move whose text was not sent has been taken all the same.
         assert_leaves(&rt, board, live, 2);
     }
 }

@@ -1,4 +1,4 @@
-//! Worked cases of live boards, comparisons with a plain one, and games that threads take in.
+//! Worked cases of live boards, comparisons with a plain one, and games that threads take.
 
 mod boards;
 mod cases;

@@ -1,8 +1,8 @@
-//! What an outlet is sent. The rows hold with ample memory, and where one allocation is refused, each in turn (`rt try --test
-//! --fail-alloc N`): then pushing ends behind the texts that were sent before.
+//! What is sent to an outlet. The rows hold with ample memory, and if one allocation is refused, each in turn (`rt try --test
+//! --fail-alloc N`): then pushing ends after the texts that were sent before.
 
 use crate::list_outlet::ListOutlet;
-use crate::tests::fakes::{Answers, Ringing, Seat, board, relay};
+use crate::tests::fakes::{Answers, RelaySource, Ringing, board, relay};
 use c960_board::{Move, read_move};
 use c960_game::{Outcome, Refusal};
 use relay_core::{Relay, Reply, Step, Taken};
@@ -35,7 +35,7 @@ pub fn move_of(rt: &impl Abort, text: &str) -> Move {
     }
 }
 
-/// Makes a step, again where it was refused for want of memory.
+/// Makes a step, again if it was refused for lack of memory.
 fn make(relay: &mut Relay, step: &Step) {
     if relay.step(*step) == Reply::Refused(Refusal::OutOfMemory) {
         let _ = relay.step(*step);
@@ -43,7 +43,7 @@ fn make(relay: &mut Relay, step: &Step) {
 }
 
 /// A follower that was closed at its capacity of 2.
-fn full_queue(rt: &impl Abort, alloc: Global) -> Seat {
+fn full_queue(rt: &impl Abort, alloc: Global) -> RelaySource {
     let mut relay = match relay(alloc, 2) {
         Ok(relay) => relay,
         Err(AllocError) => relay(alloc, 2).expect(rt, "one refusal at the most"),
@@ -53,7 +53,7 @@ fn full_queue(rt: &impl Abort, alloc: Global) -> Seat {
     for text in ["e2e4", "e7e5", "g1f3"] {
         make(&mut relay, &Step::Submit(board("b1"), move_of(rt, text)));
     }
-    Seat {
+    RelaySource {
         relay,
         spectator: 1,
     }
@@ -67,7 +67,7 @@ pub fn assert_first(rt: &impl Abort, outlet: &ListOutlet, wanted: &[&[u8]]) {
     }
 }
 
-/// Asserts that pushing goes on behind the text that was lost: to its end, where that was lost.
+/// Asserts that pushing goes on after the text that was lost, and sends the end again if that was lost.
 pub fn assert_rest<R: Wait + Abort, S: Source>(rt: &R, alloc: Global, source: &mut S, sent: usize) {
     let Some(wanted) = TEXTS_OF_CUT.get(sent.saturating_add(1).min(2)..) else {
         panic!(rt; "there is an end");
@@ -84,15 +84,15 @@ fn cut_pushed(rt: HostRuntime) {
     // How many texts the device takes, how pushing ends, and how many texts were sent.
     for (room, wanted, texts) in [(9, PushEnd::Cut, 3), (1, NO_DEVICE, 1)] {
         let mut outlet = ListOutlet::new(rt.alloc(), room, 9);
-        let mut seat = full_queue(&rt, rt.alloc());
+        let mut source = full_queue(&rt, rt.alloc());
         let bell = Ringing::new();
-        let end = push_all(&rt, rt.alloc(), &mut outlet, &mut seat, &bell);
+        let end = push_all(&rt, rt.alloc(), &mut outlet, &mut source, &bell);
         let sent = outlet.texts.len();
         assert_first(&rt, &outlet, &TEXTS_OF_CUT);
         assert_eq!(rt; bell.waits.get(), 0);
         if end == NO_MEMORY {
             assert_eq!(rt; outlet.failures, 0);
-            assert_rest(&rt, rt.alloc(), &mut seat, sent);
+            assert_rest(&rt, rt.alloc(), &mut source, sent);
             continue;
         }
         assert_eq!(rt; end, wanted);

@@ -1,5 +1,5 @@
 //! What spectators of a tape are sent, byte for byte. The frames are written out by RFC 6455, section 5.2: a whole text is `\x81`, a close
-//! `\x88`, and behind that stands the payload's length, from 126 on as `\x7e` and two bytes.
+//! `\x88`, followed by the payload's length, from 126 on as `\x7e` and two bytes.
 
 ghost use Rattle.std.specs.Prelude.{◌≡◌, ◌+◌, ◌<◌, length, None, OnOk};
 
@@ -35,7 +35,7 @@ fn move_of(rt: &impl Abort, text: &str) -> Move {
     read_move(text.as_bytes()).expect(rt, "a move")
 }
 
-/// All that is due is written, at most so many bytes at a time.
+/// Everything that is due is written, at most `most` bytes at a time.
 fn write_all(
     got: &mut Vec<u8>,
     watcher: &mut Watcher,
@@ -54,7 +54,7 @@ fn write_all(
     Ok(())
 }
 
-/// A move is made on the board and told to its tape.
+/// A move is made on the board and put on its tape.
 fn make(rt: &impl Abort, game: &mut Game, tape: &mut Tape, text: &str) -> Result<(), Fail>
     requires going { tape.old.outcome ≡ None }
     requires numbered { length tape.old.moves < 65535 }
@@ -67,8 +67,8 @@ fn make(rt: &impl Abort, game: &mut Game, tape: &mut Tape, text: &str) -> Result
     Ok(())
 }
 
-/// What one was sent who joined at the start before the first move, and one who joined at place 1 behind the second, through four moves
-/// to a mate, in pieces of at most so many bytes.
+/// What was sent to a spectator that joined at the start before the first move, and to one that joined at place 1 after the second, through
+/// four moves to a mate, in pieces of at most `most` bytes.
 fn sent_in_pieces(rt: &impl Abort, alloc: Global, most: usize) -> Result<(Vec<u8>, Vec<u8>), Fail> {
     let mut tape = Tape::new(alloc);
     let mut game = Game::open(alloc, 518, 100).expect(rt, "a game");
@@ -94,7 +94,7 @@ fn sent_in_pieces(rt: &impl Abort, alloc: Global, most: usize) -> Result<(Vec<u8
     Ok((first_got, second_got))
 }
 
-/// These pieces one behind another.
+/// These pieces one after another.
 fn joined(alloc: Global, pieces: &[&[u8]]) -> Result<Vec<u8>, Fail> {
     let mut all = Vec::new(alloc);
     for piece in pieces {
@@ -116,7 +116,7 @@ fn each_is_sent_the_frames_from_its_place_on(rt: HostRuntime) -> Result<(), Fail
     Ok(())
 }
 
-/// Another frame may be written behind the greeting and behind each move, and nowhere else.
+/// Another frame may be written after the greeting and after each move, and nowhere else.
 #[test]
 fn other_frames_go_between_frames(rt: HostRuntime) -> Result<(), Fail> {
     let alloc = rt.alloc();

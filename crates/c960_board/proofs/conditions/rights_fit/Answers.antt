@@ -2,7 +2,7 @@ use Rattle.std.proofs.Common.{rules}
 use Rattle.c960_board.specs.declared.piece.Colour.{Colour}
 use Rattle.c960_board.specs.declared.piece.Colour.TheVariants.{White, Black}
 use Rattle.c960_board.specs.Position.{AreRights}
-use Rattle.c960_board.proofs.Colours.{each_side}
+use Rattle.c960_board.proofs.lemmas.Colours.{each_side}
 use Rattle.c960_board.proofs.conditions.rights_fit.Goals as goal
 
 pub returns-then-are_rights : goal.returns-then-are_rights

@@ -3,7 +3,7 @@ use Rattle.std.proofs.lemmas.List.{take_more_set}
 use Rattle.std.proofs.lemmas.Grind.{common_steps}
 use Rattle.c960_board.specs.Pieces.{Cell}
 use Rattle.c960_board.specs.Start.{start_cells}
-use Rattle.c960_board.proofs.StartFacts.{start_cells_more}
+use Rattle.c960_board.proofs.lemmas.StartFacts.{start_cells_more}
 use Rattle.c960_board.proofs.start.start_cells.Goals as goal
 
 pub loop-square-preserved : goal.loop-square-preserved

@@ -1,6 +1,6 @@
 use Rattle.std.proofs.Common.{arith, sym, ◌∙◌, ◌≡◌, length}
 use Rattle.std.proofs.Math.Seq.{take-length}
-use Rattle.c960_game.proofs.LogFacts.{position_after_none}
+use Rattle.c960_game.proofs.lemmas.LogFacts.{position_after_none}
 use Rattle.c960_game.proofs.ReplayFacts.{position_at_next, legal_at, half_moves_at, number_at}
 use Rattle.c960_game.proofs.replay.replay.Goals as goal
 

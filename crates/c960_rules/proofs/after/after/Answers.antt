@@ -3,7 +3,7 @@ use Rattle.c960_board.specs.declared.piece.Colour.{Colour}
 use Rattle.c960_board.specs.Pieces.{other}
 use Rattle.c960_board.specs.Position.{IsPosition}
 use Rattle.c960_rules.specs.After.{number_after}
-use Rattle.c960_rules.proofs.AfterFacts.{after_position}
+use Rattle.c960_rules.proofs.lemmas.AfterFacts.{after_position}
 use Rattle.c960_rules.proofs.AfterWords.{parts_after, placed_after}
 use Rattle.c960_rules.proofs.after.after.Goals as goal
 

@@ -1,6 +1,6 @@
 use Rattle.std.proofs.Common.{ℕ, ap, sym, ◌∙◌}
 use Rattle.c960_board.specs.Moves.{Triple}
-use Rattle.c960_rules.proofs.PieceFacts.{piece_on}
+use Rattle.c960_rules.proofs.lemmas.PieceFacts.{piece_on}
 use Rattle.c960_rules.proofs.AfterWords.{own_castles, to_own}
 use Rattle.c960_rules.proofs.after.sets_after.Goals as goal
 

@@ -3,7 +3,7 @@ use Rattle.std.specs.Prelude.{◌==◌}
 use Rattle.c960_board.specs.declared.piece.Colour.{Colour}
 use Rattle.c960_board.specs.Moves.{Triple}
 use Rattle.c960_rules.specs.Castles.{king_goal, rook_goal}
-use Rattle.c960_rules.proofs.PieceFacts.{piece_on}
+use Rattle.c960_rules.proofs.lemmas.PieceFacts.{piece_on}
 use Rattle.c960_rules.proofs.CastlingFacts.{castling}
 use Rattle.c960_rules.proofs.WhereFacts.{where_or, only_at}
 use Rattle.c960_rules.proofs.CastledSets.{castled_sets}

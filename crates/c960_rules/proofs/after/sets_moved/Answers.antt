@@ -4,8 +4,8 @@ use Rattle.c960_board.specs.declared.piece.Kind.{Kind}
 use Rattle.c960_board.specs.Moves.{Triple}
 use Rattle.c960_board.specs.Pieces.{Cell}
 use Rattle.c960_rules.specs.After.{landed}
-use Rattle.c960_rules.specs.Safety.{is_gone, is_passed_on}
-use Rattle.c960_rules.proofs.PieceFacts.{piece_on}
+use Rattle.c960_rules.specs.Inner.Safety.{is_gone, is_passed_on}
+use Rattle.c960_rules.proofs.lemmas.PieceFacts.{piece_on}
 use Rattle.c960_rules.proofs.ListFacts.{goes_from_own}
 use Rattle.c960_rules.proofs.WhereFacts.{where_or, only_at}
 use Rattle.c960_rules.proofs.AfterSets.{moved_sets}

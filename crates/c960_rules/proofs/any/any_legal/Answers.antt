@@ -4,13 +4,13 @@ use Rattle.c960_board.specs.declared.piece.Colour.{Colour}
 use Rattle.c960_board.specs.declared.parts.Parts.{Parts}
 use Rattle.c960_board.specs.Moves.{Triple}
 use Rattle.c960_board.specs.Pieces.{is_of}
-use Rattle.c960_board.specs.Position.{cell_at}
+use Rattle.c960_board.specs.Cells.{cell_at}
 use Rattle.c960_rules.specs.Legal.{Legal}
-use Rattle.c960_rules.specs.Listing.{triple, HasMoveFrom}
-use Rattle.c960_rules.specs.Wheres.{where_set}
+use Rattle.c960_rules.specs.Inner.Listing.{triple, HasMoveFrom}
+use Rattle.c960_rules.specs.Inner.Wheres.{where_set}
 use Rattle.c960_rules.proofs.AnyFacts.{no_move}
 use Rattle.c960_rules.proofs.ListFacts.{goes_from_own}
-use Rattle.c960_rules.proofs.PieceFacts.{piece_on}
+use Rattle.c960_rules.proofs.lemmas.PieceFacts.{piece_on}
 use Rattle.c960_rules.proofs.SetLoops.{searched_more, searched_all}
 use Rattle.c960_rules.proofs.WhereFacts.{in_where}
 use Rattle.c960_rules.proofs.any.any_legal.Goals as goal

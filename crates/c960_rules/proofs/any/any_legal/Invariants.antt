@@ -1,6 +1,6 @@
 use Rattle.std.proofs.Common.{◌≡◌, ℕ, ◌<◌, false}
 use Rattle.c960_board.specs.Sets.{is_in}
-use Rattle.c960_rules.specs.Listing.{HasMoveFrom}
+use Rattle.c960_rules.specs.Inner.Listing.{HasMoveFrom}
 use Rattle.c960_rules.proofs.any.any_legal.Given as goal
 
 abbrev pub invariant-loop-left : goal.invariant-loop-left

@@ -1,6 +1,6 @@
 use Rattle.std.proofs.Common.{◌≡◌, ℕ, ◌<◌, false}
 use Rattle.c960_board.specs.Sets.{is_in}
-use Rattle.c960_rules.specs.Listing.{HasMoveBetween}
+use Rattle.c960_rules.specs.Inner.Listing.{HasMoveBetween}
 use Rattle.c960_rules.proofs.any.has_move_from.Given as goal
 
 abbrev pub invariant-loop-left : goal.invariant-loop-left

@@ -1,5 +1,5 @@
 use Rattle.std.proofs.Common.{rules}
-use Rattle.c960_rules.specs.Wheres.{is_free}
+use Rattle.c960_rules.specs.Inner.Wheres.{is_free}
 use Rattle.c960_rules.proofs.WhereFacts.{filtered_none, filtered_in, filtered_out, filtered_all}
 use Rattle.c960_rules.proofs.AttackerFacts.{free_is, free_isnt}
 use Rattle.c960_rules.proofs.attack_sets.free_from.Goals as goal

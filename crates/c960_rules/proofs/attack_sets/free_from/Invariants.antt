@@ -1,4 +1,4 @@
-use Rattle.c960_rules.specs.Wheres.{is_free}
+use Rattle.c960_rules.specs.Inner.Wheres.{is_free}
 use Rattle.c960_rules.proofs.WhereFacts.{IsFiltered}
 use Rattle.c960_rules.proofs.attack_sets.free_from.Given as goal
 

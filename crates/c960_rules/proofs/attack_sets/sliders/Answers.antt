@@ -1,9 +1,9 @@
 use Rattle.std.proofs.Common.{◌&&◌, ◌||◌}
 use Rattle.c960_board.specs.declared.piece.Kind.TheVariants.{Bishop, Rook, Queen}
 use Rattle.c960_board.specs.Pieces.{is_of}
-use Rattle.c960_board.specs.Position.{cell_at}
+use Rattle.c960_board.specs.Cells.{cell_at}
 use Rattle.c960_board.specs.Sets.{is_kind}
-use Rattle.c960_rules.specs.Wheres.{is_rook_line, is_bishop_line}
+use Rattle.c960_rules.specs.Inner.Wheres.{is_rook_line, is_bishop_line}
 use Rattle.c960_rules.proofs.WhereFacts.{where_and, where_or}
 use Rattle.c960_rules.proofs.AttackerFacts.{kind_where}
 use Rattle.c960_rules.proofs.attack_sets.sliders.Goals as goal

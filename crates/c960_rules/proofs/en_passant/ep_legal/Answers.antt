@@ -2,7 +2,7 @@ use Rattle.std.proofs.Common.{ℕ, ◌<◌, ◌≡◌, true, Some, None, ap, sym
 use Rattle.std.proofs.lemmas.Bool.{both_ways}
 use Rattle.c960_board.specs.declared.parts.Parts.{Parts}
 use Rattle.c960_rules.specs.Legal.{LegalEnPassant}
-use Rattle.c960_rules.specs.Wheres.{is_taker}
+use Rattle.c960_rules.specs.Inner.Wheres.{is_taker}
 use Rattle.c960_rules.proofs.EnPassantFacts.{capture, has_target, no_target, legal_taker}
 use Rattle.c960_rules.proofs.SetLoops.{searched_more, searched_all}
 use Rattle.c960_rules.proofs.WhereFacts.{in_where}

@@ -2,9 +2,9 @@ use Rattle.std.proofs.Common.{ap, ◌∙◌}
 use Rattle.c960_board.specs.declared.piece.Colour.{Colour}
 use Rattle.c960_board.specs.declared.piece.Kind.TheVariants.{Pawn}
 use Rattle.c960_board.specs.Pieces.{holds}
-use Rattle.c960_board.specs.Position.{cell_at}
+use Rattle.c960_board.specs.Cells.{cell_at}
 use Rattle.c960_board.specs.Sets.{set_of}
-use Rattle.c960_rules.specs.Wheres.{where_set, is_pawn_hit}
+use Rattle.c960_rules.specs.Inner.Wheres.{where_set, is_pawn_hit}
 use Rattle.c960_rules.proofs.WhereFacts.{where_and, set_where}
 use Rattle.c960_rules.proofs.en_passant.takers.Goals as goal
 

@@ -3,14 +3,15 @@ use Rattle.std.specs.Prelude.{◌==◌}
 use Rattle.c960_board.specs.declared.piece.Colour.{Colour}
 use Rattle.c960_board.specs.Sets.{is_occupied, is_in}
 use Rattle.c960_board.specs.Squares.{rank_of, ahead}
-use Rattle.c960_rules.specs.Reaches.{pawn_rank, steps_twice}
+use Rattle.c960_rules.specs.Reaches.{pawn_rank}
+use Rattle.c960_rules.specs.Tests.Reaches.{steps_twice}
 use Rattle.c960_rules.proofs.GoalFacts.{pawn_in, first_ahead, twice_elsewhere, twice_barred, twice_is, only_free}
-use Rattle.c960_rules.proofs.PieceFacts.{piece_on}
+use Rattle.c960_rules.proofs.lemmas.PieceFacts.{piece_on}
 use Rattle.c960_rules.proofs.WhereFacts.{in_where, where_agree, where_nothing, occupied_where}
 use Rattle.c960_rules.proofs.goals.double_step.Goals.{After-ahead-passed}
 use Rattle.c960_rules.proofs.goals.double_step.Goals as goal
 
--- the pawn stands on its first rank
+-- the pawn is on its first rank
 first : (c : After-ahead-passed) → (rank_of c.args.from == pawn_rank c.args.position.now.turn) ≡ true
 first c =
     ap (λ (d : Colour). rank_of c.args.from == pawn_rank d) (sym c.turn-turn.ensures) ∙ sym c.is_on_pawn_rank-is_first.ensures
@@ -20,7 +21,7 @@ first c =
 passed : (c : After-ahead-passed) → c.ahead-passed.result ≡ ahead c.args.position.now.turn c.args.from
 passed c = c.ahead-passed.ensures ∙ ap (λ (d : Colour). ahead d c.args.from) c.turn-turn.ensures
 
--- whether a piece stands there
+-- whether there is a piece there
 barred : (c : After-ahead-passed) → (b : Bool) → is_in c.occupied-occupied.result c.ahead-passed.result ≡ b
     → is_occupied (piece_on c.args.position.now (ahead c.args.position.now.turn c.args.from)) ≡ b
 barred c b h =

@@ -2,11 +2,11 @@ use Rattle.std.proofs.Common.{◌≡◌, true, false, not, Some, sym, ◌∙◌,
 use Rattle.c960_board.specs.declared.piece.Colour.{Colour}
 use Rattle.c960_board.specs.declared.piece.Kind.TheVariants.{Pawn}
 use Rattle.c960_board.specs.Pieces.{is_of}
-use Rattle.c960_board.specs.Position.{cell_at}
-use Rattle.c960_rules.specs.Listing.{pawn_goes, goes_to}
-use Rattle.c960_rules.specs.Wheres.{where_set}
+use Rattle.c960_board.specs.Cells.{cell_at}
+use Rattle.c960_rules.specs.Inner.Listing.{pawn_goes, goes_to}
+use Rattle.c960_rules.specs.Inner.Wheres.{where_set}
 use Rattle.c960_rules.proofs.GoalFacts.{own_test, holds_test, goes_none, pawns_go}
-use Rattle.c960_rules.proofs.PieceFacts.{piece_on, holds_is}
+use Rattle.c960_rules.proofs.lemmas.PieceFacts.{piece_on, holds_is}
 use Rattle.c960_rules.proofs.WayCandidates.{side_of}
 use Rattle.c960_rules.proofs.WhereFacts.{where_and, where_not, where_nothing}
 use Rattle.c960_rules.proofs.goals.goals.Goals as goal

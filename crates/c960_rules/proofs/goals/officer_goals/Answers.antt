@@ -1,8 +1,8 @@
 use Rattle.std.proofs.Common.{not, sym, ◌∙◌, ap}
 use Rattle.c960_board.specs.declared.piece.Colour.{Colour}
 use Rattle.c960_board.specs.Pieces.{is_of}
-use Rattle.c960_board.specs.Position.{cell_at}
-use Rattle.c960_rules.specs.Wheres.{where_set, is_way}
+use Rattle.c960_board.specs.Cells.{cell_at}
+use Rattle.c960_rules.specs.Inner.Wheres.{where_set, is_way}
 use Rattle.c960_rules.proofs.GoalFacts.{sliders_go, leapers_go}
 use Rattle.c960_rules.proofs.WhereFacts.{where_and, where_not}
 use Rattle.c960_rules.proofs.goals.officer_goals.Goals as goal

@@ -1,6 +1,6 @@
 use Rattle.std.proofs.Common.{◌||◌}
-use Rattle.c960_rules.specs.Reaches.{steps, steps_twice, takes}
-use Rattle.c960_rules.specs.Listing.{pawn_goes}
+use Rattle.c960_rules.specs.Tests.Reaches.{steps, steps_twice, takes}
+use Rattle.c960_rules.specs.Inner.Listing.{pawn_goes}
 use Rattle.c960_rules.proofs.WhereFacts.{where_or}
 use Rattle.c960_rules.proofs.goals.pawn_goals.Goals as goal
 

@@ -1,9 +1,10 @@
 use Rattle.std.proofs.Common.{ℕ, Option, ap, sym, ◌∙◌, ◌&&◌, ◌||◌}
 use Rattle.c960_board.specs.declared.piece.Colour.{Colour}
 use Rattle.c960_board.specs.Pieces.{other, is_of}
-use Rattle.c960_board.specs.Position.{cell_at}
-use Rattle.c960_rules.specs.Reaches.{is_target, takes}
-use Rattle.c960_rules.specs.Wheres.{where_set, is_pawn_hit}
+use Rattle.c960_board.specs.Cells.{cell_at}
+use Rattle.c960_rules.specs.Reaches.{is_target}
+use Rattle.c960_rules.specs.Tests.Reaches.{takes}
+use Rattle.c960_rules.specs.Inner.Wheres.{where_set, is_pawn_hit}
 use Rattle.c960_rules.proofs.GoalFacts.{prey_is}
 use Rattle.c960_rules.proofs.WhereFacts.{where_agree, where_and, where_or}
 use Rattle.c960_rules.proofs.goals.prey.Goals as goal

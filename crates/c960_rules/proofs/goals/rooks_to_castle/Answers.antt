@@ -2,12 +2,12 @@ use Rattle.std.proofs.Common.{sym, ◌∙◌, ap}
 use Rattle.c960_board.specs.declared.piece.Colour.{Colour}
 use Rattle.c960_board.specs.declared.piece.Kind.TheVariants.{King, Rook}
 use Rattle.c960_board.specs.Pieces.{is_of}
-use Rattle.c960_board.specs.Position.{cell_at}
+use Rattle.c960_board.specs.Cells.{cell_at}
 use Rattle.c960_board.specs.Sets.{is_kind}
-use Rattle.c960_rules.specs.Wheres.{where_set}
+use Rattle.c960_rules.specs.Inner.Wheres.{where_set}
 use Rattle.c960_rules.proofs.AttackerFacts.{kind_where}
 use Rattle.c960_rules.proofs.GoalFacts.{holds_test, no_castle, no_kings_castle}
-use Rattle.c960_rules.proofs.PieceFacts.{piece_on}
+use Rattle.c960_rules.proofs.lemmas.PieceFacts.{piece_on}
 use Rattle.c960_rules.proofs.WhereFacts.{where_and}
 use Rattle.c960_rules.proofs.goals.rooks_to_castle.Goals as goal
 

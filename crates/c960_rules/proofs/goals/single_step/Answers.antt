@@ -3,9 +3,9 @@ use Rattle.std.specs.Prelude.{◌==◌}
 use Rattle.c960_board.specs.declared.piece.Colour.{Colour}
 use Rattle.c960_board.specs.Sets.{is_occupied}
 use Rattle.c960_board.specs.Squares.{ahead}
-use Rattle.c960_rules.specs.Reaches.{steps}
+use Rattle.c960_rules.specs.Tests.Reaches.{steps}
 use Rattle.c960_rules.proofs.GoalFacts.{pawn_in, only_free, step_is}
-use Rattle.c960_rules.proofs.PieceFacts.{piece_on}
+use Rattle.c960_rules.proofs.lemmas.PieceFacts.{piece_on}
 use Rattle.c960_rules.proofs.WhereFacts.{where_agree}
 use Rattle.c960_rules.proofs.goals.single_step.Goals as goal
 

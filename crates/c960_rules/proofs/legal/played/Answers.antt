@@ -1,7 +1,7 @@
 use Rattle.std.proofs.Common.{sym, subst}
 use Rattle.c960_board.specs.declared.parts.Parts.{Parts}
 use Rattle.c960_rules.specs.Check.{IsLawful}
-use Rattle.c960_rules.proofs.AfterFacts.{after_lawful}
+use Rattle.c960_rules.proofs.lemmas.AfterFacts.{after_lawful}
 use Rattle.c960_rules.proofs.legal.played.Goals as goal
 
 pub of_position-requires : goal.of_position-requires

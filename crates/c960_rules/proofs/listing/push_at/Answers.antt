@@ -1,5 +1,5 @@
 use Rattle.std.proofs.Common.{sym, ◌∙◌, arith}
-use Rattle.c960_rules.specs.Listing.{goes_to}
+use Rattle.c960_rules.specs.Inner.Listing.{goes_to}
 use Rattle.c960_rules.proofs.WhereFacts.{in_where}
 use Rattle.c960_rules.proofs.listing.push_at.Goals as goal
 

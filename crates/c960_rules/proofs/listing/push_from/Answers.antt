@@ -2,7 +2,7 @@ use Rattle.std.proofs.Common.{◌++◌, ◌∙◌, List, ap, sym, arith}
 use Rattle.std.proofs.lemmas.List.{append-nil}
 use Rattle.c960_board.specs.Moves.{Triple}
 use Rattle.c960_board.specs.Sets.{is_in}
-use Rattle.c960_rules.specs.Listing.{legal_between}
+use Rattle.c960_rules.specs.Inner.Listing.{legal_between}
 use Rattle.c960_rules.proofs.WhereFacts.{where_or, where_itself}
 use Rattle.c960_rules.proofs.GoalFacts.{none_goes}
 use Rattle.c960_rules.proofs.WayCandidates.{none_between}

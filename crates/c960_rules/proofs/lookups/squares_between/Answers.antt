@@ -1,7 +1,7 @@
 use Rattle.std.proofs.Common.{refl}
 use Rattle.c960_rules.specs.declared.between.TheConstants.{BETWEEN}
 use Rattle.c960_rules.specs.Lines.{between}
-use Rattle.c960_rules.specs.Wheres.{where_set}
+use Rattle.c960_rules.specs.Inner.Wheres.{where_set}
 use Rattle.c960_rules.proofs.BetweenTable.{between_table, place_of}
 use Rattle.c960_rules.proofs.lookups.squares_between.Goals as goal
 

@@ -1,6 +1,6 @@
 use Rattle.c960_board.specs.declared.piece.Colour.TheVariants.{White}
 use Rattle.c960_rules.specs.declared.tables.TheConstants.{WHITE_PAWN}
-use Rattle.c960_rules.specs.Wheres.{where_set, is_pawn_hit}
+use Rattle.c960_rules.specs.Inner.Wheres.{where_set, is_pawn_hit}
 use Rattle.c960_rules.proofs.LeapTables.{white_table, row_of}
 use Rattle.c960_rules.proofs.lookups.white_hits.Goals as goal
 

@@ -2,7 +2,7 @@ use Rattle.std.proofs.Common.{◌≡◌, ℕ, Option, false, ap, sym, ◌∙◌}
 use Rattle.c960_board.specs.declared.piece.Kind.TheVariants.{Pawn}
 use Rattle.c960_board.specs.Moves.{Triple}
 use Rattle.c960_board.specs.Pieces.{holds}
-use Rattle.c960_board.specs.Position.{cell_at}
+use Rattle.c960_board.specs.Cells.{cell_at}
 use Rattle.c960_rules.specs.After.{is_en_passant}
 use Rattle.c960_rules.specs.Reaches.{is_target}
 use Rattle.c960_rules.proofs.AttackerFacts.{and-false}

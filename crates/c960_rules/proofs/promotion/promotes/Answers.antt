@@ -3,7 +3,7 @@ use Rattle.std.specs.Prelude.{◌==◌}
 use Rattle.c960_board.specs.declared.piece.Colour.{Colour}
 use Rattle.c960_board.specs.declared.piece.Kind.TheVariants.{Pawn}
 use Rattle.c960_board.specs.Pieces.{holds}
-use Rattle.c960_board.specs.Position.{cell_at}
+use Rattle.c960_board.specs.Cells.{cell_at}
 use Rattle.c960_board.specs.Squares.{rank_of}
 use Rattle.c960_rules.specs.Reaches.{last_rank}
 use Rattle.c960_rules.proofs.AttackerFacts.{and-false, and-true}

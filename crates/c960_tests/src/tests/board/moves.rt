@@ -2,59 +2,71 @@
 
 use c960_board::{Move, MoveFault, move_bytes, read_move};
 
+/// Whether a move has this text and this code.
+fn is_coded(text: &[u8], code: u64) -> bool {
+    match read_move(text) {
+        Ok(m) => m.code() == code && move_bytes(m).as_slice() == text,
+        Err(_) => false,
+    }
+}
+
 #[test]
 fn the_codes_and_texts_of_two_moves(rt: HostRuntime) {
-    for (text, code) in [(b"e2e4".as_slice(), 1804), (b"a7a8q".as_slice(), 20016)] {
-        let chess_move = read_move(text).expect(&rt, "a move's text");
-        assert!(rt; chess_move.code() == code, "{text:?}");
-        assert!(rt; move_bytes(chess_move).as_slice() == text);
+    assert!(rt; is_coded(b"e2e4", 1804));
+    assert!(rt; is_coded(b"a7a8q", 20016));
+}
+
+/// Whether the move of a code is read back from the code and from its text.
+fn comes_back(code: u64) -> bool {
+    match Move::of_code(code) {
+        Some(m) => m.code() == code && read_move(move_bytes(m).as_slice()) == Ok(m),
+        None => false,
     }
 }
 
 #[test]
 fn every_move_comes_back_from_its_code_and_its_text(rt: HostRuntime) {
     for code in 0..20480 {
-        let chess_move = Move::of_code(code).expect(&rt, "a move's code");
-        assert!(rt; chess_move.code() == code);
-        let text = move_bytes(chess_move);
-        assert!(rt; read_move(text.as_slice()) == Ok(chess_move), "code {code}");
+        assert!(rt; comes_back(code), "code {code}");
     }
 }
 
 #[test]
 fn no_move_has_a_code_from_20480_on(rt: HostRuntime) {
-    for code in [20480, u64::MAX] {
-        assert!(rt; Move::of_code(code) == None, "code {code}");
-    }
+    assert!(rt; Move::of_code(20480).is_none());
+    assert!(rt; Move::of_code(u64::MAX).is_none());
 }
+
+/// Texts that are not moves, each with its first fault.
+const REFUSED: [(&str, MoveFault); 11] = [
+    ("", MoveFault::Length),
+    ("e2", MoveFault::Length),
+    ("e2e4qq", MoveFault::Length),
+    ("i2e4", MoveFault::Square),
+    ("e9e4", MoveFault::Square),
+    ("e2e0", MoveFault::Square),
+    ("E2E4", MoveFault::Square),
+    ("i2e4k", MoveFault::Square),
+    ("e7e8k", MoveFault::Promotion),
+    ("e7e8p", MoveFault::Promotion),
+    ("e7e8Q", MoveFault::Promotion),
+];
 
 #[test]
 fn the_first_fault_of_each_text(rt: HostRuntime) {
-    for (text, fault) in [
-        (b"".as_slice(), MoveFault::Length),
-        (b"e2".as_slice(), MoveFault::Length),
-        (b"e2e4qq".as_slice(), MoveFault::Length),
-        (b"i2e4".as_slice(), MoveFault::Square),
-        (b"e9e4".as_slice(), MoveFault::Square),
-        (b"e2e0".as_slice(), MoveFault::Square),
-        (b"E2E4".as_slice(), MoveFault::Square),
-        (b"i2e4k".as_slice(), MoveFault::Square),
-        (b"e7e8k".as_slice(), MoveFault::Promotion),
-        (b"e7e8p".as_slice(), MoveFault::Promotion),
-        (b"e7e8Q".as_slice(), MoveFault::Promotion),
-    ] {
-        assert!(rt; read_move(text) == Err(fault), "{text:?}");
+    for (text, fault) in &REFUSED {
+        assert!(rt; read_move(text.as_bytes()) == Err(*fault), "{text}");
     }
+}
+
+/// Whether a fault has this code and this name.
+fn is_named(fault: MoveFault, code: u64, name: &str) -> bool {
+    fault.code() == code && fault.name() == name
 }
 
 #[test]
 fn the_codes_and_names_of_the_faults(rt: HostRuntime) {
-    for (fault, code, name) in [
-        (MoveFault::Length, 1, "Length"),
-        (MoveFault::Square, 2, "Square"),
-        (MoveFault::Promotion, 3, "Promotion"),
-    ] {
-        assert!(rt; fault.code() == code, "{name}");
-        assert!(rt; fault.name() == name);
-    }
+    assert!(rt; is_named(MoveFault::Length, 1, "Length"));
+    assert!(rt; is_named(MoveFault::Square, 2, "Square"));
+    assert!(rt; is_named(MoveFault::Promotion, 3, "Promotion"));
 }

@@ -1,38 +1,38 @@
 //! Arrays and their start numbers.
 
-use c960_board::Kind::{Bishop, King, Knight, Queen, Rook};
+use c960_board::Kind::{self, Bishop, King, Knight, Queen, Rook};
 use c960_board::{arrangement, number_of};
-use std::test::Fail;
+
+/// Whether a number is read back from its array.
+fn comes_back(number: u16) -> bool {
+    match arrangement(number) {
+        Some(rank) => number_of(rank) == Some(number),
+        None => false,
+    }
+}
 
 #[test]
-fn each_number_comes_back_from_its_array(rt: HostRuntime) -> Result<(), Fail> {
+fn each_number_comes_back_from_its_array(rt: HostRuntime) {
     for number in 0..960 {
-        let rank = arrangement(number).ok_or("no array")?;
-        assert!(rt; number_of(rank) == Some(number), "at {number}");
+        assert!(rt; comes_back(number), "at {number}");
     }
-    Ok(())
+}
+
+/// Whether a number and an array correspond.
+fn is_numbered(number: u16, rank: [Kind; 8]) -> bool {
+    arrangement(number) == Some(rank) && number_of(rank) == Some(number)
 }
 
 #[test]
 fn arrays_have_their_published_numbers(rt: HostRuntime) {
-    for (number, rank) in [
-        (0, [Bishop, Bishop, Queen, Knight, Knight, Rook, King, Rook]),
-        (
-            518,
-            [Rook, Knight, Bishop, Queen, King, Bishop, Knight, Rook],
-        ),
-        (
-            534,
-            [Rook, Knight, Bishop, King, Queen, Bishop, Knight, Rook],
-        ),
-        (
-            959,
-            [Rook, King, Rook, Knight, Knight, Queen, Bishop, Bishop],
-        ),
-    ] {
-        assert!(rt; arrangement(number) == Some(rank), "at {number}");
-        assert!(rt; number_of(rank) == Some(number), "at {number}");
-    }
+    let first = [Bishop, Bishop, Queen, Knight, Knight, Rook, King, Rook];
+    assert!(rt; is_numbered(0, first));
+    let standard = [Rook, Knight, Bishop, Queen, King, Bishop, Knight, Rook];
+    assert!(rt; is_numbered(518, standard));
+    let exchanged = [Rook, Knight, Bishop, King, Queen, Bishop, Knight, Rook];
+    assert!(rt; is_numbered(534, exchanged));
+    let last = [Rook, King, Rook, Knight, Knight, Queen, Bishop, Bishop];
+    assert!(rt; is_numbered(959, last));
 }
 
 #[test]

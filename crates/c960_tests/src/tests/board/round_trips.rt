@@ -2,7 +2,7 @@
 
 use c960_board::{FenFault, Position, read_fen, write_fen};
 
-/// Texts, each with the text that is written of its position.
+/// Texts, each with the text that is written for its position.
 const READ_AND_WRITTEN: &str = "\
 rnbqkbnr/pppppppp/8/8/8/8/PPPPPPPP/RNBQKBNR w HAha - 0 1|rnbqkbnr/pppppppp/8/8/8/8/PPPPPPPP/RNBQKBNR w HAha - 0 1
 rnbqkbnr/pppppppp/8/8/8/8/PPPPPPPP/RNBQKBNR w haHA - 0 1|rnbqkbnr/pppppppp/8/8/8/8/PPPPPPPP/RNBQKBNR w HAha - 0 1
@@ -14,73 +14,81 @@ rnbqkbnr/pppp1ppp/nnnn1nnn/nnnnpnnn/NNNNNNNN/NNNNNNNN/PPPPPPPP/RNBQKBNR w HAha e
 4r1k1/8/8/8/8/6p1/6P1/5KRB w G - 0 1|4r1k1/8/8/8/8/6p1/6P1/5KRB w G - 0 1
 ";
 
+/// Whether the position of a row's text is written as its other text.
+fn is_written_back(row: &str) -> bool {
+    let Some((text, written)) = row.split_once('|') else {
+        return false;
+    };
+    match read_fen(text.as_bytes()) {
+        Ok(position) => write_fen(&position).as_slice() == written.as_bytes(),
+        Err(_) => false,
+    }
+}
+
 #[test]
 fn texts_are_written_back(rt: HostRuntime) {
     assert!(rt; READ_AND_WRITTEN.lines().count() == 8);
     for row in READ_AND_WRITTEN.lines() {
-        let Some((text, written)) = row.split_once('|') else {
-            panic!(rt; "no row: {row}");
-        };
-        let Ok(position) = read_fen(text.as_bytes()) else {
-            panic!(rt; "refused: {text}");
-        };
-        assert!(rt;
-            write_fen(&position).as_slice() == written.as_bytes(),
-            "at {text}"
-        );
+        assert!(rt; is_written_back(row), "at {row}");
+    }
+}
+
+/// Whether a start is read back from its text.
+fn comes_back(number: u16) -> bool {
+    match Position::start(number) {
+        Some(start) => read_fen(write_fen(&start).as_slice()) == Ok(start),
+        None => false,
     }
 }
 
 #[test]
 fn every_start_is_read_from_its_text(rt: HostRuntime) {
     for number in 0..960 {
-        let Some(start) = Position::start(number) else {
-            panic!(rt; "no start {number}");
-        };
-        assert!(rt;
-            read_fen(write_fen(&start).as_slice()) == Ok(start),
-            "at {number}"
-        );
+        assert!(rt; comes_back(number), "at {number}");
+    }
+}
+
+/// Whether the start with a number is written as this text.
+fn is_start(number: u16, text: &str) -> bool {
+    match Position::start(number) {
+        Some(start) => write_fen(&start).as_slice() == text.as_bytes(),
+        None => false,
     }
 }
 
 #[test]
 fn the_starts_of_three_numbers(rt: HostRuntime) {
-    for (number, text) in [
-        (
+    assert!(rt;
+        is_start(
             0,
-            "bbqnnrkr/pppppppp/8/8/8/8/PPPPPPPP/BBQNNRKR w HFhf - 0 1",
-        ),
-        (
+            "bbqnnrkr/pppppppp/8/8/8/8/PPPPPPPP/BBQNNRKR w HFhf - 0 1"
+        )
+    );
+    assert!(rt;
+        is_start(
             518,
-            "rnbqkbnr/pppppppp/8/8/8/8/PPPPPPPP/RNBQKBNR w HAha - 0 1",
-        ),
-        (
+            "rnbqkbnr/pppppppp/8/8/8/8/PPPPPPPP/RNBQKBNR w HAha - 0 1"
+        )
+    );
+    assert!(rt;
+        is_start(
             959,
-            "rkrnnqbb/pppppppp/8/8/8/8/PPPPPPPP/RKRNNQBB w CAca - 0 1",
-        ),
-    ] {
-        let Some(start) = Position::start(number) else {
-            panic!(rt; "no start {number}");
-        };
-        assert!(rt;
-            write_fen(&start).as_slice() == text.as_bytes(),
-            "at {number}"
-        );
-    }
+            "rkrnnqbb/pppppppp/8/8/8/8/PPPPPPPP/RKRNNQBB w CAca - 0 1"
+        )
+    );
+}
+
+/// Whether a fault has this code and this name.
+fn is_named(fault: FenFault, code: u64, name: &str) -> bool {
+    fault.code() == code && fault.name() == name
 }
 
 #[test]
 fn the_codes_and_names_of_the_faults(rt: HostRuntime) {
-    for (fault, code, name) in [
-        (FenFault::Fields, 1, "Fields"),
-        (FenFault::Placement, 2, "Placement"),
-        (FenFault::Turn, 3, "Turn"),
-        (FenFault::Castling, 4, "Castling"),
-        (FenFault::EnPassant, 5, "EnPassant"),
-        (FenFault::Counters, 6, "Counters"),
-    ] {
-        assert!(rt; fault.code() == code, "{name}");
-        assert!(rt; fault.name() == name);
-    }
+    assert!(rt; is_named(FenFault::Fields, 1, "Fields"));
+    assert!(rt; is_named(FenFault::Placement, 2, "Placement"));
+    assert!(rt; is_named(FenFault::Turn, 3, "Turn"));
+    assert!(rt; is_named(FenFault::Castling, 4, "Castling"));
+    assert!(rt; is_named(FenFault::EnPassant, 5, "EnPassant"));
+    assert!(rt; is_named(FenFault::Counters, 6, "Counters"));
 }

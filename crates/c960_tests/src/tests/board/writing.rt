@@ -1,9 +1,8 @@
-//! Texts of positions that are made of their parts.
+//! Texts of positions that are built from their parts.
 
 use c960_board::{CastlingRights, Colour, Kind, Parts, Piece, Position, Square, write_fen};
-use std::test::*;
 
-/// What a square of a drawing holds: a capital is White's, a point is an empty square.
+/// The contents of a square of a drawing: a capital is White's, a full stop is an empty square.
 fn piece(letter: u8) -> Option<Piece> {
     let kind = match letter.to_ascii_lowercase() {
         b'p' => Kind::Pawn,
@@ -47,8 +46,16 @@ fn files(rooks: &[usize]) -> [bool; 8] {
     files
 }
 
+/// Whether the position with these parts is written as this text.
+fn is_written(parts: Parts, text: &[u8]) -> bool {
+    match Position::make(parts) {
+        Some(position) => write_fen(&position).as_slice() == text,
+        None => false,
+    }
+}
+
 #[test]
-fn text_with_a_right(rt: HostRuntime) -> Result<(), Fail> {
+fn text_with_a_right(rt: HostRuntime) {
     let board = b"\
         ....k...\
         ........\
@@ -58,22 +65,19 @@ fn text_with_a_right(rt: HostRuntime) -> Result<(), Fail> {
         ........\
         ........\
         .RK.....";
-    let position = Position::make(Parts {
+    let parts = Parts {
         placement: drawn(board),
         turn: Colour::White,
         rights: rights(&[1], &[]),
         target: None,
         half_moves: 0,
         number: 1,
-    });
-    let text = write_fen(&position.ok_or("no position")?);
-    let whole = b"4k3/8/8/8/8/8/8/1RK5 w B - 0 1";
-    assert!(rt; text.as_slice() == whole.as_slice());
-    Ok(())
+    };
+    assert!(rt; is_written(parts, b"4k3/8/8/8/8/8/8/1RK5 w B - 0 1"));
 }
 
 #[test]
-fn longest_text(rt: HostRuntime) -> Result<(), Fail> {
+fn longest_text(rt: HostRuntime) {
     let board = b"\
         rnbqkbnr\
         pppp.ppp\
@@ -83,24 +87,22 @@ fn longest_text(rt: HostRuntime) -> Result<(), Fail> {
         NNNNNNNN\
         PPPPPPPP\
         RNBQKBNR";
-    let position = Position::make(Parts {
+    let parts = Parts {
         placement: drawn(board),
         turn: Colour::White,
         rights: rights(&[0, 7], &[0, 7]),
         target: Square::new(44),
         half_moves: 65535,
         number: 65535,
-    });
-    let text = write_fen(&position.ok_or("no position")?);
+    };
     let whole =
         b"rnbqkbnr/pppp1ppp/nnnn1nnn/nnnnpnnn/NNNNNNNN/NNNNNNNN/PPPPPPPP/RNBQKBNR w HAha e6 65535 65535";
-    assert!(rt; text.len() == 93);
-    assert!(rt; text.as_slice() == whole.as_slice());
-    Ok(())
+    assert!(rt; whole.len() == 93);
+    assert!(rt; is_written(parts, whole));
 }
 
 #[test]
-fn text_with_no_rights(rt: HostRuntime) -> Result<(), Fail> {
+fn text_with_no_rights(rt: HostRuntime) {
     let board = b"\
         ........\
         ..k..p..\
@@ -110,17 +112,13 @@ fn text_with_no_rights(rt: HostRuntime) -> Result<(), Fail> {
         ........\
         ........\
         .R....K.";
-    let position = Position::make(Parts {
+    let parts = Parts {
         placement: drawn(board),
         turn: Colour::Black,
         rights: rights(&[], &[]),
         target: Square::new(20),
         half_moves: 0,
         number: 40,
-    });
-    let text = write_fen(&position.ok_or("no position")?);
-    let whole = b"8/2k2p2/8/7q/b3P3/8/8/1R4K1 b - e3 0 40";
-    assert!(rt; !text.is_empty());
-    assert!(rt; text.as_slice() == whole.as_slice());
-    Ok(())
+    };
+    assert!(rt; is_written(parts, b"8/2k2p2/8/7q/b3P3/8/8/1R4K1 b - e3 0 40"));
 }

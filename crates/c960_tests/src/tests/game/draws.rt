@@ -5,13 +5,15 @@ use crate::tests::game::playing::{
 };
 use c960_board::Colour;
 use c960_game::{Ending, Outcome, Refusal};
-use std::test::Fail;
+use std::alloc::AllocError;
 
 /// Four moves after which the position is as before.
 const KNIGHTS_OUT_AND_HOME: &str = "g8f6 g1f3 f6g8 f3g1";
 
 #[test]
-fn the_third_appearance_may_be_claimed_by_the_side_on_move(rt: HostRuntime) -> Result<(), Fail> {
+fn the_third_appearance_may_be_claimed_by_the_side_on_move(
+    rt: HostRuntime,
+) -> Result<(), AllocError> {
     let mut game = standard(&rt, rt.alloc(), 1024)?;
     play_on(&rt, &mut game, "e2e4");
     assert_text(
@@ -37,7 +39,7 @@ fn the_third_appearance_may_be_claimed_by_the_side_on_move(rt: HostRuntime) -> R
 /// Twelve moves of knights.
 pub const SHUFFLE: &str = "g1f3 g8f6 f3g1 f6g8 g1f3 g8f6 f3g1 f6g8 g1f3 g8f6 f3g1 f6g8";
 
-/// Two moves after each shuffle, so that no position comes back too often.
+/// Two moves after each shuffle, so that no position is repeated too often.
 pub const TURNS: [&str; 7] = [
     "b1c3 b8c6",
     "a1b1 a8b8",
@@ -51,7 +53,7 @@ pub const TURNS: [&str; 7] = [
 #[test]
 fn fifty_moves_of_each_side_may_be_claimed_by_the_side_on_move(
     rt: HostRuntime,
-) -> Result<(), Fail> {
+) -> Result<(), AllocError> {
     let mut game = standard(&rt, rt.alloc(), 1024)?;
     for turn in TURNS {
         play_on(&rt, &mut game, SHUFFLE);

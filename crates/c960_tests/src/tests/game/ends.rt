@@ -6,10 +6,10 @@ use crate::tests::game::playing::{
 };
 use c960_board::Colour;
 use c960_game::{Ending, Outcome, Refusal};
-use std::test::Fail;
+use std::alloc::AllocError;
 
 #[test]
-fn fools_mate(rt: HostRuntime) -> Result<(), Fail> {
+fn fools_mate(rt: HostRuntime) -> Result<(), AllocError> {
     let mut game = standard(&rt, rt.alloc(), 1024)?;
     play_on(&rt, &mut game, "f2f3 e7e5 g2g4");
     play_last(&rt, &mut game, "d8h4", Outcome::Checkmate(Colour::Black));
@@ -24,12 +24,12 @@ fn fools_mate(rt: HostRuntime) -> Result<(), Fail> {
     Ok(())
 }
 
-/// The shortest known game from the standard array that ends in stalemate, by Sam Loyd, but for its last move.
+/// The shortest known game from the standard array that ends in stalemate, by Sam Loyd, without its last move.
 pub const LOYDS_STALEMATE: &str =
     "e2e3 a7a5 d1h5 a8a6 h5a5 h7h5 h2h4 a6h6 a5c7 f7f6 c7d7 e8f7 d7b7 d8d3 b7b8 d3h7 b8c8 f7g6";
 
 #[test]
-fn loyds_stalemate(rt: HostRuntime) -> Result<(), Fail> {
+fn loyds_stalemate(rt: HostRuntime) -> Result<(), AllocError> {
     let mut game = standard(&rt, rt.alloc(), 1024)?;
     play_on(&rt, &mut game, LOYDS_STALEMATE);
     play_last(&rt, &mut game, "c8e6", Outcome::Stalemate);

@@ -1,5 +1,5 @@
-//! Want of memory. Where one allocation is refused (`rt try --test --fail-alloc N`, for each N in turn), `Game::open` says so and
-//! succeeds when called again; no call after it is ever refused memory, which is what the moves, ends and places here show.
+//! Lack of memory. If one allocation is refused (`rt try --test --fail-alloc N`, for each N in turn), `Game::open` says so and
+//! succeeds when called again. No later call is ever refused memory, as the moves, ends and places here show.
 
 use crate::tests::game::playing::{assert_text, end, play_last, play_lines, play_on};
 use crate::tests::game::unclaimed::BEFORE_MATE;
@@ -8,17 +8,14 @@ use c960_game::{Ending, Game, Outcome, Refusal};
 use std::alloc::Global;
 use std::process::Abort;
 
-/// A new game from the standard array, opened again where it was refused memory.
+/// A new game from the standard array, opened again if it was refused memory.
 fn open(rt: &impl Abort, alloc: Global, plies: u16) -> Game {
     assert!(rt; (1..=16384).contains(&plies));
     match Game::open(alloc, 518, plies) {
         Ok(game) => game,
         Err(refusal) => {
             assert!(rt; refusal == Refusal::OutOfMemory);
-            let Ok(game) = Game::open(alloc, 518, plies) else {
-                panic!(rt; "one refusal at the most");
-            };
-            game
+            Game::open(alloc, 518, plies).expect(rt, "one refusal at the most")
         }
     }
 }

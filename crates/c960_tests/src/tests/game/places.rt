@@ -1,24 +1,21 @@
 //! The position at an earlier place of a game.
 
-use crate::tests::game::playing::{move_of, play_last, play_lines, standard};
+use crate::tests::game::playing::{goes_on, play_last, play_lines, standard};
 use crate::tests::game::unclaimed::BEFORE_MATE;
-use c960_board::{Colour, write_fen};
+use c960_board::{Colour, Position, write_fen};
 use c960_game::{Game, Outcome};
+use std::alloc::AllocError;
 use std::process::Abort;
-use std::test::Fail;
 
-/// Asserts that the position at a place is written as that text.
-fn assert_text_at(rt: &impl Abort, game: &Game, place: u16, text: &str) {
-    let Some(position) = game.position_at(place) else {
-        panic!(rt; "no position at {place}");
-    };
-    assert!(rt;
-        write_fen(&position).as_slice() == text.as_bytes(),
-        "at {place}"
-    );
+/// Whether the position at a place is written as that text.
+fn is_written_at(game: &Game, place: u16, text: &str) -> bool {
+    match game.position_at(place) {
+        Some(position) => write_fen(&position).as_slice() == text.as_bytes(),
+        None => false,
+    }
 }
 
-/// Positions of the long game that ends by mate, by the same program as its moves.
+/// Positions of the long game that ends in mate, by the same program as its moves.
 const PLACES: [(u16, &str); 8] = [
     (
         0,
@@ -54,69 +51,87 @@ const PLACES: [(u16, &str); 8] = [
     ),
 ];
 
-#[test]
-fn each_place_has_the_position_seen_there(rt: HostRuntime) -> Result<(), Fail> {
-    let mut game = standard(&rt, rt.alloc(), 154)?;
-    let mut seen = Vec::new(rt.alloc());
-    seen.push(game.position())?;
+/// Whether the move of a text is accepted, and the position after it is at the end of the log.
+fn shows(game: &mut Game, text: &str) -> bool {
+    goes_on(game, text) && game.position_at(game.len()) == Some(game.position())
+}
+
+/// Makes the moves before the mate, and adds the position after each.
+fn see(rt: &impl Abort, game: &mut Game, seen: &mut Vec<Position>) -> Result<(), AllocError> {
     for line in BEFORE_MATE {
         for text in line.split(' ') {
-            assert!(rt; game.play(move_of(&rt, text)) == Ok(None), "at {text}");
-            assert!(rt;
-                game.position_at(game.len()) == Some(game.position()),
-                "at {text}"
-            );
+            assert!(rt; shows(game, text), "at {text}");
             seen.push(game.position())?;
         }
-    }
-    assert!(rt; game.len() == 153);
-    play_last(&rt, &mut game, "d8h4", Outcome::Checkmate(Colour::Black));
-    seen.push(game.position())?;
-    let mut place = 0;
-    for position in seen.iter() {
-        assert!(rt; game.position_at(place) == Some(*position), "at {place}");
-        assert!(rt; place < 155);
-        place += 1;
-    }
-    for (place, text) in PLACES {
-        assert_text_at(&rt, &game, place, text);
-    }
-    for past in [155, 156, 192, 16384, 65535] {
-        assert!(rt; game.position_at(past) == None, "at {past}");
     }
     Ok(())
 }
 
+/// Whether the places of a game have these positions, from the first on.
+fn has_positions(game: &Game, seen: &[Position]) -> bool {
+    let mut place = 0u16;
+    for position in seen {
+        if game.position_at(place) != Some(*position) {
+            return false;
+        }
+        place = place.saturating_add(1);
+    }
+    true
+}
+
 #[test]
-fn a_full_log_of_sixty_four_moves_has_its_positions(rt: HostRuntime) -> Result<(), Fail> {
-    for plies in [63, 64, 65] {
-        let mut game = standard(&rt, rt.alloc(), plies)?;
-        for line in BEFORE_MATE {
-            for text in line.split(' ') {
-                if game.len() < plies {
-                    assert!(rt; game.play(move_of(&rt, text)) == Ok(None), "at {text}");
-                }
+fn each_place_has_the_position_seen_there(rt: HostRuntime) -> Result<(), AllocError> {
+    let mut game = standard(&rt, rt.alloc(), 154)?;
+    let mut seen = Vec::new(rt.alloc());
+    seen.push(game.position())?;
+    see(&rt, &mut game, &mut seen)?;
+    assert!(rt; game.len() == 153);
+    play_last(&rt, &mut game, "d8h4", Outcome::Checkmate(Colour::Black));
+    seen.push(game.position())?;
+    assert!(rt; seen.len() == 155 && has_positions(&game, seen.as_slice()));
+    for (place, text) in &PLACES {
+        assert!(rt; is_written_at(&game, *place, text), "at {place}");
+    }
+    for past in [155, 156, 192, 16384, 65535] {
+        assert!(rt; game.position_at(past).is_none(), "at {past}");
+    }
+    Ok(())
+}
+
+/// Makes this many of the moves before the mate.
+fn play_first(rt: &impl Abort, game: &mut Game, plies: u16) {
+    for line in BEFORE_MATE {
+        for text in line.split(' ') {
+            if game.len() < plies {
+                assert!(rt; goes_on(game, text), "at {text}");
             }
         }
+    }
+}
+
+#[test]
+fn a_full_log_of_sixty_four_moves_has_its_positions(rt: HostRuntime) -> Result<(), AllocError> {
+    for plies in [63, 64, 65] {
+        let mut game = standard(&rt, rt.alloc(), plies)?;
+        play_first(&rt, &mut game, plies);
         assert!(rt; game.len() == plies);
         assert!(rt;
             game.position_at(plies) == Some(game.position()),
             "at {plies}"
         );
-        assert!(rt; game.position_at(plies + 1) == None, "behind {plies}");
+        assert!(rt; game.position_at(plies + 1).is_none(), "behind {plies}");
     }
     Ok(())
 }
 
 #[test]
-fn a_game_without_a_move_has_its_start_alone(rt: HostRuntime) -> Result<(), Fail> {
+fn a_game_without_a_move_has_its_start_alone(rt: HostRuntime) -> Result<(), AllocError> {
     let game = standard(&rt, rt.alloc(), 1)?;
     assert!(rt; game.position_at(0) == Some(game.position()));
-    assert!(rt; game.position_at(1) == None);
+    assert!(rt; game.position_at(1).is_none());
     let mut one = standard(&rt, rt.alloc(), 1)?;
     play_lines(&rt, &mut one, &["e2e4"]);
-    assert!(rt; one.position_at(0) == Some(game.position()));
-    assert!(rt; one.position_at(1) == Some(one.position()));
-    assert!(rt; one.position_at(2) == None);
+    assert!(rt; has_positions(&one, &[game.position(), one.position()]));
+    assert!(rt; one.position_at(2).is_none());
     Ok(())
 }

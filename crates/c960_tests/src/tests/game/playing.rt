@@ -1,6 +1,6 @@
 //! Games and moves from their texts, and what a refused call must leave as it was.
 
-use c960_board::{Move, Position, read_move, write_fen};
+use c960_board::{Position, read_move, write_fen};
 use c960_game::{Ending, Game, Outcome, Refusal};
 use std::alloc::{AllocError, Global};
 use std::process::Abort;
@@ -15,20 +15,18 @@ pub fn standard(rt: &impl Abort, alloc: Global, plies: u16) -> Result<Game, Allo
     }
 }
 
-/// The move of a text.
-pub fn move_of(rt: &impl Abort, text: &str) -> Move {
-    let Ok(m) = read_move(text.as_bytes()) else {
-        panic!(rt; "no move: {text}");
-    };
-    m
+/// Whether the move of a text is accepted, and the game goes on.
+pub fn goes_on(game: &mut Game, text: &str) -> bool {
+    match read_move(text.as_bytes()) {
+        Ok(m) => game.play(m) == Ok(None) && game.outcome().is_none(),
+        Err(_) => false,
+    }
 }
 
-/// Makes the moves of a line, which has a space between each two: each is accepted, and the game goes on.
+/// Makes the moves of a line, which are separated by spaces: each is accepted, and the game goes on.
 pub fn play_on(rt: &impl Abort, game: &mut Game, moves: &str) {
     for text in moves.split(' ') {
-        let answer = game.play(move_of(rt, text));
-        assert!(rt; answer == Ok(None), "at {text}");
-        assert!(rt; game.outcome() == None, "after {text}");
+        assert!(rt; goes_on(game, text), "at {text}");
     }
 }
 
@@ -39,28 +37,37 @@ pub fn play_lines(rt: &impl Abort, game: &mut Game, lines: &[&str]) {
     }
 }
 
-/// Makes a move that ends the game.
-pub fn play_last(rt: &impl Abort, game: &mut Game, text: &str, outcome: Outcome) {
-    assert!(rt;
-        game.play(move_of(rt, text)) == Ok(Some(outcome)),
-        "at {text}"
-    );
-    assert!(rt; game.outcome() == Some(outcome), "after {text}");
+/// Whether the move of a text ends the game with this outcome.
+fn ends_by(game: &mut Game, text: &str, outcome: Outcome) -> bool {
+    match read_move(text.as_bytes()) {
+        Ok(m) => game.play(m) == Ok(Some(outcome)) && game.outcome() == Some(outcome),
+        Err(_) => false,
+    }
 }
 
-/// Ends the game.
-pub fn end(rt: &impl Abort, game: &mut Game, ending: Ending, outcome: Outcome) {
+/// Makes a move that ends the game.
+pub fn play_last(rt: &impl Abort, game: &mut Game, text: &str, outcome: Outcome) {
+    assert!(rt; ends_by(game, text, outcome), "at {text}");
+}
+
+/// Whether an ending is accepted and ends the game with this outcome, and changes nothing else.
+fn is_ended(game: &mut Game, ending: Ending, outcome: Outcome) -> bool {
     let before = snapshot_of(game);
-    assert!(rt; game.end(ending) == Ok(outcome));
+    let answer = game.end(ending);
     let after = Snapshot {
         outcome: Some(outcome),
         ..before
     };
-    assert!(rt; snapshot_of(game) == after);
+    answer == Ok(outcome) && snapshot_of(game) == after
 }
 
-/// What all see of a game.
-#[derive(Clone, Copy, PartialEq, Eq, Debug)]
+/// Ends the game.
+pub fn end(rt: &impl Abort, game: &mut Game, ending: Ending, outcome: Outcome) {
+    assert!(rt; is_ended(game, ending, outcome));
+}
+
+/// Everything that can be seen of a game.
+#[derive(Clone, Copy, PartialEq)]
 struct Snapshot {
     start: u16,
     len: u16,
@@ -77,40 +84,62 @@ fn snapshot_of(game: &Game) -> Snapshot {
     }
 }
 
-/// Asserts that the move is refused so and changes nothing.
-pub fn assert_move_refused(rt: &impl Abort, game: &mut Game, text: &str, refusal: Refusal) {
+/// Whether the move is refused with this refusal and changes nothing.
+fn is_move_refused(game: &mut Game, text: &str, refusal: Refusal) -> bool {
     let before = snapshot_of(game);
-    assert!(rt; game.play(move_of(rt, text)) == Err(refusal), "at {text}");
-    assert!(rt; snapshot_of(game) == before, "after {text}");
+    match read_move(text.as_bytes()) {
+        Ok(m) => game.play(m) == Err(refusal) && snapshot_of(game) == before,
+        Err(_) => false,
+    }
 }
 
-/// Asserts that the ending is refused so and changes nothing.
-pub fn assert_ending_refused(rt: &impl Abort, game: &mut Game, ending: Ending, refusal: Refusal) {
+/// Asserts that the move is refused with this refusal and changes nothing.
+pub fn assert_move_refused(rt: &impl Abort, game: &mut Game, text: &str, refusal: Refusal) {
+    assert!(rt; is_move_refused(game, text, refusal), "at {text}");
+}
+
+/// Whether the ending is refused with this refusal and changes nothing.
+fn is_ending_refused(game: &mut Game, ending: Ending, refusal: Refusal) -> bool {
     let before = snapshot_of(game);
-    assert!(rt; game.end(ending) == Err(refusal));
-    assert!(rt; snapshot_of(game) == before);
+    game.end(ending) == Err(refusal) && snapshot_of(game) == before
+}
+
+/// Asserts that the ending is refused with this refusal and changes nothing.
+pub fn assert_ending_refused(rt: &impl Abort, game: &mut Game, ending: Ending, refusal: Refusal) {
+    assert!(rt; is_ending_refused(game, ending, refusal));
+}
+
+/// Whether the present position is written as that text.
+pub fn is_written(game: &Game, text: &str) -> bool {
+    write_fen(&game.position()).as_slice() == text.as_bytes()
 }
 
 /// Asserts that the present position is written as that text.
 pub fn assert_text(rt: &impl Abort, game: &Game, text: &str) {
-    assert!(rt;
-        write_fen(&game.position()).as_slice() == text.as_bytes(),
-        "not {text}"
-    );
+    assert!(rt; is_written(game, text), "not {text}");
+}
+
+/// Whether the move of a text is at a place of the log.
+fn has_move(game: &Game, place: u16, text: &str) -> bool {
+    match read_move(text.as_bytes()) {
+        Ok(m) => game.move_at(place) == Some(m),
+        Err(_) => false,
+    }
+}
+
+/// Whether the log has the moves of the line, and none beyond.
+pub fn has_log(game: &Game, moves: &str) -> bool {
+    let mut place = 0u16;
+    for text in moves.split(' ').filter(|text| !text.is_empty()) {
+        if !has_move(game, place, text) {
+            return false;
+        }
+        place = place.saturating_add(1);
+    }
+    game.len() == place && game.move_at(place).is_none() && game.move_at(65535).is_none()
 }
 
 /// Asserts that the log has the moves of the line, and none beyond.
 pub fn assert_log(rt: &impl Abort, game: &Game, moves: &str) {
-    let mut place = 0;
-    for text in moves.split(' ').filter(|text| !text.is_empty()) {
-        assert!(rt;
-            game.move_at(place) == Some(move_of(rt, text)),
-            "at {place}"
-        );
-        assert!(rt; place < 16384);
-        place += 1;
-    }
-    assert!(rt; game.len() == place);
-    assert!(rt; game.move_at(place) == None);
-    assert!(rt; game.move_at(65535) == None);
+    assert!(rt; has_log(game, moves), "not {moves}");
 }

@@ -1,7 +1,7 @@
 //! Draws that come without a claim (FIDE Laws, Article 9.6), and what comes before them.
 //!
-//! The long lines were drawn by chance by a small program beside the repository, which has a plain board of its own: moves of
-//! knights and rooks without a capture, so that no position stands there five times. Its counts of appearances and its texts
+//! The long lines were drawn at random by a small program outside the repository, which has a plain board of its own: moves of
+//! knights and rooks without a capture, so that no position occurs five times. Its counts of appearances and its texts
 //! of the last positions are those below.
 
 use crate::tests::game::draws::{SHUFFLE, TURNS};
@@ -12,13 +12,13 @@ use crate::tests::game::playing::{
 };
 use c960_board::Colour;
 use c960_game::{Ending, Outcome, Refusal};
-use std::test::Fail;
+use std::alloc::AllocError;
 
 /// Four moves after which the position is as before.
 const KNIGHTS_OUT_AND_HOME: &str = "g1f3 g8f6 f3g1 f6g8";
 
 #[test]
-fn the_fifth_appearance_ends_the_game(rt: HostRuntime) -> Result<(), Fail> {
+fn the_fifth_appearance_ends_the_game(rt: HostRuntime) -> Result<(), AllocError> {
     let mut game = standard(&rt, rt.alloc(), 1024)?;
     for _ in 0..3 {
         play_on(&rt, &mut game, KNIGHTS_OUT_AND_HOME);
@@ -47,7 +47,7 @@ fn the_fifth_appearance_ends_the_game(rt: HostRuntime) -> Result<(), Fail> {
 const FURTHER_TURNS: [&str; 3] = ["c4e3 c5e6", "b1a1 b8a8", "e3c4 e6c5"];
 
 #[test]
-fn seventy_five_moves_of_each_side_end_the_game(rt: HostRuntime) -> Result<(), Fail> {
+fn seventy_five_moves_of_each_side_end_the_game(rt: HostRuntime) -> Result<(), AllocError> {
     let mut game = standard(&rt, rt.alloc(), 1024)?;
     for turn in TURNS {
         play_on(&rt, &mut game, SHUFFLE);
@@ -85,7 +85,7 @@ pub const BEFORE_MATE: [&str; 8] = [
 ];
 
 #[test]
-fn checkmate_comes_before_the_seventy_five_moves(rt: HostRuntime) -> Result<(), Fail> {
+fn checkmate_comes_before_the_seventy_five_moves(rt: HostRuntime) -> Result<(), AllocError> {
     let mut game = standard(&rt, rt.alloc(), 1024)?;
     play_lines(&rt, &mut game, &BEFORE_MATE);
     play_last(&rt, &mut game, "d8h4", Outcome::Checkmate(Colour::Black));
@@ -98,7 +98,7 @@ fn checkmate_comes_before_the_seventy_five_moves(rt: HostRuntime) -> Result<(), 
     Ok(())
 }
 
-/// These go on from Loyd's line up to its last move but one; after them the half-move counter is 149, and c8e6 stalemates.
+/// These continue Loyd's line up to its last move but one; after them the half-move counter is 149, and c8e6 stalemates.
 const BEFORE_STALEMATE: [&str; 8] = [
     "b1a3 g6f7 g1e2 f7g6 e2c3 g6f7 c3d1 f7g6 d1c3 g6f7 c3e4 f7g6 e4c3 g6f7 c3b1 f7g6 a3c4 g6f7 c4a3 f7g6",
     "b1c3 g6f7 c3d1 f7g6 a1b1 g6f7 b1a1 f7g6 a1b1 g6f7 d1c3 f7g6 a3c4 g6f7 b1a1 f7g6 c3b1 g6f7 b1a3 f7g6",
@@ -111,7 +111,7 @@ const BEFORE_STALEMATE: [&str; 8] = [
 ];
 
 #[test]
-fn stalemate_comes_before_the_seventy_five_moves(rt: HostRuntime) -> Result<(), Fail> {
+fn stalemate_comes_before_the_seventy_five_moves(rt: HostRuntime) -> Result<(), AllocError> {
     let mut game = standard(&rt, rt.alloc(), 1024)?;
     play_on(&rt, &mut game, LOYDS_STALEMATE);
     play_lines(&rt, &mut game, &BEFORE_STALEMATE);
@@ -125,7 +125,7 @@ fn stalemate_comes_before_the_seventy_five_moves(rt: HostRuntime) -> Result<(), 
     Ok(())
 }
 
-/// After the last of these moves the half-move counter is 134, and the position is there for the first time.
+/// After the last of these moves the half-move counter is 134, and the position appears for the first time.
 const BEFORE_FIVEFOLD: [&str; 7] = [
     "e2e4 b8a6 b1a3 a8b8 a3c4 b8a8 c4a3 a6c5 a1b1 c5a6 a3c4 a6b8 c4a3 b8a6 a3c4 a6c5 b1a1 c5a6 a1b1 a6c5",
     "b1a1 a8b8 a1b1 b8a8 c4a3 a8b8 a3c4 b8a8 c4a3 a8b8 b1a1 c5a6 a1b1 a6c5 a3c4 c5a6 c4a3 a6c5 b1a1 b8a8",
@@ -137,7 +137,9 @@ const BEFORE_FIVEFOLD: [&str; 7] = [
 ];
 
 #[test]
-fn the_fifth_appearance_comes_before_the_seventy_five_moves(rt: HostRuntime) -> Result<(), Fail> {
+fn the_fifth_appearance_comes_before_the_seventy_five_moves(
+    rt: HostRuntime,
+) -> Result<(), AllocError> {
     let mut game = standard(&rt, rt.alloc(), 1024)?;
     play_lines(&rt, &mut game, &BEFORE_FIVEFOLD);
     assert!(rt; game.appearances() == 1);

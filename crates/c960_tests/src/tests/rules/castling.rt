@@ -2,61 +2,53 @@
 
 use crate::tests::rules::lists::assert_list;
 use crate::tests::rules::reading::{
-    after, assert_played, assert_text, move_of, position_of, start,
+    after, assert_played, leads_from, move_of, position_of, standard, start,
 };
 use c960_rules::{is_legal, legal_moves};
-use std::test::Fail;
+use std::alloc::AllocError;
 
 #[test]
-fn king_and_rook_of_start_387_change_places(rt: HostRuntime) -> Result<(), Fail> {
-    let before = start(&rt, 387);
+fn king_and_rook_of_start_387_change_places(rt: HostRuntime) -> Result<(), AllocError> {
+    let before = start(387).expect(&rt, "a start");
     assert!(rt; legal_moves(rt.alloc(), &before)?.len() == 21);
-    assert_text(
-        &rt,
-        &after(&rt, &before, "f1g1"),
-        "bqrnnkrb/pppppppp/8/8/8/8/PPPPPPPP/BQRNNRKB b gc - 1 1",
-    );
+    let castled = "bqrnnkrb/pppppppp/8/8/8/8/PPPPPPPP/BQRNNRKB b gc - 1 1";
+    assert!(rt; leads_from(&before, "f1g1", castled));
     Ok(())
 }
 
 #[test]
 fn castling_is_written_with_the_rooks_square(rt: HostRuntime) {
-    let before = after(&rt, &start(&rt, 518), "g1f3 g8f6 g2g3 g7g6 f1g2 f8g7");
+    let before = after(&standard(&rt), "g1f3 g8f6 g2g3 g7g6 f1g2 f8g7").expect(&rt, "legal moves");
     assert!(rt; !is_legal(&before, move_of(&rt, "e1g1")));
-    assert_text(
-        &rt,
-        &after(&rt, &before, "e1h1"),
-        "rnbqk2r/ppppppbp/5np1/8/8/5NP1/PPPPPPBP/RNBQ1RK1 b ha - 3 4",
-    );
+    let castled = "rnbqk2r/ppppppbp/5np1/8/8/5NP1/PPPPPPBP/RNBQ1RK1 b ha - 3 4";
+    assert!(rt; leads_from(&before, "e1h1", castled));
 }
 
 #[test]
-fn a_king_that_would_stand_attacked_without_its_rook_does_not_castle(
-    rt: HostRuntime,
-) -> Result<(), Fail> {
+fn a_king_that_would_stand_attacked_without_its_rook_does_not_castle(rt: HostRuntime) {
     let before = "4k3/8/8/8/8/8/8/qRK5 w B - 0 1";
     assert!(rt; !is_legal(&position_of(&rt, before), move_of(&rt, "c1b1")));
-    assert_list(&rt, rt.alloc(), before, "b1a1 c1d1 c1c2 c1d2")
+    assert_list(&rt, rt.alloc(), before, "b1a1 c1d1 c1c2 c1d2");
 }
 
 #[test]
-fn a_king_does_not_castle_over_an_attacked_square(rt: HostRuntime) -> Result<(), Fail> {
+fn a_king_does_not_castle_over_an_attacked_square(rt: HostRuntime) {
     assert_list(
         &rt,
         rt.alloc(),
         "4kr2/8/8/8/8/8/8/4K2R w H - 0 1",
         "e1d1 e1d2 e1e2 h1f1 h1g1 h1h2 h1h3 h1h4 h1h5 h1h6 h1h7 h1h8",
-    )
+    );
 }
 
 #[test]
-fn castling_may_be_the_only_legal_move(rt: HostRuntime) -> Result<(), Fail> {
+fn castling_may_be_the_only_legal_move(rt: HostRuntime) {
     assert_list(
         &rt,
         rt.alloc(),
         "4r1k1/8/8/8/8/6p1/6P1/5KRB w G - 0 1",
         "f1g1",
-    )
+    );
 }
 
 #[test]

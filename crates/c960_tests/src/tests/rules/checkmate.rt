@@ -1,9 +1,9 @@
 //! Check and checkmate (FIDE Laws, Articles 3.9 and 5.1.1).
 
-use crate::tests::rules::reading::{after, assert_text, start};
+use crate::tests::rules::reading::{after, is_written, standard};
 use c960_board::Colour;
-use c960_rules::{State, any_legal, in_check, legal_moves, state};
-use std::test::Fail;
+use c960_rules::{Lawful, State, any_legal, in_check, legal_moves, state};
+use std::alloc::AllocError;
 
 /// The shortest game that ends in checkmate from the standard array: each move with the position after it.
 const FOOLS_MATE: [(&str, &str); 4] = [
@@ -25,19 +25,32 @@ const FOOLS_MATE: [(&str, &str); 4] = [
     ),
 ];
 
+/// The position after a move from one where the game goes on, if the move is legal and that position is written as this text.
+fn going_on(lawful: &Lawful, text: &str, position: &str) -> Option<Lawful> {
+    if state(lawful) != State::Going || !any_legal(lawful) {
+        return None;
+    }
+    let next = after(lawful, text)?;
+    if is_written(&next, position) {
+        Some(next)
+    } else {
+        None
+    }
+}
+
 #[test]
-fn fools_mate_ends_in_checkmate(rt: HostRuntime) -> Result<(), Fail> {
-    let mut reached = start(&rt, 518);
+fn fools_mate_ends_in_checkmate(rt: HostRuntime) -> Result<(), AllocError> {
+    let mut reached = standard(&rt);
     for (text, position) in FOOLS_MATE {
-        assert!(rt; state(&reached) == State::Going, "before {text}");
-        assert!(rt; any_legal(&reached));
-        reached = after(&rt, &reached, text);
-        assert_text(&rt, &reached, position);
+        let Some(next) = going_on(&reached, text, position) else {
+            panic!(rt; "at {text}");
+        };
+        reached = next;
     }
     assert!(rt; state(&reached) == State::Checkmate);
     assert!(rt; in_check(&reached.position(), Colour::White));
     assert!(rt; !in_check(&reached.position(), Colour::Black));
     assert!(rt; !any_legal(&reached));
-    assert!(rt; legal_moves(rt.alloc(), &reached)?.len() == 0);
+    assert!(rt; legal_moves(rt.alloc(), &reached)?.is_empty());
     Ok(())
 }

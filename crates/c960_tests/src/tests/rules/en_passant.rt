@@ -3,31 +3,30 @@
 use crate::tests::rules::lists::assert_list;
 use crate::tests::rules::reading::{assert_played, move_of, position_of};
 use c960_rules::{State, ep_legal, state};
-use std::test::Fail;
 
 #[test]
-fn a_capture_that_bares_the_kings_rank_is_not_legal(rt: HostRuntime) -> Result<(), Fail> {
+fn a_capture_that_bares_the_kings_rank_is_not_legal(rt: HostRuntime) {
     let position = "8/8/8/K2pP2r/8/8/8/4k3 w - d6 0 1";
     assert!(rt; ep_legal(&position_of(&rt, position)) == None);
-    assert_list(&rt, rt.alloc(), position, "a5a4 a5b4 a5b5 a5a6 a5b6 e5e6")
+    assert_list(&rt, rt.alloc(), position, "a5a4 a5b4 a5b5 a5a6 a5b6 e5e6");
 }
 
 #[test]
-fn a_capture_may_be_the_only_legal_move(rt: HostRuntime) -> Result<(), Fail> {
+fn a_capture_may_be_the_only_legal_move(rt: HostRuntime) {
     let text = "4k3/8/4p3/3pP3/8/1q6/8/K7 w - d6 0 1";
     let position = position_of(&rt, text);
     assert!(rt; ep_legal(&position) == Some(move_of(&rt, "e5d6").to));
     assert!(rt; state(&position) == State::Going);
-    assert_list(&rt, rt.alloc(), text, "e5d6")
+    assert_list(&rt, rt.alloc(), text, "e5d6");
 }
 
 #[test]
-fn the_same_position_without_its_target_is_stalemate(rt: HostRuntime) -> Result<(), Fail> {
+fn the_same_position_without_its_target_is_stalemate(rt: HostRuntime) {
     let text = "4k3/8/4p3/3pP3/8/1q6/8/K7 w - - 0 1";
     let position = position_of(&rt, text);
     assert!(rt; ep_legal(&position) == None);
     assert!(rt; state(&position) == State::Stalemate);
-    assert_list(&rt, rt.alloc(), text, "")
+    assert_list(&rt, rt.alloc(), text, "");
 }
 
 #[test]

@@ -3,38 +3,38 @@
 
 use crate::tests::rules::counts::count;
 use crate::tests::rules::reading::start;
-use std::alloc::Global;
-use std::process::Abort;
-use std::test::Fail;
+use std::alloc::{AllocError, Global};
 
-/// Asserts the sums of the counts after one ply and after two of 240 starting positions.
-fn assert_sums(rt: &impl Abort, alloc: Global, first: u16, one: u64, two: u64) -> Result<(), Fail> {
-    let mut sums: (u64, u64) = (0, 0);
+/// The sums of the counts after one ply and after two of 240 starting positions.
+fn sums(alloc: Global, first: u16) -> Result<Option<(u64, u64)>, AllocError> {
+    let mut one = 0u64;
+    let mut two = 0u64;
     for number in first..first.wrapping_add(240) {
-        let position = start(rt, number);
-        sums.0 = sums.0.wrapping_add(count(rt, alloc, &position, 1)?);
-        sums.1 = sums.1.wrapping_add(count(rt, alloc, &position, 2)?);
+        let Some(position) = start(number) else {
+            return Ok(None);
+        };
+        one = one.wrapping_add(count(alloc, &position, 1)?.unwrap_or(0));
+        two = two.wrapping_add(count(alloc, &position, 2)?.unwrap_or(0));
     }
-    assert!(rt; sums == (one, two), "from {first}");
-    Ok(())
+    Ok(Some((one, two)))
 }
 
 #[test]
-fn starts_0_to_239(rt: HostRuntime) -> Result<(), Fail> {
-    assert_sums(&rt, rt.alloc(), 0, 4708, 92452)
+fn starts_0_to_239(rt: HostRuntime) {
+    assert!(rt; sums(rt.alloc(), 0) == Ok(Some((4708, 92452))));
 }
 
 #[test]
-fn starts_240_to_479(rt: HostRuntime) -> Result<(), Fail> {
-    assert_sums(&rt, rt.alloc(), 240, 4712, 92672)
+fn starts_240_to_479(rt: HostRuntime) {
+    assert!(rt; sums(rt.alloc(), 240) == Ok(Some((4712, 92672))));
 }
 
 #[test]
-fn starts_480_to_719(rt: HostRuntime) -> Result<(), Fail> {
-    assert_sums(&rt, rt.alloc(), 480, 4763, 94567)
+fn starts_480_to_719(rt: HostRuntime) {
+    assert!(rt; sums(rt.alloc(), 480) == Ok(Some((4763, 94567))));
 }
 
 #[test]
-fn starts_720_to_959(rt: HostRuntime) -> Result<(), Fail> {
-    assert_sums(&rt, rt.alloc(), 720, 4699, 92075)
+fn starts_720_to_959(rt: HostRuntime) {
+    assert!(rt; sums(rt.alloc(), 720) == Ok(Some((4699, 92075))));
 }

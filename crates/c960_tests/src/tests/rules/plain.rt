@@ -1,11 +1,11 @@
-//! The rules by plain scans of the 64 squares of a board: what the bodies that work on sets of squares are compared with.
+//! The rules by plain scans of the 64 squares of a board, with which the bodies that work on sets of squares are compared.
 
 ghost use Rattle.std.specs.Prelude.{◌≤◌};
 
 use c960_board::{Colour, Kind, Move, Parts, Piece};
 use std::alloc::{AllocError, Global};
 
-/// What stands on the square of a number; nothing past the last.
+/// The contents of the square with a number; nothing beyond the last.
 fn cell(cells: &[Option<Piece>; 64], square: u8) -> Option<Piece> {
     match cells.get(square as usize) {
         Some(cell) => *cell,
@@ -35,7 +35,7 @@ fn is_diagonal(one: u8, two: u8) -> bool {
     (one % 8).abs_diff(two % 8) == (one / 8).abs_diff(two / 8)
 }
 
-/// Whether a square lies strictly between two squares of a rank, a file or a diagonal.
+/// Whether a square is strictly between two squares of a rank, a file or a diagonal.
 fn is_between(from: u8, square: u8, to: u8) -> bool {
     let files = is_within(from % 8, square % 8, to % 8);
     let ranks = is_within(from / 8, square / 8, to / 8);
@@ -62,7 +62,7 @@ fn is_forward(colour: Colour, from: u8, to: u8) -> bool {
     }
 }
 
-/// Whether the piece, which stands on `from`, attacks `to`.
+/// Whether the piece, which is on `from`, attacks `to`.
 fn attacks_as(cells: &[Option<Piece>; 64], piece: Piece, from: u8, to: u8) -> bool {
     let files = (from % 8).abs_diff(to % 8);
     let ranks = (from / 8).abs_diff(to / 8);
@@ -107,7 +107,7 @@ pub fn in_check(cells: &[Option<Piece>; 64], colour: Colour) -> bool {
     false
 }
 
-/// The first square of the rank where the side's pieces stand at the start.
+/// The first square of the rank where the side's pieces are at the start.
 fn home(colour: Colour) -> u8
     ensures { result ≤ 56 }
 {
@@ -143,7 +143,7 @@ pub fn is_en_passant(parts: &Parts, m: &Move) -> bool {
         && m.from.number() % 8 != m.to.number() % 8
 }
 
-/// What the square holds after castling.
+/// The contents of the square after castling.
 fn cell_castled(parts: &Parts, m: &Move, square: u8) -> Option<Piece> {
     let (king, rook) = castling_goals(parts.turn, m);
     if square == king {
@@ -157,7 +157,7 @@ fn cell_castled(parts: &Parts, m: &Move, square: u8) -> Option<Piece> {
     }
 }
 
-/// What the square holds after an ordinary move.
+/// The contents of the square after an ordinary move.
 fn cell_moved(parts: &Parts, m: &Move, square: u8) -> Option<Piece> {
     let behind = match parts.turn {
         Colour::White => m.to.number().saturating_sub(8),
@@ -179,7 +179,7 @@ fn cell_moved(parts: &Parts, m: &Move, square: u8) -> Option<Piece> {
     }
 }
 
-/// What each square holds after a move: a move onto a piece of the mover's own side is castling.
+/// The contents of each square after a move: a move onto a piece of the mover's own side is castling.
 pub fn placement_after(parts: &Parts, m: &Move) -> [Option<Piece>; 64] {
     let is_castling = is_of(cell(&parts.placement, m.to.number()), parts.turn);
     let mut cells = [None; 64];
@@ -211,7 +211,7 @@ fn goes_as_pawn(parts: &Parts, m: &Move) -> bool {
     m.promotion.is_some() == (to / 8 == last) && (steps || steps_twice || takes)
 }
 
-/// Whether the piece goes there by its kind, castling and the safety of its king left out.
+/// Whether the piece goes there by its kind, without castling and without regard to the safety of its king.
 fn reaches(parts: &Parts, m: &Move) -> bool {
     let mover = cell(&parts.placement, m.from.number());
     if !is_of(mover, parts.turn) || is_of(cell(&parts.placement, m.to.number()), parts.turn) {
@@ -224,12 +224,12 @@ fn reaches(parts: &Parts, m: &Move) -> bool {
     }
 }
 
-/// Whether a square lies on the way from one square of a rank to another, both included.
+/// Whether a square is on the way from one square of a rank to another, both included.
 fn is_on_way(from: u8, to: u8, square: u8) -> bool {
     from.min(to) <= square && square <= from.max(to)
 }
 
-/// Whether the move is castling that the rules of castling allow, the king's safety on its goal left out.
+/// Whether the move is castling that the rules of castling allow, without regard to the king's safety on its goal.
 fn castles(parts: &Parts, m: &Move) -> bool {
     let (from, to) = (m.from.number(), m.to.number());
     if !holds(cell(&parts.placement, from), parts.turn, Kind::King)
@@ -259,12 +259,12 @@ pub fn is_legal(parts: &Parts, m: &Move) -> bool {
     (reaches(parts, m) || castles(parts, m)) && !in_check(&placement_after(parts, m), parts.turn)
 }
 
-/// The move of a place in the order by the square that is left, then by the goal, then by the promotion.
+/// The move at a place in the order by the square that is left, then by the goal, then by the promotion.
 fn move_at(place: u64) -> Option<Move> {
     Move::of_code(place / 320 + 64 * (place / 5 % 64) + 4096 * (place % 5))
 }
 
-/// The legal moves, by a trial of all 20,480 moves in order.
+/// The legal moves, found by trying all 20,480 moves in order.
 pub fn legal_moves(alloc: Global, parts: &Parts) -> Result<Vec<Move>, AllocError> {
     let mut found = Vec::new(alloc);
     for place in 0..20480 {

@@ -2,10 +2,9 @@
 
 use crate::tests::rules::lists::assert_list;
 use crate::tests::rules::reading::assert_played;
-use std::test::Fail;
 
 #[test]
-fn a_promotion_names_each_of_four_pieces_at_any_counters(rt: HostRuntime) -> Result<(), Fail> {
+fn a_promotion_names_each_of_four_pieces_at_any_counters(rt: HostRuntime) {
     for position in [
         "8/P6k/8/8/8/8/8/K7 w - - 0 1",
         "8/P6k/8/8/8/8/8/K7 w - - 65535 65535",
@@ -15,9 +14,8 @@ fn a_promotion_names_each_of_four_pieces_at_any_counters(rt: HostRuntime) -> Res
             rt.alloc(),
             position,
             "a1b1 a1a2 a1b2 a7a8n a7a8b a7a8r a7a8q",
-        )?;
+        );
     }
-    Ok(())
 }
 
 #[test]

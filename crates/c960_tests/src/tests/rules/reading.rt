@@ -4,67 +4,90 @@ use c960_board::{Move, Position, read_fen, read_move, write_fen};
 use c960_rules::{Lawful, play};
 use std::process::Abort;
 
+/// The lawful position of a text, if it is one.
+pub fn lawful_of(text: &str) -> Option<Lawful> {
+    match read_fen(text.as_bytes()) {
+        Ok(position) => Lawful::of(position).ok(),
+        Err(_) => None,
+    }
+}
+
 /// The lawful position of a text.
 pub fn position_of(rt: &impl Abort, text: &str) -> Lawful {
-    let Ok(position) = read_fen(text.as_bytes()) else {
-        panic!(rt; "no position: {text}");
-    };
-    let Ok(lawful) = Lawful::of(position) else {
-        panic!(rt; "unlawful: {text}");
+    let Some(lawful) = lawful_of(text) else {
+        panic!(rt; "no lawful position: {text}");
     };
     lawful
 }
 
-/// The starting position of that number.
-pub fn start(rt: &impl Abort, number: u16) -> Lawful {
-    let Some(position) = Position::start(number) else {
-        panic!(rt; "no start {number}");
-    };
-    let Ok(lawful) = Lawful::of(position) else {
-        panic!(rt; "unlawful start {number}");
-    };
-    lawful
+/// The starting position of a number, if there is one.
+pub fn start(number: u16) -> Option<Lawful> {
+    match Position::start(number) {
+        Some(position) => Lawful::of(position).ok(),
+        None => None,
+    }
+}
+
+/// The starting position of number 518.
+pub fn standard(rt: &impl Abort) -> Lawful {
+    start(518).expect(rt, "a start")
 }
 
 /// The move of a text.
 pub fn move_of(rt: &impl Abort, text: &str) -> Move {
-    let Ok(m) = read_move(text.as_bytes()) else {
-        panic!(rt; "no move: {text}");
-    };
-    m
+    read_move(text.as_bytes()).expect(rt, "a move")
 }
 
-/// The position after a move, None where it is not legal.
-pub fn played(rt: &impl Abort, lawful: &Lawful, m: Move) -> Option<Lawful> {
+/// The position after a move, or none if the move is not legal or a counter is full.
+pub fn played(lawful: &Lawful, m: Move) -> Option<Lawful> {
     let position = lawful.position();
-    assert!(rt; position.half_moves() < 65535);
-    assert!(rt; position.number() < 65535);
+    if position.half_moves() == 65535 || position.number() == 65535 {
+        return None;
+    }
     play(lawful, m)
 }
 
-/// The position after legal moves, whose texts stand in a line with a space between each two.
-pub fn after(rt: &impl Abort, lawful: &Lawful, moves: &str) -> Lawful {
+/// The position after the move of a text.
+fn played_text(lawful: &Lawful, text: &str) -> Option<Lawful> {
+    match read_move(text.as_bytes()) {
+        Ok(m) => played(lawful, m),
+        Err(_) => None,
+    }
+}
+
+/// The position after legal moves, whose texts are in a line, separated by spaces.
+pub fn after(lawful: &Lawful, moves: &str) -> Option<Lawful> {
     let mut reached = *lawful;
     for text in moves.split(' ') {
-        let Some(next) = played(rt, &reached, move_of(rt, text)) else {
-            panic!(rt; "not legal: {text} of {moves}");
-        };
-        reached = next;
+        reached = played_text(&reached, text)?;
     }
-    reached
+    Some(reached)
 }
 
-/// Asserts that the position is written as that text.
-pub fn assert_text(rt: &impl Abort, lawful: &Lawful, text: &str) {
-    assert!(rt;
-        write_fen(&lawful.position()).as_slice() == text.as_bytes(),
-        "not {text}"
-    );
+/// Whether the position is written as that text.
+pub fn is_written(lawful: &Lawful, text: &str) -> bool {
+    write_fen(&lawful.position()).as_slice() == text.as_bytes()
 }
 
-/// Asserts of rows of a position, a move and the position after it that the move is legal and leads there.
+/// Whether legal moves lead from a position to the one that is written as this text.
+pub fn leads_from(lawful: &Lawful, moves: &str, reached: &str) -> bool {
+    match after(lawful, moves) {
+        Some(next) => is_written(&next, reached),
+        None => false,
+    }
+}
+
+/// Whether legal moves lead from the position of a text to that of another.
+fn leads(before: &str, moves: &str, reached: &str) -> bool {
+    match lawful_of(before) {
+        Some(lawful) => leads_from(&lawful, moves, reached),
+        None => false,
+    }
+}
+
+/// Asserts, for rows of a position, a move and the position after it, that the move is legal and leads there.
 pub fn assert_played(rt: &impl Abort, rows: &[(&str, &str, &str)]) {
     for (before, m, reached) in rows {
-        assert_text(rt, &after(rt, &position_of(rt, before), m), reached);
+        assert!(rt; leads(before, m, reached), "{m} from {before}");
     }
 }

@@ -1,15 +1,15 @@
-//! Plain references: a trial of every move, and what can be read off the list of legal moves.
+//! Plain references: trying every move, and what can be read off the list of legal moves.
 
 use c960_board::{Kind, Move, Square};
 use c960_rules::{Lawful, State, in_check, is_legal};
 use std::alloc::{AllocError, Global};
 
-/// The move of a place in the order by the square that is left, then by the goal, then by the promotion.
+/// The move at a place in the order by the square that is left, then by the goal, then by the promotion.
 fn move_at(place: u64) -> Option<Move> {
     Move::of_code(place / 320 + 64 * (place / 5 % 64) + 4096 * (place % 5))
 }
 
-/// The legal moves, by a trial of all 20,480 moves in order.
+/// The legal moves, found by trying all 20,480 moves in order.
 pub fn legal_by_trial(alloc: Global, lawful: &Lawful) -> Result<Vec<Move>, AllocError> {
     let mut found = Vec::new(alloc);
     for place in 0..20480 {
@@ -22,7 +22,7 @@ pub fn legal_by_trial(alloc: Global, lawful: &Lawful) -> Result<Vec<Move>, Alloc
     Ok(found)
 }
 
-/// The state, by the legal moves.
+/// The state, derived from the legal moves.
 pub fn state_of_list(lawful: &Lawful, moves: &[Move]) -> State {
     let position = lawful.position();
     match (moves.is_empty(), in_check(&position, position.turn())) {
@@ -32,7 +32,7 @@ pub fn state_of_list(lawful: &Lawful, moves: &[Move]) -> State {
     }
 }
 
-/// The target, where a legal move takes a pawn on it en passant.
+/// The target, if a legal move takes a pawn on it en passant.
 pub fn ep_of_list(lawful: &Lawful, moves: &[Move]) -> Option<Square> {
     let position = lawful.position();
     for m in moves {

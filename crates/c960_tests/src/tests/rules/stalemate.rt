@@ -3,10 +3,10 @@
 use crate::tests::rules::reading::position_of;
 use c960_board::Colour;
 use c960_rules::{State, any_legal, in_check, legal_moves, state};
-use std::test::Fail;
+use std::alloc::AllocError;
 
 #[test]
-fn a_king_without_a_move_and_not_in_check_is_stalemated(rt: HostRuntime) -> Result<(), Fail> {
+fn a_king_without_a_move_and_not_in_check_is_stalemated(rt: HostRuntime) -> Result<(), AllocError> {
     let position = position_of(&rt, "7k/5Q2/6K1/8/8/8/8/8 b - - 0 1");
     assert!(rt; legal_moves(rt.alloc(), &position)?.len() == 0);
     assert!(rt; !any_legal(&position));

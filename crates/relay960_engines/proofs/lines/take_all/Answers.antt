@@ -1,7 +1,7 @@
 use Rattle.std.proofs.Common.{[], ◌++◌, take, rules, arith, refl, ◌∙◌}
 use Rattle.std.proofs.KnownBytes.{Consumes-nil, Consumes-trans}
 use Rattle.relay960_engines.proofs.AnswerFacts.{passed_on}
-use Rattle.relay960_engines.proofs.TakingFacts.{Taken-nil, Taken-trans, stops_at_read, stops_reading}
+use Rattle.relay960_engines.proofs.TakingFacts.{TookBytes-nil, TookBytes-trans, stops_at_read, stops_reading}
 use Rattle.relay960_engines.proofs.lines.take_all.Goals as goal
 
 pub loop-count-init : goal.loop-count-init
@@ -12,7 +12,7 @@ loop-count-init g c =
       within = c.requires;
       one = search rules;
       none = search rules;
-      took = Taken-nil _ _ _ _;
+      took = TookBytes-nil _ _ _ _;
       reads = refl;
       writes = refl;
     }
@@ -27,7 +27,7 @@ loop-count-preserved g c =
       within = c.in_ok-take_chunk-in-Ok.ensures.within;
       one = omega (arith, c.read_some.auto.buf, before.one);
       none = c.in_ok-take_chunk-in-Ok.ensures.none;
-      took = Taken-trans _ _ _ _ _ _ _ before.input chunk _ _ _ before.took
+      took = TookBytes-trans _ _ _ _ _ _ _ before.input chunk _ _ _ before.took
           (rw before.none at c.in_ok-take_chunk-in-Ok.ensures.took);
       reads = c.in-Ok.ensures.counted ∙ before.reads;
       writes = c.in_ok-take_chunk-in-Ok.ensures.writes_counted ∙ before.writes;

@@ -2,7 +2,7 @@ use Rattle.std.proofs.Common.{◌≡◌, ℕ, ◌-◌, List, [], length}
 use Rattle.std.specs.Io.KnownBytes.{Consumes}
 use Rattle.relay960_engines.specs.Runs.{one_read}
 use Rattle.relay960_engines.specs.Inner.Sending.{settled}
-use Rattle.relay960_engines.specs.Inner.Taking.{Taken, Within}
+use Rattle.relay960_engines.specs.Inner.Taking.{TookBytes, Within}
 use Rattle.relay960_engines.proofs.lines.take_all.Given as goal
 
 -- all bytes that were read are taken, and nothing else, nothing is due, and no device has failed
@@ -13,7 +13,7 @@ invariant-loop-count g l = record {
   within : Within l.bounds l.progress;
   one : length l.buffer ≡ one_read;
   none : l.due ≡ [];
-  took : Taken g.A.Answerer.gives l.fn.answerer l.answerer l.fn.progress l.progress input
+  took : TookBytes g.A.Answerer.gives l.fn.answerer l.answerer l.fn.progress l.progress input
       (settled (g.W.WriteDevice.contents l.fn.writer)) (settled (g.W.WriteDevice.contents l.writer));
   reads : g.R.ReadDevice.failures l.reader ≡ g.R.ReadDevice.failures l.fn.reader;
   writes : g.W.WriteDevice.failures l.writer ≡ g.W.WriteDevice.failures l.fn.writer;

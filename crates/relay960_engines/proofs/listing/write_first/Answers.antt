@@ -1,6 +1,6 @@
 use Rattle.std.proofs.Common.{rules}
 use Rattle.std.specs.List.{flat_map}
-use Rattle.c960_board.specs.Moves.{move_text}
+use Rattle.c960_board.specs.MoveTexts.{move_text}
 use Rattle.relay960_engines.specs.Moves.{spaced}
 use Rattle.relay960_engines.proofs.Prefixes.{part_before, on_err_behind, on_err_known}
 use Rattle.relay960_engines.proofs.listing.write_first.Goals as goal

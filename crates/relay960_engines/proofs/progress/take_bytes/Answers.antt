@@ -2,11 +2,11 @@ use Rattle.std.proofs.Common.{rules, arith, refl, ◌∙◌}
 use Rattle.std.proofs.lemmas.List.{length-drop}
 use Rattle.relay960_engines.proofs.AnswerFacts.{passed_on}
 use Rattle.relay960_engines.proofs.PieceFacts.{taken_front, stops_at_front}
-use Rattle.relay960_engines.proofs.TakingFacts.{Taken-nil}
+use Rattle.relay960_engines.proofs.TakingFacts.{TookBytes-nil}
 use Rattle.relay960_engines.proofs.progress.take_bytes.Goals as goal
 
 pub loop-taken-init : goal.loop-taken-init
-loop-taken-init g c = record { inside = search rules; within = c.requires; took = Taken-nil _ _ _ _; counted = refl }
+loop-taken-init g c = record { inside = search rules; within = c.requires; took = TookBytes-nil _ _ _ _; counted = refl }
 
 pub returns-in_err-taken-clause-failed : goal.returns-in_err-taken-clause-failed
 returns-in_err-taken-clause-failed g c =

@@ -8,7 +8,7 @@ use Rattle.relay_messages.specs.Answers.{answer_text}
 use Rattle.relay960_engines.proofs.script.line_of.Goals.{in-Reply+in-Refused+in-OutOfMemory-1, in-Fault+in-OutOfMemory-1}
 use Rattle.relay960_engines.proofs.script.line_of.Goals as goal
 
--- the two answers that tell of want of memory have one text
+-- the two answers that report lack of memory have one text
 pub returns-in-Reply-Refused-OutOfMemory-clause-line : goal.returns-in-Reply-Refused-OutOfMemory-clause-line
 unfolding answer_text digits
 returns-in-Reply-Refused-OutOfMemory-clause-line c = elim c.in-Reply-Refused-OutOfMemory-1.branch [

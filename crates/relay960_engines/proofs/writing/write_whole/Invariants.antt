@@ -2,7 +2,7 @@ use Rattle.std.proofs.Common.{◌≡◌, ◌≤◌, length, take, ◌-◌}
 use Rattle.std.specs.Io.KnownBytes.{Appends}
 use Rattle.relay960_engines.proofs.writing.write_whole.Given as goal
 
--- so many bytes of the text are written, and nothing else, and no write has failed
+-- this many bytes of the text are written, and nothing else, and no write has failed
 abbrev pub invariant-loop-written : goal.invariant-loop-written
 invariant-loop-written g l = record {
   within : l.written ≤ length l.text;

@@ -1,7 +1,7 @@
 use Rattle.std.proofs.Common.{◌≡◌, sym, ap, ◌∷◌, ◌++◌, [], List, ◌∙◌, arith}
 use Rattle.circular_buffer.specs.Buffer.{Buffer, buffer}
 use Rattle.c960_board.specs.Moves.{Triple}
-use Rattle.relay_core.proofs.Stretches.{stretch_more}
+use Rattle.relay_core.proofs.lemmas.Stretches.{stretch_more}
 use Rattle.relay_core.proofs.follower.fill.Goals as goal
 
 pub loop-at-preserved : goal.loop-at-preserved

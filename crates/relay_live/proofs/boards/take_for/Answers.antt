@@ -9,4 +9,4 @@ pub take_at-requires : goal.take_at-requires
 take_at-requires c =
     let s = c.requires.seated in
     let is : c.in-Some.live.now ≡ s.board = same_Some _ _ (sym (ap option_copied_mut c.in-Some.is) ∙ c.get_mut.ensures.value ∙ s.there) in
-    (s.index, s.part, ap (λ (h : BoardSeat). get_elem? h.knows.parts s.index) is ∙ s.carried, s.place_is, λ i. s.joined_is i + s.taken_is i)
+    (s.index, s.part, ap (λ (h : BoardSeat). get_elem? h.knows.parts s.index) is ∙ s.carried, s.slot_is, λ i. s.joined_is i + s.taken_is i)

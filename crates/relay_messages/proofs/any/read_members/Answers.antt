@@ -2,7 +2,7 @@ use Rattle.std.proofs.Common.{◌≡◌, ◌-◌, length, Some, None, refl, sym,
 use Rattle.json.specs.Json.{read_key, value}
 use Rattle.json.proofs.Grammar.{read_key-shorter}
 use Rattle.serde_json.specs.Data.{no_members, put}
-use Rattle.relay_messages.specs.Kept.{kept}
+use Rattle.relay_messages.specs.KeptValues.{kept}
 use Rattle.relay_messages.specs.Members.{members_in}
 use Rattle.relay_messages.proofs.Converted.{key_refused, member_refused}
 use Rattle.relay_messages.proofs.PlainReading.{member_read, members_over}

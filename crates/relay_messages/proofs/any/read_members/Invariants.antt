@@ -2,11 +2,11 @@ use Rattle.std.proofs.Common.{◌≡◌, ℕ, ◌≤◌, length}
 use Rattle.json.specs.Json.{members, value}
 use Rattle.serde_json.specs.Data.{Members, no_members}
 use Rattle.serde_json.specs.Read.{converted, of_members}
-use Rattle.relay_messages.specs.Kept.{kept_members}
+use Rattle.relay_messages.specs.KeptValues.{kept_members}
 use Rattle.relay_messages.specs.Members.{members_in}
 use Rattle.relay_messages.proofs.any.read_members.Given as goal
 
--- what is still to come goes into what was read, of which so much was kept
+-- what has yet to come is added to what was read, of which this much was kept
 abbrev pub invariant-members : goal.invariant-members
 invariant-members l = record {
   turns : ℕ;

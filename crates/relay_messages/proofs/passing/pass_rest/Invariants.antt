@@ -1,4 +1,4 @@
--- What is left to pass is what was to be passed, and each turn takes a token.
+-- What is left to skip is what was to be skipped, and each turn takes a token.
 use Rattle.std.proofs.Common.{◌≡◌, ◌≤◌, length}
 use Rattle.relay_messages.specs.Passing.{rest_passed, still_passed}
 use Rattle.relay_messages.proofs.passing.pass_rest.Given as goal

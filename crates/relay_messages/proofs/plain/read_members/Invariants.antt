@@ -5,7 +5,7 @@ use Rattle.serde_json.specs.Read.{converted, of_members}
 use Rattle.relay_messages.specs.Members.{members_in}
 use Rattle.relay_messages.proofs.plain.read_members.Given as goal
 
--- what is still to come goes into what was read
+-- what has yet to come is added to what was read
 abbrev pub invariant-members : goal.invariant-members
 invariant-members l = record {
   turns : ℕ;

@@ -1,4 +1,4 @@
-use Rattle.relay_pushing.proofs.Turns as turns
+use Rattle.relay_pushing.proofs.lemmas.Turns as turns
 use Rattle.relay_pushing.proofs.laws.pushed_on.Goals as goal
 
 pub returns : goal.returns

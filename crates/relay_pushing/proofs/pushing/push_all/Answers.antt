@@ -1,5 +1,5 @@
 use Rattle.std.proofs.Common.{arith}
-use Rattle.relay_pushing.proofs.Turns.{flush_failed, going_on, pushed_on, waited_on}
+use Rattle.relay_pushing.proofs.lemmas.Turns.{flush_failed, going_on, pushed_on, waited_on}
 use Rattle.relay_pushing.proofs.pushing.push_all.Goals as goal
 
 pub loop-preserved-in-None-push_next : goal.loop-preserved-in-None-push_next

@@ -1,5 +1,5 @@
 use Rattle.relay_core.specs.declared.reply.Taken.TheVariants as takes
-use Rattle.relay_pushing.proofs.Turns.{moved, failed}
+use Rattle.relay_pushing.proofs.lemmas.Turns.{moved, failed}
 use Rattle.relay_pushing.proofs.pushing.push_next.Goals as goal
 
 pub returns-in-Ok-clause-pushed : goal.returns-in-Ok-clause-pushed

@@ -1,5 +1,5 @@
 use Rattle.std.proofs.Common.{arith}
-use Rattle.relay_pushing.proofs.Turns.{going_on, turned_on}
+use Rattle.relay_pushing.proofs.lemmas.Turns.{going_on, turned_on}
 use Rattle.relay_pushing.proofs.pushing.push_some.Goals as goal
 
 pub loop-preserved : goal.loop-preserved

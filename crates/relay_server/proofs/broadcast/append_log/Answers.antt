@@ -1,7 +1,7 @@
 use Rattle.std.proofs.Common.{◌++◌, ◌∷◌, [], List, sym, ap, ◌∙◌, arith, append_assoc}
 use Rattle.c960_board.specs.Moves.{Triple}
 use Rattle.relay_core.specs.Following.{stretch}
-use Rattle.relay_core.proofs.Stretches.{stretch_more}
+use Rattle.relay_core.proofs.lemmas.Stretches.{stretch_more}
 use Rattle.relay_server.proofs.broadcast.append_log.Goals as goal
 
 pub loop-at-preserved : goal.loop-at-preserved

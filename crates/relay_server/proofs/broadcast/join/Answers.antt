@@ -4,16 +4,16 @@ use Rattle.std.proofs.lemmas.Option.{none-some}
 use Rattle.c960_board.specs.Moves.{Triple}
 use Rattle.c960_game.specs.Positions.{last_position, position_at}
 use Rattle.c960_game.specs.declared.refusal.Refusal.TheVariants.{NotYet, TooFarBack}
-use Rattle.c960_game.proofs.LogFacts.{position_made}
-use Rattle.live_steps.specs.declared.view.Part.{Part}
-use Rattle.live_steps.specs.declared.view.View.{View}
+use Rattle.c960_game.proofs.lemmas.LogFacts.{position_made}
+use Rattle.live_board.specs.declared.view.Part.{Part}
+use Rattle.live_board.specs.declared.view.View.{View}
 use Rattle.live_board.specs.Board.{from_place}
 use Rattle.live_board.specs.Desk.{Joined, Searched}
-use Rattle.live_board.proofs.Tries.{unmoved_below}
+use Rattle.live_board.proofs.lemmas.Tries.{unmoved_below}
 use Rattle.relay_server.proofs.Told.{made_here}
 use Rattle.relay_server.proofs.broadcast.join.Goals as goal
 
--- where there is no position, the place lies past the moves
+-- if there is no position, the place lies past the moves
 past : (n : ℕ) (l : List Triple) (place : ℕ) → position_at n l place ≡ None → length l < place
 past n l place none = lt_of_not-le (λ made. none-some _ (sym none ∙ position_made n l place made))
 
@@ -30,7 +30,7 @@ unreachable-requires c =
     let from : f.part.joined ≡ from_place c.args.board.now.knows c.args.from = ap (λ (p : Part). p.joined) told.follower.1 in
     not_refused f NotYet (sym c.in_ok-follower.was ∙ c.follow.ensures.not_yet.1 (omega (arith, early, c.joined.ensures, from, ap length c.follow.ensures.log)))
 
--- nobody who joins changes the setup
+-- joining does not change the setup
 searched_setup : (v w : View) → Searched v w → w.setup ≡ v.setup
 searched_setup v w (inl same) = ap (λ (u : View). u.setup) same
 searched_setup v w (inr checked) = (unmoved_below _ v w checked).setup

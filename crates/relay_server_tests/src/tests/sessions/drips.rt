@@ -1,13 +1,16 @@
-//! Sessions whose bytes come one by one and leave two by two, each behind a call that was interrupted. They are as those whose bytes come
-//! whole.
+//! Sessions whose bytes arrive one by one and leave two by two, each after a call that was interrupted. They are the same as those whose
+//! bytes arrive in one piece.
 
 use crate::tests::sessions::frames::{RESPONSE_BYTES, lines};
 use crate::tests::sessions::gates::Counted;
-use crate::tests::sessions::memory::{ROWS, input, registry};
-use relay_server::session;
+use crate::tests::sessions::rows::{ROWS, Row, input, registry};
+use relay_server::{Registry, session};
+use std::alloc::{AllocError, Global};
 use std::io;
 use std::io::{ErrorKind, Read, Write};
+use std::sync::Wait;
 use std::test::Fail;
+use std::time::Clock;
 use tungstenite::Duplex;
 
 /// Bytes that come one by one.
@@ -34,7 +37,7 @@ impl Read for Drips<'_> {
     }
 }
 
-/// A writer that takes two bytes at the most.
+/// A writer that takes two bytes at most.
 #[derive(Drop)]
 struct Sips<'a> {
     taken: &'a mut Vec<u8>,
@@ -59,33 +62,40 @@ impl Write for Sips<'_> {
     }
 }
 
+/// Whether the session of a peer that sends this ends so and answers so, and its gate is notified so often.
+fn talks<R: Wait + Clock>(
+    rt: &R,
+    alloc: Global,
+    registry: &Registry,
+    (frames, cut, wanted, told, calls): Row,
+) -> Result<bool, AllocError> {
+    let bytes = input(alloc, frames)?;
+    let until = bytes.len().saturating_sub(cut);
+    let mut sent = Vec::new(alloc);
+    let stream = Duplex {
+        reader: Drips {
+            left: &bytes.as_slice()[..until],
+            was_interrupted: false,
+        },
+        writer: Sips {
+            taken: &mut sent,
+            was_interrupted: false,
+        },
+    };
+    let gate = Counted::new();
+    let end = session(rt, alloc, registry, 1, stream, &gate);
+    let answers = sent.as_slice().get(RESPONSE_BYTES..).unwrap_or(&[]);
+    let answered = lines(alloc, answers)?;
+    Ok(end == wanted && gate.counts() == calls && answered.as_slice() == told)
+}
+
 #[test]
 fn calls_that_are_interrupted_and_bytes_that_come_one_by_one_change_nothing(
     rt: HostRuntime,
 ) -> Result<(), Fail> {
-    let alloc = rt.alloc();
-    let shared = registry(alloc)?;
-    for (frames, cut, wanted, told, calls) in ROWS {
-        let bytes = input(alloc, frames)?;
-        let until = bytes.len().saturating_sub(cut);
-        let mut sent = Vec::new(alloc);
-        let stream = Duplex {
-            reader: Drips {
-                left: &bytes.as_slice()[..until],
-                was_interrupted: false,
-            },
-            writer: Sips {
-                taken: &mut sent,
-                was_interrupted: false,
-            },
-        };
-        let gate = Counted::new();
-        assert_eq!(rt; session(&rt, alloc, &shared, 1, stream, &gate), wanted);
-        assert_eq!(rt; gate.counts(), calls);
-        let Some(answers) = sent.as_slice().get(RESPONSE_BYTES..) else {
-            panic!(rt; "the handshake is answered");
-        };
-        assert_eq!(rt; lines(alloc, answers)?.as_slice(), told);
+    let shared = registry(rt.alloc())?;
+    for row in ROWS {
+        assert!(rt; talks(&rt, rt.alloc(), &shared, row)?);
     }
     Ok(())
 }

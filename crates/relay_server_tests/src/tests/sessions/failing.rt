@@ -1,23 +1,22 @@
 //! Sessions over a device that fails: how they end, that nothing more is written, and that their boards are over.
 
 use crate::tests::sessions::frames::{CLOSE, REQUEST, RESPONSE_BYTES, TEXT, frame, lines};
-use crate::tests::sessions::memory::registry;
+use crate::tests::sessions::rows::registry;
 use crate::tests::sessions::texts::{FOLLOW_B1, OPEN_B1, SUBMIT_E2E4};
 use relay_server::{OpenGate, Registry, SessionEnd, session};
 use std::alloc::{AllocError, Global};
 use std::io;
 use std::io::{ErrorKind, Read, Write};
-use std::process::Abort;
 use std::sync::Wait;
 use std::test::Fail;
 use std::time::Clock;
 use tungstenite::Duplex;
 
-/// A reader that gives these bytes, one a read, and then fails.
+/// A reader that gives these bytes, one a read, and then fails, or ends if there is no failure.
 #[derive(Drop)]
 struct FailingReader<'a> {
     left: &'a [u8],
-    kind: ErrorKind,
+    failure: Option<ErrorKind>,
 }
 
 impl Read for FailingReader<'_> {
@@ -28,12 +27,15 @@ impl Read for FailingReader<'_> {
                 self.left = rest;
                 Ok(1)
             }
-            _ => Err(io::Error::from(self.kind)),
+            _ => match self.failure {
+                Some(kind) => Err(io::Error::from(kind)),
+                None => Ok(0),
+            },
         }
     }
 }
 
-/// A writer that takes so many bytes, then fails once, and would take all others.
+/// A writer that takes this many bytes, then fails once, and would take all others.
 #[derive(Drop)]
 struct FailingWriter<'a> {
     taken: &'a mut Vec<u8>,
@@ -83,12 +85,12 @@ fn owner(alloc: Global) -> Result<Vec<u8>, AllocError> {
     Ok(bytes)
 }
 
-/// How a session ends whose reads give so many bytes of an owner and then fail so.
-fn end_of_reading<R: Wait + Clock + Abort>(
+/// How a session ends whose reads give this many bytes of an owner and then fail in this way, or end.
+fn end_of_reading<R: Wait + Clock>(
     rt: &R,
     alloc: Global,
     until: usize,
-    kind: ErrorKind,
+    failure: Option<ErrorKind>,
 ) -> Result<SessionEnd, AllocError> {
     let shared = registry(alloc)?;
     let bytes = owner(alloc)?;
@@ -96,32 +98,37 @@ fn end_of_reading<R: Wait + Clock + Abort>(
     let stream = Duplex {
         reader: FailingReader {
             left: &bytes.as_slice()[..until.min(bytes.len())],
-            kind,
+            failure,
         },
         writer: &mut sent,
     };
     Ok(session(rt, alloc, &shared, 1, stream, &OpenGate))
 }
 
+/// How many bytes are read before a read fails or is the end, and how the session ends then: in the handshake, behind it, and in a frame.
+const READS: [(usize, SessionEnd); 5] = [
+    (0, SessionEnd::NoHandshake),
+    (20, SessionEnd::NoHandshake),
+    (REQUEST.len() - 1, SessionEnd::NoHandshake),
+    (REQUEST.len(), SessionEnd::Failed),
+    (REQUEST.len() + 9, SessionEnd::Failed),
+];
+
 #[test]
 fn a_read_that_fails_ends_the_handshake_or_the_session(rt: HostRuntime) -> Result<(), Fail> {
-    let alloc = rt.alloc();
-    let behind = REQUEST.len().saturating_add(9);
-    for kind in DEVICE {
-        let within = end_of_reading(&rt, alloc, 20, kind)?;
-        assert_eq!(rt; within, SessionEnd::NoHandshake);
-        assert_eq!(rt;
-            end_of_reading(&rt, alloc, behind, kind)?,
-            SessionEnd::Failed
-        );
+    for (until, wanted) in READS {
+        assert!(rt; end_of_reading(&rt, rt.alloc(), until, None)? == wanted);
+        for kind in DEVICE {
+            assert!(rt; end_of_reading(&rt, rt.alloc(), until, Some(kind))? == wanted);
+        }
     }
-    // Want of memory alone is no fault of the peer's.
-    let wanting = end_of_reading(&rt, alloc, 20, ErrorKind::OutOfMemory)?;
-    assert_eq!(rt; wanting, SessionEnd::Failed);
+    // Only lack of memory is not the peer's fault.
+    let wanting = end_of_reading(&rt, rt.alloc(), 20, Some(ErrorKind::OutOfMemory))?;
+    assert!(rt; wanting == SessionEnd::Failed);
     Ok(())
 }
 
-/// What a guest is told of board b1 whose owner's session is over.
+/// What a guest of board b1 is told once its owner's session is over.
 fn told_of_b1<R: Wait + Clock>(
     rt: &R,
     alloc: Global,
@@ -143,42 +150,54 @@ const NO_BOARD: &[u8] = b"{\"code\":1,\"name\":\"NoSuchBoard\",\"reply\":\"refus
 
 const ABANDONED: &[u8] = b"{\"outcome\":\"abandoned\",\"reply\":\"over\"}\nclose 1000\n";
 
+/// How many bytes are written before a write fails, and whether the board was opened by then. They are a part of the response; all of it; a
+/// part of the first answer, all of it, and a part of the second.
+const WRITES: [(usize, bool); 5] = [
+    (100, false),
+    (129, true),
+    (140, true),
+    (149, true),
+    (160, true),
+];
+
+/// Whether a session whose writes take this many bytes and then fail in this way fails and writes no more, and its board is over if it was
+/// opened.
+fn fails_for_good<R: Wait + Clock>(
+    rt: &R,
+    alloc: Global,
+    (room, is_opened): (usize, bool),
+    kind: ErrorKind,
+) -> Result<bool, AllocError> {
+    let shared = registry(alloc)?;
+    let bytes = owner(alloc)?;
+    let mut sent = Vec::new(alloc);
+    let stream = Duplex {
+        reader: FailingReader {
+            left: bytes.as_slice(),
+            failure: Some(kind),
+        },
+        writer: FailingWriter {
+            taken: &mut sent,
+            room,
+            kind,
+            has_failed: false,
+        },
+    };
+    let end = session(rt, alloc, &shared, 1, stream, &OpenGate);
+    let told = told_of_b1(rt, alloc, &shared)?;
+    let is_told = if is_opened {
+        told.as_slice().ends_with(ABANDONED)
+    } else {
+        told.as_slice() == NO_BOARD
+    };
+    Ok(end == SessionEnd::Failed && sent.len() == room && is_told)
+}
+
 #[test]
 fn a_write_that_fails_is_the_last_and_the_boards_are_over(rt: HostRuntime) -> Result<(), Fail> {
-    let alloc = rt.alloc();
-    let bytes = owner(alloc)?;
-    // A part of the response; all of it; a part of the first answer, all of it, and a part of the second.
-    for (room, is_opened) in [
-        (100, false),
-        (129, true),
-        (140, true),
-        (149, true),
-        (160, true),
-    ] {
+    for row in WRITES {
         for kind in DEVICE {
-            let shared = registry(alloc)?;
-            let mut sent = Vec::new(alloc);
-            let stream = Duplex {
-                reader: FailingReader {
-                    left: bytes.as_slice(),
-                    kind,
-                },
-                writer: FailingWriter {
-                    taken: &mut sent,
-                    room,
-                    kind,
-                    has_failed: false,
-                },
-            };
-            let end = session(&rt, alloc, &shared, 1, stream, &OpenGate);
-            assert_eq!(rt; end, SessionEnd::Failed);
-            assert_eq!(rt; sent.len(), room);
-            let told = told_of_b1(&rt, alloc, &shared)?;
-            if is_opened {
-                assert!(rt; told.as_slice().ends_with(ABANDONED));
-            } else {
-                assert_eq!(rt; told.as_slice(), NO_BOARD);
-            }
+            assert!(rt; fails_for_good(&rt, rt.alloc(), row, kind)?);
         }
     }
     Ok(())

@@ -2,14 +2,14 @@
 
 use std::alloc::{AllocError, Global};
 
-/// A request that asks for a WebSocket.
+/// A request for a WebSocket.
 pub const REQUEST: &[u8] =
     b"GET / HTTP/1.1\r\nHost: a\r\nConnection: upgrade\r\nUpgrade: websocket\r\nSec-WebSocket-Version: 13\r\nSec-WebSocket-Key: dGhlIHNhbXBsZSBub25jZQ==\r\n\r\n";
 
 /// How many bytes the head of the response has.
 pub const RESPONSE_BYTES: usize = 129;
 
-/// The first byte of a whole text, a whole binary message, a close, a ping, a pong; of a text's first part, and of its last.
+/// The first byte of a whole text, a whole binary message, a close, a ping; of a text's first part, and of its last.
 pub const TEXT: u8 = 0x81;
 
 pub const BINARY: u8 = 0x82;
@@ -17,8 +17,6 @@ pub const BINARY: u8 = 0x82;
 pub const CLOSE: u8 = 0x88;
 
 pub const PING: u8 = 0x89;
-
-pub const PONG: u8 = 0x8a;
 
 pub const FIRST_PART: u8 = 0x01;
 
@@ -40,7 +38,7 @@ pub fn frame(alloc: Global, first: u8, payload: &[u8]) -> Result<Vec<u8>, AllocE
     Ok(bytes)
 }
 
-/// What a server sent, frame by frame, as lines: a text as it is, a close as `close` and its code, anything else by its opcode.
+/// What a server sent, frame by frame, as lines: a text as it is, a close as `close` and its code, anything else as its opcode.
 pub fn lines(alloc: Global, sent: &[u8]) -> Result<Vec<u8>, AllocError> {
     let mut lines = Vec::new(alloc);
     let mut at = 0;

@@ -1,4 +1,4 @@
-//! A stream and a gate in memory that note what they are asked in one journal.
+//! A stream and a gate in memory that note in one journal what they are asked.
 
 use relay_server::{Gate, Stream};
 use std::alloc::{AllocError, Global};
@@ -7,7 +7,7 @@ use std::io;
 use std::io::{Read, Write};
 use std::time::Duration;
 
-/// What was asked, a line each.
+/// What was asked, one line each.
 #[derive(Drop)]
 pub struct Journal {
     alloc: Global,
@@ -47,7 +47,7 @@ impl Journal {
     }
 }
 
-/// A stream whose peer sends these pieces, none longer than a read asks for. Each read gives one, and behind the last the peer has gone.
+/// A stream whose peer sends these pieces, none longer than a read asks for. Each read gives one, and after the last the peer has gone.
 #[derive(Drop)]
 pub struct NotedStream<'a> {
     pub pieces: &'a [Vec<u8>],
@@ -97,7 +97,7 @@ impl Stream for NotedStream<'_> {
     }
 }
 
-/// A gate that holds nobody back.
+/// A gate that holds nobody back, and notes its calls.
 #[derive(Drop)]
 pub struct NotedGate<'a> {
     pub journal: &'a Journal,

@@ -1,7 +1,7 @@
-//! The gate of a first command, told before the command is carried out.
+//! The gate of a first command, notified before the command is carried out.
 
 use crate::tests::sessions::frames::{CLOSE, RESPONSE_BYTES, TEXT, lines};
-use crate::tests::sessions::memory::{Frame, input, registry};
+use crate::tests::sessions::rows::{Frame, input, registry};
 use relay_server::{Gate, OpenGate, Registry, SessionEnd, session};
 use std::alloc::{AllocError, Global};
 use std::cell::Cell;
@@ -19,7 +19,7 @@ const OPENED: &[u8] = b"{\"reply\":\"opened\"}\nclose 1000\n";
 
 const EXISTS: &[u8] = b"{\"code\":2,\"name\":\"BoardExists\",\"reply\":\"refused\"}\nclose 1000\n";
 
-/// Whether a session that opens b1, and then closes, is told so.
+/// Whether a session that opens b1, and then closes, gets this answer.
 fn opens_b1<R: Wait + Clock>(
     rt: &R,
     alloc: Global,
@@ -36,7 +36,7 @@ fn opens_b1<R: Wait + Clock>(
     Ok(end == SessionEnd::Closed && lines(alloc, answers)?.as_slice() == OPENED)
 }
 
-/// A gate at which another connection opens b1 meanwhile. It notes whether that one was told so.
+/// A gate at which another connection opens b1 in the meantime. It notes whether that one succeeded.
 #[derive(Drop)]
 struct Overtaken<'a, R> {
     rt: &'a R,

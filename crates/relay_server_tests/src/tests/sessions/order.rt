@@ -2,13 +2,12 @@
 
 use crate::tests::sessions::frames::{CLOSE, REQUEST, TEXT, frame};
 use crate::tests::sessions::journal::{Journal, NotedGate, NotedStream};
-use crate::tests::sessions::memory::registry;
+use crate::tests::sessions::rows::registry;
 use crate::tests::sessions::texts::{FOLLOW_B1_FROM_0, OPEN_B1, SUBMIT_E2E4, SUBMIT_E7E5};
 use relay_server::{OpenGate, Registry, SessionEnd, session};
 use std::alloc::{AllocError, Global};
 use std::io;
 use std::io::Read;
-use std::process::Abort;
 use std::sync::Wait;
 use std::test::Fail;
 use std::time::Clock;
@@ -19,9 +18,9 @@ const NORMAL: &[u8] = &[0x03, 0xe8];
 /// An owner sends its request; then the command to open and one half of a move; then the other half and a second move; then a close.
 ///
 /// What was asked for is on its way before the peer is waited for, and answers to what came in one piece leave in one piece. A frame has
-/// two bytes beside its payload: the response has 129 bytes, `opened` 18, `played` 43 each, the close 2. The gate is told of the first
-/// command alone. The request may take ten seconds at the most, and then a read waits for half a minute, and for the rest of a move ten
-/// seconds. At the end the output is ended before the rest is read, for ten seconds at the most.
+/// two bytes besides its payload: the response has 129 bytes, `opened` 18, `played` 43 each, the close 2. The gate is notified only of the
+/// first command. The request may take at most ten seconds. Then a read waits for half a minute, and for the rest of a move ten
+/// seconds. At the end the output is ended before the rest is read, for at most ten seconds.
 const OF_AN_OWNER: &str =
     "bounded\nread\nbounded by half a minute\nwritten 129\nread\nbefore 7\nwritten 20\nafter 7\nbounded\nread\nbounded by half a minute\nwritten 90\nread\nwritten 4\nended\nbounded\nread\n";
 
@@ -30,12 +29,13 @@ const OF_AN_OWNER: &str =
 const OF_A_FOLLOWER: &str =
     "bounded\nread\nbounded by half a minute\nwritten 129\nread\nbefore 7\nwritten 99\nafter 7\nwritten 128\nended\nbounded\nread\n";
 
-/// An owner sends its request; then, in one piece, two commands and a frame that breaks the rules. Both are answered, and a close of four
-/// bytes leaves behind the second answer. Then the output is ended and the rest is read, for ten seconds at the most.
+/// An owner sends its request; then, in one piece, two commands and a frame that breaks the rules. Both are answered: the move's answer leaves
+/// before those who follow are woken, and after that a close of four bytes. Then the output is ended and the rest is read, for at most ten
+/// seconds.
 const OF_A_BREACH: &str =
-    "bounded\nread\nbounded by half a minute\nwritten 129\nread\nbefore 7\nwritten 20\nafter 7\nwritten 49\nended\nbounded\nread\n";
+    "bounded\nread\nbounded by half a minute\nwritten 129\nread\nbefore 7\nwritten 20\nafter 7\nwritten 45\nwritten 4\nended\nbounded\nread\n";
 
-/// Frames that break the rules: of no kind that there is, of reserved bits, without a mask, and a text's last part without its first.
+/// Frames that break the rules: of an unknown kind, with reserved bits, without a mask, and a text's last part without its first.
 const BROKEN: [&[u8]; 4] = [
     &[0x83, 0x80, 0, 0, 0, 0],
     &[0xc1, 0x80, 0, 0, 0, 0],
@@ -43,14 +43,14 @@ const BROKEN: [&[u8]; 4] = [
     &[0x80, 0x80, 0, 0, 0, 0],
 ];
 
-/// Asserts how the session ends whose peer sends these pieces, and what it asks of its stream and its gate.
-fn assert_calls<R: Wait + Clock + Abort>(
+/// Whether the session of a peer that sends these pieces ends so, and asks this of its stream and its gate.
+fn asks<R: Wait + Clock>(
     rt: &R,
     alloc: Global,
     registry: &Registry,
     pieces: &[Vec<u8>],
     (wanted, calls): (SessionEnd, &str),
-) {
+) -> bool {
     let journal = Journal::new(alloc);
     let stream = NotedStream {
         pieces,
@@ -58,11 +58,10 @@ fn assert_calls<R: Wait + Clock + Abort>(
     };
     let gate = NotedGate { journal: &journal };
     let end = session(rt, alloc, registry, 7, stream, &gate);
-    assert_eq!(rt; end, wanted);
-    assert!(rt; journal.has(calls), "{calls}");
+    end == wanted && journal.has(calls)
 }
 
-/// These bytes.
+/// These bytes, as a vector.
 fn bytes(alloc: Global, bytes: &[u8]) -> Result<Vec<u8>, AllocError> {
     let mut copied = Vec::new(alloc);
     copied.extend_from_slice(bytes)?;
@@ -81,7 +80,13 @@ fn owner(alloc: Global) -> Result<Vec<Vec<u8>>, AllocError> {
     Ok(vec![in alloc; bytes(alloc, REQUEST)?, first, second, close]?)
 }
 
-/// What a peer sends with this frame behind its second command.
+/// What the follower sends, piece by piece.
+fn follower(alloc: Global) -> Result<Vec<Vec<u8>>, AllocError> {
+    let follow = frame(alloc, TEXT, FOLLOW_B1_FROM_0.as_bytes())?;
+    Ok(vec![in alloc; bytes(alloc, REQUEST)?, follow]?)
+}
+
+/// What a peer sends with this frame after its second command.
 fn breach(alloc: Global, broken: &[u8]) -> Result<Vec<Vec<u8>>, AllocError> {
     let mut piece = frame(alloc, TEXT, OPEN_B1.as_bytes())?;
     piece.extend_from_slice(frame(alloc, TEXT, SUBMIT_E2E4.as_bytes())?.as_slice())?;
@@ -93,32 +98,43 @@ fn breach(alloc: Global, broken: &[u8]) -> Result<Vec<Vec<u8>>, AllocError> {
 fn each_call_comes_in_its_turn(rt: HostRuntime) -> Result<(), Fail> {
     let alloc = rt.alloc();
     let shared = registry(alloc)?;
-    let pieces = owner(alloc)?;
-    let wanted = (SessionEnd::Closed, OF_AN_OWNER);
-    assert_calls(&rt, alloc, &shared, pieces.as_slice(), wanted);
-    let follow = frame(alloc, TEXT, FOLLOW_B1_FROM_0.as_bytes())?;
-    let pieces = vec![in alloc; bytes(alloc, REQUEST)?, follow]?;
-    let wanted = (SessionEnd::Over, OF_A_FOLLOWER);
-    assert_calls(&rt, alloc, &shared, pieces.as_slice(), wanted);
+    let owned = (SessionEnd::Closed, OF_AN_OWNER);
+    assert!(rt; asks(&rt, alloc, &shared, owner(alloc)?.as_slice(), owned));
+    let followed = (SessionEnd::Over, OF_A_FOLLOWER);
+    assert!(rt; asks(&rt, alloc, &shared, follower(alloc)?.as_slice(), followed));
+    Ok(())
+}
+
+#[test]
+fn each_call_comes_in_its_turn_at_a_breach(rt: HostRuntime) -> Result<(), Fail> {
+    let alloc = rt.alloc();
     for broken in BROKEN {
         let pieces = breach(alloc, broken)?;
-        let wanted = (SessionEnd::Broken, OF_A_BREACH);
-        assert_calls(&rt, alloc, &registry(alloc)?, pieces.as_slice(), wanted);
+        let told = (SessionEnd::Broken, OF_A_BREACH);
+        assert!(rt; asks(&rt, alloc, &registry(alloc)?, pieces.as_slice(), told));
     }
     Ok(())
 }
 
-/// A peer that sends these bytes and then zeros without end, in pieces of so many bytes. Counts the reads.
+/// What is asked of a peer: how often it is read, and for how many bytes at most.
+#[derive(Clone, Copy, Drop)]
+struct Asked {
+    reads: usize,
+    most: usize,
+}
+
+/// A peer that sends these bytes and then zeros without end, in pieces of this many bytes. It notes what it is asked for.
 #[derive(Drop)]
 struct Endless<'a> {
     left: &'a [u8],
     piece: usize,
-    reads: &'a mut usize,
+    asked: &'a mut Asked,
 }
 
 impl Read for Endless<'_> {
     fn read(&mut self, buf: &mut [u8]) -> io::Result<usize> {
-        *self.reads = self.reads.saturating_add(1);
+        self.asked.reads = self.asked.reads.saturating_add(1);
+        self.asked.most = self.asked.most.max(buf.len());
         let piece = self.piece.min(buf.len());
         buf[..piece].fill(0);
         let n = self.left.len().min(piece);
@@ -128,37 +144,36 @@ impl Read for Endless<'_> {
     }
 }
 
-/// How a session ends whose peer sends these bytes and never ends, and how often it is read.
-fn end_and_reads<R: Wait + Clock>(
+/// Whether the session of a peer that sends these bytes and never ends, ends so after this many reads, none of more than 4,096 bytes.
+fn ends_after<R: Wait + Clock>(
     rt: &R,
     alloc: Global,
-    sent: &[u8],
-    piece: usize,
-) -> Result<(SessionEnd, usize), AllocError> {
+    (sent, piece): (&[u8], usize),
+    (wanted, reads): (SessionEnd, usize),
+) -> Result<bool, AllocError> {
     let shared = registry(alloc)?;
-    let mut reads = 0;
+    let mut asked = Asked { reads: 0, most: 0 };
     let stream = Duplex {
         reader: Endless {
             left: sent,
             piece,
-            reads: &mut reads,
+            asked: &mut asked,
         },
         writer: Vec::new(alloc),
     };
     let end = session(rt, alloc, &shared, 1, stream, &OpenGate);
-    Ok((end, reads))
+    Ok(end == wanted && asked.reads == reads && asked.most <= 4096)
 }
 
+/// 8,192 bytes of a head are read, then 4,096 pieces; and as many after a close.
 #[test]
 fn of_a_peer_without_end_so_much_is_read_and_no_more(rt: HostRuntime) -> Result<(), Fail> {
     let alloc = rt.alloc();
-    // 8,192 bytes of a head.
-    let told = end_and_reads(&rt, alloc, b"GET / HTTP/1.1\r\n", 512)?;
-    assert_eq!(rt; told, (SessionEnd::NoHandshake, 16 + 4096));
-    // 4,096 pieces behind a close.
+    let none = (SessionEnd::NoHandshake, 16 + 4096);
+    assert!(rt; ends_after(&rt, alloc, (b"GET / HTTP/1.1\r\n", 512), none)?);
     let mut sent = bytes(alloc, REQUEST)?;
     sent.extend_from_slice(frame(alloc, CLOSE, NORMAL)?.as_slice())?;
-    let told = end_and_reads(&rt, alloc, sent.as_slice(), 1)?;
-    assert_eq!(rt; told, (SessionEnd::Closed, sent.len().saturating_add(4096)));
+    let closed = (SessionEnd::Closed, sent.len().saturating_add(4096));
+    assert!(rt; ends_after(&rt, alloc, (sent.as_slice(), 1), closed)?);
     Ok(())
 }

@@ -1,5 +1,5 @@
-//! Want of memory. Where one allocation is refused, each in turn, a session says so or ends, its boards are ended, and sessions after
-//! it find the registry as ever.
+//! Lack of memory. If one allocation is refused, each in turn, a session says so or ends, its boards are ended, and later sessions
+//! find the registry in order.
 
 use crate::tests::sessions::frames::{CLOSE, REQUEST, RESPONSE_BYTES, TEXT, frame, lines};
 use c960_game::Limits;
@@ -10,7 +10,7 @@ use std::sync::Wait;
 use std::time::Clock;
 use tungstenite::Duplex;
 
-/// The registry of one board and one follower at a time, so that what is not given back is missed.
+/// A registry with one board and one follower at a time, so that anything not given back is noticed.
 fn new_registry(rt: &impl Abort, alloc: Global) -> Registry {
     let Some(limits) = Limits::new(1, 1, 2, 1024) else {
         panic!(rt; "limits in range");
@@ -34,8 +34,8 @@ fn frames_of(alloc: Global, frames: &[(u8, &[u8])]) -> Result<Vec<u8>, AllocErro
 /// How many bytes a peer takes: more than any session here sends.
 const ROOM: usize = 1024;
 
-/// What a peer was sent, which is nothing yet. Its room is there from the start: a peer that finds none while it is sent something is a
-/// device that fails, and no want of memory of the session's.
+/// What a peer was sent, which is nothing yet. Its room is reserved from the start: if a peer had none while something is sent to it, that
+/// would be a device that fails, and not lack of memory in the session.
 fn peer(rt: &impl Abort, alloc: Global) -> Vec<u8> {
     match Vec::with_capacity(alloc, ROOM) {
         Ok(sent) => sent,
@@ -43,7 +43,7 @@ fn peer(rt: &impl Abort, alloc: Global) -> Vec<u8> {
     }
 }
 
-/// How a session over these frames ends, and the lines of what it sends behind the response.
+/// How a session over these frames ends, and the lines of what it sends after the response.
 fn talk<R: Wait + Clock + Abort>(
     rt: &R,
     alloc: Global,
@@ -116,11 +116,11 @@ fn a_refusal_ends_the_boards_and_leaves_no_seat_taken(rt: HostRuntime) {
     let registry = new_registry(&rt, rt.alloc());
     let (end, told) = talk(&rt, rt.alloc(), &registry, 1, &OWNER);
     if end == SessionEnd::Closed && told.as_slice() == OWNED {
-        // The one refusal may meet a guest, and the next one finds the place free.
+        // The one refusal may hit a guest, and then the next one finds the place free.
         assert!(rt; guests_told(&rt, rt.alloc(), &registry, FOLLOWED) >= 2);
         return;
     }
-    // What the guests find is what the owner left: the board with its move, the board alone, or none.
+    // What the guests find is what the owner left: the board with its move, the board alone, or no board.
     let (_, left) = talk(&rt, rt.alloc(), &registry, 9, &GUEST);
     assert!(rt; [FOLLOWED, NO_MOVE, NO_SUCH_BOARD].contains(&left.as_slice()));
     assert_eq!(rt; guests_told(&rt, rt.alloc(), &registry, left.as_slice()), 3);
@@ -133,8 +133,8 @@ const OPENER: [(u8, &[u8]); 4] = [
     (CLOSE, &[0x03, 0xe8]),
 ];
 
-/// What is told of these, and where the first found no memory. Of a name that stands no 12 is told, whatever is refused: the registry asks
-/// for no memory before it knows that. A connection that finds no room to note one more board ends its session instead.
+/// What these answer, and what they answer if the first found no memory. For a name that exists no 12 is answered, whatever is refused: the
+/// registry allocates nothing before it knows that. A connection without room to note another board ends its session instead.
 const TOLD: [&[u8]; 2] = [
     b"{\"reply\":\"opened\"}\n{\"code\":2,\"name\":\"BoardExists\",\"reply\":\"refused\"}\n{\"code\":2,\"name\":\"BoardExists\",\"reply\":\"refused\"}\nclose 1000\n",
     b"{\"code\":12,\"name\":\"OutOfMemory\",\"reply\":\"refused\"}\n{\"reply\":\"opened\"}\n{\"code\":2,\"name\":\"BoardExists\",\"reply\":\"refused\"}\nclose 1000\n",
@@ -147,7 +147,7 @@ fn a_name_that_stands_takes_no_memory(rt: HostRuntime) {
     if end == SessionEnd::Closed {
         assert!(rt; TOLD.contains(&told.as_slice()));
     } else {
-        // A session for which there was no memory ends behind some of these.
+        // A session for which there was no memory ends after some of these.
         assert!(rt; TOLD.iter().any(|whole| whole.starts_with(told.as_slice())));
     }
 }

@@ -4,7 +4,7 @@ use relay960_engines::Answerer;
 use std::alloc::{AllocError, Global};
 use std::borrow::CowSlice;
 
-/// It answers a line with the number of its bytes, of which it counts 1,025 at most, and has memory for so many answers.
+/// It answers a line with the number of its bytes, counting at most 1,025, and has memory for a limited number of answers.
 #[derive(Drop)]
 pub struct Lengths {
     pub answers: u64,

@@ -4,12 +4,12 @@ use relay960_engines::{ReadDevice, WriteDevice};
 use std::io;
 use std::io::ErrorKind;
 
-/// It gives one byte a read. Where `good` bytes are left it fails once, by an error of a kind that the standard readers try again.
+/// It gives one byte a read. When `good` bytes are left it fails once, with an error of a kind that the standard readers retry.
 #[derive(Drop)]
 pub struct CountingReader<'a> {
     /// The bytes that it still has.
     pub rest: &'a [u8],
-    /// How many bytes are left where it fails.
+    /// How many bytes are left when it fails.
     pub good: usize,
     /// Whether it has failed.
     pub has_failed: bool,
@@ -34,27 +34,27 @@ impl ReadDevice for CountingReader<'_> {
     }
 }
 
-/// What a writer answers where it fails.
-#[derive(Clone, Copy, PartialEq, Eq, Debug)]
+/// What a writer answers when it fails.
+#[derive(Clone, Copy)]
 pub enum Failure {
     /// That it took no byte.
     NoByte,
-    /// An error, of a kind that the standard `write_all` would try again.
+    /// An error, of a kind that the standard `write_all` would retry.
     Error,
 }
 
-/// It takes one byte a write, and compares it with the text that is to come. Where `good` bytes of that are left it fails once.
+/// It takes one byte a write, and compares it with the text that is to come. When `good` bytes of that are left it fails once.
 #[derive(Drop)]
 pub struct CountingWriter<'a> {
-    /// What is still to come of the text.
+    /// What has yet to come of the text.
     pub rest: &'a [u8],
-    /// How many bytes are left where it fails.
+    /// How many bytes are left when it fails.
     pub good: usize,
     /// How it fails.
     pub failure: Failure,
     /// Whether it has failed.
     pub has_failed: bool,
-    /// Whether a byte came that is not the text's.
+    /// Whether a byte came that is not in the text.
     pub has_differed: bool,
 }
 

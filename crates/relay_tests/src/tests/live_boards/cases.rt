@@ -67,7 +67,7 @@ const FULL: [(Asked, Told); 14] = [
     (Leave(2), Left(0, 3, 3, false)),
 ];
 
-/// One that was closed and takes nothing learns of it as it leaves.
+/// A follower that was closed and takes nothing learns of it when it leaves.
 const LEAVES_CLOSED: [(Asked, Told); 6] = [
     (Follow(1), Following(0)),
     (Submit("e2e4 e7e5 g1f3"), Played(0)),
@@ -156,7 +156,7 @@ const EARLIER: [(Asked, Told); 18] = [
     (Take(1), Over(Outcome::Agreed)),
 ];
 
-/// A place too far back, or not there yet, is refused before a full board.
+/// A place too far back, or not there yet, is refused before a full board is.
 const FULL_BOARD: [(Asked, Told); 9] = [
     (Submit("e2e4 e7e5 g1f3"), Played(0)),
     (Follow(1), Following(3)),
@@ -169,7 +169,7 @@ const FULL_BOARD: [(Asked, Told); 9] = [
     (Take(2), Took(2, "g1f3")),
 ];
 
-/// One that joined a whole capacity back and takes before the next move is not closed.
+/// A follower that joined a whole capacity back and takes before the next move is not closed.
 const TAKES_FIRST: [(Asked, Told); 8] = [
     (Submit("e2e4 e7e5 g1f3"), Played(0)),
     (FollowFrom(1, 1), Following(1)),
@@ -181,13 +181,13 @@ const TAKES_FIRST: [(Asked, Told); 8] = [
     (Leave(1), Left(1, 3, 4, false)),
 ];
 
-/// One that is dropped without leaving keeps its place.
+/// A follower that is dropped without leaving keeps its slot.
 const DROPPED: [(Asked, Told); 14] = [
     (Follow(1), Following(0)),
     (Follow(2), Following(0)),
     (Drop(1), Dropped),
     (Follow(3), Refused(Refusal::TooManyFollowers)),
-    // It is closed like any other, and keeps its place.
+    // It is closed like any other, and keeps its slot.
     (Submit("e2e4"), Played(0)),
     (Take(2), Took(0, "e2e4")),
     (Submit("e7e5"), Played(1)),
@@ -200,7 +200,7 @@ const DROPPED: [(Asked, Told); 14] = [
     (Submit("g1f3"), Played(2)),
 ];
 
-/// A place that was given back is given out again.
+/// A slot that was given back is given out again.
 const GIVEN_BACK: [(Asked, Told); 19] = [
     (Follow(1), Following(0)),
     (Follow(2), Following(0)),
@@ -216,7 +216,7 @@ const GIVEN_BACK: [(Asked, Told); 19] = [
     (FollowFrom(5, 1), Following(1)),
     (Follow(1), Refused(Refusal::TooManyFollowers)),
     (Submit("g1f3"), Played(2)),
-    // The follower at the place that was closed before it came is not closed by that.
+    // The follower in the slot that was closed before it came is not closed by that.
     (Take(4), Took(2, "g1f3")),
     (Take(5), Took(1, "e7e5")),
     (Take(5), Cut),
@@ -224,14 +224,14 @@ const GIVEN_BACK: [(Asked, Told); 19] = [
     (Take(2), Cut),
 ];
 
-/// The words of the worked examples: header, status and cursor of a board that one may follow, whose queues hold two moves.
+/// The words of the worked examples: header, status and cursor of a board that one spectator may follow, whose queues hold two moves.
 const WORDS: [(Asked, Told); 34] = [
     (Look(0), Word(131590)),
     (Look(1), Word(0)),
     (Look(2), Word(0)),
     (Look(18), Word(0)),
     (Look(19), NoWord),
-    // One joins at 0 and is closed at length 2; it takes one move and leaves.
+    // A follower joins at 0 and is closed at length 2; it takes one move and leaves.
     (Follow(1), Following(0)),
     (Look(2), Word(4294967296)),
     (Submit("e2e4 e7e5"), Played(0)),
@@ -243,7 +243,7 @@ const WORDS: [(Asked, Told); 34] = [
     (Look(2), Word(17179869185)),
     (Leave(1), Left(0, 1, 2, true)),
     (Look(2), Word(0)),
-    // A refused follow leaves the cursor as it was. One that joins at 1 is closed at length 3.
+    // A refused follow leaves the cursor as it was. A follower that joins at 1 is closed at length 3.
     (FollowFrom(1, 0), Refused(Refusal::TooFarBack)),
     (Look(2), Word(0)),
     (FollowFrom(1, 4), Refused(Refusal::NotYet)),

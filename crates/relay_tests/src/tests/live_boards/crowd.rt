@@ -10,7 +10,7 @@ use std::test::Fail;
 
 const MOST: u32 = 1024;
 
-/// So many followers from a place, after whom no more are let in.
+/// This many followers from a place, after which no more are let in.
 fn crowd(
     rt: &impl Abort,
     alloc: Global,

@@ -8,7 +8,7 @@ use std::process::Abort;
 /// Twelve moves of knights, after which the position is the one before.
 const SHUFFLE: &str = "g1f3 g8f6 f3g1 f6g8 g1f3 g8f6 f3g1 f6g8 g1f3 g8f6 f3g1 f6g8";
 
-/// What stands between the shuffles of the game of a hundred plies.
+/// The moves between the shuffles of the game of a hundred plies.
 const BETWEEN: [&str; 7] = [
     "b1c3 b8c6",
     "a1b1 a8b8",

@@ -1,4 +1,4 @@
-//! A game of as many plies as there may be, whose every move is taken at once, since a queue holds one.
+//! A game of as many plies as there may be, of which each move is taken at once, since a queue holds one.
 
 use crate::tests::live_boards::games::{limits_of, move_of};
 use c960_board::{Move, read_move};
@@ -12,10 +12,10 @@ use std::test::Fail;
 /// The most that a game may have.
 const PLIES: u16 = 16384;
 
-/// A game of 16,494 plies from start 518, in parts: how many moves come before each of the last ones; the first of these; a circle of
-/// White's moves and one of Black's, which are gone round from then on; and the last ones, moves that can't be taken back. Between two of
-/// these come 149 others, or 148 where the other side makes the second: one more, and the game is drawn. The circles are five and four
-/// moves long, so that no position comes five times. Pawns go single steps; they take pieces to pass each other, and all become knights;
+/// A game of 16,494 plies from start 518, in parts: how many moves come before each of the last ones; the first of these; a cycle of
+/// White's moves and one of Black's, which are repeated from then on; and the last ones, moves that can't be taken back. Between two of
+/// these come 149 others, or 148 if the other side makes the second: one more, and the game is drawn. The cycles are five and four
+/// moves long, so that no position occurs five times. Pawns go single steps; they take pieces to pass each other, and all become knights;
 /// then pieces take pieces. A search found the moves, over a plain model of the board made for it.
 const GAME: [&str; 67] = [
     "0////e2e3",
@@ -92,7 +92,7 @@ fn parts() -> &'static [&'static str] {
     &GAME
 }
 
-/// The move at a place of a line, gone round. Each has four letters, and a space stands between two.
+/// The move at a place of a line, which is repeated. Each has four letters, and they are separated by spaces.
 fn move_at(rt: &impl Abort, line: &str, place: usize) -> Move {
     let count = line.len().wrapping_add(1) / 5;
     assert!(rt; count > 0);

@@ -1,5 +1,5 @@
-//! Want of memory. Where one allocation is refused (`rt try --test --fail-alloc N`, for each N in turn), the call that wanted it says
-//! so and changes nothing, and is accepted when made again; no other call takes memory.
+//! Lack of memory. If one allocation is refused (`rt try --test --fail-alloc N`, for each N in turn), the call that needed it says
+//! so and changes nothing, and is accepted when made again; no other call allocates.
 
 use crate::tests::live_boards::games::{limits_of, move_of};
 use c960_game::{Ending, Limits, Outcome, Refusal};
@@ -8,7 +8,7 @@ use relay_core::{Account, Taken};
 use std::alloc::Global;
 use std::process::Abort;
 
-/// A new board, opened again where it was refused.
+/// A new board, opened again if it was refused.
 fn open(rt: &impl Abort, alloc: Global, limits: Limits) -> Board {
     match Board::open(alloc, 518, limits) {
         Ok(board) => board,
@@ -22,7 +22,7 @@ fn open(rt: &impl Abort, alloc: Global, limits: Limits) -> Board {
     }
 }
 
-/// A follower, asked for again where it was refused: then the board is as it was.
+/// A follower, asked for again if it was refused: then the board is as it was.
 fn follow(rt: &impl Abort, board: &mut Board, from: Option<u16>) -> Follower {
     let len = board.len();
     match board.follow(from) {

@@ -1,4 +1,4 @@
-//! A plain board: its game, and of each follower the list of the moves that wait, each with its place.
+//! A plain board: its game, and for each follower the list of the moves that wait, each with its place.
 
 use crate::tests::live_boards::stage::{Answer, Ask};
 use c960_board::Move;
@@ -6,17 +6,17 @@ use c960_game::{Ending, Game, Limits, Outcome, Refusal};
 use relay_core::{Account, Taken};
 use std::alloc::{AllocError, Global};
 
-/// A follower: what it had, its closing, and the moves that wait for it.
+/// A follower: what it has had, its closing, and the moves that wait for it.
 #[derive(Drop)]
-struct Seat {
+struct PlainFollower {
     joined: u16,
     taken: u16,
     closed_at: Option<u16>,
     queue: Vec<(u16, Move)>,
 }
 
-impl Seat {
-    /// What its follower had and knows, where the log has this length.
+impl PlainFollower {
+    /// What its follower has had and knows, given that the log has this length.
     fn account(&self, len: u16) -> Account {
         Account {
             joined: self.joined,
@@ -26,7 +26,7 @@ impl Seat {
         }
     }
 
-    /// Takes the next move that waits, or tells why none does.
+    /// Takes the next move that waits, or reports why there is none.
     fn take(&mut self, outcome: Option<Outcome>) -> Taken {
         if !self.queue.is_empty() {
             let (place, m) = self.queue.remove(0);
@@ -46,34 +46,34 @@ impl Seat {
 pub struct Plain {
     game: Game,
     limits: Limits,
-    seats: Vec<Option<Seat>>,
-    /// How many places are given out: that of a follower that goes without leaving stays so.
+    followers: Vec<Option<PlainFollower>>,
+    /// How many slots are given out: the slot of a follower that goes without leaving stays taken.
     given_out: u16,
     alloc: Global,
 }
 
 impl Plain {
-    /// One that nobody follows, with room for so many followers.
+    /// A board without followers, with room for this many.
     pub fn new(
         alloc: Global,
         game: Game,
         limits: Limits,
         room: usize,
     ) -> Result<Plain, AllocError> {
-        let mut seats = Vec::new(alloc);
+        let mut followers = Vec::new(alloc);
         for _ in 0..room {
-            seats.push(None)?;
+            followers.push(None)?;
         }
         Ok(Plain {
             game,
             limits,
-            seats,
+            followers,
             given_out: 0,
             alloc,
         })
     }
 
-    /// The answer. Want of memory is an error here, so that no answer tells of it.
+    /// The answer. Lack of memory is an error here, so that no answer reports it.
     pub fn ask(&mut self, asked: Ask) -> Result<Answer, AllocError> {
         match asked {
             Ask::Submit(m) => self.submit(m),
@@ -94,13 +94,13 @@ impl Plain {
             Err(refusal) => return Ok(Answer::Refused(refusal)),
         };
         let capacity = usize::from(self.limits.capacity());
-        for seat in &mut self.seats {
-            if let Some(seat) = seat {
-                if seat.closed_at.is_none() {
-                    if seat.queue.len() >= capacity {
-                        seat.closed_at = Some(place);
+        for follower in &mut self.followers {
+            if let Some(follower) = follower {
+                if follower.closed_at.is_none() {
+                    if follower.queue.len() >= capacity {
+                        follower.closed_at = Some(place);
                     } else {
-                        seat.queue.push((place, m))?;
+                        follower.queue.push((place, m))?;
                     }
                 }
             }
@@ -127,7 +127,7 @@ impl Plain {
     }
 
     fn follow(&mut self, who: usize, from: Option<u16>) -> Result<Answer, AllocError> {
-        if !matches!(self.seats.get(who), Some(None)) {
+        if !matches!(self.followers.get(who), Some(None)) {
             return Ok(Answer::Amiss);
         }
         let joined = from.unwrap_or(self.game.len());
@@ -141,8 +141,8 @@ impl Plain {
         if self.given_out >= self.limits.followers() {
             return Ok(Answer::Refused(Refusal::TooManyFollowers));
         }
-        if let Some(seat) = self.seats.get_mut(who) {
-            *seat = Some(Seat {
+        if let Some(follower) = self.followers.get_mut(who) {
+            *follower = Some(PlainFollower {
                 joined,
                 taken: 0,
                 closed_at: None,
@@ -155,34 +155,34 @@ impl Plain {
 
     fn take(&mut self, who: usize) -> Answer {
         let outcome = self.game.outcome();
-        if who >= self.seats.len() {
+        if who >= self.followers.len() {
             return Answer::Amiss;
         }
-        match &mut self.seats[who] {
-            Some(seat) => Answer::Took(seat.take(outcome)),
+        match &mut self.followers[who] {
+            Some(follower) => Answer::Took(follower.take(outcome)),
             None => Answer::Amiss,
         }
     }
 
     fn leave(&mut self, who: usize) -> Answer {
-        let Some(place) = self.seats.get_mut(who) else {
+        let Some(slot) = self.followers.get_mut(who) else {
             return Answer::Amiss;
         };
-        let Some(seat) = place.take() else {
+        let Some(follower) = slot.take() else {
             return Answer::Amiss;
         };
         self.given_out = self.given_out.saturating_sub(1);
-        Answer::Left(seat.account(self.game.len()))
+        Answer::Left(follower.account(self.game.len()))
     }
 
     fn drop_follower(&mut self, who: usize) -> Answer {
-        let Some(place) = self.seats.get_mut(who) else {
+        let Some(slot) = self.followers.get_mut(who) else {
             return Answer::Amiss;
         };
-        if place.is_none() {
+        if slot.is_none() {
             return Answer::Amiss;
         }
-        *place = None;
+        *slot = None;
         Answer::Dropped
     }
 }

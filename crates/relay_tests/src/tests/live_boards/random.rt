@@ -1,4 +1,4 @@
-//! Questions drawn by chance, whose answers are those of the plain board.
+//! Questions drawn at random, whose answers are those of the plain board.
 
 use crate::tests::live_boards::games::{limits_of, move_of};
 use crate::tests::live_boards::plain::Plain;
@@ -10,7 +10,7 @@ use std::alloc::{AllocError, Global};
 use std::process::Abort;
 use std::test::Fail;
 
-/// Numbers by chance, the same at each run.
+/// Random numbers, the same in each run.
 #[derive(Drop)]
 pub struct Dice {
     pub seed: u32,
@@ -83,7 +83,7 @@ fn has_kind(answers: &[Answer], kind: &str) -> bool {
     false
 }
 
-/// Each answer that there is but for want of memory and a bad start.
+/// Every answer that there is, except for lack of memory and a bad start.
 const KINDS: [&str; 19] = [
     "played",
     "played last",

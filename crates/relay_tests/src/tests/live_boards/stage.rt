@@ -17,27 +17,27 @@ pub enum Ask {
     Leave(usize),
     /// Goes without leaving.
     Drop(usize),
-    /// What stands at a place of the board's table.
+    /// The word of this number in the board's table.
     Word(u64),
 }
 
-/// What it answers.
+/// The answer to it.
 #[derive(Clone, Copy, PartialEq)]
 pub enum Answer {
     Played(u16, Option<Outcome>),
     Ended(Outcome),
-    /// Joined at this place, and has taken so many moves.
+    /// Joined at this place, and has taken this many moves.
     Following(u16, u16),
     Took(Taken),
     Left(Account),
     Dropped,
     Word(Option<u64>),
     Refused(Refusal),
-    /// That follower is not here, or is here already.
+    /// That follower does not exist, or exists already.
     Amiss,
 }
 
-/// A board and those who follow it.
+/// A board and its followers.
 #[derive(Drop)]
 pub struct Stage {
     pub board: Board,
@@ -45,7 +45,7 @@ pub struct Stage {
 }
 
 impl Stage {
-    /// A new board, with room for so many followers on the stage. The refusal of the board is inside.
+    /// A new board, with room for this many followers on the stage. If the board was refused, its refusal is inside.
     pub fn open(
         alloc: Global,
         start: u16,
@@ -62,7 +62,7 @@ impl Stage {
         }
     }
 
-    /// Asks, and gives the answer.
+    /// Asks, and returns the answer.
     pub fn ask(&mut self, asked: Ask) -> Answer {
         match asked {
             Ask::Submit(m) => match self.board.submit(m) {

@@ -1,4 +1,4 @@
-//! Cases as tables: what is asked of a live board and its followers, and what they have to answer, a row each.
+//! Cases as tables: what is asked of a live board and its followers, and what they have to answer, one row each.
 
 use crate::tests::live_boards::games::{limits_of, move_of};
 use crate::tests::live_boards::stage::{Answer, Ask, Stage};
@@ -8,10 +8,10 @@ use std::alloc::Global;
 use std::process::Abort;
 use std::test::Fail;
 
-/// What is asked. Moves stand as their texts.
+/// What is asked. Moves are given by their texts.
 #[derive(Clone, Copy)]
 pub enum Asked {
-    /// One move, or a line of moves with a space between each two.
+    /// One move, or a line of moves separated by spaces.
     Submit(&'static str),
     End(Ending),
     /// Follows from the log's present length on.
@@ -22,14 +22,14 @@ pub enum Asked {
     Leave(usize),
     /// Goes without leaving.
     Drop(usize),
-    /// The word at a place of the board's table.
+    /// The word of this number in the board's table.
     Look(u64),
 }
 
 /// What is answered.
 #[derive(Clone, Copy)]
 pub enum Told {
-    /// Played at this place, and the game goes on; of a line the place of the first.
+    /// Played at this place, and the game goes on; for a line, the place of the first move.
     Played(u16),
     /// Played at this place, which ended the game.
     PlayedLast(u16, Outcome),
@@ -40,7 +40,7 @@ pub enum Told {
     Nothing,
     Over(Outcome),
     Cut,
-    /// What it joined at and took, its limit, and whether it was closed.
+    /// The place at which it joined, how many it took, its limit, and whether it was closed.
     Left(u16, u16, u16, bool),
     Dropped,
     Word(u64),
@@ -48,7 +48,7 @@ pub enum Told {
     Refused(Refusal),
 }
 
-/// The question of a row; of a line of moves the one with this move.
+/// The question of a row; for a line of moves, the one with this move.
 fn ask_of(rt: &impl Abort, asked: Asked, text: &str) -> Ask {
     match asked {
         Asked::Submit(_) => Ask::Submit(move_of(rt, text)),
@@ -62,7 +62,7 @@ fn ask_of(rt: &impl Abort, asked: Asked, text: &str) -> Ask {
     }
 }
 
-/// The answer of a row; of a line of moves the one that many after the first.
+/// The answer of a row; for a line of moves, the one that many after the first.
 fn answer_of(rt: &impl Abort, told: Told, after: u16) -> Answer {
     match told {
         Told::Played(place) => Answer::Played(place.saturating_add(after), None),

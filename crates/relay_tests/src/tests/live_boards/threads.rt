@@ -1,4 +1,4 @@
-//! A game that one thread plays while two others take it in.
+//! A game that one thread plays while two others take its moves.
 
 use crate::tests::live_boards::games::{hundred_plies, limits_of};
 use c960_board::Move;
@@ -13,7 +13,7 @@ use std::thread::{self, Threads};
 /// How often a thread takes before it gives up.
 const MOST_TAKES: u32 = 1_000_000;
 
-/// What a follower took: the moves, whether each place was the one after the one before, and what came when there was none.
+/// What a follower took: the moves, whether each place followed the one before, and what came when there were no more.
 #[derive(Drop)]
 pub struct Took {
     pub moves: Vec<Move>,
@@ -21,7 +21,7 @@ pub struct Took {
     pub last: Taken,
 }
 
-/// Takes until the game is over or the follower is closed, or so often.
+/// Takes until the game is over or the follower is closed, or `most` times.
 pub fn take_all(alloc: Global, follower: &mut Follower, most: u32) -> Result<Took, AllocError> {
     let mut took = Took {
         moves: Vec::new(alloc),
@@ -46,7 +46,7 @@ pub fn take_all(alloc: Global, follower: &mut Follower, most: u32) -> Result<Too
     Ok(took)
 }
 
-/// Makes the moves, and then ends the game. Whether each was made at its place.
+/// Makes the moves, and then ends the game. Returns whether each was made at its place.
 pub fn play_all(board: &mut Board, moves: &[Move]) -> bool {
     let mut place = 0u16;
     let mut fine = true;
@@ -69,8 +69,8 @@ fn with_the_rest(alloc: Global, follower: &mut Follower, early: Took) -> Result<
     })
 }
 
-/// Asserts that the follower had the game up to its closing if it was closed, and else all of it and then its end; and that its
-/// account says so. Whether it was closed.
+/// Asserts that the follower had the game up to its closing if it was closed, and otherwise all of it and then its end; and that its
+/// account says so. Returns whether it was closed.
 fn assert_had(rt: &impl Abort, moves: &[Move], had: &Took, account: Account) -> bool {
     let count = had.moves.len();
     assert!(rt; had.in_order && count <= moves.len());
@@ -89,7 +89,7 @@ fn assert_had(rt: &impl Abort, moves: &[Move], had: &Took, account: Account) -> 
     account.cut
 }
 
-/// Plays the board while two others take the moves in, in threads of their own; gives them with what each had.
+/// Plays the board while two others take the moves, in threads of their own. Returns them with what each had.
 fn play_with_two<R: Threads + Abort>(
     rt: &R,
     alloc: Global,
@@ -116,7 +116,7 @@ fn play_with_two<R: Threads + Abort>(
     Ok(ended)
 }
 
-/// Plays a game while two others take it in, whose queues hold so many moves. Whether one of them was closed.
+/// Plays a game while two others, whose queues hold `capacity` moves, take it. Returns whether one of them was closed.
 fn play_before_two<R: Threads + Abort>(
     rt: &R,
     alloc: Global,
@@ -141,7 +141,7 @@ fn play_before_two<R: Threads + Abort>(
 fn two_threads_take_in_a_game(rt: HostRuntime) -> Result<(), Fail> {
     let alloc = rt.alloc();
     let moves = hundred_plies(&rt, alloc)?;
-    // Nobody is closed whose queue holds the whole game.
+    // No follower is closed whose queue holds the whole game.
     for capacity in [128, 1024] {
         assert!(rt; !play_before_two(&rt, alloc, moves.as_slice(), capacity)?);
     }

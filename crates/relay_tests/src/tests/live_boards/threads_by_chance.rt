@@ -13,10 +13,10 @@ use std::test::Fail;
 use std::thread;
 use std::thread::{JoinHandle, Threads};
 
-/// What a follower had, and its account.
+/// What a follower has had, and its account.
 type Visit = (u16, Result<Took, AllocError>, Account);
 
-/// Takes for so many turns, or until it is closed or the game is over, and leaves.
+/// Takes for this many turns, or until it is closed or the game is over, and leaves.
 fn visit(alloc: Global, mut follower: Follower, most: u32) -> Visit {
     let joined = follower.joined();
     let took = take_all(alloc, &mut follower, most);
@@ -46,7 +46,7 @@ fn assert_stretch(rt: &impl Abort, moves: &[Move], visit: Visit) -> Result<(), A
     Ok(())
 }
 
-/// One comes, from the present or a place back, and takes in a thread of its own; none where the board is full.
+/// A follower comes, from the present or a place back, and takes in a thread of its own; none if the board is full.
 fn come<R: Threads + Abort>(
     rt: &R,
     alloc: Global,
@@ -99,10 +99,10 @@ fn play<R: Threads + Abort>(
         assert_stretch(rt, moves, handle.join(rt))?;
         count = count.wrapping_add(1);
     }
-    // All have left, so that there is room for as many as ever.
+    // All have left, so that there is as much room as ever.
     for _ in 0..3 {
         let Ok(follower) = board.follow(None) else {
-            panic!(rt; "a place was not found again");
+            panic!(rt; "a slot was not found again");
         };
         assert!(rt; follower.joined() == 100);
         let _ = visit(alloc, follower, 1);

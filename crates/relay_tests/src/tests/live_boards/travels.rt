@@ -1,4 +1,4 @@
-//! A follower that goes to another thread and leaves there, and what board and follower know once they have met.
+//! A follower that moves to another thread and leaves there, and what board and follower know once they have met.
 
 use crate::tests::live_boards::games::{limits_of, move_of};
 use c960_game::{Ending, Outcome, Refusal};
@@ -46,14 +46,14 @@ fn a_follower_goes_to_another_thread(rt: HostRuntime) -> Result<(), Fail> {
             })
     );
     let Ok(next) = board.follow(None) else {
-        panic!(rt; "the place was not found again");
+        panic!(rt; "the slot was not found again");
     };
     assert!(rt; next.joined() == 1);
     assert!(rt; next.taken() == 0);
     Ok(())
 }
 
-/// What one that joined at 0 is told.
+/// The account of a follower that joined at 0.
 fn told(taken: u16, limit: u16, cut: bool) -> Account {
     Account {
         joined: 0,

@@ -8,7 +8,7 @@ use relay_messages::{Answer, MessageFault, encode};
 use std::alloc::Global;
 use std::process::Abort;
 
-/// The text of an answer, asked for again where there was no memory for it.
+/// The text of an answer, asked for again if there was no memory for it.
 fn text_of(rt: &impl Abort, alloc: Global, answer: &Answer) -> String {
     if let Ok(text) = encode(alloc, answer) {
         return text;

@@ -1,4 +1,4 @@
-//! The texts that tell of boards.
+//! The texts that describe boards.
 
 use crate::tests::messages::values::{START_518, board_of, move_of, position_of};
 use c960_board::Colour;
@@ -9,7 +9,7 @@ use std::alloc::Global;
 use std::process::Abort;
 use std::test::Fail;
 
-/// The text of a board, asked for again where there was no memory for it.
+/// The text of a board, asked for again if there was no memory for it.
 fn text_of(rt: &impl Abort, alloc: Global, summary: &BoardSummary) -> String {
     if let Ok(text) = encode_board(alloc, summary) {
         return text;

@@ -97,7 +97,7 @@ fn white_space_escapes_and_the_order_and_number_of_keys_are_free(rt: HostRuntime
             r#"{"\u0063\u006D\u0064":"t\u0061ke","spectator":7}"#,
             Step::Take(7),
         ),
-        // Of a repeated key the last value counts.
+        // For a repeated key the last value counts.
         (
             r#"{"cmd":"take","spectator":1,"spectator":2}"#,
             Step::Take(2),

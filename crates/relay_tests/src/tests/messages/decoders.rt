@@ -16,7 +16,7 @@ fn a_decoder_reads_texts_one_after_another(rt: HostRuntime) {
             r#"{"cmd":"open","\u0062oard":"b\u0031","start":518}"#,
             Ok(Step::Open(board, 518)),
         ),
-        // No plain objects.
+        // Objects that are not plain.
         (
             r#"{"cmd":"take","spectator":1,"spectator":2}"#,
             Ok(Step::Take(2)),

@@ -1,9 +1,9 @@
-//! Texts that give no command.
+//! Texts that are not commands.
 
 use relay_core::Step;
 use relay_messages::{MessageFault, decode};
 
-/// What is answered to a text of 1,025 such bytes.
+/// The answer to a text of 1,025 such bytes.
 fn answer_to_1025(rt: &HostRuntime, byte: u8) -> Result<Step, MessageFault> {
     decode(rt.alloc(), &[byte; 1025])
 }

@@ -1,4 +1,4 @@
-//! What the cases speak of, made from texts.
+//! The values used in the cases, made from texts.
 
 use c960_board::{Move, Position, read_fen, read_move};
 use relay_core::BoardName;

@@ -12,7 +12,7 @@ fn boards_is_read_on_the_watch_port_alone(rt: HostRuntime) {
         r#"{"cmd":"boards"}"#,
         " {\t\"cmd\" :\r\n\"boards\" } \n",
         r#"{"\u0063md":"b\u006Fards"}"#,
-        // Of a repeated key the last value counts, and it is one key.
+        // For a repeated key the last value counts, and it is one key.
         r#"{"cmd":"take","cmd":"boards"}"#,
         r#"{"cmd":[0],"cmd":"boards"}"#,
     ] {
@@ -75,7 +75,7 @@ fn faults_are_the_same_on_both_ports(rt: HostRuntime) {
         let said = decoder.decode(text.as_bytes());
         assert!(rt; said == Err(fault), "{text}");
     }
-    // No UTF-8.
+    // Not UTF-8.
     let said = decoder.decode_watch(b"{\"cmd\":\"boards\xff\"}");
     assert!(rt; said == Err(MessageFault::NotJson));
 }
@@ -112,7 +112,7 @@ fn the_six_commands_are_the_same_on_both_ports(rt: HostRuntime) {
             r#"{"cmd":"boards","cmd":"take","spectator":4}"#,
             Step::Take(4),
         ),
-        // A text that is no `cmd`.
+        // A text in another member than `cmd`.
         (
             r#"{"cmd":"follow","board":"boards","spectator":1}"#,
             Step::Follow(1, board_of(&rt, "boards"), None),

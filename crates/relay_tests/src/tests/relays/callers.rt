@@ -1,4 +1,4 @@
-//! The example of a caller that is written for both kinds of relay, tried over each.
+//! The example of a caller that is written for both kinds of relay, tried with each.
 
 use crate::tests::relays::kinds::Kind;
 use crate::tests::relays::table::{START_518, board_of, following, limits_of, with_capacity};

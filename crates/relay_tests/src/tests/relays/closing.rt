@@ -1,4 +1,4 @@
-//! Followers whose queue is full when a further move is made.
+//! Followers whose queue is full when another move is made.
 
 use crate::tests::relays::table::Asked::{Follow, Leave, Open, Submit, Take};
 use crate::tests::relays::table::Told::{

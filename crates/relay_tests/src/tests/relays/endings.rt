@@ -1,4 +1,4 @@
-//! Ends of games, and what is told of them.
+//! Ends of games, and what is reported of them.
 
 use crate::tests::relays::table::Asked::{End, Follow, Leave, Open, Submit, SubmitLine, Take};
 use crate::tests::relays::table::Told::{

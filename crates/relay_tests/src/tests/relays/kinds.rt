@@ -1,11 +1,11 @@
-//! The two kinds of relay, of which the same is asked.
+//! The two kinds of relay, which have to do the same.
 
 use c960_game::Limits;
 use relay_core::{Relay, Reply, Step, Stepper};
 use relay_live::LiveRelay;
 use std::alloc::{AllocError, Global};
 
-/// A kind of relay: beside its steps, how one is made, and how it runs a list of steps.
+/// A kind of relay: besides its steps, how one is made, and how it runs a list of steps.
 pub trait Kind: Stepper + Drop {
     fn made(alloc: Global, limits: Limits) -> Result<Self, AllocError>;
 

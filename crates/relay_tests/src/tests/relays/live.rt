@@ -9,7 +9,7 @@ use std::alloc::{AllocError, Global};
 use std::process::Abort;
 use std::test::Fail;
 
-/// The board of that name, of a relay that has answered these rows: one follower a board, two moves a queue.
+/// The board of that name, from a relay that has answered these rows: one follower a board, two moves a queue.
 fn board_after(
     rt: &impl Abort,
     alloc: Global,

@@ -1,5 +1,5 @@
-//! Want of memory. Where one allocation is refused (`rt try --test --fail-alloc N`, for each N in turn), the call that wanted
-//! it says so and changes nothing, and is accepted when made again; all else is answered as ever.
+//! Lack of memory. If one allocation is refused (`rt try --test --fail-alloc N`, for each N in turn), the call that needed
+//! it says so and changes nothing, and is accepted when made again; everything else is answered as ever.
 
 use crate::tests::relays::kinds::Kind;
 use crate::tests::relays::table::Asked::{End, Follow, FollowFrom, Leave, Open, Submit, Take};
@@ -17,7 +17,7 @@ use relay_live::LiveRelay;
 use std::alloc::{AllocError, Global};
 use std::process::Abort;
 
-/// How many calls were refused for want of memory.
+/// How many calls were refused for lack of memory.
 #[derive(Drop)]
 struct Refused {
     count: u32,
@@ -31,7 +31,7 @@ impl Refused {
 
 const WANT: Reply = Reply::Refused(Refusal::OutOfMemory);
 
-/// A new relay, made again where it was refused.
+/// A new relay, made again if it was refused.
 fn new_relay<K: Kind>(rt: &impl Abort, alloc: Global, limits: Limits, refused: &mut Refused) -> K {
     match K::made(alloc, limits) {
         Ok(relay) => relay,
@@ -42,7 +42,7 @@ fn new_relay<K: Kind>(rt: &impl Abort, alloc: Global, limits: Limits, refused: &
     }
 }
 
-/// What shows that a step that takes memory was made in vain: its board or its follower is not there.
+/// What shows that a step that takes memory had no effect: its board or its follower is not there.
 fn in_vain(step: &Step) -> Option<(Step, Reply)> {
     match step {
         Step::Open(board, _) => Some((
@@ -57,7 +57,7 @@ fn in_vain(step: &Step) -> Option<(Step, Reply)> {
     }
 }
 
-/// Asserts that a step is answered so; one that takes memory is made again where it was refused for want of it.
+/// Asserts that a step gets this answer; one that takes memory is made again if it was refused for lack of it.
 fn assert_answer(
     rt: &impl Abort,
     relay: &mut impl Stepper,
@@ -80,7 +80,7 @@ fn assert_answer(
     assert!(rt; again == *reply, "made again");
 }
 
-/// The replies of a run, made again where it was refused: then no step was made, as the replies show.
+/// The replies of a run, made again if it was refused: then no step was made, as the replies show.
 fn run(
     rt: &impl Abort,
     relay: &mut impl Kind,
@@ -118,7 +118,7 @@ const ONE_PLY: &str = "rnbqkbnr/pppppppp/8/8/4P3/8/PPPP1PPP/RNBQKBNR b HAha e3 0
 /// The position of start 518 after e2e4 e7e5.
 const TWO_PLIES: &str = "rnbqkbnr/pppp1ppp/8/4p3/4P3/8/PPPP1PPP/RNBQKBNR w HAha e6 0 2";
 
-/// Two boards, one follower each, one move a queue. A step refused for want of memory takes no board and no seat, and leaves
+/// Two boards, one follower each, one move a queue. A step refused for lack of memory takes no board and no seat, and leaves
 /// the other board, its follower and the queue as they were.
 const ROWS: [(Asked, Told); 25] = [
     (Open("a", 518), Opened),
@@ -148,7 +148,7 @@ const ROWS: [(Asked, Told); 25] = [
     (Take(4), Nothing),
 ];
 
-/// Asserts that a new relay of the kind answers these rows, and how many of their calls were refused for want of memory.
+/// Asserts that a new relay of the kind answers these rows. Returns how many of their calls were refused for lack of memory.
 fn refusals_in<K: Kind>(
     rt: &impl Abort,
     alloc: Global,
@@ -202,14 +202,14 @@ fn the_steps_after_an_opening_and_a_follow_are_answered_whatever_is_refused(rt: 
     assert!(rt; plain.saturating_add(live) <= 1);
 }
 
-/// Asserts that a new relay of the kind answers a run, and how many calls were refused for want of memory.
+/// Asserts that a new relay of the kind answers a run. Returns how many calls were refused for lack of memory.
 fn refusals_of_a_run<K: Kind>(rt: &impl Abort, alloc: Global) -> u32 {
     let mut refused = Refused { count: 0 };
     let limits = limits_of(rt, (1, 1, 1, 1024));
     let mut relay: K = new_relay(rt, alloc, limits, &mut refused);
     let board = board_of(rt, "a");
     let (e2e4, e7e5) = (move_of(rt, "e2e4"), move_of(rt, "e7e5"));
-    // Each step that takes memory stands twice: where the first is refused for want of it, the second is accepted.
+    // Each step that takes memory occurs twice: if the first is refused for lack of it, the second is accepted.
     let steps = [
         Step::Open(board, 518),
         Step::Open(board, 518),
@@ -250,7 +250,7 @@ fn a_refused_run_makes_no_step(rt: HostRuntime) {
     assert!(rt; plain.saturating_add(live) <= 1);
 }
 
-/// Asserts that a step made twice is answered so, or that the first was refused for want of memory and the second accepted.
+/// Asserts that a step made twice gets these answers, or that the first was refused for lack of memory and the second accepted.
 fn assert_pair(
     rt: &impl Abort,
     given: (Reply, Reply),

@@ -42,7 +42,7 @@ fn follow_from(rt: HostRuntime) -> Result<(), Fail> {
 }
 
 #[test]
-fn a_place_too_far_back_is_told_before_that_every_place_is_taken(
+fn a_place_too_far_back_is_told_before_that_every_slot_is_taken(
     rt: HostRuntime,
 ) -> Result<(), Fail> {
     let rows = [

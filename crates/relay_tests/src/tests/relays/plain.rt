@@ -1,4 +1,4 @@
-//! A plain relay, written from the table of steps with queues as vectors and closings as flags. Its games are `Game`s.
+//! A plain relay, written from the table of steps, with vectors as queues and flags for closings. Its games are `Game`s.
 
 use c960_board::{Move, Position};
 use c960_game::{Ending, Game, Limits, Outcome, Refusal};
@@ -12,9 +12,9 @@ struct Board {
     game: Game,
 }
 
-/// One who follows a board, with the moves that wait, each with its place.
+/// A follower of a board, with the moves that wait, each with its place.
 #[derive(Drop)]
-struct Seat {
+struct PlainFollower {
     who: Spectator,
     board: BoardName,
     joined: u16,
@@ -28,22 +28,22 @@ struct Seat {
 pub struct Plain {
     limits: Limits,
     boards: Vec<Board>,
-    seats: Vec<Seat>,
+    followers: Vec<PlainFollower>,
     alloc: Global,
 }
 
 impl Plain {
-    /// One without boards.
+    /// A relay without boards.
     pub fn new(alloc: Global, limits: Limits) -> Plain {
         Plain {
             limits,
             boards: Vec::new(alloc),
-            seats: Vec::new(alloc),
+            followers: Vec::new(alloc),
             alloc,
         }
     }
 
-    /// Makes a step. Want of memory is an error here, so that no reply tells of it.
+    /// Makes a step. Lack of memory is an error here, so that no reply reports it.
     pub fn step(&mut self, step: Step) -> Result<Reply, AllocError> {
         let reply = match step {
             Step::Open(board, start) => self.open(board, start)?,
@@ -66,7 +66,7 @@ impl Plain {
     }
 
     fn follows(&self, who: Spectator) -> bool {
-        self.seats.iter().any(|seat| seat.who == who)
+        self.followers.iter().any(|follower| follower.who == who)
     }
 
     fn open(&mut self, name: BoardName, start: u16) -> Result<Reply, AllocError> {
@@ -109,12 +109,12 @@ impl Plain {
 
     fn publish(&mut self, name: BoardName, place: u16, m: Move) -> Result<(), AllocError> {
         let capacity = usize::from(self.limits.capacity());
-        for seat in &mut self.seats {
-            if seat.board == name && seat.closed_at.is_none() {
-                if seat.queue.len() >= capacity {
-                    seat.closed_at = Some(place);
+        for follower in &mut self.followers {
+            if follower.board == name && follower.closed_at.is_none() {
+                if follower.queue.len() >= capacity {
+                    follower.closed_at = Some(place);
                 } else {
-                    seat.queue.push((place, m))?;
+                    follower.queue.push((place, m))?;
                 }
             }
         }
@@ -164,11 +164,15 @@ impl Plain {
         if queue.len() > usize::from(self.limits.capacity()) {
             return Ok(Reply::Refused(Refusal::TooFarBack));
         }
-        let crowd = self.seats.iter().filter(|seat| seat.board == name).count();
+        let crowd = self
+            .followers
+            .iter()
+            .filter(|follower| follower.board == name)
+            .count();
         if crowd >= usize::from(self.limits.followers()) {
             return Ok(Reply::Refused(Refusal::TooManyFollowers));
         }
-        self.seats.push(Seat {
+        self.followers.push(PlainFollower {
             who,
             board: name,
             joined,
@@ -180,41 +184,45 @@ impl Plain {
     }
 
     fn take(&mut self, who: Spectator) -> Reply {
-        for seat in &mut self.seats {
-            if seat.who == who {
-                if !seat.queue.is_empty() {
-                    let (place, m) = seat.queue.remove(0);
-                    seat.taken = seat.taken.saturating_add(1);
+        for follower in &mut self.followers {
+            if follower.who == who {
+                if !follower.queue.is_empty() {
+                    let (place, m) = follower.queue.remove(0);
+                    follower.taken = follower.taken.saturating_add(1);
                     return Reply::Took(Taken::Move(place, m));
                 }
-                if seat.closed_at.is_some() {
+                if follower.closed_at.is_some() {
                     return Reply::Took(Taken::Cut);
                 }
-                return Reply::Took(over_or_nothing(&self.boards, seat.board));
+                return Reply::Took(over_or_nothing(&self.boards, follower.board));
             }
         }
         Reply::Refused(Refusal::NoSuchFollower)
     }
 
     fn leave(&mut self, who: Spectator) -> Reply {
-        let Some(index) = self.seats.iter().position(|seat| seat.who == who) else {
+        let Some(index) = self
+            .followers
+            .iter()
+            .position(|follower| follower.who == who)
+        else {
             return Reply::Refused(Refusal::NoSuchFollower);
         };
-        let seat = self.seats.remove(index);
-        let present = match self.game(seat.board) {
+        let follower = self.followers.remove(index);
+        let present = match self.game(follower.board) {
             Some(game) => game.len(),
             None => 0,
         };
         Reply::Left(Account {
-            joined: seat.joined,
-            taken: seat.taken,
-            limit: seat.closed_at.unwrap_or(present),
-            cut: seat.closed_at.is_some(),
+            joined: follower.joined,
+            taken: follower.taken,
+            limit: follower.closed_at.unwrap_or(present),
+            cut: follower.closed_at.is_some(),
         })
     }
 }
 
-/// The position after so many moves of a game, by playing them again in a game of their own; none where it has fewer.
+/// The position after this many moves of a game, found by playing them again in a new game; none if it has fewer.
 fn replayed(alloc: Global, game: &Game, moves: u16) -> Result<Option<Position>, AllocError> {
     let Ok(mut again) = Game::open(alloc, game.start(), 16384) else {
         return Err(AllocError);
@@ -228,7 +236,7 @@ fn replayed(alloc: Global, game: &Game, moves: u16) -> Result<Option<Position>, 
     Ok(Some(again.position()))
 }
 
-/// What is told of a board where no move waits.
+/// The answer for a board when no move waits.
 fn over_or_nothing(boards: &[Board], name: BoardName) -> Taken {
     for board in boards {
         if board.name == name {

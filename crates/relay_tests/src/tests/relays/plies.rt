@@ -16,7 +16,7 @@ fn ply_limit(rt: HostRuntime) -> Result<(), Fail> {
         (Submit("b1", "e2e4"), Played(0)),
         (Submit("b1", "e7e5"), Refused(Refusal::LogFull)),
         (Submit("b1", "e2e5"), Refused(Refusal::LogFull)),
-        // A full log is no end.
+        // A full log is not an end.
         (
             Follow(1, "b1"),
             Following(

@@ -1,4 +1,4 @@
-//! Lists of steps drawn by chance, whose replies are those of the plain relay.
+//! Lists of steps drawn at random, whose replies are those of the plain relay.
 
 use crate::tests::relays::plain::Plain;
 use crate::tests::relays::table::{assert_replies, board_of, limits_of, move_of};
@@ -9,7 +9,7 @@ use std::alloc::AllocError;
 use std::process::Abort;
 use std::test::Fail;
 
-/// Numbers by chance, the same at each run.
+/// Random numbers, the same in each run.
 #[derive(Drop)]
 struct Dice {
     seed: u32,
@@ -102,7 +102,7 @@ fn has_kind(replies: &[Reply], kind: &str) -> bool {
     false
 }
 
-/// Each reply that there is but for want of memory.
+/// Every reply that there is, except for lack of memory.
 const KINDS: [&str; 24] = [
     "opened",
     "played",

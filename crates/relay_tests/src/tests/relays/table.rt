@@ -1,4 +1,4 @@
-//! Cases as tables: what is asked of a relay, and what it has to tell, a row each.
+//! Cases as tables: what is asked of a relay, and what it has to answer, one row each.
 
 use crate::tests::relays::kinds::Kind;
 use c960_board::{Move, read_fen, read_move};
@@ -15,7 +15,7 @@ pub const START_518: &str = "rnbqkbnr/pppppppp/8/8/8/8/PPPPPPPP/RNBQKBNR w HAha 
 /// The position of start 0.
 pub const START_0: &str = "bbqnnrkr/pppppppp/8/8/8/8/PPPPPPPP/BBQNNRKR w HFhf - 0 1";
 
-/// A step, or a line of submits of moves with a space between each two.
+/// A step, or a line of submits of moves separated by spaces.
 #[derive(Clone, Copy)]
 pub enum Asked {
     Open(&'static str, u16),
@@ -30,11 +30,11 @@ pub enum Asked {
     Leave(Spectator),
 }
 
-/// The reply to a step. Positions and moves stand as their texts.
+/// The reply to a step. Positions and moves are given by their texts.
 #[derive(Clone, Copy)]
 pub enum Told {
     Opened,
-    /// Played at this place, the game goes on; of a line of submits the place of the first.
+    /// Played at this place, and the game goes on; for a line of submits, the place of the first.
     Played(u16),
     /// Played at this place, which ended the game.
     PlayedLast(u16, Outcome),
@@ -46,7 +46,7 @@ pub enum Told {
     Nothing,
     Over(Outcome),
     Cut,
-    /// What it joined at and took, its limit, and whether it was closed.
+    /// The place at which it joined, how many it took, its limit, and whether it was closed.
     Left(u16, u16, u16, bool),
     Refused(Refusal),
 }
@@ -58,7 +58,7 @@ pub struct Case {
     pub replies: Vec<Reply>,
 }
 
-/// The limits of these numbers: boards, followers a board, capacity, plies.
+/// The limits with these numbers: boards, followers a board, capacity, plies.
 pub fn limits_of(rt: &impl Abort, numbers: (u16, u16, u16, u16)) -> Limits {
     let (boards, followers, capacity, plies) = numbers;
     let Some(limits) = Limits::new(boards, followers, capacity, plies) else {
@@ -96,7 +96,7 @@ pub fn following(rt: &impl Abort, joined: u16, text: &str) -> Reply {
     Reply::Following { joined, position }
 }
 
-/// The step of a row; of a line of submits the one with this move.
+/// The step of a row; for a line of submits, the one with this move.
 pub fn step_of(rt: &impl Abort, asked: Asked, m: &str) -> Step {
     match asked {
         Asked::Open(board, start) => Step::Open(board_of(rt, board), start),
@@ -113,7 +113,7 @@ pub fn step_of(rt: &impl Abort, asked: Asked, m: &str) -> Step {
     }
 }
 
-/// The reply of a row; of a line of submits the one to the submit that many after the first.
+/// The reply of a row; for a line of submits, the one to the submit that many after the first.
 pub fn reply_of(rt: &impl Abort, told: Told, after: u16) -> Reply {
     match told {
         Told::Opened => Reply::Opened,
@@ -222,7 +222,7 @@ pub fn assert_replies(
     Ok(())
 }
 
-/// Asserts that a relay of either kind with these limits answers each row so, step by step and in runs.
+/// Asserts that a relay of either kind with these limits answers each row in this way, step by step and in runs.
 pub fn assert_case(
     rt: &impl Abort,
     alloc: Global,

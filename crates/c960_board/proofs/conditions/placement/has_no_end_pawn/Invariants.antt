@@ -1,6 +1,6 @@
 use Rattle.std.proofs.Common.{◌≢◌, ◌<◌, ℕ}
 use Rattle.c960_board.specs.Pieces.{man}
-use Rattle.c960_board.specs.Position.{cell_at}
+use Rattle.c960_board.specs.Cells.{cell_at}
 use Rattle.c960_board.specs.Squares.{rank_of, IsEndRank}
 use Rattle.c960_board.specs.declared.piece.Kind.TheVariants.{Pawn}
 use Rattle.c960_board.proofs.conditions.placement.has_no_end_pawn.Given as goal

@@ -1,6 +1,6 @@
 use Rattle.std.proofs.Common.{rules}
 use Rattle.c960_board.specs.declared.piece.Colour.TheVariants.{White, Black}
-use Rattle.c960_board.proofs.Colours.{placement_of, side_of}
+use Rattle.c960_board.proofs.lemmas.Colours.{placement_of, side_of}
 use Rattle.c960_board.proofs.conditions.placement.is_placement.Goals as goal
 
 pub returns-then-is_side : goal.returns-then-is_side

@@ -1,5 +1,5 @@
 use Rattle.std.proofs.Common.{◌≡◌, ◌<◌, ℕ, IsTrue, nat_lt}
-use Rattle.c960_board.specs.Position.{has_right}
+use Rattle.c960_board.specs.Cells.{has_right}
 use Rattle.c960_board.proofs.conditions.rights.is_alone.Given as goal
 
 abbrev pub invariant-loop-other : goal.invariant-loop-other

@@ -1,7 +1,7 @@
 use Rattle.std.proofs.Common.{◌≡◌, ◌<◌, ℕ}
-use Rattle.c960_board.specs.Conditions.{RightsFitKing}
+use Rattle.c960_board.specs.Inner.Conditions.{RightsFitKing}
 use Rattle.c960_board.specs.Pieces.{man}
-use Rattle.c960_board.specs.Position.{cell_at}
+use Rattle.c960_board.specs.Cells.{cell_at}
 use Rattle.c960_board.specs.declared.piece.Kind.TheVariants.{King}
 use Rattle.c960_board.proofs.conditions.rights.kings_fit.Given as goal
 

@@ -1,5 +1,5 @@
 use Rattle.std.proofs.Common.{◌≡◌, ◌<◌, ℕ, IsTrue, nat_lt}
-use Rattle.c960_board.specs.Position.{has_right}
+use Rattle.c960_board.specs.Cells.{has_right}
 use Rattle.c960_board.proofs.conditions.rights.one_each_side.Given as goal
 
 abbrev pub invariant-loop-file : goal.invariant-loop-file

@@ -1,6 +1,6 @@
 use Rattle.std.proofs.Common.{◌≡◌, ◌<◌, ℕ, IsTrue}
 use Rattle.c960_board.specs.Pieces.{man}
-use Rattle.c960_board.specs.Position.{cell_at, has_right}
+use Rattle.c960_board.specs.Cells.{cell_at, has_right}
 use Rattle.c960_board.specs.Squares.{home_square}
 use Rattle.c960_board.specs.declared.piece.Kind.TheVariants.{Rook}
 use Rattle.c960_board.proofs.conditions.rights.rooks_stand.Given as goal

@@ -1,7 +1,8 @@
 use Rattle.std.proofs.Common.{ℕ, zero, suc, ◌≡◌, ◌<◌, ◌/◌, ◌%◌, Option, Some, None, IsTrue, arith, refl}
 use Rattle.c960_board.specs.declared.piece.Kind.{Kind}
 use Rattle.c960_board.specs.declared.piece.Kind.TheVariants.{Knight, Bishop, Rook, Queen}
-use Rattle.c960_board.specs.Moves.{IsMove, Triple, is_promotion, promotion_code}
+use Rattle.c960_board.specs.Moves.{IsMove, Triple, is_promotion}
+use Rattle.c960_board.specs.MoveTexts.{promotion_code}
 use Rattle.c960_board.proofs.laws.moves.every_code_is_of_a_move.Goals as goal
 
 -- a promotion of that code

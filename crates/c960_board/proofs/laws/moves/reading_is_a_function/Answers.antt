@@ -1,5 +1,5 @@
 use Rattle.std.proofs.Common.{arith}
-use Rattle.c960_board.proofs.MoveReading.{move_is_read, read_is_move, fault_is_read, read_is_fault, read_of_front}
+use Rattle.c960_board.proofs.lemmas.MoveReading.{move_is_read, read_is_move, fault_is_read, read_is_fault, read_of_front}
 use Rattle.c960_board.proofs.laws.moves.reading_is_a_function.Goals as goal
 
 pub returns-clause-ok : goal.returns-clause-ok

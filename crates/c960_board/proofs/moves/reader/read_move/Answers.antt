@@ -1,6 +1,6 @@
 use Rattle.std.proofs.Common.{rules, sym}
 use Rattle.c960_board.specs.declared.moves.fault.MoveFault.TheVariants.{Length}
-use Rattle.c960_board.proofs.MoveReading.{move_is_read, fault_is_read, told_is_read}
+use Rattle.c960_board.proofs.lemmas.MoveReading.{move_is_read, fault_is_read, told_is_read}
 use Rattle.c960_board.proofs.moves.reader.read_move.Goals as goal
 
 pub returns-then-text-ne5-clause-value : goal.returns-then-text-ne5-clause-value

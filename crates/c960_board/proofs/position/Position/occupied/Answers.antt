@@ -3,7 +3,7 @@ use Rattle.c960_board.specs.declared.piece.Colour.TheVariants.{White, Black}
 use Rattle.c960_board.specs.declared.sets.Sets.{Sets}
 use Rattle.c960_board.specs.Pieces.{Cell, is_of}
 use Rattle.c960_board.specs.Sets.{is_occupied}
-use Rattle.c960_board.proofs.SetFacts.{opened, set_or, occupied_either, occupied_says, bit_says}
+use Rattle.c960_board.proofs.lemmas.SetFacts.{opened, set_or, occupied_either, occupied_says, bit_says}
 use Rattle.c960_board.proofs.position.Position.occupied.Goals as goal
 
 pub returns : goal.returns

@@ -2,7 +2,7 @@ use Rattle.std.proofs.Common.{ap, sym, subst, ◌∙◌}
 use Rattle.c960_board.specs.declared.parts.Parts.{Parts}
 use Rattle.c960_board.specs.Position.{IsPosition}
 use Rattle.c960_board.specs.Sets.{sets_of}
-use Rattle.c960_board.proofs.SetCells.{parts_back}
+use Rattle.c960_board.proofs.lemmas.SetCells.{parts_back}
 use Rattle.c960_board.proofs.position.Position.of_parts.Goals as goal
 
 pub invariant_of-result : goal.invariant_of-result

@@ -1,7 +1,7 @@
 use Rattle.std.proofs.Common.{ap, sym, ◌∙◌}
 use Rattle.c960_board.specs.declared.parts.Parts.{Parts}
-use Rattle.c960_board.specs.Position.{cell_at}
-use Rattle.c960_board.proofs.SetCells.{cell_there}
+use Rattle.c960_board.specs.Cells.{cell_at}
+use Rattle.c960_board.proofs.lemmas.SetCells.{cell_there}
 use Rattle.c960_board.proofs.position.Position.piece_at.Goals as goal
 
 pub returns : goal.returns

@@ -1,7 +1,7 @@
 use Rattle.std.proofs.Common.{◌≡◌, Some, ap, ◌∙◌}
 use Rattle.c960_board.specs.Pieces.{Cell, is_of, holds}
 use Rattle.c960_board.specs.Sets.{is_kind, colour_set, kind_set}
-use Rattle.c960_board.proofs.SetFacts.{opened, set_and, holds_both, man_says, bit_says, colour_is, kind_is}
+use Rattle.c960_board.proofs.lemmas.SetFacts.{opened, set_and, holds_both, man_says, bit_says, colour_is, kind_is}
 use Rattle.c960_board.proofs.position.Position.pieces.Goals as goal
 
 pub returns : goal.returns

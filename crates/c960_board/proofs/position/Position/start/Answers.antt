@@ -1,7 +1,7 @@
 use Rattle.std.proofs.Common.{◌<◌, sym, ap, subst, ◌∙◌, refl}
 use Rattle.c960_board.specs.Position.{IsPosition}
 use Rattle.c960_board.specs.Start.{start, start_of}
-use Rattle.c960_board.proofs.StartFacts.{start_is_position}
+use Rattle.c960_board.proofs.lemmas.StartFacts.{start_is_position}
 use Rattle.c960_board.proofs.position.Position.start.Goals as goal
 
 pub of_parts-requires : goal.of_parts-requires

@@ -1,7 +1,7 @@
 use Rattle.std.proofs.Common.{◌<◌, length, ap, ◌∙◌, arith}
 use Rattle.std.proofs.lemmas.List.{length-set}
 use Rattle.c960_board.specs.Sets.{cell_in}
-use Rattle.c960_board.proofs.SetCells.{cells_filled, filled_more}
+use Rattle.c960_board.proofs.lemmas.SetCells.{cells_filled, filled_more}
 use Rattle.c960_board.proofs.sets.Sets.placement.Goals as goal
 
 pub loop-number-preserved : goal.loop-number-preserved

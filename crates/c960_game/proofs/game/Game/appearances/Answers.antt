@@ -1,5 +1,5 @@
 use Rattle.std.proofs.Common.{arith, sym, ◌∙◌}
-use Rattle.c960_game.proofs.KeptFacts.{game_is, position_is, recent_is}
+use Rattle.c960_game.proofs.lemmas.KeptFacts.{game_is, position_is, recent_is}
 use Rattle.c960_game.proofs.PositionFacts.{times_bound}
 use Rattle.c960_game.proofs.RecentFacts.{times_counted}
 use Rattle.c960_game.proofs.game.Game.appearances.Goals as goal

@@ -1,6 +1,6 @@
 use Rattle.std.proofs.Common.{◌+◌, ap, sym, ◌∙◌}
 use Rattle.c960_board.specs.declared.parts.Parts.{Parts}
-use Rattle.c960_game.proofs.KeptFacts.{game_is, game_more, log_more, recent_is}
+use Rattle.c960_game.proofs.lemmas.KeptFacts.{game_is, game_more, log_more, recent_is}
 use Rattle.c960_game.proofs.RecentFacts.{times_anew, times_more}
 use Rattle.c960_game.proofs.game.Game.appearances_after.Goals as goal
 

@@ -1,6 +1,7 @@
 use Rattle.std.proofs.Common.{◌≡◌, length, arith, sym, ◌∙◌, ap, refl}
-use Rattle.c960_game.specs.Record.{with_move, GameRecord}
-use Rattle.c960_game.proofs.KeptFacts.{kept_more, recent_room}
+use Rattle.c960_game.specs.Record.{with_move}
+use Rattle.c960_game.specs.GameRecord.{GameRecord}
+use Rattle.c960_game.proofs.lemmas.KeptFacts.{kept_more, recent_room}
 use Rattle.c960_game.proofs.game.Game.append.Goals as goal
 
 pub add_recent-requires : goal.add_recent-requires

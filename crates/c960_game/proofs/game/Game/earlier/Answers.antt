@@ -1,6 +1,6 @@
 use Rattle.std.proofs.Common.{◌*◌, ◌/◌, ◌≤◌, ap, ◌∙◌, arith}
-use Rattle.c960_game.specs.Record.{GameRecord}
-use Rattle.c960_game.proofs.KeptFacts.{game_is, milestones_are}
+use Rattle.c960_game.specs.GameRecord.{GameRecord}
+use Rattle.c960_game.proofs.lemmas.KeptFacts.{game_is, milestones_are}
 use Rattle.c960_game.proofs.MilestoneFacts.{milestone_is}
 use Rattle.c960_game.proofs.StretchFacts.{few_in_stretch, legal_stretch, position_stretch, half_moves_stretch, number_stretch}
 use Rattle.c960_game.proofs.game.Game.earlier.Goals as goal

@@ -1,9 +1,9 @@
 use Rattle.std.proofs.Common.{is_some}
 use Rattle.std.specs.Cmp.{both_ways}
-use Rattle.c960_game.specs.Moves.{is_legal_move}
+use Rattle.c960_game.specs.Tests.Moves.{is_legal_move}
 use Rattle.c960_game.specs.Positions.{last_position}
-use Rattle.c960_game.proofs.KeptFacts.{position_is}
-use Rattle.c960_game.proofs.MoveFacts.{legal_move_tells, legal_move_from}
+use Rattle.c960_game.proofs.lemmas.KeptFacts.{position_is}
+use Rattle.c960_game.proofs.lemmas.MoveFacts.{legal_move_tells, legal_move_from}
 use Rattle.c960_game.proofs.game.Game.next.Goals as goal
 
 pub returns-clause-test : goal.returns-clause-test

@@ -1,6 +1,6 @@
 use Rattle.std.proofs.Common.{arith, ◌≡◌, ◌<◌, rules, refl, ◌∙◌}
-use Rattle.c960_game.proofs.KeptFacts.{kept_opened}
-use Rattle.c960_game.proofs.LogFacts.{position_after_none}
+use Rattle.c960_game.proofs.lemmas.KeptFacts.{kept_opened}
+use Rattle.c960_game.proofs.lemmas.LogFacts.{position_after_none}
 use Rattle.c960_board.specs.Start.{start}
 use Rattle.c960_game.proofs.game.Game.open.Goals as goal
 

@@ -1,6 +1,6 @@
 use Rattle.std.proofs.Common.{◌∷◌, ◌++◌, [], ◌∙◌, sym}
-use Rattle.c960_game.proofs.DrawFacts.{outcome_more}
-use Rattle.c960_game.proofs.LogFacts.{last_more}
+use Rattle.c960_game.proofs.lemmas.DrawFacts.{outcome_more}
+use Rattle.c960_game.proofs.lemmas.LogFacts.{last_more}
 use Rattle.c960_game.proofs.game.Game.outcome_after.Goals as goal
 
 pub returns-in-Some : goal.returns-in-Some

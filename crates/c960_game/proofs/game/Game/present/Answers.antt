@@ -1,7 +1,7 @@
 use Rattle.std.proofs.Common.{◌∙◌, arith}
-use Rattle.c960_game.specs.Replay.{AllLegal}
-use Rattle.c960_game.proofs.KeptFacts.{half_moves_room, number_room, position_is}
-use Rattle.c960_game.proofs.LogFacts.{position_after_none}
+use Rattle.c960_game.specs.Inner.Replay.{AllLegal}
+use Rattle.c960_game.proofs.lemmas.KeptFacts.{half_moves_room, number_room, position_is}
+use Rattle.c960_game.proofs.lemmas.LogFacts.{position_after_none}
 use Rattle.c960_game.proofs.game.Game.present.Goals as goal
 
 pub new-requires-clause-legal : goal.new-requires-clause-legal

@@ -1,5 +1,5 @@
-use Rattle.c960_game.proofs.LogFacts.{no_move, one_move_more}
-use Rattle.c960_game.proofs.GameFacts.{start_goes_on}
+use Rattle.c960_game.proofs.lemmas.LogFacts.{no_move, one_move_more}
+use Rattle.c960_game.proofs.lemmas.GameFacts.{start_goes_on}
 use Rattle.c960_game.proofs.laws.games.games_grow.Goals as goal
 
 pub returns-clause-start : goal.returns-clause-start

@@ -1,5 +1,5 @@
 use Rattle.c960_game.proofs.Bounds.{half_moves_bound, number_bound}
-use Rattle.c960_game.proofs.GameFacts.{last_is_position, last_is_lawful}
+use Rattle.c960_game.proofs.lemmas.GameFacts.{last_is_position, last_is_lawful}
 use Rattle.c960_game.proofs.laws.games.games_have_positions.Goals as goal
 
 pub returns-clause-position : goal.returns-clause-position

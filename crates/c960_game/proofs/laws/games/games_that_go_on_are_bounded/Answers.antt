@@ -1,4 +1,4 @@
-use Rattle.c960_game.proofs.DrawFacts.{going_bounds, before_bounds}
+use Rattle.c960_game.proofs.lemmas.DrawFacts.{going_bounds, before_bounds}
 use Rattle.c960_game.proofs.laws.games.games_that_go_on_are_bounded.Goals as goal
 
 pub returns-clause-present : goal.returns-clause-present

@@ -1,4 +1,4 @@
-use Rattle.c960_game.proofs.LogFacts.{start_alone, game_positions_more, last_more}
+use Rattle.c960_game.proofs.lemmas.LogFacts.{start_alone, game_positions_more, last_more}
 use Rattle.c960_game.proofs.laws.games.positions_are_determined.Goals as goal
 
 pub returns-clause-start : goal.returns-clause-start

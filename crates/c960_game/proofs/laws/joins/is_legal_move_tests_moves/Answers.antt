@@ -1,4 +1,4 @@
-use Rattle.c960_game.proofs.MoveFacts.{legal_move_tells, legal_move_from}
+use Rattle.c960_game.proofs.lemmas.MoveFacts.{legal_move_tells, legal_move_from}
 use Rattle.c960_game.proofs.laws.joins.is_legal_move_tests_moves.Goals as goal
 
 pub returns : goal.returns

@@ -1,4 +1,4 @@
-use Rattle.c960_rules.proofs.Listed.{listed, listed_only}
+use Rattle.c960_rules.proofs.lemmas.Listed.{listed, listed_only}
 use Rattle.c960_rules.proofs.laws.lists.the_list_has_the_legal_moves.Goals as goal
 
 pub returns : goal.returns

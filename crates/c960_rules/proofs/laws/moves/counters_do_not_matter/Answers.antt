@@ -1,5 +1,5 @@
 use Rattle.c960_rules.specs.Effects.{with_counters}
-use Rattle.c960_rules.proofs.CounterLaws.{legal_same}
+use Rattle.c960_rules.proofs.lemmas.CounterLaws.{legal_same}
 use Rattle.c960_rules.proofs.laws.moves.counters_do_not_matter.Goals as goal
 
 pub returns : goal.returns

@@ -1,5 +1,5 @@
 use Rattle.c960_rules.specs.After.{after}
-use Rattle.c960_rules.proofs.AfterFacts.{legal_change}
+use Rattle.c960_rules.proofs.lemmas.AfterFacts.{legal_change}
 use Rattle.c960_rules.proofs.laws.moves.legal_moves_are_safe.Goals as goal
 
 pub returns-clause-own_king : goal.returns-clause-own_king

@@ -1,4 +1,4 @@
-use Rattle.c960_rules.proofs.StartFacts.{start_is_lawful, start_has_no_check, start_has_move, start_is_no_mate, start_is_no_stalemate}
+use Rattle.c960_rules.proofs.lemmas.StartFacts.{start_is_lawful, start_has_no_check, start_has_move, start_is_no_mate, start_is_no_stalemate}
 use Rattle.c960_rules.proofs.laws.starts.starts_are_open.Goals as goal
 
 pub returns-clause-lawful : goal.returns-clause-lawful

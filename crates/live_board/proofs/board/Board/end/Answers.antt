@@ -1,5 +1,5 @@
 use Rattle.std.proofs.Common.{sym, ap, ◌∙◌}
-use Rattle.c960_game.specs.Record.{GameRecord}
+use Rattle.c960_game.specs.GameRecord.{GameRecord}
 use Rattle.live_board.proofs.Games.{end_going}
 use Rattle.live_board.proofs.board.Board.end.Goals as goal
 

@@ -1,8 +1,8 @@
 use Rattle.std.proofs.Common.{ap, ◌∙◌}
 use lib.ListN.{get_elem?}
 use Rattle.atomic_table.proofs.Lists.{at_map}
-use Rattle.live_steps.specs.declared.view.View.{View}
-use Rattle.live_steps.specs.Views.{sees}
+use Rattle.live_board.specs.declared.view.View.{View}
+use Rattle.live_board.specs.Views.{sees}
 use Rattle.live_board.specs.Seats.{BoardSeat}
 use Rattle.live_board.proofs.board.Board.leave_at.Goals as goal
 

@@ -1,5 +1,5 @@
 use Rattle.std.proofs.Common.{rules, sym, ap, ◌∙◌}
-use Rattle.c960_game.specs.Record.{GameRecord}
+use Rattle.c960_game.specs.GameRecord.{GameRecord}
 use Rattle.live_board.proofs.Games.{play_going}
 use Rattle.live_board.proofs.Orders.{submitted_in_order}
 use Rattle.live_board.proofs.board.Board.submit.Goals as goal

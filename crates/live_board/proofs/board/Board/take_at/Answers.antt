@@ -1,120 +1,149 @@
-use Rattle.std.proofs.Common.{arith, refl, sym, ap, ◌∙◌, subst, ◌≡◌, ◌≢◌, ◌<◌, ◌≤◌, [], ℕ, false, true≢false, eq-eqb, nat_eq, length, Option, Some, None}
-use Rattle.std.specs.Option.{option_eq}
+use Rattle.std.proofs.Common.{◌≡◌, ◌<◌, ℕ, [], length, Option, Some, None, sym, ap, ◌∙◌, subst, true≢false, arith}
 use mathlib.Core.Option.{some}
 use lib.ListN.{get_elem?}
 use Rattle.atomic_table.proofs.Lists.{at_map}
 use Rattle.c960_board.specs.Moves.{Triple}
-use Rattle.c960_game.specs.declared.outcome.Outcome.{Outcome}
-use Rattle.c960_game.specs.Record.{GameRecord}
-use Rattle.relay_core.specs.declared.reply.Taken.TheVariants.{Move, Nothing, Over, Cut}
+use Rattle.c960_game.specs.GameRecord.{GameRecord}
+use Rattle.relay_core.specs.declared.reply.Taken.{Taken}
+use Rattle.relay_core.specs.declared.reply.Taken.TheVariants.{Move, Cut}
 use Rattle.relay_core.specs.Replies.{taken_of}
-use Rattle.live_steps.specs.Board.{move_at}
-use Rattle.live_steps.specs.declared.view.View.{View}
-use Rattle.live_steps.specs.Views.{sees}
-use Rattle.live_steps.specs.Sound.{IsSoundBoard}
-use Rattle.live_board.specs.Carried.{cut_at, due_at, TookAt}
+use Rattle.relay_core.specs.Takes.{without_move}
+use Rattle.live_board.specs.SharedBoard.{move_at}
+use Rattle.live_board.specs.declared.view.View.{View}
+use Rattle.live_board.specs.Views.{sees}
+use Rattle.live_board.specs.Carried.{closing_at, due_at, TookAt}
 use Rattle.live_board.specs.Seats.{BoardSeat}
-use Rattle.live_board.proofs.Carrying.{before_closing, more_due, none_due, took_cut, took_look, took_move}
-use Rattle.live_board.proofs.board.Board.take_at.Goals.{After-look, in-Some, in-None}
+use Rattle.live_board.proofs.Carrying.{before_closing, more_due, none_due, took_cut, took_move, took_none}
+use Rattle.live_board.proofs.Rules.{more_there, more_uncut, none_there, none_uncut}
 use Rattle.live_board.proofs.board.Board.take_at.Goals as goal
 
-not_closed : (v : View) (place next : ℕ) (o : Option ℕ) (n : ℕ) (b : _) → o ≡ cut_at v place → n ≡ next → b ≡ option_eq nat_eq o (Some n) → b ≡ false → cut_at v place ≢ Some next
-not_closed v place next o n b is same eq off e =
-    true≢false (sym (eq ∙ ap (λ x. option_eq nat_eq x (Some n)) (is ∙ e) ∙ eq-eqb next n (sym same)) ∙ off)
+pub returns-then-is_cut-clause-knows : goal.returns-then-is_cut-clause-knows
+returns-then-is_cut-clause-knows c = took_cut c.args.slot c.args.self.now.knows
 
-pub closing_at-requires : goal.closing_at-requires
-closing_at-requires c = let q = c.requires in (q.0, q.1, ap (λ (h : BoardSeat). get_elem? h.knows.parts q.0) c.self.view_is ∙ q.2, q.3)
-
-pub returns-then-eq-clause-knows : goal.returns-then-eq-clause-knows
-returns-then-eq-clause-knows c = took_cut c.args.cursor_place c.args.self.now.knows
-
--- the part that takes, before and after the status was loaded, where it does not stand at its closing
-module _ (c : After-look) where
-  carried : get_elem? c.self.inside.desk.knows.parts c.requires.0 ≡ some c.requires.1
-  carried = ap (λ (h : BoardSeat). get_elem? h.knows.parts c.requires.0) c.self.view_is ∙ c.requires.2
-
-  looked : get_elem? c.look.new.self.knows.parts c.requires.0 ≡ some (sees c.look.ensures.knows.0 c.requires.1)
-  looked =
-      let s = c.look.ensures.knows in
-      ap (λ (u : View). get_elem? u.parts c.requires.0) s.1 ∙ at_map (sees s.0) c.self.inside.desk.knows.parts c.requires.0 c.requires.1 carried
-
-  sound : IsSoundBoard c.self.inside.desk.knows
-  sound = c.closing_at.ensures.sound.board c.closing_at.ensures.owns
-
-  uncut : cut_at c.self.inside.desk.knows c.args.cursor_place ≢ Some c.args.next
-  uncut = not_closed c.self.inside.desk.knows c.args.cursor_place c.args.next c.closing_at.result c.from.result c.eq.result c.closing_at.ensures.closing c.from.ensures c.eq.ensures c.if-eq.false
-
-pub gain_at-m-requires-clause-part : goal.gain_at-m-requires-clause-part
-gain_at-m-requires-clause-part c =
-    let at = (goal.at.gain_at-m-requires-clause-part c).After-look in
+pub gain_at-requires-clause-part : goal.gain_at-requires-clause-part
+gain_at-requires-clause-part c =
     let q = c.requires in
     let v = c.self.inside.desk.knows in
+    let slot = c.args.slot in
+    let next = c.args.next in
+    let x = ap (λ (h : BoardSeat). h.knows) c.self.view_is in
+    let carried : get_elem? v.parts q.0 ≡ some q.1 = ap (λ (h : BoardSeat). get_elem? h.knows.parts q.0) c.self.view_is ∙ q.2 in
+    let sound = c.closing_at-closing.ensures.sound.board c.closing_at-closing.ensures.owns in
+    let length-is = c.from-len.ensures ∙ c.len.ensures ∙ ap (λ (g : GameRecord). length g.log) c.self.invariant.game_is in
+    let over-is = c.outcome.ensures ∙ ap (λ (g : GameRecord). g.outcome) c.self.invariant.game_is in
+    let known = (λ i. without_move (sym c.closing_at-closing.ensures.closing i) (sym c.from-place.ensures i) (sym length-is i) (sym over-is i))
+    ∙ sym c.without_move-answer.ensures in
+    let rule : without_move (closing_at v slot) next (length v.log) v.outcome ≡ None = known ∙ c.in-None.is in
+    let less : next < length v.log = more_there (closing_at v slot) next (length v.log) v.outcome rule in
+    let uncut = more_uncut (closing_at v slot) next (length v.log) v.outcome rule in
     let s = c.look.ensures.knows in
-    let len = ap (λ (g : GameRecord). length g.log) c.self.invariant.game_is in (
+    let looked : get_elem? c.look.new.self.knows.parts q.0 ≡ some (sees s.0 q.1) =
+    ap (λ (u : View). get_elem? u.parts q.0) s.1 ∙ at_map (sees s.0) v.parts q.0 q.1 carried in (
       q.0,
       sees s.0 q.1,
-      looked at,
+      looked,
       q.3,
-      q.4 ∙ sym c.from-then-next-len.ensures,
-      omega (arith, q.4, s.2, len, c.len.ensures, c.if-next-len.true),
-      before_closing v c.args.cursor_place c.args.next q.0 q.1 (sound at) (carried at) q.3 q.4 (uncut at),
+      q.4 ∙ sym c.from-place.ensures,
+      omega (arith, q.4, s.2, less),
+      before_closing v slot next q.0 q.1 sound carried q.3 q.4 uncut,
     )
 
-pub returns-then-next-len-clause-answer : goal.returns-then-next-len-clause-answer
-returns-then-next-len-clause-answer c =
-    let at = (goal.at.returns-then-next-len-clause-answer c).After-look in
+pub returns-in-None-clause-answer : goal.returns-in-None-clause-answer
+returns-in-None-clause-answer c =
     let q = c.requires in
     let v = c.self.inside.desk.knows in
+    let slot = c.args.slot in
+    let next = c.args.next in
     let x = ap (λ (h : BoardSeat). h.knows) c.self.view_is in
+    let carried : get_elem? v.parts q.0 ≡ some q.1 = ap (λ (h : BoardSeat). get_elem? h.knows.parts q.0) c.self.view_is ∙ q.2 in
+    let sound = c.closing_at-closing.ensures.sound.board c.closing_at-closing.ensures.owns in
+    let length-is = c.from-len.ensures ∙ c.len.ensures ∙ ap (λ (g : GameRecord). length g.log) c.self.invariant.game_is in
+    let over-is = c.outcome.ensures ∙ ap (λ (g : GameRecord). g.outcome) c.self.invariant.game_is in
+    let known = (λ i. without_move (sym c.closing_at-closing.ensures.closing i) (sym c.from-place.ensures i) (sym length-is i) (sym over-is i))
+    ∙ sym c.without_move-answer.ensures in
+    let rule : without_move (closing_at v slot) next (length v.log) v.outcome ≡ None = known ∙ c.in-None.is in
+    let less : next < length v.log = more_there (closing_at v slot) next (length v.log) v.outcome rule in
+    let uncut = more_uncut (closing_at v slot) next (length v.log) v.outcome rule in
     let s = c.look.ensures.knows in
-    let len = ap (λ (g : GameRecord). length g.log) c.self.invariant.game_is in
-    let less : c.args.next < length v.log = omega (arith, len, c.len.ensures, c.if-next-len.true) in
-    let t = more_due v c.args.cursor_place c.args.next q.0 q.1 (sound at) (carried at) q.3 q.4 (uncut at) less in
-    let m : c.gain_at-m.result ≡ move_at v.log c.args.next = c.gain_at-m.ensures.move_is ∙ ap (λ (y : ℕ). move_at c.look.new.self.knows.log y) c.from-then-next-len.ensures ∙ ap (λ (u : View). move_at u.log c.args.next) s.1 in
-    ap (λ (y : Triple). Move c.args.next y) m
-    ∙ sym (ap (taken_of c.args.next v.outcome (cut_at v c.args.cursor_place)) t.1)
-    ∙ ap (λ (u : View). taken_of c.args.next u.outcome (cut_at u c.args.cursor_place) (due_at u c.args.cursor_place c.args.next)) x
+    let looked : get_elem? c.look.new.self.knows.parts q.0 ≡ some (sees s.0 q.1) =
+    ap (λ (u : View). get_elem? u.parts q.0) s.1 ∙ at_map (sees s.0) v.parts q.0 q.1 carried in
+    let t = more_due v slot next q.0 q.1 sound carried q.3 q.4 uncut less in
+    let m : c.gain_at.result ≡ move_at v.log next = c.gain_at.ensures.move_is
+    ∙ ap (λ (y : ℕ). move_at c.look.new.self.knows.log y) c.from-place.ensures ∙ ap (λ (u : View). move_at u.log next) s.1 in
+    ap (λ (y : Triple). Move next y) m
+    ∙ sym (ap (taken_of next v.outcome (closing_at v slot)) t.1)
+    ∙ ap (λ (u : View). taken_of next u.outcome (closing_at u slot) (due_at u slot next)) x
 
-pub returns-then-next-len-clause-knows : goal.returns-then-next-len-clause-knows
-returns-then-next-len-clause-knows c =
-    let at = (goal.at.returns-then-next-len-clause-knows c).After-look in
+pub returns-in-None-clause-knows : goal.returns-in-None-clause-knows
+returns-in-None-clause-knows c =
     let q = c.requires in
     let v = c.self.inside.desk.knows in
+    let slot = c.args.slot in
+    let next = c.args.next in
     let x = ap (λ (h : BoardSeat). h.knows) c.self.view_is in
+    let carried : get_elem? v.parts q.0 ≡ some q.1 = ap (λ (h : BoardSeat). get_elem? h.knows.parts q.0) c.self.view_is ∙ q.2 in
+    let sound = c.closing_at-closing.ensures.sound.board c.closing_at-closing.ensures.owns in
+    let length-is = c.from-len.ensures ∙ c.len.ensures ∙ ap (λ (g : GameRecord). length g.log) c.self.invariant.game_is in
+    let over-is = c.outcome.ensures ∙ ap (λ (g : GameRecord). g.outcome) c.self.invariant.game_is in
+    let known = (λ i. without_move (sym c.closing_at-closing.ensures.closing i) (sym c.from-place.ensures i) (sym length-is i) (sym over-is i))
+    ∙ sym c.without_move-answer.ensures in
+    let rule : without_move (closing_at v slot) next (length v.log) v.outcome ≡ None = known ∙ c.in-None.is in
+    let less : next < length v.log = more_there (closing_at v slot) next (length v.log) v.outcome rule in
+    let uncut = more_uncut (closing_at v slot) next (length v.log) v.outcome rule in
     let s = c.look.ensures.knows in
-    let owns = ap (λ (u : View). u.owns) s.1 ∙ c.closing_at.ensures.owns in
-    let g = c.gain_at-m.ensures.knows in
-    let len = ap (λ (y : GameRecord). length y.log) c.self.invariant.game_is in
-    let n = c.from-then-next-len.result in
-    let took : TookAt c.args.cursor_place (Move n c.gain_at-m.result) v c.gain_at-m.new.self.knows =
-    took_move c.args.cursor_place n s.0 g.0 q.0 c.gain_at-m.result (sees s.0 q.1) v c.look.new.self.knows c.gain_at-m.new.self.knows (c.look.ensures.sound.board owns) s.1 s.2 s.3
-    (omega (arith, len, c.len.ensures, c.if-next-len.true, c.from-then-next-len.ensures))
-    (looked at) q.3 (q.4 ∙ sym c.from-then-next-len.ensures) g.1 in
-    subst (λ (u : View). TookAt c.args.cursor_place (Move c.args.next c.gain_at-m.result) u c.gain_at-m.new.self.knows) x
-    (subst (λ (y : ℕ). TookAt c.args.cursor_place (Move y c.gain_at-m.result) v c.gain_at-m.new.self.knows) c.from-then-next-len.ensures took)
+    let looked : get_elem? c.look.new.self.knows.parts q.0 ≡ some (sees s.0 q.1) =
+    ap (λ (u : View). get_elem? u.parts q.0) s.1 ∙ at_map (sees s.0) v.parts q.0 q.1 carried in
+    let owns = ap (λ (u : View). u.owns) s.1 ∙ c.closing_at-closing.ensures.owns in
+    let g = c.gain_at.ensures.knows in
+    let n = c.from-place.result in
+    let took : TookAt slot (Move n c.gain_at.result) v c.gain_at.new.self.knows =
+    took_move slot n s.0 g.0 q.0 c.gain_at.result (sees s.0 q.1) v c.look.new.self.knows c.gain_at.new.self.knows
+    (c.look.ensures.sound.board owns) s.1 s.2 s.3 (omega (arith, less, c.from-place.ensures)) looked q.3 (q.4 ∙ sym c.from-place.ensures) g.1 in
+    subst (λ (u : View). TookAt slot (Move next c.gain_at.result) u c.gain_at.new.self.knows) x
+    (subst (λ (y : ℕ). TookAt slot (Move y c.gain_at.result) v c.gain_at.new.self.knows) c.from-place.ensures took)
 
-pub returns-clause-answer : goal.returns-clause-answer
-returns-clause-answer c =
-    let at = (goal.at.returns-clause-answer c).After-look in
+pub returns-in-Some-clause-answer : goal.returns-in-Some-clause-answer
+returns-in-Some-clause-answer c =
     let q = c.requires in
     let v = c.self.inside.desk.knows in
+    let slot = c.args.slot in
+    let next = c.args.next in
     let x = ap (λ (h : BoardSeat). h.knows) c.self.view_is in
-    let len = ap (λ (g : GameRecord). length g.log) c.self.invariant.game_is in
-    let past : length v.log ≤ c.args.next = omega (arith, len, c.len.ensures, c.if-next-len.false) in
-    let t = none_due v c.args.cursor_place c.args.next q.0 q.1 (sound at) (carried at) q.3 q.4 (uncut at) past in
-    let over : c.outcome.result ≡ v.outcome = c.outcome.ensures ∙ ap (λ (g : GameRecord). g.outcome) c.self.invariant.game_is in
-    let rest = sym (λ k. taken_of c.args.next v.outcome (t.0 k) (t.1 k)) ∙ ap (λ (u : View). taken_of c.args.next u.outcome (cut_at u c.args.cursor_place) (due_at u c.args.cursor_place c.args.next)) x in
-    elim c.match-outcome.branch [
-      | in-Some w ↦ w.result-is ∙ ap (λ (o : Option Outcome). taken_of c.args.next o None []) (sym w.in-Some.is ∙ over) ∙ rest
-      | in-None w ↦ w.result-is ∙ ap (λ (o : Option Outcome). taken_of c.args.next o None []) (sym w.in-None.is ∙ over) ∙ rest
-    ]
-
-pub returns-clause-knows : goal.returns-clause-knows
-returns-clause-knows c =
-    let v = c.self.inside.desk.knows in
-    let x = ap (λ (h : BoardSeat). h.knows) c.self.view_is in
+    let carried : get_elem? v.parts q.0 ≡ some q.1 = ap (λ (h : BoardSeat). get_elem? h.knows.parts q.0) c.self.view_is ∙ q.2 in
+    let sound = c.closing_at-closing.ensures.sound.board c.closing_at-closing.ensures.owns in
+    let length-is = c.from-len.ensures ∙ c.len.ensures ∙ ap (λ (g : GameRecord). length g.log) c.self.invariant.game_is in
+    let over-is = c.outcome.ensures ∙ ap (λ (g : GameRecord). g.outcome) c.self.invariant.game_is in
+    let known = (λ i. without_move (sym c.closing_at-closing.ensures.closing i) (sym c.from-place.ensures i) (sym length-is i) (sym over-is i))
+    ∙ sym c.without_move-answer.ensures in
+    let answer = c.in-Some.answer in
+    let rule : without_move (closing_at v slot) next (length v.log) v.outcome ≡ Some answer = known ∙ c.in-Some.is in
+    let not-cut : answer ≡ Cut → ⊥ = λ e. true≢false (sym (c.is_cut.ensures.1 (c.in-Some.is ∙ ap Some e)) ∙ c.if-is_cut.false) in
+    let uncut = none_uncut (closing_at v slot) next (length v.log) v.outcome answer rule not-cut in
+    let d = none_there (closing_at v slot) next (length v.log) v.outcome answer rule not-cut in
     let s = c.look.ensures.knows in
-    elim c.match-outcome.branch [
-      | in-Some w ↦ subst (λ (u : View). TookAt c.args.cursor_place c.match-outcome.result u c.look.new.self.knows) x (rw (w.result-is) (took_look c.args.cursor_place s.0 v c.look.new.self.knows (Over w.in-Some.outcome) refl (λ p q has same. (has, same)) s.1 s.2 s.3))
-      | in-None w ↦ subst (λ (u : View). TookAt c.args.cursor_place c.match-outcome.result u c.look.new.self.knows) x (rw (w.result-is) (took_look c.args.cursor_place s.0 v c.look.new.self.knows Nothing refl (λ p q has same. (has, same)) s.1 s.2 s.3))
-    ]
+    let t = none_due v slot next q.0 q.1 sound carried q.3 q.4 uncut d.0 in
+    d.1 ∙ sym (λ k. taken_of next v.outcome (t.0 k) (t.1 k))
+    ∙ ap (λ (u : View). taken_of next u.outcome (closing_at u slot) (due_at u slot next)) x
+
+pub returns-in-Some-clause-knows : goal.returns-in-Some-clause-knows
+returns-in-Some-clause-knows c =
+    let q = c.requires in
+    let v = c.self.inside.desk.knows in
+    let slot = c.args.slot in
+    let next = c.args.next in
+    let x = ap (λ (h : BoardSeat). h.knows) c.self.view_is in
+    let carried : get_elem? v.parts q.0 ≡ some q.1 = ap (λ (h : BoardSeat). get_elem? h.knows.parts q.0) c.self.view_is ∙ q.2 in
+    let sound = c.closing_at-closing.ensures.sound.board c.closing_at-closing.ensures.owns in
+    let length-is = c.from-len.ensures ∙ c.len.ensures ∙ ap (λ (g : GameRecord). length g.log) c.self.invariant.game_is in
+    let over-is = c.outcome.ensures ∙ ap (λ (g : GameRecord). g.outcome) c.self.invariant.game_is in
+    let known = (λ i. without_move (sym c.closing_at-closing.ensures.closing i) (sym c.from-place.ensures i) (sym length-is i) (sym over-is i))
+    ∙ sym c.without_move-answer.ensures in
+    let answer = c.in-Some.answer in
+    let rule : without_move (closing_at v slot) next (length v.log) v.outcome ≡ Some answer = known ∙ c.in-Some.is in
+    let not-cut : answer ≡ Cut → ⊥ = λ e. true≢false (sym (c.is_cut.ensures.1 (c.in-Some.is ∙ ap Some e)) ∙ c.if-is_cut.false) in
+    let uncut = none_uncut (closing_at v slot) next (length v.log) v.outcome answer rule not-cut in
+    let d = none_there (closing_at v slot) next (length v.log) v.outcome answer rule not-cut in
+    let s = c.look.ensures.knows in
+    subst (λ (u : View). TookAt slot answer u c.look.new.self.knows) x
+    (subst (λ (a : Taken). TookAt slot a v c.look.new.self.knows) (sym d.1)
+    (took_none slot s.0 next v c.look.new.self.knows v.outcome s.1 s.2 s.3))

@@ -1,8 +1,8 @@
 use Rattle.std.proofs.Common.{rules, arith, inl, inr, refl, sym, ap, ◌∙◌, ◌≡◌, length}
 use mathlib.Core.Option.{some, some-injective}
-use Rattle.live_steps.specs.declared.setup.BoardSetup.{BoardSetup}
+use Rattle.live_board.specs.declared.setup.BoardSetup.{BoardSetup}
 use Rattle.live_board.specs.Seats.{BoardSeat}
-use Rattle.live_board.proofs.Desks.{same_open}
+use Rattle.live_board.proofs.lemmas.Notes.{same_open}
 use Rattle.live_board.proofs.desk.Desk.ask.Goals as goal
 
 pub exchange-requires-clause-full : goal.exchange-requires-clause-full

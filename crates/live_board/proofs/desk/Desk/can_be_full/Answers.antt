@@ -1,6 +1,6 @@
 use Rattle.std.proofs.Common.{ap, sym, ◌∙◌, length, arith, leb-false}
 use lib.ListN.{get_elem?}
-use Rattle.live_steps.specs.declared.setup.BoardSetup.{BoardSetup}
+use Rattle.live_board.specs.declared.setup.BoardSetup.{BoardSetup}
 use Rattle.live_board.specs.Seats.{BoardSeat}
 use Rattle.live_board.proofs.desk.Desk.can_be_full.Goals as goal
 

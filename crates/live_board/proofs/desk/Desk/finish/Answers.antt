@@ -1,10 +1,10 @@
 use Rattle.std.proofs.Common.{rules, arith, sym, ap, ◌∙◌, ℕ, List, Some, subst}
 use Rattle.c960_board.specs.Moves.{Triple}
 use Rattle.c960_game.specs.Ground.{Ground}
-use Rattle.live_steps.specs.declared.setup.BoardSetup.{BoardSetup}
-use Rattle.live_steps.specs.Words.{status_word}
+use Rattle.live_board.specs.declared.setup.BoardSetup.{BoardSetup}
+use Rattle.live_board.specs.Words.{status_word}
 use Rattle.live_board.specs.Seats.{BoardSeat}
-use Rattle.live_steps.proofs.Allowed.{allows_finishing}
+use Rattle.live_board.proofs.Allowed.{allows_finishing}
 use Rattle.live_board.proofs.desk.Desk.finish.Goals as goal
 
 pub store-requires : goal.store-requires

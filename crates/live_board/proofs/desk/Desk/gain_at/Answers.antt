@@ -3,10 +3,10 @@ use Rattle.std.proofs.lemmas.Option.{same_Some}
 use Rattle.atomic_table.proofs.Lists.{at_map}
 use mathlib.Core.Option.{some}
 use lib.ListN.{get_elem?}
-use Rattle.live_steps.specs.Board.{move_at}
-use Rattle.live_steps.specs.declared.setup.BoardSetup.{BoardSetup}
-use Rattle.live_steps.specs.declared.view.View.{View}
-use Rattle.live_steps.specs.Views.{next_word, each_part, finds, gains, holding, only_at}
+use Rattle.live_board.specs.SharedBoard.{move_at}
+use Rattle.live_board.specs.declared.setup.BoardSetup.{BoardSetup}
+use Rattle.live_board.specs.declared.view.View.{View}
+use Rattle.live_board.specs.Views.{next_word, each_part, finds, gains, holding, only_at}
 use Rattle.live_board.specs.Seats.{BoardSeat}
 use Rattle.live_board.proofs.Desks.{desk_of}
 use Rattle.live_board.proofs.Followers.{found_is}
@@ -31,8 +31,8 @@ fetch_add-cursor-requires c =
     let q = c.requires.part in
     let p = q.1 in
     let e = ap (λ (h : BoardSeat). get_elem? h.knows.parts q.0) is ∙ q.2 in
-    let place = (i.sound.board i.owns).inside q.0 p e in
-    let setup = place.1 ∙ i.setup_is in
+    let slot = (i.sound.board i.owns).inside q.0 p e in
+    let setup = slot.1 ∙ i.setup_is in
     let t = c.load-code.ensures.2.1 q.0 p e (omega (arith, c.move_word_at-word.ensures, q.4, ap (λ (z : BoardSetup). z.limits.followers) setup)) q.5 in
     let x = t.0 in
     let word = c.move_word_at-word.result in
@@ -40,7 +40,7 @@ fetch_add-cursor-requires c =
     let mine : get_elem? c.load-code.new.seat.me.0.parts q.0 ≡ some (holding (Some x) p) =
     ap (λ (u : View). get_elem? u.parts q.0) t.3 ∙ at_map (finds word x) c.self.inside.seat.me.0.parts q.0 p e ∙ ap some (found_is word x p q.5 there) in (
       search rules,
-      omega (arith, c.cursor_at.ensures, place.0, q.3, ap (λ (z : BoardSetup). z.limits.followers) i.setup_is, i.words, ap (λ t. t.shared.table_id.words) c.deref.ensures),
+      omega (arith, c.cursor_at.ensures, slot.0, q.3, ap (λ (z : BoardSetup). z.limits.followers) i.setup_is, i.words, ap (λ t. t.shared.table_id.words) c.deref.ensures),
       taking _ _ _ _ q.0 (holding (Some x) p) x _ (c.cursor_at.ensures ∙ ap (λ (y : ℕ). y + 2) (sym q.3)) mine refl q.6,
     )
 
@@ -53,7 +53,7 @@ unreachable-requires c =
     let t = c.load-code.ensures.2.1 q.0 q.1 e (omega (arith, c.move_word_at-word.ensures, q.4, ap (λ (z : BoardSetup). z.limits.followers) setup)) q.5 in
     c.in_default.not-Some t.0 (c.of_code.ensures.only t.0 t.1 (sym t.2))
 
-now : (c : goal.After-fetch_add-cursor) → c.fetch_add-cursor.new.seat.me.0 ≡ each_part (only_at (c.args.cursor_place + 2) (gains c.fetch_add-cursor.result)) (each_part (finds (c.self.inside.setup.limits.followers + 2 + c.args.next) c.in-Some.m) c.self.inside.seat.me.0)
+now : (c : goal.After-fetch_add-cursor) → c.fetch_add-cursor.new.seat.me.0 ≡ each_part (only_at (c.args.slot + 2) (gains c.fetch_add-cursor.result)) (each_part (finds (c.self.inside.setup.limits.followers + 2 + c.args.next) c.in-Some.m) c.self.inside.seat.me.0)
 now c =
     let i = c.self.invariant in
     let q = c.requires.part in
@@ -87,4 +87,4 @@ returns-clause-knows c =
     let is = c.self.view_is in
     let x : c.self.inside.seat.me.0 ≡ c.args.self.now.knows = ap (λ (h : BoardSeat). h.knows) is in
     let z = sym i.setup_is ∙ ap (λ (h : BoardSeat). h.knows.setup) is in
-    (c.fetch_add-cursor.result, now c ∙ (λ k. each_part (only_at (c.args.cursor_place + 2) (gains c.fetch_add-cursor.result)) (each_part (finds ((z k).limits.followers + 2 + c.args.next) c.in-Some.m) (x k))))
+    (c.fetch_add-cursor.result, now c ∙ (λ k. each_part (only_at (c.args.slot + 2) (gains c.fetch_add-cursor.result)) (each_part (finds ((z k).limits.followers + 2 + c.args.next) c.in-Some.m) (x k))))

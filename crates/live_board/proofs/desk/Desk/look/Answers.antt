@@ -1,7 +1,7 @@
 use Rattle.std.proofs.Common.{rules, length, ap, ◌∙◌}
-use Rattle.live_steps.specs.declared.view.View.{View}
-use Rattle.live_steps.specs.Views.{each_part, sees}
-use Rattle.live_steps.proofs.Allowed.{allows_looking}
+use Rattle.live_board.specs.declared.view.View.{View}
+use Rattle.live_board.specs.Views.{each_part, sees}
+use Rattle.live_board.proofs.Allowed.{allows_looking}
 use Rattle.live_board.specs.Seats.{BoardSeat}
 use Rattle.live_board.proofs.desk.Desk.look.Goals as goal
 

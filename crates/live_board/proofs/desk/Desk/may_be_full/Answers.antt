@@ -1,15 +1,16 @@
 use Rattle.std.proofs.Common.{◌≡◌, true≢false, length, sym, ap, ◌∙◌, arith, leb-true, le-leb}
 use mathlib.Core.Option.{some, some-injective}
 use lib.ListN.{get_elem?}
-use Rattle.live_steps.specs.declared.setup.BoardSetup.{BoardSetup}
+use Rattle.live_board.specs.declared.setup.BoardSetup.{BoardSetup}
 use Rattle.live_board.specs.Seats.{BoardSeat}
-use Rattle.live_board.proofs.Desks.{noted_there, same_open}
+use Rattle.live_board.proofs.Desks.{noted_there}
+use Rattle.live_board.proofs.lemmas.Notes.{same_open}
 use Rattle.live_board.proofs.desk.Desk.may_be_full.Goals.{After-index}
 use Rattle.live_board.proofs.desk.Desk.may_be_full.Goals as goal
 
 -- the note that was read
-read : (c : After-index) → get_elem? c.args.self.now.knows.notes c.args.place ≡ some c.index.result.now
-read c = noted_there c.self.invariant c.args.place c.index.result.now c.args.self.now.knows (ap (λ (h : BoardSeat). h.knows) c.self.view_is) c.requires c.index.ensures
+read : (c : After-index) → get_elem? c.args.self.now.knows.notes c.args.slot ≡ some c.index.result.now
+read c = noted_there c.self.invariant c.args.slot c.index.result.now c.args.self.now.knows (ap (λ (h : BoardSeat). h.knows) c.self.view_is) c.requires c.index.ensures
 
 pub returns-then-capacity-self-clause-full : goal.returns-then-capacity-self-clause-full
 returns-then-capacity-self-clause-full c =

@@ -1,14 +1,14 @@
 use Rattle.std.proofs.Common.{rules, arith, refl, sym, ap, ◌∙◌, ◌≡◌, ◌+◌, ◌-◌, ◌<◌, ◌∷◌, [], ℕ, length, set, subst}
-use Rattle.live_steps.specs.declared.setup.BoardSetup.{BoardSetup}
-use Rattle.live_steps.specs.declared.view.Part.{Part}
-use Rattle.live_steps.specs.declared.view.View.{View}
+use Rattle.live_board.specs.declared.setup.BoardSetup.{BoardSetup}
+use Rattle.live_board.specs.declared.view.Part.{Part}
+use Rattle.live_board.specs.declared.view.View.{View}
 use lib.ListN.{get_elem?}
-use Rattle.live_steps.specs.Sound.{IsSound, Follows}
-use Rattle.live_steps.specs.Words.{note_after}
-use Rattle.live_steps.specs.Views.{carrying, taking_in, each_part, sees, learns, noted, kept_part, given_part}
-use Rattle.live_steps.proofs.Allowed.{allows_sparing, allows_splitting, allows_joining, allows_looking}
-use Rattle.live_steps.proofs.Checking.{note_read}
-use Rattle.live_steps.proofs.Steps.{off}
+use Rattle.live_board.specs.Sound.{IsSound, Follows}
+use Rattle.live_board.specs.Words.{note_after}
+use Rattle.live_board.specs.Views.{carrying, taking_in, each_part, sees, learns, noted, kept_part, given_part}
+use Rattle.live_board.proofs.Allowed.{allows_sparing, allows_splitting, allows_joining, allows_looking}
+use Rattle.live_board.proofs.lemmas.Notes.{note_read}
+use Rattle.live_board.proofs.EachStep.{off}
 use Rattle.live_board.specs.Meeting.{Met}
 use Rattle.live_board.specs.Takes.{HasSeenNoLess}
 use Rattle.live_board.specs.Seats.{BoardSeat, FollowerSeat, NoneBefore, part_of}
@@ -20,7 +20,7 @@ use Rattle.live_board.proofs.Meetings.{checked_in, joined_in, looked_in, looked_
 use Rattle.live_board.proofs.desk.Desk.meet.Goals.{After-load-status, After-split_seat-out}
 use Rattle.live_board.proofs.desk.Desk.meet.Goals as goal
 
--- the board's view once the status was loaded, and the place of the part that it took in
+-- the board's view after the status was loaded, and the slot of the part that it took in
 module _ (c : After-load-status) where
   joined : c.join_seat.new.seat.me.0 ≡ joined_in c.self.inside.seat.me.0 c.follower.inside.setup (part_of c.follower.inside.seat.me.0)
   joined = ap (λ m. m.0) c.join_seat.ensures.2 ∙ (λ k. taking_in (ap (λ m. m.0) c.split_seat-seat.ensures.2 k) ((ap (λ s. s.me.0) c.swap.ensures.x_after ∙ c.follower.invariant.one) k))
@@ -28,31 +28,31 @@ module _ (c : After-load-status) where
   looked : c.load-status.new.seat.me.0 ≡ looked_in c.self.inside.seat.me.0 c.follower.inside.setup (part_of c.follower.inside.seat.me.0) c.load-status.result
   looked = c.load-status.ensures.2.1 ∙ ap (each_part (sees c.load-status.result)) joined
 
-  inside : ((part_of c.follower.inside.seat.me.0).place < c.self.inside.seat.me.0.setup.limits.followers) × ((part_of c.follower.inside.seat.me.0).setup ≡ c.self.inside.seat.me.0.setup)
+  inside : ((part_of c.follower.inside.seat.me.0).slot < c.self.inside.seat.me.0.setup.limits.followers) × ((part_of c.follower.inside.seat.me.0).setup ≡ c.self.inside.seat.me.0.setup)
   inside = looked_inside c.load-status.new.seat.me.0 c.self.inside.seat.me.0 c.follower.inside.setup (part_of c.follower.inside.seat.me.0) c.load-status.result looked c.self.invariant.owns c.load-status.ensures.2.0.1
 
-  low : c.follower.inside.place < c.self.inside.setup.limits.followers
-  low = omega (arith, inside.0, c.follower.invariant.place_is, ap (λ (z : BoardSetup). z.limits.followers) c.self.invariant.setup_is)
+  low : c.follower.inside.slot < c.self.inside.setup.limits.followers
+  low = omega (arith, inside.0, c.follower.invariant.slot_is, ap (λ (z : BoardSetup). z.limits.followers) c.self.invariant.setup_is)
 
-  noted_low : c.follower.inside.place < length c.self.inside.notes.items
+  noted_low : c.follower.inside.slot < length c.self.inside.notes.items
   noted_low =
       let i = c.self.invariant in
       let b = i.sound.board i.owns in
       omega (arith, low, b.noted, ap length i.notes_are, ap (λ (z : BoardSetup). z.limits.followers) i.setup_is)
 
--- the views of both seats once the part was handed out
+-- the views of both seats after the part was handed out
 module _ (c : After-split_seat-out) where
   abbrev early : After-load-status
   early = c.before.before.before.before
 
-  whole : c.load-cursor.new.seat.me.0 ≡ checked_in c.self.inside.seat.me.0 c.follower.inside.setup (part_of c.follower.inside.seat.me.0) c.load-status.result c.follower.inside.place c.load-cursor.result
+  whole : c.load-cursor.new.seat.me.0 ≡ checked_in c.self.inside.seat.me.0 c.follower.inside.setup (part_of c.follower.inside.seat.me.0) c.load-status.result c.follower.inside.slot c.load-cursor.result
   whole = c.load-cursor.ensures.2.1 ∙ (λ k. noted (c.cursor_at-word.ensures k) c.load-cursor.result (looked early k))
 
   handed : c.split_seat-out.result.me.0 ≡ carrying c.follower.inside.setup (learns c.load-cursor.result (sees c.load-status.result (part_of c.follower.inside.seat.me.0)) ∷ [])
   handed =
       let j = c.follower.invariant in
       ap (λ m. m.0) c.split_seat-out.ensures.4 ∙ ap given_part whole
-      ∙ (λ k. carrying ((sym (inside early).1 ∙ j.setup_is) k) (only_is (c.follower.inside.place + 2) (learns c.load-cursor.result) (sees c.load-status.result (part_of c.follower.inside.seat.me.0)) (ap (λ (y : ℕ). y + 2) (sym j.place_is)) k ∷ []))
+      ∙ (λ k. carrying ((sym (inside early).1 ∙ j.setup_is) k) (only_is (c.follower.inside.slot + 2) (learns c.load-cursor.result) (sees c.load-status.result (part_of c.follower.inside.seat.me.0)) (ap (λ (y : ℕ). y + 2) (sym j.slot_is)) k ∷ []))
 
   handed_sound : IsSound c.split_seat-out.result.me.0
   handed_sound = subst IsSound (sym (ap (λ m. m.0) c.split_seat-out.ensures.4)) (given_sound c.load-cursor.new.seat.me.0 c.load-cursor.ensures.2.0.1)
@@ -63,7 +63,7 @@ module _ (c : After-split_seat-out) where
       let p = part_of c.follower.inside.seat.me.0 in
       let r = c.load-status.result in
       let seen = c.load-status.ensures.2.2 0 p (ap (λ (u : View). get_elem? u.parts 0) (joined early)) in
-      let at-word : (sees r p).place + 2 ≡ c.cursor_at-word.result = ap (λ (y : ℕ). y + 2) (sym c.follower.invariant.place_is) ∙ sym c.cursor_at-word.ensures in
+      let at-word : (sees r p).slot + 2 ≡ c.cursor_at-word.result = ap (λ (y : ℕ). y + 2) (sym c.follower.invariant.slot_is) ∙ sym c.cursor_at-word.ensures in
       (seen.0, seen.2, c.load-cursor.ensures.2.3 0 (sees r p) (ap (λ (u : View). get_elem? u.parts 0) (looked early)) at-word)
 
 pub split_seat-seat-requires : goal.split_seat-seat-requires
@@ -90,7 +90,7 @@ load-cursor-requires c =
     let low = low (goal.at.load-cursor-requires c).After-load-status in (
       search rules,
       omega (arith, c.cursor_at-word.ensures, low, i.words, ap (λ t. t.shared.table_id.words) c.deref.ensures),
-      checking _ _ _ _ c.follower.inside.place _ c.cursor_at-word.ensures (omega (arith, low, ap (λ (z : BoardSetup). z.limits.followers) i.key_is, ap (λ t. t.shared.key.limits.followers) c.deref.ensures)),
+      checking _ _ _ _ c.follower.inside.slot _ c.cursor_at-word.ensures (omega (arith, low, ap (λ (z : BoardSetup). z.limits.followers) i.key_is, ap (λ t. t.shared.key.limits.followers) c.deref.ensures)),
     )
 
 pub split_seat-out-requires : goal.split_seat-out-requires
@@ -106,19 +106,19 @@ pub invariant_of-self : goal.invariant_of-self
 invariant_of-self c =
     let i = c.self.invariant in
     let v = c.self.inside.seat.me.0 in
-    let place = c.follower.inside.place in
+    let slot = c.follower.inside.slot in
     let late = (goal.at.invariant_of-self c).After-split_seat-out in
     let n = c.load-cursor.result in
     let f = c.load-cursor.ensures in
     let out = c.split_seat-out.ensures in
     let kept = ap (λ m. m.0) out.2 in
-    let there = noted_there i place c.index-note.result.now v refl (omega (arith, low (early late), ap (λ (z : BoardSetup). z.limits.followers) i.setup_is)) c.index-note.ensures in
-    let at-place : place + 2 - 2 ≡ place = omega arith in
+    let there = noted_there i slot c.index-note.result.now v refl (omega (arith, low (early late), ap (λ (z : BoardSetup). z.limits.followers) i.setup_is)) c.index-note.ensures in
+    let at-slot : slot + 2 - 2 ≡ slot = omega arith in
     let follows : Follows c.index-note.result.now (note_after c.index-note.result.now n) =
-    (f.2.2 (ap (λ (u : View). u.owns) (looked (early late)) ∙ i.owns) c.index-note.result.now (ap (λ (u : View). get_elem? u.notes (c.cursor_at-word.result - 2)) (looked (early late)) ∙ ap (λ (y : ℕ). get_elem? v.notes (y - 2)) c.cursor_at-word.ensures ∙ ap (get_elem? v.notes) at-place ∙ there)).0 in
+    (f.2.2 (ap (λ (u : View). u.owns) (looked (early late)) ∙ i.owns) c.index-note.result.now (ap (λ (u : View). get_elem? u.notes (c.cursor_at-word.result - 2)) (looked (early late)) ∙ ap (λ (y : ℕ). get_elem? v.notes (y - 2)) c.cursor_at-word.ensures ∙ ap (get_elem? v.notes) at-slot ∙ there)).0 in
     desk_of _ (kept ∙ ap kept_part (whole late)) (out.0 ∙ f.0 ∙ c.load-status.ensures.0 ∙ c.join_seat.ensures.0 ∙ c.split_seat-seat.ensures.0 ∙ i.table) i.words i.key_is i.owns i.setup_is i.len_is
-    (ap (λ l. set l place c.note_after.result) i.notes_are ∙ ap (set v.notes place) c.note_after.ensures ∙ noted_is v.notes place n c.index-note.result.now (note_read v.notes place c.index-note.result.now there))
-    (subst (λ m. NoneBefore c.self.inside.least_noted (set c.self.inside.notes.items place m)) (sym c.note_after.ensures) (none_before_loaded i place c.index-note.result.now (note_after c.index-note.result.now n) there follows)) i.least_low
+    (ap (λ l. set l slot c.note_after.result) i.notes_are ∙ ap (set v.notes slot) c.note_after.ensures ∙ noted_is v.notes slot n c.index-note.result.now (note_read v.notes slot c.index-note.result.now there))
+    (subst (λ m. NoneBefore c.self.inside.least_noted (set c.self.inside.notes.items slot m)) (sym c.note_after.ensures) (none_before_loaded i slot c.index-note.result.now (note_after c.index-note.result.now n) there follows)) i.least_low
     i.room_is
     (ap (λ m. m.1) out.2 ∙ f.2.0.0 ∙ c.load-status.ensures.2.0.0 ∙ ap (λ m. m.1) c.join_seat.ensures.2 ∙ ap (λ m. m.1) c.split_seat-seat.ensures.2 ∙ i.none_held) (subst IsSound (sym kept) (kept_sound c.load-cursor.new.seat.me.0 f.2.0.1))
 
@@ -128,7 +128,7 @@ invariant_of-follower c =
     let late = (goal.at.invariant_of-follower c).After-split_seat-out in
     let out = c.split_seat-out.ensures in
     let table = out.3 ∙ c.load-cursor.ensures.0 ∙ c.load-status.ensures.0 ∙ c.join_seat.ensures.0 ∙ c.split_seat-seat.ensures.0 ∙ ap (λ (h : BoardSeat). h.table) c.self.view_is ∙ sym c.requires ∙ ap (λ (h : FollowerSeat). h.table) (sym c.follower.view_is) ∙ j.table in
-    follower_of _ (handed late) (handed_sound late) (ap (λ m. m.1) out.4) table j.words j.key_is j.setup_is j.place_is j.joined_is j.taken_is c.length_in-follower-inside.ensures c.outcome_in-follower-inside.ensures c.closing_in-follower-inside.ensures
+    follower_of _ (handed late) (handed_sound late) (ap (λ m. m.1) out.4) table j.words j.key_is j.setup_is j.slot_is j.joined_is j.taken_is c.length_in-follower-inside.ensures c.outcome_in-follower-inside.ensures c.closing_in-follower-inside.ensures
 
 pub returns-clause-met : goal.returns-clause-met
 returns-clause-met c =
@@ -136,7 +136,7 @@ returns-clause-met c =
     let owns = c.self.invariant.owns in
     let view = ap (λ m. m.0) c.split_seat-out.ensures.2 ∙ ap kept_part (whole late) in
     let own = c.load-status.ensures.2.3 (ap (λ (u : View). u.owns) (joined (early late)) ∙ owns) in
-    let met = meets c.self.inside.seat.me.0 c.follower.inside.setup (part_of c.follower.inside.seat.me.0) c.follower.inside.place c.load-status.result c.load-cursor.result (sym c.follower.invariant.place_is) owns (subst IsSound (whole late) c.load-cursor.ensures.2.0.1)
+    let met = meets c.self.inside.seat.me.0 c.follower.inside.setup (part_of c.follower.inside.seat.me.0) c.follower.inside.slot c.load-status.result c.load-cursor.result (sym c.follower.invariant.slot_is) owns (subst IsSound (whole late) c.load-cursor.ensures.2.0.1)
     (own.0 ∙ ap (λ (u : View). length u.log) (joined (early late))) (own.1 ∙ ap (λ (u : View). u.outcome) (joined (early late))) (no_less late) in
     subst (λ (x : View × Part × View × Part). Met x.0 x.1 x.2 x.3) (λ k. (ap (λ (h : BoardSeat). h.knows) c.self.view_is k, ap (λ (h : FollowerSeat). h.part) c.follower.view_is k, sym view k, sym (ap part_of (handed late)) k)) met
 

@@ -1,5 +1,5 @@
 use Rattle.std.proofs.Common.{rules}
-use Rattle.live_steps.proofs.Allowed.{table_made}
+use Rattle.live_board.proofs.Allowed.{table_made}
 use Rattle.live_board.proofs.desk.Desk.new.Goals as goal
 
 pub of_words-requires : goal.of_words-requires

@@ -1,7 +1,7 @@
 use Rattle.std.proofs.Common.{◌≡◌, ◌∷◌, replicate}
 use Rattle.std.specs.Vec.{vec_capacity}
-use Rattle.live_steps.specs.declared.note.Note.TheVariants.{Vacant}
-use Rattle.live_steps.specs.Words.{header_word}
+use Rattle.live_board.specs.declared.note.Note.TheVariants.{Vacant}
+use Rattle.live_board.specs.Words.{header_word}
 use Rattle.live_board.proofs.desk.Desk.new.Given as goal
 
 abbrev pub invariant-loop : goal.invariant-loop

@@ -5,13 +5,13 @@ use Rattle.c960_board.specs.Moves.{Triple}
 use Rattle.c960_rules.specs.Legal.{Legal}
 use Rattle.c960_game.specs.Ends.{own_outcome}
 use Rattle.c960_game.specs.Positions.{last_position}
-use Rattle.live_steps.specs.declared.setup.BoardSetup.{BoardSetup}
-use Rattle.live_steps.specs.declared.note.Note.TheVariants.{Open}
-use Rattle.live_steps.specs.declared.view.View.{View}
-use Rattle.live_steps.specs.Words.{status_word}
-use Rattle.live_steps.proofs.Allowed.{allows_publishing}
+use Rattle.live_board.specs.declared.setup.BoardSetup.{BoardSetup}
+use Rattle.live_board.specs.declared.note.Note.TheVariants.{Open}
+use Rattle.live_board.specs.declared.view.View.{View}
+use Rattle.live_board.specs.Words.{status_word}
+use Rattle.live_board.proofs.Allowed.{allows_publishing}
 use Rattle.live_board.specs.Seats.{BoardSeat}
-use Rattle.live_board.proofs.Desks.{at_within}
+use Rattle.live_board.proofs.lemmas.Notes.{at_within}
 use Rattle.live_board.proofs.Steps.{storing_move}
 use Rattle.live_board.proofs.desk.Desk.publish.Goals as goal
 

@@ -1,8 +1,8 @@
 use Rattle.std.proofs.Common.{◌≡◌, ◌∷◌, [], length, refl, rules, ap, ◌∙◌, sym, subst}
-use Rattle.live_steps.specs.Sound.{IsSound}
-use Rattle.live_steps.specs.declared.setup.BoardSetup.{BoardSetup}
-use Rattle.live_steps.specs.Views.{carrying, given_part, kept_part, newcomer}
-use Rattle.live_steps.proofs.Allowed.{allows_splitting}
+use Rattle.live_board.specs.Sound.{IsSound}
+use Rattle.live_board.specs.declared.setup.BoardSetup.{BoardSetup}
+use Rattle.live_board.specs.Views.{carrying, given_part, kept_part, newcomer}
+use Rattle.live_board.proofs.Allowed.{allows_splitting}
 use Rattle.live_board.proofs.Desks.{desk_of}
 use Rattle.live_board.specs.Seats.{BoardSeat}
 use Rattle.live_board.proofs.Followers.{follower_of, part_sound}
@@ -15,10 +15,10 @@ module _ (c : After-split_seat-seat) where
   setup : c.args.self.now.knows.setup ≡ c.self.inside.setup
   setup = ap (λ (h : BoardSeat). h.knows.setup) (sym c.self.view_is) ∙ c.self.invariant.setup_is
 
-  handed : c.split_seat-seat.result.me.0 ≡ carrying c.self.inside.setup (newcomer c.args.cursor_place c.args.from c.args.self.now.knows ∷ [])
+  handed : c.split_seat-seat.result.me.0 ≡ carrying c.self.inside.setup (newcomer c.args.slot c.args.from c.args.self.now.knows ∷ [])
   handed =
-      ap (λ m. m.0) c.split_seat-seat.ensures.4 ∙ ap (λ (h : BoardSeat). given_part h.knows) c.self-2.view_is ∙ ap given_part c.seat_at.ensures.knows
-      ∙ ap (λ (z : BoardSetup). carrying z (newcomer c.args.cursor_place c.args.from c.args.self.now.knows ∷ [])) setup
+      ap (λ m. m.0) c.split_seat-seat.ensures.4 ∙ ap (λ (h : BoardSeat). given_part h.knows) c.self-2.view_is ∙ ap given_part c.join_at.ensures.knows
+      ∙ ap (λ (z : BoardSetup). carrying z (newcomer c.args.slot c.args.from c.args.self.now.knows ∷ [])) setup
 
   handed_sound : IsSound c.split_seat-seat.result.me.0
   handed_sound = subst IsSound (sym (ap (λ m. m.0) c.split_seat-seat.ensures.4)) (given_sound c.self-2.inside.seat.me.0 c.self-2.invariant.sound)

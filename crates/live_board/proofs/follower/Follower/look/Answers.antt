@@ -1,10 +1,10 @@
 use Rattle.std.proofs.Common.{rules, ◌≡◌, ℕ, ◌≤◌, Some, subst, ap, ◌∙◌}
 use lib.ListN.{get_elem?}
-use Rattle.live_steps.specs.declared.view.Part.{Part}
-use Rattle.live_steps.specs.declared.view.View.{View}
-use Rattle.live_steps.specs.Words.{length_in, outcome_in}
-use Rattle.live_steps.specs.Views.{each_part, sees}
-use Rattle.live_steps.proofs.Allowed.{allows_looking}
+use Rattle.live_board.specs.declared.view.Part.{Part}
+use Rattle.live_board.specs.declared.view.View.{View}
+use Rattle.live_board.specs.Words.{length_in, outcome_in}
+use Rattle.live_board.specs.Views.{each_part, sees}
+use Rattle.live_board.proofs.Allowed.{allows_looking}
 use Rattle.live_board.specs.Seats.{FollowerSeat, part_of}
 use Rattle.live_board.specs.Takes.{StaysKnown}
 use Rattle.live_board.proofs.Followers.{follower_of, part_sound}
@@ -18,7 +18,7 @@ invariant_of-self c =
     let i = c.self.invariant in
     let f = c.load-status.ensures in
     let n = c.load-status.result in
-    follower_of (sees n (part_of c.self.inside.seat.me.0)) (f.2.1 ∙ ap (each_part (sees n)) i.one) f.2.0.1 (f.2.0.0 ∙ i.none_held) (f.0 ∙ i.table) i.words i.key_is i.setup_is i.place_is i.joined_is i.taken_is c.length_in-self-inside.ensures c.outcome_in-self-inside.ensures i.closing_is
+    follower_of (sees n (part_of c.self.inside.seat.me.0)) (f.2.1 ∙ ap (each_part (sees n)) i.one) f.2.0.1 (f.2.0.0 ∙ i.none_held) (f.0 ∙ i.table) i.words i.key_is i.setup_is i.slot_is i.joined_is i.taken_is c.length_in-self-inside.ensures c.outcome_in-self-inside.ensures i.closing_is
 
 pub returns-clause-part : goal.returns-clause-part
 returns-clause-part c =

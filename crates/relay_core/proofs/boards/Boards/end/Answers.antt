@@ -3,8 +3,8 @@ use Rattle.std.specs.Result.{OnOk}
 use Rattle.std.specs.Map.{lookup}
 use Rattle.c960_game.specs.declared.outcome.Outcome.{Outcome}
 use Rattle.c960_game.specs.declared.refusal.Refusal.{Refusal}
-use Rattle.relay_core.specs.Inner.Boards.{end_answer_at, ended_by}
-use Rattle.relay_core.specs.Inner.Held.{HeldBoards}
+use Rattle.relay_core.specs.BoardAnswers.{end_answer_at, ended_by}
+use Rattle.relay_core.specs.Inner.Maps.{HeldBoards}
 use Rattle.relay_core.specs.Name.{same_name}
 use Rattle.relay_core.proofs.boards.Boards.end.Goals as goal
 

@@ -1,9 +1,10 @@
 use Rattle.std.proofs.Common.{◌≡◌, cond, length, option_map, Some, Err, sym, ap, ◌∙◌, rules}
 use Rattle.std.proofs.lemmas.Result.{err_from_is_err_and}
 use Rattle.std.specs.Map.{lookup}
-use Rattle.c960_game.specs.Record.{GameRecord, with_move}
-use Rattle.relay_core.specs.Inner.Boards.{play_answer_at, with_place}
-use Rattle.relay_core.specs.Inner.Held.{HeldBoards}
+use Rattle.c960_game.specs.Record.{with_move}
+use Rattle.c960_game.specs.GameRecord.{GameRecord}
+use Rattle.relay_core.specs.BoardAnswers.{play_answer_at, with_place}
+use Rattle.relay_core.specs.Inner.Maps.{HeldBoards}
 use Rattle.relay_core.specs.Name.{same_name}
 use Rattle.relay_core.proofs.boards.Boards.play.Goals as goal
 

@@ -1,6 +1,6 @@
 use Rattle.std.proofs.Common.{nat_eq, ◌∙◌, ap, [], ◌∷◌, ◌++◌}
 use Rattle.indexmap.proofs.CallerLemmas.{insert_entry-new}
-use Rattle.relay_core.specs.Inner.Held.{HeldFollower}
+use Rattle.relay_core.specs.Held.{HeldFollower}
 use Rattle.relay_core.proofs.followers.Followers.admit.Goals as goal
 
 pub returns-clause-ok : goal.returns-clause-ok

@@ -1,8 +1,8 @@
 use Rattle.std.proofs.Common.{◌≡◌, add-one, ap, length, ◌∙◌, arith}
 use Rattle.indexmap.specs.Layout.{length-set_value_at}
-use Rattle.relay_core.specs.Inner.Followers.{offered}
-use Rattle.relay_core.specs.Inner.Held.{HeldFollowers}
-use Rattle.relay_core.proofs.Lists.{done_all, done_one_more}
+use Rattle.relay_core.specs.Held.Followers.{offered}
+use Rattle.relay_core.specs.Inner.Maps.{HeldFollowers}
+use Rattle.relay_core.proofs.lemmas.Lists.{done_all, done_one_more}
 use Rattle.relay_core.proofs.followers.Followers.publish.Goals as goal
 
 pub loop-i-preserved : goal.loop-i-preserved

@@ -1,6 +1,6 @@
 use Rattle.std.proofs.Common.{◌≡◌, ◌++◌, take, drop, length}
 use Rattle.std.specs.HashMap.{spare}
-use Rattle.relay_core.specs.Inner.Followers.{published}
+use Rattle.relay_core.specs.Held.Followers.{published}
 use Rattle.relay_core.proofs.followers.Followers.publish.Given as goal
 
 abbrev pub invariant-loop-i : goal.invariant-loop-i

@@ -1,7 +1,7 @@
 use Rattle.std.proofs.Common.{refl, sym, ◌∙◌}
-use Rattle.relay_core.specs.Inner.Kept.{held_of}
-use Rattle.relay_core.proofs.Ended.{end_goes, end_refused}
-use Rattle.relay_core.proofs.Standing.{keeps, shown_is, stands}
+use Rattle.relay_core.specs.Inner.HoldingsFields.{held_of}
+use Rattle.relay_core.proofs.lemmas.Ended.{end_goes, end_refused}
+use Rattle.relay_core.proofs.lemmas.Standing.{keeps, shown_is, stands}
 use Rattle.relay_core.proofs.holdings.Holdings.end.Goals as goal
 
 pub returns-in-Err-clause-stands : goal.returns-in-Err-clause-stands

@@ -1,7 +1,7 @@
 use Rattle.std.proofs.Common.{refl, sym, ◌∙◌, rules}
-use Rattle.relay_core.specs.Inner.Kept.{held_of}
-use Rattle.relay_core.proofs.Leaves.{leave_goes, leave_nobody}
-use Rattle.relay_core.proofs.Standing.{keeps, shown_is, stands}
+use Rattle.relay_core.specs.Inner.HoldingsFields.{held_of}
+use Rattle.relay_core.proofs.lemmas.Leaves.{leave_goes, leave_nobody}
+use Rattle.relay_core.proofs.lemmas.Standing.{keeps, shown_is, stands}
 use Rattle.relay_core.proofs.holdings.Holdings.leave.Goals as goal
 
 pub returns-in_default-clause-stands : goal.returns-in_default-clause-stands

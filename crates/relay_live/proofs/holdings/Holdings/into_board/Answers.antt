@@ -1,20 +1,20 @@
 use Rattle.std.proofs.Common.{◌≡◌, ◌+◌, ℕ, List, [], ◌∷◌, Option, Some, None, map, cond, fold, refl, ap, sym, ◌∙◌, subst, option_map, IfSome}
 use Rattle.std.specs.Prelude.{count_by}
 use Rattle.std.specs.Map.{lookup}
-use Rattle.relay_core.specs.Inner.Held.{HeldFollower, plain_follower}
+use Rattle.relay_core.specs.Held.{HeldFollower, plain_follower}
 use Rattle.relay_core.specs.Name.{same_name}
 use Rattle.relay_core.specs.State.{FollowerRecord, RelayRecord}
-use Rattle.relay_core.proofs.Lists.{lookup-map}
-use Rattle.relay_core.proofs.Standing.{shown_is}
-use Rattle.live_steps.specs.Shows.{total}
+use Rattle.relay_core.proofs.lemmas.Lists.{lookup-map}
+use Rattle.relay_core.proofs.lemmas.Standing.{shown_is}
+use Rattle.live_board.specs.Shows.{total}
 use Rattle.live_board.specs.Board.{setup_of}
 use Rattle.live_board.specs.Seats.{BoardSeat}
-use Rattle.relay_live.specs.Live.{PlacesLeft, holders, vacancy}
+use Rattle.relay_live.specs.Live.{SlotsLeft, holders, vacancy}
 use Rattle.relay_live.proofs.Follows.{crowd_held}
 use Rattle.relay_live.proofs.Swaps.{game}
 use Rattle.relay_live.proofs.holdings.Holdings.into_board.Goals as goal
 
--- what holds of the one that is there
+-- what holds for the one that is there
 where_found : {P : BoardSeat → Type 0} (found looked : Option BoardSeat) → found ≡ looked → ((b : BoardSeat) → looked ≡ Some b → P b) → IfSome found P
 where_found None looked e holds = tt
 where_found (Some b) looked e holds = holds b (sym e)
@@ -44,7 +44,7 @@ returns c =
           ∙ ap (λ (r : RelayRecord). lookup (same_name name) r.boards) (shown_is c.self.view_is);
       setup = subst (λ (r : RelayRecord). IfSome c.swap_remove.result (λ b. b.knows.setup ≡ setup_of b.knows.setup.start r.limits)) (shown_is c.self.view_is)
           (where_found _ _ c.swap_remove.ensures.value (λ b at. c.self.invariant.0.setups name b at));
-      places = subst (λ (r : RelayRecord). IfSome c.swap_remove.result (λ b. PlacesLeft r name b)) (shown_is c.self.view_is)
+      slots = subst (λ (r : RelayRecord). IfSome c.swap_remove.result (λ b. SlotsLeft r name b)) (shown_is c.self.view_is)
           (where_found _ _ c.swap_remove.ensures.value (λ b at.
           ap (λ (n : ℕ). n + total vacancy b.knows.notes) count ∙ c.self.invariant.0.counted name b at));
     }

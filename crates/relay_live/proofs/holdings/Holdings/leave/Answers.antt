@@ -3,9 +3,10 @@ use Rattle.std.specs.Map.{lookup}
 use Rattle.relay_core.specs.declared.reply.Account.{Account}
 use Rattle.relay_core.specs.declared.reply.Reply.TheVariants.{Left}
 use Rattle.relay_core.specs.declared.step.Step.TheVariants.{Leave}
-use Rattle.relay_core.proofs.Leaves.{leave_nobody}
-use Rattle.relay_core.proofs.Lists.{lookup-map}
-use Rattle.relay_core.proofs.Standing.{Goes, shown_is, stands}
+use Rattle.relay_core.proofs.lemmas.Leaves.{leave_nobody}
+use Rattle.relay_core.proofs.lemmas.Lists.{lookup-map}
+use Rattle.relay_core.specs.Held.Stands.{Goes}
+use Rattle.relay_core.proofs.lemmas.Standing.{shown_is, stands}
 use Rattle.relay_live.specs.Live.{held_of, held_by, held_at, holders}
 use Rattle.relay_live.proofs.Entries.{removed}
 use Rattle.relay_live.proofs.Leaves.{goes, lives}

@@ -1,6 +1,6 @@
 use Rattle.std.proofs.Common.{sym, ◌∙◌, subst}
 use Rattle.relay_live.specs.Live.{Boards, IsLive, held_of, held_by}
-use Rattle.relay_core.proofs.Standing.{shown_is, stands}
+use Rattle.relay_core.proofs.lemmas.Standing.{shown_is, stands}
 use Rattle.relay_live.proofs.Submits.{goes, lives, goes_refused}
 use Rattle.relay_live.proofs.Swaps.{boards_counted}
 use Rattle.relay_live.proofs.holdings.Holdings.submit.Goals.{in-Err, in-Ok}

@@ -1,11 +1,11 @@
 use Rattle.std.proofs.Common.{arith, refl, sym, ap, ◌∙◌, subst, ◌≡◌, ◌<◌, ◌+◌, nat_eq, length, Option, Some, option_map}
 use Rattle.std.specs.Map.{lookup}
 use Rattle.std.specs.Option.{option_copied, IfSome}
-use Rattle.relay_core.specs.Inner.Held.{HeldFollower}
-use Rattle.relay_core.specs.Inner.Next.{next_of}
-use Rattle.relay_core.proofs.Lists.{lookup-map}
-use Rattle.relay_core.proofs.Standing.{shown_is, stands, stays}
-use Rattle.relay_core.proofs.Takes.{places_fit, take_nobody}
+use Rattle.relay_core.specs.Held.{HeldFollower}
+use Rattle.relay_core.specs.Held.Followers.{HasPlaces}
+use Rattle.relay_core.proofs.lemmas.Lists.{lookup-map}
+use Rattle.relay_core.proofs.lemmas.Standing.{shown_is, stands, stays}
+use Rattle.relay_core.proofs.lemmas.Takes.{has_places, take_nobody}
 use Rattle.relay_live.specs.declared.seated.Seated.{Seated}
 use Rattle.relay_live.specs.Live.{held_of, held_by, held_at}
 use Rattle.relay_live.proofs.Maps.{written}
@@ -19,7 +19,7 @@ returns-in_default-clause-stands c =
     let a = c.self.inside in
     let none = sym c.get.ensures.value ∙ ap option_copied c.in_default.is in
     stays (held_of a) _ _ c.self.invariant.0.kept _ (shown_is c.self.view_is)
-    (take_nobody (held_of a) (held_of a).followers c.args.who (sym (ap (option_map next_of) (lookup-map (nat_eq c.args.who) (held_at a.limits.capacity a.boards.entries) a.followers.entries ∙ ap (option_map (held_at a.limits.capacity a.boards.entries)) none))) refl)
+    (take_nobody (held_of a) (held_of a).followers c.args.who (lookup-map (nat_eq c.args.who) (held_at a.limits.capacity a.boards.entries) a.followers.entries ∙ ap (option_map (held_at a.limits.capacity a.boards.entries)) none) refl)
 
 mine : (c : goal.After-take_for-arg-1) → lookup (nat_eq c.args.who) c.self.inside.followers.entries ≡ Some c.in-Some.field-0.now
 mine c = sym c.get.ensures.value ∙ ap option_copied c.in-Some.is
@@ -27,9 +27,9 @@ mine c = sym c.get.ensures.value ∙ ap option_copied c.in-Some.is
 fits : (c : goal.After-take_for-arg-1) → c.in-Some.field-0.now.joined + c.in-Some.field-0.now.taken + length (held_at c.self.inside.limits.capacity c.self.inside.boards.entries c.in-Some.field-0.now).queue < 65536
 fits c =
     let a = c.self.inside in
-    subst (λ (o : Option HeldFollower). IfSome o (λ h. h.joined + h.taken + length h.queue < 65536))
+    (subst (λ (o : Option HeldFollower). IfSome o HasPlaces)
     (lookup-map (nat_eq c.args.who) (held_at a.limits.capacity a.boards.entries) a.followers.entries ∙ ap (option_map (held_at a.limits.capacity a.boards.entries)) (mine c))
-    (places_fit a.limits (held_of a) c.self.invariant.0.kept.history c.args.who c.self.invariant.0.kept.stands c.plies.ensures.valid.most_plies)
+    (has_places a.limits (held_of a) c.self.invariant.0.kept.history c.args.who c.self.invariant.0.kept.stands c.plies.ensures.valid.most_plies)).0
 
 pub take_for-taken-requires-clause-seated : goal.take_for-taken-requires-clause-seated
 take_for-taken-requires-clause-seated c =
@@ -46,9 +46,9 @@ count_take-requires c =
     let f = c.in-Some.field-0.now in
     let at = sym c.get.ensures.value ∙ ap option_copied c.in-Some.is in
     let all : f.joined + f.taken + length (held_at a.limits.capacity a.boards.entries f).queue < 65536 =
-    subst (λ (o : Option HeldFollower). IfSome o (λ h. h.joined + h.taken + length h.queue < 65536))
+    (subst (λ (o : Option HeldFollower). IfSome o HasPlaces)
     (lookup-map (nat_eq c.args.who) (held_at a.limits.capacity a.boards.entries) a.followers.entries ∙ ap (option_map (held_at a.limits.capacity a.boards.entries)) at)
-    (places_fit a.limits (held_of a) c.self.invariant.0.kept.history c.args.who c.self.invariant.0.kept.stands c.plies.ensures.valid.most_plies) in
+    (has_places a.limits (held_of a) c.self.invariant.0.kept.history c.args.who c.self.invariant.0.kept.stands c.plies.ensures.valid.most_plies)).0 in
     let t = c.take_for-taken.ensures.swapped in
     let some = some_due _ _ _ _ _ _ (sym c.in-Move.is ∙ t.3.2) in
     let q = ap length (due_is a.limits.capacity a.boards.entries f t.0 t.2) in

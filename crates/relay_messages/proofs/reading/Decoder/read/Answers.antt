@@ -1,6 +1,6 @@
 use Rattle.std.proofs.Common.{◌≤◌, length, sym, subst, rules, inl}
 use Rattle.relay_messages.specs.Decoding.{IsReading}
-use Rattle.relay_messages.proofs.Decoding.{says_long, says_no_value, said_of_reading}
+use Rattle.relay_messages.proofs.lemmas.Decoding.{says_long, says_no_value, said_of_reading}
 use Rattle.relay_messages.proofs.reading.Decoder.read.Goals as goal
 
 pub returns-then-text-gt-MOST_BYTES : goal.returns-then-text-gt-MOST_BYTES

@@ -1,4 +1,4 @@
--- What is told of the boards looked at so far.
+-- What is known of the boards looked at so far.
 use Rattle.std.proofs.Common.{◌≡◌, Some, take}
 use Rattle.std.specs.Arc.{arc_value}
 use Rattle.relay_server.specs.Opening.{owners, owns_any}

@@ -1,4 +1,4 @@
-use Rattle.std.proofs.Common.{rules, ◌≡◌, ◌<◌, ◌≤◌, ◌+◌, [], ◌∷◌, ℕ, Bool, true, false, nat_le, cond, length, Option, None, Some, Result, Ok, Err, OnOk, is_some, refl, sym, subst, ap, ◌∙◌, arith, length-append, true≢false}
+use Rattle.std.proofs.Common.{rules, ◌≡◌, ◌<◌, ◌≤◌, ◌+◌, [], ◌∷◌, ℕ, Bool, true, false, nat_le, length, Option, None, Some, Result, Ok, Err, OnOk, is_some, refl, sym, subst, ap, ◌∙◌, arith, length-append, true≢false}
 use Rattle.std.proofs.lemmas.Bool.Decides.{nat_tests}
 use Rattle.std.specs.Arc.{arc_value}
 use Rattle.std.specs.HashMap.{spare}
@@ -9,24 +9,25 @@ use Rattle.indexmap.proofs.CallerLemmas.{insert_entry-new}
 use Rattle.c960_game.specs.declared.refusal.Refusal.{Refusal}
 use Rattle.c960_game.specs.declared.refusal.Refusal.TheVariants.{BadStart, BoardExists, TooManyBoards}
 use Rattle.relay_core.specs.Name.{same_name}
+use Rattle.relay_core.specs.Refusals.{first_refusal}
 use Rattle.relay_server.specs.Opening.{admission, is_taken}
 use Rattle.relay_server.proofs.Named.{taken_where_found, room_after}
 use Rattle.relay_server.proofs.boards.Boards.enter.Goals as goal
 
--- where a board may be opened, none of the grounds holds
-grounds : (taken bad full : Bool) (answer : Result Unit Refusal) → answer ≡ cond taken (Err BoardExists) (cond bad (Err BadStart) (cond full (Err TooManyBoards) (Ok tt)))
+-- if a board may be opened, none of the grounds holds
+grounds : (taken bad full : Bool) (answer : Result Unit Refusal) → answer ≡ first_refusal ((taken, BoardExists) ∷ (bad, BadStart) ∷ (full, TooManyBoards) ∷ [])
     → answer ≡ Ok tt → (taken ≡ false) × (full ≡ false)
 grounds true bad full answer is may = absurd (subst (λ (r : Result Unit Refusal). OnOk r ⊥) (sym is ∙ may) tt)
 grounds false true full answer is may = absurd (subst (λ (r : Result Unit Refusal). OnOk r ⊥) (sym is ∙ may) tt)
 grounds false false true answer is may = absurd (subst (λ (r : Result Unit Refusal). OnOk r ⊥) (sym is ∙ may) tt)
 grounds false false false answer is may = (refl, refl)
 
--- what is not found is not there
+-- what is not found does not exist
 absent : {B : Type 0} (found : Option B) → is_some found ≡ false → found ≡ None
 absent None unfound = refl
 absent (Some board) unfound = absurd (true≢false unfound)
 
--- what follows of what was made, where it was done
+-- what follows from what was made, if it was done
 onto : {A E P Q : Type 0} → (P → Q) → (r : Result A E) → OnOk r P → OnOk r Q
 onto f (Ok done) p = f p
 onto f (Err fault) p = tt

@@ -1,4 +1,4 @@
--- Fragments change no text, and not by when their message is due.
+-- Fragments change no text, nor when their message is due.
 use Rattle.std.specs.Prelude.{◌≡◌}
 use Rattle.relay_server.specs.Dues.{IsStillDue}
 use Rattle.relay_server.proofs.outlet.SocketOutlet.read.Given as goal

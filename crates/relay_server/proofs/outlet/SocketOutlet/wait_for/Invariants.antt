@@ -1,4 +1,4 @@
--- Silence and pings change no text, and not by when a message is due.
+-- Silence and pings change no text, nor when a message is due.
 use Rattle.std.specs.Prelude.{◌≡◌}
 use Rattle.relay_server.proofs.outlet.SocketOutlet.wait_for.Given as goal
 

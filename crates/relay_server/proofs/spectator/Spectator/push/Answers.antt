@@ -13,11 +13,11 @@ invariant_of-self-in_default-turn g c = turned_sent _ _ _ _ _ c.in_default-turn.
 
 pub returns-in-Ended-clause-turned : goal.returns-in-Ended-clause-turned
 returns-in-Ended-clause-turned g c f follows =
-    let seat = same_follower f _ (sym (ap standing_of c.in-Follows.is) ∙ ap (λ (s : Served). s.standing) c.self.view_is ∙ follows) in
+    let keeper = same_follower f _ (sym (ap standing_of c.in-Follows.is) ∙ ap (λ (s : Served). s.standing) c.self.view_is ∙ follows) in
     let texts = ap (λ (s : Served). s.texts) c.self.view_is in (
       c.is_told_to_go.ensures.standing ∙ c.leave.ensures.left _ refl ∙ ap Ended c.ending_of.ensures,
       _,
-      pushed_at _ _ _ _ _ _ c.in-Ended.is (turn_of f _ _ _ _ _ _ _ seat texts c.is_told_to_go.ensures.texts c.push_some-turn.ensures),
+      pushed_at _ _ _ _ _ _ c.in-Ended.is (turn_of f _ _ _ _ _ _ _ keeper texts c.is_told_to_go.ensures.texts c.push_some-turn.ensures),
     )
 
 pub returns-in_default-turn : goal.returns-in_default-turn

@@ -1,7 +1,7 @@
 use Rattle.std.proofs.Common.{rules, ◌≡◌, ◌++◌, ◌∷◌, [], length, None}
 use Rattle.relay_frames.specs.Frames.{text_frame}
 use Rattle.relay_watching.specs.Promised.{done_frame}
-use Rattle.relay_watching.specs.Inner.Kept.{course_of}
+use Rattle.relay_watching.specs.Inner.TapeFields.{course_of}
 use Rattle.relay_watching.specs.Texts.{over_answer}
 use Rattle.relay_watching.proofs.Holdings.{kept_end}
 use Rattle.relay_watching.proofs.Progresses.{end_goes_on}

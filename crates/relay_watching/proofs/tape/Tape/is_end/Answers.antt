@@ -1,5 +1,5 @@
 use Rattle.std.proofs.lemmas.List.Sorted.{searched}
-use Rattle.relay_watching.specs.Inner.Kept.{course_of}
+use Rattle.relay_watching.specs.Inner.TapeFields.{course_of}
 use Rattle.relay_watching.proofs.Holdings.{found_end, ends_rise}
 use Rattle.relay_watching.proofs.tape.Tape.is_end.Goals as goal
 

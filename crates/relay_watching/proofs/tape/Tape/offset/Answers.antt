@@ -1,6 +1,6 @@
 use Rattle.std.proofs.Common.{◌≤◌, length, arith, ◌∙◌}
 use Rattle.std.proofs.lemmas.List.{get_or_read}
-use Rattle.relay_watching.specs.Inner.Kept.{course_of}
+use Rattle.relay_watching.specs.Inner.TapeFields.{course_of}
 use Rattle.relay_watching.proofs.Holdings.{offset_kept}
 use Rattle.relay_watching.proofs.Promises.{length-tape_frames}
 use Rattle.relay_watching.proofs.tape.Tape.offset.Goals as goal

@@ -1,6 +1,6 @@
 use Rattle.std.proofs.Common.{rules, ◌≡◌, ◌++◌, ◌∷◌, [], length, None}
 use Rattle.relay_frames.specs.Frames.{text_frame}
-use Rattle.relay_watching.specs.Inner.Kept.{course_of}
+use Rattle.relay_watching.specs.Inner.TapeFields.{course_of}
 use Rattle.relay_watching.specs.Texts.{move_answer}
 use Rattle.relay_watching.proofs.Holdings.{kept_move}
 use Rattle.relay_watching.proofs.Progresses.{move_goes_on}

@@ -1,0 +1,2 @@
+-- What only the code and its proofs use. Readers of the promises need none of it.
+pub mod Conditions

@@ -1,0 +1,6 @@
+-- The laws that the proofs of other crates cite. All other proofs of this crate are its own.
+pub mod DrawFacts
+pub mod GameFacts
+pub mod KeptFacts
+pub mod LogFacts
+pub mod MoveFacts

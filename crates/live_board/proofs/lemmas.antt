@@ -1,0 +1,6 @@
+-- The laws that the proofs of other crates cite. All other proofs of this crate are its own.
+pub mod Cases
+pub mod Headlines
+pub mod Notes
+pub mod Totals
+pub mod Tries

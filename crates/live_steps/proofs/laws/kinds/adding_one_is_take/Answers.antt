@@ -1,5 +1,0 @@
-use Rattle.live_steps.proofs.Taking.{adds_one}
-use Rattle.live_steps.proofs.laws.kinds.adding_one_is_take.Goals as goal
-
-pub returns : goal.returns
-returns c = adds_one

@@ -1,5 +1,0 @@
-use Rattle.live_steps.proofs.Checking.{closes_a_cursor}
-use Rattle.live_steps.proofs.laws.kinds.closing_a_cursor_is_cut_or_silent.Goals as goal
-
-pub returns : goal.returns
-returns c = closes_a_cursor

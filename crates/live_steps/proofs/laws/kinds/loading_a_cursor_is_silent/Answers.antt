@@ -1,5 +1,0 @@
-use Rattle.live_steps.proofs.Checking.{loads_a_cursor}
-use Rattle.live_steps.proofs.laws.kinds.loading_a_cursor_is_silent.Goals as goal
-
-pub returns : goal.returns
-returns c = loads_a_cursor

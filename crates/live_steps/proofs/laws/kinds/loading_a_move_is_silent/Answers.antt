@@ -1,5 +1,0 @@
-use Rattle.live_steps.proofs.Looking.{loads_a_move}
-use Rattle.live_steps.proofs.laws.kinds.loading_a_move_is_silent.Goals as goal
-
-pub returns : goal.returns
-returns c = loads_a_move

@@ -1,5 +1,0 @@
-use Rattle.live_steps.proofs.Publishing.{stores_an_open_cursor}
-use Rattle.live_steps.proofs.laws.kinds.storing_an_open_cursor_is_follow.Goals as goal
-
-pub returns : goal.returns
-returns c = stores_an_open_cursor

@@ -1,5 +1,0 @@
-use Rattle.live_steps.proofs.Leaving.{swaps_out}
-use Rattle.live_steps.proofs.laws.kinds.swapping_out_is_leave.Goals as goal
-
-pub returns : goal.returns
-returns c = swaps_out

@@ -1,0 +1,26 @@
+use Rattle.std.proofs.Common.{sym, ap, ◌∙◌, ◌≡◌, ◌<◌, ◌≤◌, ◌+◌, length, subst}
+use Rattle.std.proofs.lemmas.Option.{same_Some}
+use mathlib.Core.Option.{some}
+use lib.ListN.{get_elem?}
+use Rattle.std.specs.Option.{option_copied_mut}
+use Rattle.live_board.specs.declared.note.Note.TheVariants.{Vacant}
+use Rattle.live_board.specs.Seats.{BoardSeat}
+use Rattle.relay_live.proofs.boards.join.Goals as goal
+
+pub join_at-requires-clause-inside : goal.join_at-requires-clause-inside
+join_at-requires-clause-inside c =
+    let s = c.requires in
+    let is : c.in-Some.live.now ≡ s.0 = same_Some _ _ (sym (ap option_copied_mut c.in-Some.is) ∙ c.get_mut.ensures.value ∙ s.1) in
+    subst (λ (h : BoardSeat). c.args.slot < h.knows.setup.limits.followers) (sym is) s.2
+
+pub join_at-requires-clause-vacant : goal.join_at-requires-clause-vacant
+join_at-requires-clause-vacant c =
+    let s = c.requires in
+    let is : c.in-Some.live.now ≡ s.0 = same_Some _ _ (sym (ap option_copied_mut c.in-Some.is) ∙ c.get_mut.ensures.value ∙ s.1) in
+    subst (λ (h : BoardSeat). get_elem? h.knows.notes c.args.slot ≡ some Vacant) (sym is) s.3
+
+pub join_at-requires-clause-from : goal.join_at-requires-clause-from
+join_at-requires-clause-from c =
+    let s = c.requires in
+    let is : c.in-Some.live.now ≡ s.0 = same_Some _ _ (sym (ap option_copied_mut c.in-Some.is) ∙ c.get_mut.ensures.value ∙ s.1) in
+    subst (λ (h : BoardSeat). (c.args.from ≤ length h.knows.log) × (length h.knows.log ≤ c.args.from + h.knows.setup.limits.capacity)) (sym is) (s.4, s.5)

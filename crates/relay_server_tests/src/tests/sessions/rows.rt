@@ -1,0 +1,116 @@
+//! What peers send over a stream in memory, and how their sessions end.
+
+use crate::tests::sessions::frames::{
+    BINARY, CLOSE, FIRST_PART, LAST_PART, PING, REQUEST, TEXT, frame,
+};
+use c960_game::Limits;
+use relay_server::{Registry, SessionEnd};
+use std::alloc::{AllocError, Global};
+
+const OPEN_B1: &[u8] = b"{\"board\":\"b1\",\"cmd\":\"open\",\"start\":518}";
+
+const OPEN_B2: &[u8] = b"{\"board\":\"b2\",\"cmd\":\"open\",\"start\":518}";
+
+const NORMAL: &[u8] = &[0x03, 0xe8];
+
+/// The longest text allowed, and one that is too long.
+const LONGEST: [u8; 1024] = [b' '; 1024];
+
+const TOO_LONG: [u8; 1025] = [b' '; 1025];
+
+/// A frame's first byte, and its payload.
+pub type Frame = (u8, &'static [u8]);
+
+/// The frames that a peer sends; how many bytes are cut off at their end; how the session ends; what it answers, as lines; and how
+/// often the gate was notified of a first command, and of its answer.
+pub type Row = (
+    &'static [Frame],
+    usize,
+    SessionEnd,
+    &'static [u8],
+    (u64, u64),
+);
+
+pub const ROWS: [Row; 6] = [
+    // There is no command, and so nothing for the gate.
+    (
+        &[(PING, b""), (CLOSE, NORMAL)],
+        0,
+        SessionEnd::Closed,
+        b"opcode 138\nclose 1000\n",
+        (0, 0),
+    ),
+    // A ping, a binary message, a text that is too long and one that is not, a text in two parts, a command that nobody may make.
+    (
+        &[
+            (TEXT, OPEN_B1),
+            (PING, b"here"),
+            (BINARY, OPEN_B1),
+            (TEXT, &TOO_LONG),
+            (TEXT, &LONGEST),
+            (FIRST_PART, b"{\"cmd\":\"submit\",\"bo"),
+            (LAST_PART, b"ard\":\"b1\",\"move\":\"e2e4\"}"),
+            (TEXT, b"{\"cmd\":\"take\",\"spectator\":1}"),
+            (CLOSE, NORMAL),
+        ],
+        0,
+        SessionEnd::Closed,
+        b"{\"reply\":\"opened\"}\nopcode 138\n{\"code\":21,\"name\":\"NotJson\",\"reply\":\"refused\"}\n{\"code\":24,\"name\":\"BadField\",\"reply\":\"refused\"}\n{\"code\":21,\"name\":\"NotJson\",\"reply\":\"refused\"}\n{\"outcome\":null,\"place\":0,\"reply\":\"played\"}\n{\"code\":14,\"name\":\"WrongMode\",\"reply\":\"refused\"}\nclose 1000\n",
+        (1, 1),
+    ),
+    // Its board is over.
+    (
+        &[(
+            TEXT,
+            b"{\"cmd\":\"follow\",\"board\":\"b1\",\"spectator\":9}",
+        )],
+        0,
+        SessionEnd::Over,
+        b"{\"fen\":\"rnbqkbnr/pppppppp/8/8/4P3/8/PPPP1PPP/RNBQKBNR b HAha e3 0 1\",\"joined\":1,\"reply\":\"following\"}\n{\"outcome\":\"abandoned\",\"reply\":\"over\"}\nclose 1000\n",
+        (1, 1),
+    ),
+    // A binary message is a first command, too.
+    (
+        &[(BINARY, OPEN_B2), (CLOSE, NORMAL)],
+        0,
+        SessionEnd::Closed,
+        b"{\"code\":21,\"name\":\"NotJson\",\"reply\":\"refused\"}\nclose 1000\n",
+        (1, 1),
+    ),
+    // A stream that ends in the middle of a frame, and then the board that was opened before.
+    (
+        &[(TEXT, OPEN_B2), (TEXT, OPEN_B2)],
+        9,
+        SessionEnd::Failed,
+        b"{\"reply\":\"opened\"}\n",
+        (1, 1),
+    ),
+    (
+        &[(
+            TEXT,
+            b"{\"cmd\":\"follow\",\"board\":\"b2\",\"spectator\":9}",
+        )],
+        0,
+        SessionEnd::Over,
+        b"{\"fen\":\"rnbqkbnr/pppppppp/8/8/8/8/PPPPPPPP/RNBQKBNR w HAha - 0 1\",\"joined\":0,\"reply\":\"following\"}\n{\"outcome\":\"abandoned\",\"reply\":\"over\"}\nclose 1000\n",
+        (1, 1),
+    ),
+];
+
+/// A registry with the default limits.
+pub fn registry(alloc: Global) -> Result<Registry, AllocError> {
+    match Limits::new(16, 64, 64, 1024) {
+        Some(limits) => Registry::new(alloc, limits),
+        None => Err(AllocError),
+    }
+}
+
+/// The request, and then these frames.
+pub fn input(alloc: Global, frames: &[Frame]) -> Result<Vec<u8>, AllocError> {
+    let mut bytes = Vec::new(alloc);
+    bytes.extend_from_slice(REQUEST)?;
+    for (first, payload) in frames {
+        bytes.extend_from_slice(frame(alloc, *first, payload)?.as_slice())?;
+    }
+    Ok(bytes)
+}
