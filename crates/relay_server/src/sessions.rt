@@ -122,15 +122,7 @@ fn attend<'a, 'g, R: Wait + Clock, S: Stream + Drop, G: Gate>(
     let keeper = ConnectionKeeper::new(rt, registry, key);
     let mut talk = Talk::new(alloc, connection, outlet, keeper, gate, patience);
     let end = converse(rt, &mut talk);
-    let Talk {
-        mut outlet,
-        conn,
-        mut keeper,
-        ..
-    } = talk;
-    outlet.give_up();
-    end_own(conn, &mut keeper);
-    end_session(rt, registry, outlet, keeper, &key, end)
+    end_talk(rt, registry, talk, &key, end)
 }
 
 /// Answers a connection that has come, until it follows or to its end. If it follows, it moves to a loop if one takes it.
@@ -155,15 +147,7 @@ pub(crate) fn attend_or_hand_over<'a, 'g, R: Wait + Clock, G: Gate>(
         return;
     }
     let end = conclude(rt, &mut talk, talked);
-    let Talk {
-        mut outlet,
-        conn,
-        mut keeper,
-        ..
-    } = talk;
-    outlet.give_up();
-    end_own(conn, &mut keeper);
-    let _ = end_session(rt, registry, outlet, keeper, &key, end);
+    let _ = end_talk(rt, registry, talk, &key, end);
     registry.goes();
 }
 
@@ -189,6 +173,25 @@ fn follow_in_loop<'a, R: Wait + Clock>(
     outlet.give_up();
     let _ = end_session(rt, registry, outlet, keeper, key, end);
     registry.goes();
+}
+
+/// Ends a session whose talk has ended in this way: its boards end, unless it has a key, and then its follower leaves.
+fn end_talk<'a, 'g, R: Wait + Clock, S: Stream + Drop, G: Gate>(
+    rt: &'a R,
+    registry: &'a Registry,
+    talk: Talk<'a, 'g, R, S, G>,
+    key: &Option<Key>,
+    end: SessionEnd,
+) -> SessionEnd {
+    let Talk {
+        mut outlet,
+        conn,
+        mut keeper,
+        ..
+    } = talk;
+    outlet.give_up();
+    end_own(conn, &mut keeper);
+    end_session(rt, registry, outlet, keeper, key, end)
 }
 
 /// Ends a session that ended in this way and whose boards were ended: its follower leaves, and what the peer still sends is read for a
