@@ -22,26 +22,12 @@ const MOST_KNOCKS: u32 = 80;
 /// How many milliseconds pass between two tries.
 const BETWEEN_KNOCKS_MILLIS: u64 = 50;
 
-/// Starts the thread. It lasts as long as standard input does, so nobody joins it. If it cannot be started, serving ends at once.
-pub(crate) fn watch_input<R>(rt: &R, registry: &Arc<Registry, Global>, listener: &TcpListener)
-where
-    R: Input<Reader = StdinLock<'static>>
-        + Net<Listener = TcpListener, Stream = TcpStream>
-        + Threads
-        + Wait
-        + Clock
-        + Clone
-        + Send
-        + Drop
-        + 'static,
-{
-    if spawn(rt, registry, listener).is_none() {
-        registry.set_ending();
-    }
-}
-
-/// Starts the thread.
-fn spawn<R>(rt: &R, registry: &Arc<Registry, Global>, listener: &TcpListener) -> Option<()>
+/// Starts the thread, if the system has one. It lasts as long as standard input does, so nobody joins it.
+pub(crate) fn watch_input<R>(
+    rt: &R,
+    registry: &Arc<Registry, Global>,
+    listener: &TcpListener,
+) -> Option<()>
 where
     R: Input<Reader = StdinLock<'static>>
         + Net<Listener = TcpListener, Stream = TcpStream>

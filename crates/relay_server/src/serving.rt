@@ -104,8 +104,9 @@ where
     ensures most { IfSome most (λ n. result.served + result.failed ≤ n) }
     ensures all { until_input_ends ≡ false → IfSome most (λ n. result.served + result.failed ≡ n) }
 {
-    if until_input_ends {
-        watch_input(rt, registry, &listener);
+    // If nobody can watch the input, serving ends at once.
+    if until_input_ends && watch_input(rt, registry, &listener).is_none() {
+        registry.set_ending();
     }
     let scribe = Scribe::start(rt, registry);
     let grace = Grace::start(rt, registry);

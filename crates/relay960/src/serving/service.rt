@@ -49,7 +49,22 @@ where
         end_loops(rt, loops);
         return Err(ServeFault::Write);
     }
-    Ok(meet(rt, alloc, listener, &registry, &gate, service, loops))
+    let most = match service.connections {
+        Connections::Count(most) => Some(most),
+        Connections::Forever => None,
+    };
+    let until_input_ends = service.until_input_ends;
+    let end = serve(
+        rt,
+        alloc,
+        listener,
+        &registry,
+        &gate,
+        most,
+        until_input_ends,
+    );
+    end_loops(rt, loops);
+    Ok(end)
 }
 
 /// Listens on the watch port, if there is to be one.
@@ -106,14 +121,7 @@ fn start_loops<R>(
     registry: &Arc<Registry, Global>,
 ) -> Result<Option<Loops>, ServeFault>
 where
-    R: Net<Listener = TcpListener, Stream = TcpStream>
-        + Threads
-        + Wait
-        + Clock
-        + Clone
-        + Send
-        + Drop
-        + 'static,
+    R: Threads + Wait + Clock + Clone + Send + Drop + 'static,
 {
     match watch {
         Some(watch) => Ok(Some(watch.start(rt, alloc, registry)?)),
@@ -140,46 +148,6 @@ fn announce<R: Print>(rt: &R, service: &Service) -> io::Result<()> {
         Some(asked) => writeln!(out, "watching {}", asked.address),
         None => Ok(()),
     }
-}
-
-/// Meets connections until serving ends, and then ends the loops of the watch port.
-fn meet<R>(
-    rt: &R,
-    alloc: Global,
-    listener: TcpListener,
-    registry: &Arc<Registry, Global>,
-    gate: &Arc<OpenGate, Global>,
-    service: &Service,
-    loops: Option<Loops>,
-) -> ServeEnd
-where
-    R: Net<Listener = TcpListener, Stream = TcpStream>
-        + Input<Reader = StdinLock<'static>>
-        + Eprint
-        + Threads
-        + Wait
-        + Clock
-        + Clone
-        + Send
-        + Drop
-        + 'static,
-    ensures { MeetsWith service.now.connections service.now.until_input_ends result }
-{
-    let until_input_ends = service.until_input_ends;
-    let end = match service.connections {
-        Connections::Count(most) => serve(
-            rt,
-            alloc,
-            listener,
-            registry,
-            gate,
-            Some(most),
-            until_input_ends,
-        ),
-        Connections::Forever => serve(rt, alloc, listener, registry, gate, None, until_input_ends),
-    };
-    end_loops(rt, loops);
-    end
 }
 
 /// For how many seconds a guest that asks for nothing is waited for.

@@ -7,7 +7,7 @@ use relay960_words::WatchPort;
 use std::alloc::Global;
 use std::io;
 use std::io::ErrorKind;
-use std::net::{Net, TcpListener, TcpStream};
+use std::net::{Net, TcpListener};
 use std::sync::atomic::AtomicU32;
 use std::sync::{Arc, Wait};
 use std::thread::{Builder, JoinHandle, Threads};
@@ -125,14 +125,7 @@ impl Watch {
         registry: &Arc<Registry, Global>,
     ) -> Result<Loops, ServeFault>
     where
-        R: Net<Listener = TcpListener, Stream = TcpStream>
-            + Threads
-            + Wait
-            + Clock
-            + Clone
-            + Send
-            + Drop
-            + 'static,
+        R: Threads + Wait + Clock + Clone + Send + Drop + 'static,
     {
         let Watch { port, ready } = self;
         let mut loops = Loops {
@@ -185,14 +178,7 @@ fn spawn<R>(
     ready: Ready,
 ) -> Option<Running>
 where
-    R: Net<Listener = TcpListener, Stream = TcpStream>
-        + Threads
-        + Wait
-        + Clock
-        + Clone
-        + Send
-        + Drop
-        + 'static,
+    R: Threads + Wait + Clock + Clone + Send + Drop + 'static,
 {
     let Ready {
         event_loop,
