@@ -1,7 +1,6 @@
 //! The followers of one board in a loop.
 
 use crate::broadcast::Broadcast;
-use crate::ready::Ready;
 use std::alloc::Global;
 use std::sync::Arc;
 
@@ -13,8 +12,9 @@ pub(crate) struct Audience {
     heard: Option<u64>,
     /// How many followers there are.
     pub(crate) count: usize,
-    /// Those that are pushed to as soon as the board is rung for.
-    pub(crate) ready: Ready,
+    /// The keys of those that are pushed to as soon as the board is rung for, in any order: all but those whose connections take no more
+    /// now.
+    pub(crate) ready: Vec<usize>,
 }
 
 impl Audience {
@@ -24,7 +24,7 @@ impl Audience {
             board,
             heard: None,
             count: 0,
-            ready: Ready::new(alloc),
+            ready: Vec::new(alloc),
         }
     }
 

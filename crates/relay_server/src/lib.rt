@@ -31,7 +31,6 @@ mod occupancy;
 mod outlet;
 mod patience;
 mod presence;
-mod ready;
 mod registry;
 mod request;
 mod scribe;

@@ -208,13 +208,14 @@ impl<'a, R: Wait + Clock> Spectators<'a, R> {
         let Some(audience) = self.audiences.get_mut(attendee.audience) else {
             return;
         };
-        match audience.ready.add(key) {
-            Ok(index) => attendee.ready_index = Some(index),
+        let index = audience.ready.len();
+        match audience.ready.push(key) {
+            Ok(()) => attendee.ready_index = Some(index),
             Err(_) => self.remove(key),
         }
     }
 
-    /// Removes a spectator from those.
+    /// Removes a spectator from those. The last of them takes its place.
     fn rests(&mut self, key: usize) {
         let Some(attendee) = self.attendees.get_mut(key) else {
             return;
@@ -222,11 +223,14 @@ impl<'a, R: Wait + Clock> Spectators<'a, R> {
         let Some(index) = attendee.ready_index.take() else {
             return;
         };
-        let moved = match self.audiences.get_mut(attendee.audience) {
-            Some(audience) => audience.ready.remove(index),
-            None => None,
+        let Some(audience) = self.audiences.get_mut(attendee.audience) else {
+            return;
         };
-        if let Some(moved) = moved {
+        if index >= audience.ready.len() {
+            return;
+        }
+        let _ = audience.ready.swap_remove(index);
+        if let Some(moved) = audience.ready.get(index).copied() {
             if let Some(other) = self.attendees.get_mut(moved) {
                 other.ready_index = Some(index);
             }
@@ -369,7 +373,7 @@ impl<'a, R: Wait + Clock> Spectators<'a, R> {
 
     /// The key of the spectator at this index among the ready ones of an audience.
     fn ready_at(&self, at: usize, index: usize) -> Option<usize> {
-        self.audiences.get(at)?.ready.at(index)
+        self.audiences.get(at)?.ready.get(index).copied()
     }
 
     // ---- Hearing.
