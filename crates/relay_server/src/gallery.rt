@@ -18,7 +18,7 @@ use crate::socket::Socket;
 use crate::spectating::Spectating;
 use crate::spectator::Spectator;
 use crate::spectators::Newcomer;
-use crate::threads::{Running, Shared};
+use crate::threads::{OWN_STACK_BYTES, Running, Shared};
 use crate::wire::Wire;
 use std::alloc::Global;
 use std::io;
@@ -31,9 +31,6 @@ use std::time::Clock;
 
 /// How many loops there are.
 const BALCONIES: usize = 2;
-
-/// How many bytes the stack of a loop's thread has.
-const STACK_BYTES: usize = 256 * 1024;
 
 /// All balconies. Connections that follow are distributed over them in turn.
 #[derive(Drop)]
@@ -253,7 +250,7 @@ where
     let registry = Arc::try_clone(registry).ok()?;
     let gallery = Arc::try_clone(gallery).ok()?;
     let handle = Builder::new()
-        .stack_size(STACK_BYTES)
+        .stack_size(OWN_STACK_BYTES)
         .spawn(rt, move || {
             balcony_loop.run(&own, &registry, &gallery, at);
             of_thread.has_ended.store(true, Ordering::SeqCst);

@@ -1,18 +1,16 @@
 //! The thread that ends boards when nobody has come back with their key.
 
 use crate::registry::Registry;
+use crate::threads::OwnThread;
 use std::alloc::Global;
 use std::sync::{Arc, Wait};
-use std::thread::{Builder, JoinHandle, Threads};
+use std::thread::Threads;
 use std::time::{Clock, Instant};
-
-/// How many bytes the thread's stack has.
-const STACK_BYTES: usize = 256 * 1024;
 
 /// The thread, if there is one.
 #[derive(Drop)]
 pub(crate) struct Grace {
-    handle: Option<JoinHandle<()>>,
+    thread: OwnThread,
 }
 
 impl Grace {
@@ -23,13 +21,15 @@ impl Grace {
     {
         registry.set_closed(false);
         if !registry.takes_keys() {
-            return Grace { handle: None };
+            return Grace {
+                thread: OwnThread::none(),
+            };
         }
-        let handle = spawn(rt, registry);
-        if handle.is_some() {
+        let thread = OwnThread::start(rt, registry, |rt, registry| run(rt, registry));
+        if thread.is_there() {
             registry.watch(rt, true);
         }
-        Grace { handle }
+        Grace { thread }
     }
 
     /// Called when no more connections are accepted. Once those accepted have shaken hands, the waiting boards are ended, and so is the
@@ -40,23 +40,8 @@ impl Grace {
 
     /// Joins the thread.
     pub(crate) fn join<R: Threads>(self, rt: &R) {
-        if let Some(handle) = self.handle {
-            let () = handle.join(rt);
-        }
+        self.thread.join(rt);
     }
-}
-
-/// Starts the thread.
-fn spawn<R>(rt: &R, registry: &Arc<Registry, Global>) -> Option<JoinHandle<()>>
-where
-    R: Threads + Wait + Clock + Clone + Send + Drop + 'static,
-{
-    let own = rt.clone().ok()?;
-    let registry = Arc::try_clone(registry).ok()?;
-    Builder::new()
-        .stack_size(STACK_BYTES)
-        .spawn(rt, move || run(&own, &registry))
-        .ok()
 }
 
 /// Ends the boards that have waited long enough. Sleeps until the next ones have, or others begin to wait, until it is over.

@@ -2,6 +2,7 @@
 
 use crate::registry::Registry;
 use crate::stream::read_some;
+use crate::threads::OWN_STACK_BYTES;
 use std::alloc::Global;
 use std::io::StdinLock;
 use std::net::{Net, SocketAddr, TcpListener, TcpStream};
@@ -9,9 +10,6 @@ use std::sync::{Arc, Wait};
 use std::thread;
 use std::thread::{Builder, Threads};
 use std::time::{Clock, Duration};
-
-/// How many bytes the thread's stack has.
-const STACK_BYTES: usize = 256 * 1024;
 
 /// How many bytes of standard input are read at a time. Their contents are ignored.
 const READ_BYTES: usize = 256;
@@ -43,7 +41,7 @@ where
     let own = rt.clone().ok()?;
     let registry = Arc::try_clone(registry).ok()?;
     let _ = Builder::new()
-        .stack_size(STACK_BYTES)
+        .stack_size(OWN_STACK_BYTES)
         .spawn(rt, move || {
             read_to_end(&own);
             registry.set_ending();

@@ -3,16 +3,14 @@
 use crate::chronicle::LogNotes;
 use crate::deadline::Deadline;
 use crate::registry::Registry;
+use crate::threads::OwnThread;
 use log::sink::Console;
 use log::{Level, Logged, info};
 use std::alloc::Global;
 use std::sync::atomic::Ordering;
 use std::sync::{Arc, Wait};
-use std::thread::{Builder, JoinHandle, Threads};
+use std::thread::Threads;
 use std::time::{Clock, Duration};
-
-/// How many bytes the thread's stack has.
-const STACK_BYTES: usize = 256 * 1024;
 
 /// How many seconds pass between two lines of counts.
 const BETWEEN_COUNTS_SECONDS: u64 = 60;
@@ -20,7 +18,7 @@ const BETWEEN_COUNTS_SECONDS: u64 = 60;
 /// The thread, if there is one.
 #[derive(Drop)]
 pub(crate) struct Scribe {
-    handle: Option<JoinHandle<()>>,
+    thread: OwnThread,
 }
 
 impl Scribe {
@@ -30,33 +28,20 @@ impl Scribe {
         R: Threads + Wait + Clock + Eprint + Clone + Send + Drop + 'static,
     {
         if !registry.chronicle.is_kept {
-            return Scribe { handle: None };
+            return Scribe {
+                thread: OwnThread::none(),
+            };
         }
         Scribe {
-            handle: spawn(rt, registry),
+            thread: OwnThread::start(rt, registry, |rt, registry| run(rt, registry)),
         }
     }
 
     /// Lets the thread write what is left, and joins it.
     pub(crate) fn end<R: Threads>(self, rt: &R, registry: &Registry) {
         registry.chronicle.end();
-        if let Some(handle) = self.handle {
-            let () = handle.join(rt);
-        }
+        self.thread.join(rt);
     }
-}
-
-/// Starts the thread.
-fn spawn<R>(rt: &R, registry: &Arc<Registry, Global>) -> Option<JoinHandle<()>>
-where
-    R: Threads + Wait + Clock + Eprint + Clone + Send + Drop + 'static,
-{
-    let own = rt.clone().ok()?;
-    let registry = Arc::try_clone(registry).ok()?;
-    Builder::new()
-        .stack_size(STACK_BYTES)
-        .spawn(rt, move || run(&own, &registry))
-        .ok()
 }
 
 /// Writes what is noted, and once a minute the counts, until no more notes come.

@@ -1,4 +1,4 @@
-//! The threads of sessions, which are joined as they end.
+//! The threads of sessions, which are joined as they end, and those that are the server's own.
 
 use crate::deadline::Deadline;
 use crate::registry::Registry;
@@ -6,8 +6,11 @@ use std::alloc::Global;
 use std::net::TcpStream;
 use std::sync::atomic::{AtomicBool, Ordering};
 use std::sync::{Arc, Mutex, Wait};
-use std::thread::{JoinHandle, Threads};
+use std::thread::{Builder, JoinHandle, Threads};
 use std::time::Clock;
+
+/// How many bytes the stack of a thread that is the server's own has.
+pub(crate) const OWN_STACK_BYTES: usize = 256 * 1024;
 
 /// What a session's thread shares with its starter: the connection, until one of them takes it, and whether the session has ended.
 #[derive(Drop)]
@@ -104,4 +107,56 @@ pub(crate) fn join_until_due<R: Threads + Wait + Clock>(
         };
         registry.ended.doze(rt, heard, left);
     }
+}
+
+/// A thread that is the server's own, if there is one.
+#[derive(Drop)]
+pub(crate) struct OwnThread {
+    handle: Option<JoinHandle<()>>,
+}
+
+impl OwnThread {
+    /// No thread.
+    pub(crate) fn none() -> OwnThread {
+        OwnThread { handle: None }
+    }
+
+    /// Starts a thread that does this work, if the system has one.
+    pub(crate) fn start<R, F>(rt: &R, registry: &Arc<Registry, Global>, work: F) -> OwnThread
+    where
+        R: Threads + Clone + Send + Drop + 'static,
+        F: FnOnce(&R, &Registry) + Send + Drop + 'static,
+        requires { F.IsAlwaysCallable work }
+    {
+        OwnThread {
+            handle: spawn(rt, registry, work),
+        }
+    }
+
+    /// Whether there is one.
+    pub(crate) fn is_there(&self) -> bool {
+        self.handle.is_some()
+    }
+
+    /// Joins it.
+    pub(crate) fn join<R: Threads>(self, rt: &R) {
+        if let Some(handle) = self.handle {
+            let () = handle.join(rt);
+        }
+    }
+}
+
+/// Starts a thread that does this work.
+fn spawn<R, F>(rt: &R, registry: &Arc<Registry, Global>, work: F) -> Option<JoinHandle<()>>
+where
+    R: Threads + Clone + Send + Drop + 'static,
+    F: FnOnce(&R, &Registry) + Send + Drop + 'static,
+    requires { F.IsAlwaysCallable work }
+{
+    let own = rt.clone().ok()?;
+    let registry = Arc::try_clone(registry).ok()?;
+    Builder::new()
+        .stack_size(OWN_STACK_BYTES)
+        .spawn(rt, move || work(&own, &registry))
+        .ok()
 }
