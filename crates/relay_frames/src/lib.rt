@@ -20,5 +20,5 @@ pub use breach::Breach;
 pub use code::Code;
 pub use event::Event;
 pub use peer::{MOST_BYTES, MOST_FRAGMENTS, Peer};
-pub use request::{MOST_FIELDS, acceptance_of, refusal_of};
+pub use request::{MOST_FIELDS, MOST_HEAD_BYTES, acceptance_of, end_of_head, refusal_of};
 pub use request_refusal::RequestRefusal;

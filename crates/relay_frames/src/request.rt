@@ -1,9 +1,10 @@
-//! Whether a request is answered with a WebSocket (RFC 9112, sections 2 to 5; RFC 6455, section 4.2.1).
+//! Where the head of a request ends, and whether it is answered with a WebSocket (RFC 9112, sections 2 to 5; RFC 6455, section 4.2.1).
 
-ghost use Rattle.std.specs.Prelude.{◌≡◌, ◌==◌, length, codes, take, None, Some, All, IfOk, IfErr};
+ghost use Rattle.std.specs.Prelude.{◌≡◌, ◌==◌, ◌≤◌, length, codes, take, None, Some, All, IfOk, IfErr, IfSome};
 ghost use Rattle.httparse.specs.Spans.{IsHeaderWithin, IsRequestWithin, span_bytes};
 ghost use Rattle.websocket.specs.Headers.{eq_ignore_case, fields_of};
 ghost use Rattle.relay_frames.specs.Requests.{Accepts, IsAcceptance, IsAnswered, IsJudged, count_of_hosts};
+ghost use Rattle.relay_frames.specs.declared.request.TheConstants.{MOST_HEAD_BYTES};
 
 use crate::acceptance::Acceptance;
 use crate::request_refusal::RequestRefusal;
@@ -14,6 +15,25 @@ use websocket::handshake::server::check_request;
 
 /// How many fields a head may have: a browser behind two proxies sends some 25.
 pub const MOST_FIELDS: usize = 64;
+
+/// How many bytes a head may have.
+pub const MOST_HEAD_BYTES: usize = 8192;
+
+/// The bytes that end a head.
+const BLANK_LINE: &[u8; 4] = b"\r\n\r\n";
+
+/// The end of the head: after the first blank line, which does not end within the bytes seen before. An end beyond the
+/// greatest number of bytes does not count.
+pub fn end_of_head(bytes: &[u8], seen: usize) -> Option<usize>
+    ensures bound { IfSome result (λ end. end ≤ MOST_HEAD_BYTES) }
+{
+    for at in seen.max(3)..bytes.len().min(MOST_HEAD_BYTES) {
+        if &bytes[at - 3..at + 1] == BLANK_LINE.as_slice() {
+            return Some(at + 1);
+        }
+    }
+    None
+}
 
 /// How the request with this head is accepted. The bytes end where the head ends.
 ///

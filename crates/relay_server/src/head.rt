@@ -1,22 +1,16 @@
 //! The head of a request (RFC 9112, section 2), gathered whole before it is read.
 
-ghost use Rattle.std.specs.Prelude.{◌≡◌, ◌≤◌, ◌<◌, ◌++◌, [], length, take, vec_capacity, vec_len, IfOk, IfSome};
+ghost use Rattle.std.specs.Prelude.{◌≡◌, ◌≤◌, ◌<◌, ◌++◌, [], length, take, vec_capacity, vec_len, IfOk};
 ghost use Rattle.relay_server.specs.Heads.{left};
 
 use crate::deadline::Deadline;
 use crate::key::Key;
 use crate::stream::{Stream, read_some};
-use relay_frames::RequestRefusal;
+use relay_frames::{MOST_HEAD_BYTES, RequestRefusal, end_of_head};
 use std::alloc::Global;
 use std::io::ErrorKind;
 use std::time::{Clock, Duration};
 use std::{io, str};
-
-/// The bytes that end a head.
-const BLANK_LINE: &[u8; 4] = b"\r\n\r\n";
-
-/// How many bytes a head may have.
-const MOST_BYTES: usize = 8192;
 
 /// How many seconds a peer may take to send its head.
 const MOST_HEAD_SECONDS: u64 = 10;
@@ -63,7 +57,7 @@ impl Head {
     {
         let deadline = Deadline::after(clock, Duration::from_secs(MOST_HEAD_SECONDS))?;
         let mut bytes = Vec::new(alloc);
-        for _ in 0..MOST_BYTES {
+        for _ in 0..MOST_HEAD_BYTES {
             stream.bound_reads(Some(deadline.left(clock)?))?;
             let seen = bytes.len();
             if read_more(stream, &mut bytes)? == 0 {
@@ -82,7 +76,7 @@ impl Head {
                     given: end,
                 });
             }
-            if bytes.len() >= MOST_BYTES {
+            if bytes.len() >= MOST_HEAD_BYTES {
                 break;
             }
         }
@@ -141,19 +135,6 @@ fn read_more<S: Stream>(stream: &mut S, bytes: &mut Vec<u8>) -> io::Result<usize
         Ok(()) => Ok(n),
         Err(_) => Err(io::Error::from(ErrorKind::OutOfMemory)),
     }
-}
-
-/// The end of the head: after the first blank line, which does not end within the bytes seen before. An end beyond the
-/// greatest number of bytes does not count.
-fn end_of_head(bytes: &[u8], seen: usize) -> Option<usize>
-    ensures { IfSome result (λ end. end ≤ 8192) }
-{
-    for at in seen.max(3)..bytes.len().min(MOST_BYTES) {
-        if &bytes[at - 3..at + 1] == BLANK_LINE.as_slice() {
-            return Some(at + 1);
-        }
-    }
-    None
 }
 
 /// The key in the target of a request with this head (RFC 9112, section 3). The fields of its query come after the first `?` and

@@ -1,15 +1,9 @@
 //! A visitor's request, as it comes, and its answer.
 
 use crate::visitor::{Doing, Visitor};
-use relay_frames::{RequestRefusal, acceptance_of};
+use relay_frames::{MOST_HEAD_BYTES, RequestRefusal, acceptance_of, end_of_head};
 use std::alloc::{AllocError, Global};
 use std::mem;
-
-/// The bytes that end a head.
-const BLANK_LINE: &[u8; 4] = b"\r\n\r\n";
-
-/// How many bytes a head may have.
-const MOST_BYTES: usize = 8192;
 
 /// What has come of a head.
 #[derive(Drop)]
@@ -78,19 +72,8 @@ fn grow(mut head: Vec<u8>, piece: &[u8]) -> Result<Head, AllocError> {
         head.truncate(end);
         return Ok(Head::Whole(head, end.saturating_sub(seen)));
     }
-    if head.len() >= MOST_BYTES {
+    if head.len() >= MOST_HEAD_BYTES {
         return Ok(Head::Refused(RequestRefusal::HeadTooLarge));
     }
     Ok(Head::Part(head))
-}
-
-/// The end of the head: after the first blank line, which does not end within the bytes seen before. An end beyond the
-/// greatest number of bytes does not count.
-fn end_of_head(bytes: &[u8], seen: usize) -> Option<usize> {
-    for at in seen.max(3)..bytes.len().min(MOST_BYTES) {
-        if &bytes[at - 3..at + 1] == BLANK_LINE.as_slice() {
-            return Some(at + 1);
-        }
-    }
-    None
 }
