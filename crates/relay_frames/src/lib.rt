@@ -1,5 +1,6 @@
 //! The server's side of WebSocket (RFC 6455) without reading and writing: bytes come in, events and bytes go out. Nothing here
-//! waits, looks at a clock or knows of a socket. So a thread for each peer and a loop for all of them read peers in the same way.
+//! waits, looks at a clock or knows of a socket. So a thread for each peer and a loop for all of them read peers in the same way. How long
+//! a silent peer is waited for is reckoned in seconds that the caller counts.
 #![tactic(auto)]
 
 mod acceptance;
@@ -14,6 +15,7 @@ mod payload;
 mod peer;
 mod request;
 mod request_refusal;
+pub mod silence;
 
 pub use acceptance::Acceptance;
 pub use breach::Breach;

@@ -91,6 +91,6 @@ impl Attendee {
     /// Something came from it, and was handled.
     pub(crate) fn has_heard(&mut self, now: u64) {
         let is_midway = self.spectator.is_midway();
-        self.since.hears(now, is_midway);
+        self.since.silence.hears(now, is_midway);
     }
 }

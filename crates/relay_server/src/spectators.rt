@@ -8,12 +8,12 @@ use crate::audience::Audience;
 use crate::broadcast::Broadcast;
 use crate::courtesy::Courtesy;
 use crate::registry::Registry;
-use crate::since::Verdict;
 use crate::spectator::{Lost, Spectator};
 use crate::wire::Wire;
 use mio::unix::SourceFd;
 use mio::{Interest, Token};
 use relay_frames::Event;
+use relay_frames::silence::Verdict;
 use relay_pushing::{PushEnd, Turn};
 use slab::Slab;
 use std::alloc::{AllocError, Global};
@@ -294,7 +294,7 @@ impl<'a, R: Wait + Clock> Spectators<'a, R> {
         if attendee.is_stuffed {
             attendee.is_stuffed = false;
             let is_midway = attendee.spectator.is_midway();
-            attendee.since.is_heard_again(self.now, is_midway);
+            attendee.since.silence.is_heard_again(self.now, is_midway);
             is_due = true;
         }
         if is_due {
@@ -438,7 +438,7 @@ impl<'a, R: Wait + Clock> Spectators<'a, R> {
                 break;
             };
             if matches!(event, Event::Text(_) | Event::Binary(_)) {
-                attendee.since.has_heard_all();
+                attendee.since.silence.owes_no_rest();
             }
             attendee.spectator.heed(self.registry, &event)?;
         }
@@ -459,7 +459,7 @@ impl<'a, R: Wait + Clock> Spectators<'a, R> {
             return attendee.is_mute;
         }
         attendee.is_stuffed = true;
-        attendee.since.is_not_heard();
+        attendee.since.silence.owes_no_rest();
         true
     }
 

@@ -359,7 +359,7 @@ impl<'a, H: Boards> Crowd<'a, H> {
         if guest.is_stuffed {
             guest.is_stuffed = false;
             let is_midway = guest.visitor.is_midway();
-            guest.patience.is_heard_again(self.now, is_midway);
+            guest.patience.silence.is_heard_again(self.now, is_midway);
             self.stands_unread(key);
         }
     }
@@ -540,7 +540,7 @@ impl<'a, H: Boards> Crowd<'a, H> {
         let now = self.now;
         if let Some(guest) = self.guests.get_mut(key) {
             let is_midway = guest.visitor.is_midway();
-            guest.patience.hears(now, is_midway);
+            guest.patience.silence.hears(now, is_midway);
         }
     }
 
@@ -555,7 +555,7 @@ impl<'a, H: Boards> Crowd<'a, H> {
             return false;
         }
         guest.is_stuffed = true;
-        guest.patience.is_not_heard();
+        guest.patience.silence.owes_no_rest();
         true
     }
 

@@ -1,10 +1,9 @@
 //! How long a guest is waited for, in seconds of its loop's clock.
 
+use relay_frames::silence::{MOST_LEAVING_SECONDS, Silence, Verdict as Silent, has_passed};
+
 /// How many seconds a request may take.
 const MOST_REQUEST_SECONDS: u64 = 10;
-
-/// How many seconds half a message may take.
-const MOST_HALF_SECONDS: u64 = 10;
 
 /// How many seconds a connection may take nothing of what is due. The last attempt is made once they have passed.
 const MOST_WAIT_SECONDS: u64 = 30;
@@ -15,16 +14,6 @@ const MOST_CLOSE_SECONDS: u64 = 10;
 /// How many seconds pass between attempts to write to a connection. The system reports only when a good part of what it keeps was
 /// taken, so a guest that takes a few bytes now and then would be dropped like one that takes nothing.
 const TRIED_AFTER_SECONDS: u64 = 5;
-
-/// After how many seconds of silence a guest is sent a ping, and then another one. Guests are looked at once a second, so with 30 a
-/// vanished guest would be noticed only after more than 90.
-const MOST_SILENT_SECONDS: u64 = 29;
-
-/// How many pings in a row are sent to a guest that stays silent.
-const MOST_PINGS: u64 = 2;
-
-/// How many seconds a guest that has been sent everything may take to end its connection.
-const MOST_LEAVING_SECONDS: u64 = 10;
 
 /// What is to be done with a guest.
 #[derive(Clone, Copy, PartialEq, Eq, Debug)]
@@ -48,16 +37,14 @@ pub(crate) enum Verdict {
 pub(crate) struct Patience {
     /// When it came, shook hands, or was sent everything: each stage has its own time.
     pub(crate) stage_began: u64,
-    heard_at: u64,
-    pings: u64,
+    /// Since when nothing has come from it.
+    pub(crate) silence: Silence,
     /// Since when it has taken nothing of what is due.
     waits_since: Option<u64>,
     /// How many attempts to write were due since then.
     tries: u64,
     /// Since when it has had to take its close, because it took nothing for too long.
     stuck_since: Option<u64>,
-    /// Since when it has been in the middle of a message.
-    midway_since: Option<u64>,
 }
 
 /// The stage of a guest.
@@ -78,12 +65,10 @@ impl Patience {
     pub(crate) fn new(now: u64) -> Patience {
         Patience {
             stage_began: now,
-            heard_at: now,
-            pings: 0,
+            silence: Silence::new(now),
             waits_since: None,
             tries: 0,
             stuck_since: None,
-            midway_since: None,
         }
     }
 
@@ -95,28 +80,7 @@ impl Patience {
     /// A message of it is complete: its time begins again, and what follows that message began now.
     pub(crate) fn has_heard_all(&mut self, now: u64) {
         self.stage_began = now;
-        self.midway_since = None;
-    }
-
-    /// It is not heard for a while, so the rest of a message is not waited for.
-    pub(crate) fn is_not_heard(&mut self) {
-        self.midway_since = None;
-    }
-
-    /// It is heard again, and may be in the middle of a message.
-    pub(crate) fn is_heard_again(&mut self, now: u64, is_midway: bool) {
-        self.midway_since = if is_midway { Some(now) } else { None };
-    }
-
-    /// Something came from it; after that it may be in the middle of a message.
-    pub(crate) fn hears(&mut self, now: u64, is_midway: bool) {
-        self.heard_at = now;
-        self.pings = 0;
-        self.midway_since = match self.midway_since {
-            Some(since) if is_midway => Some(since),
-            _ if is_midway => Some(now),
-            _ => None,
-        };
+        self.silence.owes_no_rest();
     }
 
     /// It took something, or nothing is due.
@@ -143,7 +107,7 @@ impl Patience {
             Stage::Comes | Stage::Leaves => return Verdict::Stays,
             Stage::Asks | Stage::Watches => {}
         }
-        if has_passed(self.midway_since, now, MOST_HALF_SECONDS) {
+        if self.silence.is_half_too_long(now) {
             return Verdict::Gone;
         }
         if self.is_to_be_tried(now) {
@@ -182,28 +146,12 @@ impl Patience {
         Verdict::Stuck
     }
 
-    /// Whether a guest that was not heard from is sent a ping, or is gone. If it takes nothing of what is due, it is sent none: a ping
-    /// would come after that.
+    /// What is to be done with a guest that may be silent.
     fn ping_if_due(&mut self, now: u64) -> Verdict {
-        let silent = now.saturating_sub(self.heard_at) / MOST_SILENT_SECONDS;
-        if silent <= self.pings {
-            return Verdict::Stays;
+        match self.silence.verdict(now, self.waits_since.is_some()) {
+            Silent::Stays => Verdict::Stays,
+            Silent::Ping => Verdict::Ping,
+            Silent::Gone => Verdict::Gone,
         }
-        if self.pings >= MOST_PINGS {
-            return Verdict::Gone;
-        }
-        if self.waits_since.is_some() {
-            return Verdict::Stays;
-        }
-        self.pings += 1;
-        Verdict::Ping
-    }
-}
-
-/// Whether this many seconds have passed since then.
-fn has_passed(since: Option<u64>, now: u64, most: u64) -> bool {
-    match since {
-        Some(since) => now.saturating_sub(since) >= most,
-        None => false,
     }
 }
