@@ -252,15 +252,11 @@ impl<'a, H: Boards> Crowd<'a, H> {
         if guest.ready_index.is_some() {
             return;
         }
-        let added = match guest.visitor.doing {
-            Doing::Watches(Watching { audience, .. }) => match self.audiences.get_mut(audience) {
-                Some(audience) => audience.ready.add(key),
-                None => return,
-            },
-            Doing::WatchesAll(_) => self.round_ready.add(key),
-            _ => return,
+        let doing = &guest.visitor.doing;
+        let Some(ready) = ready_of(&mut self.audiences, &mut self.round_ready, doing) else {
+            return;
         };
-        match added {
+        match ready.add(key) {
             Ok(index) => guest.ready_index = Some(index),
             Err(_) => self.remove(key),
         }
@@ -274,15 +270,11 @@ impl<'a, H: Boards> Crowd<'a, H> {
         let Some(index) = guest.ready_index.take() else {
             return;
         };
-        let moved = match guest.visitor.doing {
-            Doing::Watches(Watching { audience, .. }) => match self.audiences.get_mut(audience) {
-                Some(audience) => audience.ready.remove(index),
-                None => None,
-            },
-            Doing::WatchesAll(_) => self.round_ready.remove(index),
-            _ => None,
+        let doing = &guest.visitor.doing;
+        let Some(ready) = ready_of(&mut self.audiences, &mut self.round_ready, doing) else {
+            return;
         };
-        if let Some(moved) = moved {
+        if let Some(moved) = ready.remove(index) {
             if let Some(other) = self.guests.get_mut(moved) {
                 other.ready_index = Some(index);
             }
@@ -373,36 +365,45 @@ impl<'a, H: Boards> Crowd<'a, H> {
             return Ok(());
         }
         if audience.refresh(self.alloc, self.boards)? {
-            self.send_to_ready(at);
+            self.send_to_ready(Some(at));
         }
         Ok(())
     }
 
-    /// Writes to the ready ones of an audience. One that goes or rests is replaced by the last of them.
-    fn send_to_ready(&mut self, at: usize) {
-        let mut index = 0;
-        for _ in 0..self.ready_count(at) {
-            let Some(key) = self.ready_at(at, index) else {
+    /// Writes to the ready ones of an audience, or without one to those that watch all boards. One that goes or rests is replaced by the
+    /// last of them.
+    fn send_to_ready(&mut self, audience: Option<usize>) {
+        let mut index = 0usize;
+        for _ in 0..self.ready_count(audience) {
+            let Some(key) = self.ready_at(audience, index) else {
                 return;
             };
             self.send(key);
-            if self.ready_at(at, index) == Some(key) {
+            if self.ready_at(audience, index) == Some(key) {
                 index = index.saturating_add(1);
             }
         }
     }
 
-    /// How many of an audience are ready.
-    fn ready_count(&self, at: usize) -> usize {
-        match self.audiences.get(at) {
-            Some(audience) => audience.ready.len(),
+    /// The ready ones of an audience, or without one those that watch all boards.
+    fn ready(&self, audience: Option<usize>) -> Option<&Ready> {
+        match audience {
+            Some(at) => Some(&self.audiences.get(at)?.ready),
+            None => Some(&self.round_ready),
+        }
+    }
+
+    /// How many of them there are.
+    fn ready_count(&self, audience: Option<usize>) -> usize {
+        match self.ready(audience) {
+            Some(ready) => ready.len(),
             None => 0,
         }
     }
 
-    /// The key of the guest at this index among the ready ones of an audience.
-    fn ready_at(&self, at: usize, index: usize) -> Option<usize> {
-        self.audiences.get(at)?.ready.at(index)
+    /// The key of the guest at this index among them.
+    fn ready_at(&self, audience: Option<usize>, index: usize) -> Option<usize> {
+        self.ready(audience)?.at(index)
     }
 
     /// Looks for news of all boards that are watched. If there is no memory for them, they are asked for again a second later.
@@ -424,23 +425,9 @@ impl<'a, H: Boards> Crowd<'a, H> {
         let changes = self.round.changes();
         if changes != self.round_told {
             self.round_told = changes;
-            self.send_to_round();
+            self.send_to_ready(None);
         }
         refreshed
-    }
-
-    /// Writes to the guests that watch all boards and are ready.
-    fn send_to_round(&mut self) {
-        let mut index = 0usize;
-        for _ in 0..self.round_ready.len() {
-            let Some(key) = self.round_ready.at(index) else {
-                return;
-            };
-            self.send(key);
-            if self.round_ready.at(index) == Some(key) {
-                index = index.saturating_add(1);
-            }
-        }
     }
 
     // ---- Hearing.
@@ -791,5 +778,21 @@ impl<'a, H: Boards> Crowd<'a, H> {
             Stage::Watches if !is_over => self.close(key, AWAY),
             Stage::Watches | Stage::Leaves => {}
         }
+    }
+}
+
+/// Those that are written to as soon as there is news of what a guest watches, if it watches anything.
+fn ready_of<'r, B>(
+    audiences: &'r mut Slab<Audience<B>>,
+    round_ready: &'r mut Ready,
+    doing: &Doing,
+) -> Option<&'r mut Ready> {
+    match doing {
+        Doing::Watches(Watching { audience, .. }) => {
+            let audience = audiences.get_mut(*audience)?;
+            Some(&mut audience.ready)
+        }
+        Doing::WatchesAll(_) => Some(round_ready),
+        Doing::Comes(_) | Doing::Asks => None,
     }
 }
