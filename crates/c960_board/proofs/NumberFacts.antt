@@ -6,6 +6,7 @@ use Rattle.std.proofs.Math.Numerals.{one-add}
 use Rattle.std.proofs.lemmas.Bool.{and_from, and_parts, eqb-true, eq-eqb, ltb-true}
 use Rattle.std.proofs.lemmas.List.Recursion.{is_count_by}
 use Rattle.std.proofs.lemmas.Option.{slice_get_within}
+use Rattle.c960_board.specs.declared.numbering.TheConstants.{STARTS}
 use Rattle.c960_board.specs.declared.piece.Kind.{Kind}
 use Rattle.c960_board.specs.declared.piece.Kind.TheVariants.{Pawn, Knight, Bishop, Rook, Queen, King}
 use Rattle.c960_board.specs.Pieces.{same_kind}
@@ -230,7 +231,7 @@ unfolding found_if_lawful
 found_is rank l e = sym (ap (λ (b : Bool). elim b [ true ↦ is_found rank | false ↦ true ]) l) ∙ e
 
 -- a lawful rank has a number
-pub number_is : (rank : List Kind) → IsLawfulRank rank → (number_from rank < 960) × (array (number_from rank) ≡ rank)
+pub number_is : (rank : List Kind) → IsLawfulRank rank → (number_from rank < STARTS) × (array (number_from rank) ≡ rank)
 unfolding is_found
 number_is rank h =
     let full = h.full in
@@ -249,12 +250,12 @@ number_is rank h =
     (ltb-true _ _ parts.0, same_kinds_is (array (number_from rank)) rank parts.1)
 
 -- a number is that of its rank
-pub number_back : (n : ℕ) → n < 960 → number_from (array n) ≡ n
+pub number_back : (n : ℕ) → n < STARTS → number_from (array n) ≡ n
 unfolding is_back
 number_back n l = eqb-true _ _ (each_below is_back 960 all_back n l)
 
 -- no two numbers have one rank
-pub same_number : (m n : ℕ) → m < 960 → n < 960 → array m ≡ array n → m ≡ n
+pub same_number : (m n : ℕ) → m < STARTS → n < STARTS → array m ≡ array n → m ≡ n
 same_number m n p q e = sym (number_back m p) ∙ ap number_from e ∙ number_back n q
 
 -- what passes the test of a lawful rank
@@ -290,14 +291,14 @@ lawful_from rank e =
     }
 
 -- each number's rank is lawful
-pub array_is_lawful : (n : ℕ) → n < 960 → IsLawfulRank (array n)
+pub array_is_lawful : (n : ℕ) → n < STARTS → IsLawfulRank (array n)
 unfolding is_lawful_array
 array_is_lawful n l = lawful_from (array n) (each_below is_lawful_array 960 all_lawful n l)
 
 -- a rank that has no number is not lawful
-pub none_is_lawful : (rank : List Kind) → ((n : ℕ) → n < 960 → array n ≡ rank → ⊥) → IsLawfulRank rank → ⊥
+pub none_is_lawful : (rank : List Kind) → ((n : ℕ) → n < STARTS → array n ≡ rank → ⊥) → IsLawfulRank rank → ⊥
 none_is_lawful rank none h = let n = number_is rank h in none (number_from rank) n.0 n.1
 
 -- and one that has a number is
-pub numbered_is_lawful : (rank : List Kind) (n : ℕ) → n < 960 → array n ≡ rank → IsLawfulRank rank
+pub numbered_is_lawful : (rank : List Kind) (n : ℕ) → n < STARTS → array n ≡ rank → IsLawfulRank rank
 numbered_is_lawful rank n l e = subst IsLawfulRank e (array_is_lawful n l)

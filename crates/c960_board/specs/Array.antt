@@ -54,6 +54,6 @@ abbrev pub with_all : ℕ → Rank
 with_all n = on_free (on_free (on_free (with_knights n) 0 Rook) 0 King) 0 Rook
 
 -- The rank of a number below 960. From 960 on it is meaningless: the knights' lists are past their end and the ranks
--- repeat (`array 960` is `array 0`), so a contract says `n < 960` itself.
+-- repeat (`array 960` is `array 0`), so a contract says `n < STARTS` itself.
 abbrev pub array : ℕ → List Kind
 array n = map (λ square. unwrap_or square Pawn) (with_all n)

@@ -7,8 +7,8 @@ ghost use Rattle.c960_board.specs.declared.piece.Kind.TheVariants.{Pawn};
 
 use crate::piece::Kind;
 
-/// How many start numbers there are.
-const COUNT: u16 = 960;
+/// How many starts there are: their numbers are those below it.
+pub const STARTS: u16 = 960;
 
 /// The free square of the left knight, indexed by what is left of the number.
 const LEFT_KNIGHT: [u8; 10] = [0, 0, 0, 0, 1, 1, 1, 2, 2, 3];
@@ -55,7 +55,7 @@ fn kinds_of(rank: &[Option<Kind>; 8]) -> [Kind; 8]
 
 /// Places the pieces in the order of the number's digits: bishops, queen, knights, and the others on what is left.
 fn squares_of(number: u16) -> [Option<Kind>; 8]
-    requires { number < 960 }
+    requires { number < STARTS }
     ensures { result ≡ with_all number }
 {
     let bishops = number / 4;
@@ -75,10 +75,10 @@ fn squares_of(number: u16) -> [Option<Kind>; 8]
 
 /// The first rank of Scharnagl's number, from the a side. None from 960 on (Guidelines II.2).
 pub fn arrangement(number: u16) -> Option<[Kind; 8]>
-    ensures some { IsSome result ↔ (number < 960) }
+    ensures some { IsSome result ↔ (number < STARTS) }
     ensures value { IfSome result (λ rank. rank ≡ array number) }
 {
-    if number < COUNT {
+    if number < STARTS {
         Some(kinds_of(&squares_of(number)))
     } else {
         None
@@ -87,7 +87,7 @@ pub fn arrangement(number: u16) -> Option<[Kind; 8]>
 
 /// Whether the rank is that of the number.
 fn is_rank(number: u16, rank: &[Kind; 8]) -> bool
-    requires { number < 960 }
+    requires { number < STARTS }
     ensures { IsTrue result ↔ (array number ≡ rank.now) }
 {
     kinds_of(&squares_of(number)) == *rank
@@ -97,11 +97,11 @@ fn is_rank(number: u16, rank: &[Kind; 8]) -> bool
 /// king, a queen and two rooks, knights and bishops, the king between the rooks and the bishops on squares of
 /// opposite colour (Guidelines II.2).
 pub fn number_of(rank: [Kind; 8]) -> Option<u16>
-    ensures some { IfSome result (λ n. (n < 960) × (array n ≡ rank)) }
+    ensures some { IfSome result (λ n. (n < STARTS) × (array n ≡ rank)) }
     ensures none { IsNone result ↔ (IsLawfulRank rank → ⊥) }
-    ensures only { (n : ℕ) → n < 960 → array n ≡ rank → result ≡ Some n }
+    ensures only { (n : ℕ) → n < STARTS → array n ≡ rank → result ≡ Some n }
 {
-    for number in 0..COUNT {
+    for number in 0..STARTS {
         if is_rank(number, &rank) {
             return Some(number);
         }

@@ -5,7 +5,7 @@ ghost use Rattle.c960_board.specs.Pieces.{man, same_kind};
 ghost use Rattle.c960_board.specs.Start.{start, start_of, start_cell, start_cells, rook_files};
 ghost use Rattle.c960_board.specs.declared.piece.Kind.TheVariants.{Rook};
 
-use crate::numbering::arrangement;
+use crate::numbering::{STARTS, arrangement};
 use crate::parts::Parts;
 use crate::piece::{Colour, Kind, Piece};
 use crate::position::Position;
@@ -80,7 +80,7 @@ fn start_parts(rank: &[Kind; 8]) -> Parts
 impl Position {
     /// The starting position with that number, None from 960 on (Guidelines II.1 and II.2).
     pub fn start(number: u16) -> Option<Position>
-        ensures some { IsSome result ↔ (number < 960) }
+        ensures some { IsSome result ↔ (number < STARTS) }
         ensures value { IfSome result (λ p. p ≡ start number) }
     {
         let rank = arrangement(number)?;

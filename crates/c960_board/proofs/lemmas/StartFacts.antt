@@ -5,6 +5,7 @@ use Rattle.std.specs.List.{list_all, range_with_len}
 use Rattle.std.proofs.lemmas.Bool.{and_from, and_parts, or_cases, not-true, true≢false, eqb-true, cond_both}
 use Rattle.std.proofs.lemmas.List.{get_or-map, length-map}
 use Rattle.std.proofs.lemmas.List.FromFn.{get_or-map-range_with_len, length-map-range_with_len, map-range_with_len_more}
+use Rattle.c960_board.specs.declared.numbering.TheConstants.{STARTS}
 use Rattle.c960_board.specs.declared.piece.Colour.{Colour}
 use Rattle.c960_board.specs.declared.piece.Colour.TheVariants.{White, Black}
 use Rattle.c960_board.specs.declared.piece.Kind.{Kind}
@@ -218,7 +219,7 @@ start_is_from rank h =
     }
 
 -- each number below 960 has a starting position
-pub start_is_position : (n : ℕ) → n < 960 → IsPosition (start n)
+pub start_is_position : (n : ℕ) → n < STARTS → IsPosition (start n)
 unfolding start is_start
 start_is_position n l =
     start_is_from (array n) (start_rank_is (array n) (each_below is_start 960 all_start n l))

@@ -28,11 +28,11 @@ pub fn one_fault_for_a_text()
     ensures one { (e f : MoveFault) (text : List ℕ) → IsMoveFault e text → IsMoveFault f text → e ≡ f }
 {}
 
-/// The function that reads a text returns exactly the move, or the first fault, of the text.
+/// The function that reads a text returns exactly the move, or the first fault, of the text, and its first six bytes are enough for that.
 pub fn reading_is_a_function()
     ensures ok { (text : List ℕ) (m : Triple) → (move_read text ≡ Ok m) ↔ MoveText m text }
     ensures fault { (text : List ℕ) (f : MoveFault) → (move_read text ≡ Err f) ↔ IsMoveFault f text }
-    ensures cut { (text : List ℕ) → move_read (take 1025 text) ≡ move_read text }
+    ensures cut { (n : ℕ) (text : List ℕ) → 5 < n → move_read (take n text) ≡ move_read text }
 {}
 
 /// No code belongs to two moves.

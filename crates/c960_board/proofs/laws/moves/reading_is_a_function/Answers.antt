@@ -1,4 +1,3 @@
-use Rattle.std.proofs.Common.{arith}
 use Rattle.c960_board.proofs.lemmas.MoveReading.{move_is_read, read_is_move, fault_is_read, read_is_fault, read_of_front}
 use Rattle.c960_board.proofs.laws.moves.reading_is_a_function.Goals as goal
 
@@ -9,4 +8,4 @@ pub returns-clause-fault : goal.returns-clause-fault
 returns-clause-fault c = λ text f. (read_is_fault f text, fault_is_read f text)
 
 pub returns-clause-cut : goal.returns-clause-cut
-returns-clause-cut c = λ text. read_of_front 1025 text (omega arith)
+returns-clause-cut c = read_of_front
