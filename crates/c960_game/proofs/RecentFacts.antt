@@ -8,6 +8,7 @@ use Rattle.c960_board.specs.declared.parts.Parts.{Parts}
 use Rattle.c960_board.specs.Moves.{Triple}
 use Rattle.c960_board.specs.Start.{start}
 use Rattle.c960_rules.specs.After.{after}
+use Rattle.c960_game.specs.declared.limits.TheConstants.{MOST_PLIES}
 use Rattle.c960_game.specs.Game960.{Game960}
 use Rattle.c960_game.specs.Positions.{last_position, positions}
 use Rattle.c960_game.specs.Tests.Same.{same}
@@ -74,7 +75,7 @@ count_more p ps =
     omega (arith, rw (same_with_itself p) at sum)
 
 -- the count over the recent positions, the last of them being the present one
-count_recent : (n : ℕ) (l : List Triple) (earlier : List Parts) (last : Parts) → Game960 n l → length l ≤ 16384
+count_recent : (n : ℕ) (l : List Triple) (earlier : List Parts) (last : Parts) → Game960 n l → length l ≤ MOST_PLIES
     → last_position n l ≡ last → recent_positions n l ≡ earlier ++ last ∷ []
     → times n l ≡ count_by (λ x. same x last) earlier + 1
 unfolding recent_times
@@ -82,14 +83,14 @@ count_recent n l earlier last game short here recent =
     times_recent n l game (omega arith) ∙ rw (here, recent) (count_more last earlier)
 
 -- after a capture or a pawn move the position is there for the first time
-pub times_anew : (n : ℕ) (l : List Triple) (m : Triple) → Game960 n (l ++ m ∷ []) → length (l ++ m ∷ []) ≤ 16384
+pub times_anew : (n : ℕ) (l : List Triple) (m : Triple) → Game960 n (l ++ m ∷ []) → length (l ++ m ∷ []) ≤ MOST_PLIES
     → (after (last_position n l) m).half_moves ≡ 0 → times n (l ++ m ∷ []) ≡ 1
 times_anew n l m game short reset =
     let next = after (last_position n l) m in
     count_recent n (l ++ m ∷ []) [] next game short (last_more n l m) (recent_anew n l m reset)
 
 -- after every other move it is counted among the recent ones, and once more
-pub times_more : (n : ℕ) (l : List Triple) (m : Triple) → Game960 n (l ++ m ∷ []) → length (l ++ m ∷ []) ≤ 16384
+pub times_more : (n : ℕ) (l : List Triple) (m : Triple) → Game960 n (l ++ m ∷ []) → length (l ++ m ∷ []) ≤ MOST_PLIES
     → (after (last_position n l) m).half_moves ≢ 0
     → times n (l ++ m ∷ []) ≡ count_by (λ x. same x (after (last_position n l) m)) (recent_positions n l) + 1
 times_more n l m game short kept =
@@ -97,7 +98,7 @@ times_more n l m game short kept =
     count_recent n (l ++ m ∷ []) (recent_positions n l) next game short (last_more n l m) (recent_more n l m kept)
 
 -- the count over all recent positions
-pub times_counted : (n : ℕ) (l : List Triple) → Game960 n l → length l ≤ 16384
+pub times_counted : (n : ℕ) (l : List Triple) → Game960 n l → length l ≤ MOST_PLIES
     → times n l ≡ count_by (λ x. same x (last_position n l)) (recent_positions n l)
 unfolding recent_times
 times_counted n l game short = times_recent n l game (omega arith)

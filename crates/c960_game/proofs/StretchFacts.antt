@@ -4,6 +4,8 @@ use Rattle.std.proofs.Math.Seq.{take-add}
 use Rattle.std.proofs.lemmas.List.{take-append-drop, length-take, length-drop}
 use Rattle.c960_board.specs.Moves.{Triple}
 use Rattle.c960_board.specs.Start.{start}
+use Rattle.c960_game.specs.declared.kept_positions.TheConstants.{MILE}
+use Rattle.c960_game.specs.declared.limits.TheConstants.{MOST_PLIES}
 use Rattle.c960_game.specs.Game960.{Game960}
 use Rattle.c960_game.specs.Positions.{last_position, position_after}
 use Rattle.c960_game.specs.Inner.Replay.{AllLegal}
@@ -17,8 +19,8 @@ parts_of l a k =
     ∙ ap (λ rest. take a l ++ rest) (take-append-drop k (drop a l)) ∙ take-append-drop a l
 
 -- a stretch from the last sixty-fourth place on has fewer moves than lie between two of them
-pub few_in_stretch : (l : List Triple) (place : ℕ) → length (take (place - place / 64 * 64) (drop (place / 64 * 64) l)) ≤ 64
-few_in_stretch l place = omega (arith, length-take (place - place / 64 * 64) (drop (place / 64 * 64) l))
+pub few_in_stretch : (l : List Triple) (place : ℕ) → length (take (place - place / MILE * MILE) (drop (place / MILE * MILE) l)) ≤ MILE
+few_in_stretch l place = omega (arith, length-take (place - place / MILE * MILE) (drop (place / MILE * MILE) l))
 
 -- the moves of the stretch can be made one after another
 pub legal_stretch : (n : ℕ) (l : List Triple) (a k : ℕ) → Game960 n l
@@ -36,12 +38,12 @@ position_stretch n l a b before =
     ∙ ap (λ log. position_after (start n) log) (sym (take-add a (b - a) l) ∙ ap (λ k. take k l) whole)
 
 -- the counters have room for them
-pub half_moves_stretch : (n : ℕ) (l : List Triple) (a k : ℕ) → length l ≤ 16384
+pub half_moves_stretch : (n : ℕ) (l : List Triple) (a k : ℕ) → length l ≤ MOST_PLIES
     → (last_position n (take a l)).half_moves + length (take k (drop a l)) ≤ 65535
 half_moves_stretch n l a k short =
     omega (arith, half_moves_bound n (take a l), length-take a l, length-take k (drop a l), length-drop a l)
 
-pub number_stretch : (n : ℕ) (l : List Triple) (a k : ℕ) → length l ≤ 16384
+pub number_stretch : (n : ℕ) (l : List Triple) (a k : ℕ) → length l ≤ MOST_PLIES
     → (last_position n (take a l)).number + length (take k (drop a l)) ≤ 65535
 number_stretch n l a k short =
     omega (arith, number_bound n (take a l), length-take a l, length-take k (drop a l), length-drop a l)

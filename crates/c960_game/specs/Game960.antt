@@ -1,5 +1,6 @@
 -- The logs that are legal games of Chess960 (FIDE Laws, Articles 1, 3, 5.1.1, 5.2.1 and 9.6; Guidelines II).
 use Rattle.std.specs.Prelude.{ℕ, ◌≡◌, ◌<◌, List, ◌∷◌, ◌++◌}
+use Rattle.c960_board.specs.declared.numbering.TheConstants.{STARTS}
 use Rattle.c960_board.specs.Moves.{Triple}
 use Rattle.c960_rules.specs.Legal.{Legal, Mate, Stale}
 use Rattle.c960_game.specs.Positions.{last_position}
@@ -20,5 +21,5 @@ pub record MayFollow (n : ℕ) (l : List Triple) (m : Triple) : Type 0 where
 
 -- The start has a number, each move is legal in its position, and no position before the last has ended the game.
 pub record Game960 (n : ℕ) (l : List Triple) : Type 0 where
-  pub numbered : n < 960
+  pub numbered : n < STARTS
   pub moves : (before : List Triple) (m : Triple) (later : List Triple) → l ≡ before ++ m ∷ later → MayFollow n before m

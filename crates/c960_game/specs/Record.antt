@@ -1,6 +1,7 @@
 -- The answers to the moves and the endings of a game, and what is true of every game.
 use Rattle.std.specs.Prelude.{ℕ, ◌≡◌, ◌≤◌, ◌⊎◌, ◌==◌, List, [], ◌∷◌, ◌++◌, length, Option, Some, None, is_some, Result, Ok, Err, cond}
 use Rattle.c960_board.specs.Moves.{Triple}
+use Rattle.c960_game.specs.declared.limits.TheConstants.{MOST_PLIES}
 use Rattle.c960_game.specs.declared.ending.Ending.{Ending}
 use Rattle.c960_game.specs.declared.outcome.Outcome.{Outcome}
 use Rattle.c960_game.specs.declared.refusal.Refusal.{Refusal}
@@ -54,4 +55,4 @@ pub record IsGame (g : GameRecord) : Type 0 where
   pub legal : Game960 g.start g.log
   pub ended : IsOutcome g.start g.log g.outcome
   pub within : length g.log ≤ g.plies
-  pub most_plies : g.plies ≤ 16384
+  pub most_plies : g.plies ≤ MOST_PLIES

@@ -16,11 +16,12 @@ ghost use Rattle.c960_game.specs.Times.{times};
 
 use crate::ending::Ending;
 use crate::kept_positions::{MILE, RECENT, add_milestone, add_recent, count_same, row_of};
+use crate::limits::MOST_PLIES;
 use crate::outcome::Outcome;
 use crate::refusal::Refusal;
 use crate::replay::Replaying;
 use crate::same::same_colour;
-use c960_board::{Colour, Move, Position};
+use c960_board::{Colour, Move, Position, STARTS};
 use c960_rules::{Lawful, State, play, state};
 use std::alloc::Global;
 use std::marker::Model;
@@ -79,7 +80,7 @@ fn draw_of(appearances: usize, half_moves: u16) -> Option<Outcome>
 /// The position of a numbered start.
 #[tactic(auto, using(c960_rules::proofs::lemmas::StartFacts::start_is_lawful, crate::proofs::lemmas::LogFacts::position_after_none))]
 fn starting_position(start: u16) -> Option<Lawful>
-    ensures some { IsSome result ↔ (start < 960) }
+    ensures some { IsSome result ↔ (start < STARTS) }
     ensures value { IfSome result (λ position. position ≡ last_position start []) }
 {
     let position = Position::start(start)?;
@@ -95,8 +96,8 @@ impl Game {
     /// Refused: `BadStart` exactly from 960 on, and `OutOfMemory`.
     pub fn open(alloc: Global, start: u16, plies: u16) -> Result<Game, Refusal>
         requires some_ply { 1 ≤ plies }
-        requires most_plies { plies ≤ 16384 }
-        ensures bad_start { (result ≡ Err Refusal.BadStart) ↔ (960 ≤ start) }
+        requires most_plies { plies ≤ MOST_PLIES }
+        ensures bad_start { (result ≡ Err Refusal.BadStart) ↔ (STARTS ≤ start) }
         ensures refusals { IfErr result (λ r. (r ≡ Refusal.BadStart) ⊎ (r ≡ Refusal.OutOfMemory)) }
         ensures value { IfOk result (λ g. g ≡ opened start plies) }
         ensures valid { IfOk result IsGame }

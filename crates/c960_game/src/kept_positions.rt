@@ -40,8 +40,8 @@ pub fn add_recent(recent: &mut Vec<Lawful>, next: Lawful)
 
 /// Adds the position after this many moves, if it is one that is kept permanently.
 pub fn add_milestone(milestones: &mut Vec<Lawful>, moves: usize, next: Lawful)
-    requires { moves % 64 ≡ 0 → vec_len milestones.old < vec_capacity milestones.old }
-    ensures items { milestones.new.items ≡ (if moves % 64 == 0 then milestones.old.items ++ next ∷ [] else milestones.old.items) }
+    requires { moves % MILE ≡ 0 → vec_len milestones.old < vec_capacity milestones.old }
+    ensures items { milestones.new.items ≡ (if moves % MILE == 0 then milestones.old.items ++ next ∷ [] else milestones.old.items) }
     ensures capacity { vec_capacity milestones.new ≡ vec_capacity milestones.old }
 {
     if moves % MILE == 0 {

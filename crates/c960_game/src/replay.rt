@@ -33,7 +33,7 @@ impl Model for Replaying {
 impl Replaying {
     /// The position after these legal moves, which are no more than lie between two positions that are kept.
     pub(crate) fn new(first: &Lawful, moves: &[Move]) -> Replaying
-        requires few { length moves.now ≤ 64 }
+        requires few { length moves.now ≤ MILE }
         requires legal { AllLegal first.now moves.now }
         requires half_moves { first.now.half_moves + length moves.now ≤ 65535 }
         requires number { first.now.number + length moves.now ≤ 65535 }
@@ -56,7 +56,7 @@ impl Replaying {
 
 /// The moves, followed by as many others as fill up the array.
 fn filled_up(moves: &[Move]) -> [Move; MILE]
-    requires { length moves.now ≤ 64 }
+    requires { length moves.now ≤ MILE }
     ensures { take (length moves.now) result ≡ moves.now }
 {
     let mut row = [never_made(); MILE];

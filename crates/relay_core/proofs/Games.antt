@@ -2,6 +2,7 @@
 use Rattle.std.proofs.Common.{◌≡◌, ℕ, ◌<◌, nat_le, Bool, true, false, ◌&&◌, cond, is_some, List, [], ◌∷◌, ◌++◌, Option, Some, None, refl, sym, ap, subst, ◌∙◌, true≢false, arith}
 use Rattle.std.specs.Map.{lookup}
 use Rattle.std.proofs.lemmas.Bool.Decides.{nat_tests}
+use Rattle.c960_board.specs.declared.numbering.TheConstants.{STARTS}
 use Rattle.c960_board.specs.Moves.{Triple}
 use Rattle.c960_game.specs.declared.outcome.Outcome.{Outcome}
 use Rattle.c960_game.specs.Ends.{own_outcome}
@@ -27,7 +28,7 @@ neither (Some x) b e = absurd (true≢false e)
 neither None (Some x) e = absurd (true≢false e)
 neither None None e = refl
 
-below : (n : ℕ) → nat_le 960 n ≡ false → n < 960
+below : (n : ℕ) → nat_le STARTS n ≡ false → n < STARTS
 below n e = grind (arith, nat_tests)
 
 -- an accepted submit makes a legal move in a game that goes on
@@ -47,16 +48,16 @@ games limits [] law b n at = cc
 games limits ((Open to start, r) ∷ h) (ok, law) b n at =
     by (is_accepted r) (λ there. games limits h law b n there) (open_new limits h to start r ok) at
   where
-    new : (start_of h b ≡ Some n → Game960 n (log h b)) → (o : Option ℕ) → start_of h b ≡ o → start < 960 → (same : Bool)
+    new : (start_of h b ≡ Some n → Game960 n (log h b)) → (o : Option ℕ) → start_of h b ≡ o → start < STARTS → (same : Bool)
         → first_some o (cond same (Some start) None) ≡ Some n → Game960 n (log h b)
     new before (Some x) e low same g = before (e ∙ g)
     new before None e low false g = cc
     new before None e low true g =
         let s : start ≡ n = cc in
-        subst (λ (l : List Triple). Game960 n l) (sym ((facts limits h law).silent b e)) (no_move n (subst (λ x. x < 960) s low))
+        subst (λ (l : List Triple). Game960 n l) (sym ((facts limits h law).silent b e)) (no_move n (subst (λ x. x < STARTS) s low))
 
     by : (took : Bool) → (start_of h b ≡ Some n → Game960 n (log h b))
-        → (took ≡ true → (start_of h to ≡ None) × (nat_le 960 start ≡ false))
+        → (took ≡ true → (start_of h to ≡ None) × (nat_le STARTS start ≡ false))
         → lookup (same_name b) (cond took (opened h ++ (to, start) ∷ []) (opened h)) ≡ Some n → Game960 n (log h b)
     by false before fine g = before g
     by true before fine g =

@@ -4,10 +4,8 @@
 ghost use Rattle.std.specs.Prelude.{◌≡◌, ◌↔◌, ◌⊎◌, ◌+◌, ◌<◌, ◌≤◌, Err, IfErr, IfOk};
 ghost use Rattle.relay_core.specs.Refusals.{first_refusal, follow_grounds, open_grounds, place_grounds};
 
+use c960_board::STARTS;
 use c960_game::Refusal;
-
-/// How many starts there are.
-const STARTS: u16 = 960;
 
 /// Whether a board may be opened with the game of this start. It depends on whether the name is taken, on how many boards there are, and
 /// on how many there may be. Refused, in this order: `BoardExists`, `BadStart`, `TooManyBoards`.

@@ -16,7 +16,7 @@ use crate::name::BoardName;
 use crate::reply::Reply;
 use crate::step::{Spectator, Step};
 use c960_board::Move;
-use c960_game::{Ending, Game, Limits, Refusal};
+use c960_game::{Ending, Game, Limits, MOST_PLIES, Refusal};
 use std::alloc::{AllocError, Global};
 use std::marker::Model;
 
@@ -139,7 +139,7 @@ impl Holdings {
         ensures room { self.new.room ≡ self.old.room }
     {
         // Hence the places of a log fit in 16 bits.
-        prove!(self.limits.plies() <= 16384);
+        prove!(self.limits.plies() <= MOST_PLIES);
         let Some(board) = self.followers.board_of(who) else {
             return Reply::Refused(Refusal::NoSuchFollower);
         };

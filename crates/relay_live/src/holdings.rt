@@ -16,7 +16,7 @@ ghost use Rattle.relay_live.specs.Live.{SlotsLeft};
 use crate::boards::{end, join, leave_for, play, take_for};
 use crate::seated::{Seated, count_take};
 use c960_board::Move;
-use c960_game::{Ending, Limits, Refusal};
+use c960_game::{Ending, Limits, MOST_PLIES, Refusal};
 use indexmap::IndexMap;
 use live_board::Board;
 use relay_core::{BoardName, Reply, Spectator, Step, Taken, may_follow, may_open};
@@ -143,7 +143,7 @@ impl Holdings {
         ensures room { self.new.room ≡ self.old.room }
     {
         // Hence the places of a log fit in 16 bits.
-        prove!(self.limits.plies() <= 16384);
+        prove!(self.limits.plies() <= MOST_PLIES);
         let Some(&seated) = self.followers.get(&who) else {
             return Reply::Refused(Refusal::NoSuchFollower);
         };

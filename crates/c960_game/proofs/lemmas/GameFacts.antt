@@ -1,5 +1,6 @@
 -- What holds of every legal game: its last position is a position, and the game goes on before the first move.
 use Rattle.std.proofs.Common.{◌≡◌, ℕ, ◌+◌, ◌<◌, ◌≤◌, List, [], ◌∷◌, length, None, subst, arith}
+use Rattle.c960_board.specs.declared.numbering.TheConstants.{STARTS}
 use Rattle.c960_board.specs.declared.parts.Parts.{Parts}
 use Rattle.c960_board.specs.Moves.{Triple}
 use Rattle.c960_board.specs.Position.{IsPosition}
@@ -50,7 +51,7 @@ last_is_position n l game short =
     (omega (arith, start_half_moves n)) (omega (arith, start_number n))
 
 -- before the first move the game goes on
-pub start_goes_on : (n : ℕ) → n < 960 → own_outcome n [] ≡ None
+pub start_goes_on : (n : ℕ) → n < STARTS → own_outcome n [] ≡ None
 start_goes_on n numbered =
     let here : last_position n [] ≡ start n = position_after_none (start n) in
     let move : (m : Triple) × Legal (last_position n []) m = rw here (start_has_move n numbered) in

@@ -3,11 +3,14 @@ use Rattle.std.proofs.Common.{◌≡◌, ℕ, ◌+◌, ◌/◌, ◌%◌, ◌<◌
 use Rattle.std.specs.Prelude.{◌==◌}
 use Rattle.std.specs.Vec.{vec_capacity}
 use Rattle.std.proofs.lemmas.Bool.{eqb-true, eqb-false}
+use Rattle.c960_board.specs.declared.numbering.TheConstants.{STARTS}
 use Rattle.c960_board.specs.declared.parts.Parts.{Parts}
 use Rattle.c960_board.specs.Moves.{Triple}
 use Rattle.c960_board.specs.Start.{start}
 use Rattle.c960_rules.specs.After.{after}
 use Rattle.c960_rules.specs.Legal.{Legal}
+use Rattle.c960_game.specs.declared.kept_positions.TheConstants.{MILE, RECENT}
+use Rattle.c960_game.specs.declared.limits.TheConstants.{MOST_PLIES}
 use Rattle.c960_game.specs.declared.game.Game.TheInside.{Inside}
 use Rattle.c960_game.specs.Ends.{own_outcome}
 use Rattle.c960_game.specs.Game960.{MayFollow}
@@ -26,7 +29,7 @@ use Rattle.c960_game.proofs.RecentFacts.{length_recent, recent_none, recent_anew
 -- ---- The record.
 
 -- an opened game is one
-pub opened_is_game : (n plies : ℕ) → n < 960 → plies ≤ 16384 → IsGame (opened n plies)
+pub opened_is_game : (n plies : ℕ) → n < STARTS → plies ≤ MOST_PLIES → IsGame (opened n plies)
 opened_is_game n plies numbered most = record {
   legal = no_move n numbered;
   ended = inl (sym (start_goes_on n numbered));
@@ -61,13 +64,13 @@ game_more g m game going room legal = record {
 }
 
 -- what may follow keeps the log within the greatest number of plies
-pub log_more : (g : GameRecord) (m : Triple) → IsGame g → length g.log < g.plies → length (g.log ++ m ∷ []) ≤ 16384
+pub log_more : (g : GameRecord) (m : Triple) → IsGame g → length g.log < g.plies → length (g.log ++ m ∷ []) ≤ MOST_PLIES
 log_more g m game room = omega (arith, length-append g.log (m ∷ []), game.most_plies)
 
 -- ---- The memory.
 
 -- the counters of the present position have room for one move more
-short : (a : Inside) → IsKept a → length a.moves.items ≤ 16384
+short : (a : Inside) → IsKept a → length a.moves.items ≤ MOST_PLIES
 short a kept = omega (arith, kept.game.within, kept.game.most_plies)
 
 pub half_moves_room : (a : Inside) → IsKept a → a.position.half_moves < 65535
@@ -92,22 +95,22 @@ milestones_are a g kept e = subst (λ (r : GameRecord). AreMilestones r.start r.
 -- ---- Room.
 
 -- while the game goes on there is room for one more recent position: the counter is below 150
-pub recent_room : (a : Inside) → IsKept a → is_some a.outcome ≡ false → length a.recent.items < 151
+pub recent_room : (a : Inside) → IsKept a → is_some a.outcome ≡ false → length a.recent.items < RECENT
 recent_room a kept open_game =
     let w = (going a.start a.moves.items).0 (goes_on (record_of a) kept.game open_game) in
     let below : (last_position a.start a.moves.items).half_moves < 150 = w.2 in
     rw kept.recent (omega (arith, length_recent a.start a.moves.items))
 
 -- while the log has room there is room for the next milestone
-pub milestone_room : (a : Inside) → IsKept a → length a.moves.items < a.plies → (length a.moves.items + 1) % 64 ≡ 0
-    → length a.milestones.items < a.plies / 64 + 1
+pub milestone_room : (a : Inside) → IsKept a → length a.moves.items < a.plies → (length a.moves.items + 1) % MILE ≡ 0
+    → length a.milestones.items < a.plies / MILE + 1
 milestone_room a kept free full = omega (arith, kept.milestones.count)
 
 -- ---- The opening.
 
-pub kept_opened : (a : Inside) → a.start < 960 → record_of a ≡ opened a.start a.plies → a.plies ≤ 16384
+pub kept_opened : (a : Inside) → a.start < STARTS → record_of a ≡ opened a.start a.plies → a.plies ≤ MOST_PLIES
     → a.position ≡ start a.start → a.recent.items ≡ start a.start ∷ [] → a.milestones.items ≡ start a.start ∷ []
-    → vec_capacity a.moves ≡ a.plies → vec_capacity a.recent ≡ 151 → vec_capacity a.milestones ≡ a.plies / 64 + 1
+    → vec_capacity a.moves ≡ a.plies → vec_capacity a.recent ≡ RECENT → vec_capacity a.milestones ≡ a.plies / MILE + 1
     → IsKept a
 kept_opened a numbered e most position recent milestones moves_room recent_room milestones_room =
     let log : a.moves.items ≡ [] = ap (λ (g : GameRecord). g.log) e in
@@ -139,13 +142,13 @@ recent_step n l m =
 -- and the milestones
 milestone_step : (n : ℕ) (l : List Triple) (m : Triple) (milestones : List Parts) → AreMilestones n l milestones
     → AreMilestones n (l ++ m ∷ [])
-    (cond ((length l + 1) % 64 == 0) (milestones ++ after (last_position n l) m ∷ []) milestones)
+    (cond ((length l + 1) % MILE == 0) (milestones ++ after (last_position n l) m ∷ []) milestones)
 milestone_step n l m milestones kept =
     let next = after (last_position n l) m in
-    elim ((length l + 1) % 64 == 0) as (λ b. ((length l + 1) % 64 == 0) ≡ b
+    elim ((length l + 1) % MILE == 0) as (λ b. ((length l + 1) % MILE == 0) ≡ b
     → AreMilestones n (l ++ m ∷ []) (cond b (milestones ++ next ∷ []) milestones)) [
-      | true ↦ λ e. next_milestone n l m milestones kept (eqb-true ((length l + 1) % 64) 0 e)
-      | false ↦ λ e. no_milestone n l m milestones kept (eqb-false ((length l + 1) % 64) 0 e)
+      | true ↦ λ e. next_milestone n l m milestones kept (eqb-true ((length l + 1) % MILE) 0 e)
+      | false ↦ λ e. no_milestone n l m milestones kept (eqb-false ((length l + 1) % MILE) 0 e)
     ] refl
 
 -- what is new in memory after a move that leads to a position
@@ -154,7 +157,7 @@ pub record IsMore (a b : Inside) (next : Parts) : Type 0 where
   pub recent : b.recent.items ≡ cond (next.half_moves == 0) (next ∷ []) (a.recent.items ++ next ∷ [])
   pub milestones :
       b.milestones.items
-      ≡ cond ((length a.moves.items + 1) % 64 == 0) (a.milestones.items ++ next ∷ []) a.milestones.items
+      ≡ cond ((length a.moves.items + 1) % MILE == 0) (a.milestones.items ++ next ∷ []) a.milestones.items
   pub moves_room : vec_capacity b.moves ≡ vec_capacity a.moves
   pub recent_room : vec_capacity b.recent ≡ vec_capacity a.recent
   pub milestones_room : vec_capacity b.milestones ≡ vec_capacity a.milestones
@@ -181,5 +184,5 @@ kept_more a b m next kept open_game free legal leads e new =
           (subst (λ ps. AreMilestones n (l ++ m ∷ []) ps) (sym milestones) (milestone_step n l m a.milestones.items kept.milestones));
       moves_room = new.moves_room ∙ kept.moves_room ∙ sym plies;
       recent_room = new.recent_room ∙ kept.recent_room;
-      milestones_room = new.milestones_room ∙ kept.milestones_room ∙ ap (λ k. k / 64 + 1) (sym plies);
+      milestones_room = new.milestones_room ∙ kept.milestones_room ∙ ap (λ k. k / MILE + 1) (sym plies);
     }

@@ -1,6 +1,7 @@
 -- The positions of a log with one move more, and logs that are legal games: their prefixes and how they grow.
 use Rattle.std.proofs.Common.{◌≡◌, ◌≢◌, ℕ, ◌<◌, ◌≤◌, List, [], ◌∷◌, ◌++◌, length, take, None, Some, refl, sym, ap, subst, ◌∙◌, append_assoc, ◌⊎◌, inl, inr}
 use Rattle.std.proofs.lemmas.Bool.{le-leb}
+use Rattle.c960_board.specs.declared.numbering.TheConstants.{STARTS}
 use Rattle.c960_board.specs.declared.parts.Parts.{Parts}
 use Rattle.c960_board.specs.Moves.{Triple}
 use Rattle.c960_board.specs.Start.{start}
@@ -90,7 +91,7 @@ split_more (y ∷ l) x (z ∷ before) m later e =
     ]
 
 -- without a move each start is a legal game
-pub no_move : (n : ℕ) → n < 960 → Game960 n []
+pub no_move : (n : ℕ) → n < STARTS → Game960 n []
 no_move n numbered = record {
   numbered = numbered;
   moves = λ before m later e. absurd (not_empty before m later e);

@@ -5,6 +5,7 @@ use Rattle.std.specs.Prelude.{ℕ, ◌≡◌, ◌+◌, ◌*◌, ◌/◌, ◌<◌
 use Rattle.std.specs.Vec.{vec_capacity}
 use Rattle.c960_board.specs.declared.parts.Parts.{Parts}
 use Rattle.c960_board.specs.Moves.{Triple}
+use Rattle.c960_game.specs.declared.kept_positions.TheConstants.{MILE, RECENT}
 use Rattle.c960_game.specs.declared.game.Game.TheInside.{Inside}
 use Rattle.c960_game.specs.Positions.{last_position}
 use Rattle.c960_game.specs.Times.{recent_positions}
@@ -16,8 +17,8 @@ record_of a = record { start = a.start; plies = a.plies; log = a.moves.items; ou
 
 -- the start and the positions after 64 moves, 128 moves and so on
 pub record AreMilestones (n : ℕ) (l : List Triple) (milestones : List Parts) : Type 0 where
-  pub count : length milestones ≡ length l / 64 + 1
-  pub each : (k : ℕ) → k < length milestones → slice_get milestones k ≡ Some (last_position n (take (k * 64) l))
+  pub count : length milestones ≡ length l / MILE + 1
+  pub each : (k : ℕ) → k < length milestones → slice_get milestones k ≡ Some (last_position n (take (k * MILE) l))
 
 pub record IsKept (a : Inside) : Type 0 where
   pub game : IsGame (record_of a)
@@ -25,5 +26,5 @@ pub record IsKept (a : Inside) : Type 0 where
   pub recent : a.recent.items ≡ recent_positions a.start a.moves.items
   pub milestones : AreMilestones a.start a.moves.items a.milestones.items
   pub moves_room : vec_capacity a.moves ≡ a.plies
-  pub recent_room : vec_capacity a.recent ≡ 151
-  pub milestones_room : vec_capacity a.milestones ≡ a.plies / 64 + 1
+  pub recent_room : vec_capacity a.recent ≡ RECENT
+  pub milestones_room : vec_capacity a.milestones ≡ a.plies / MILE + 1

@@ -11,6 +11,8 @@ ghost use Rattle.c960_game.specs.Game960.{Game960, MayFollow};
 ghost use Rattle.c960_game.specs.Positions.{last_position, positions};
 ghost use Rattle.c960_game.specs.Times.{recent_times, times};
 
+use c960_board::STARTS;
+
 /// Each prefix of a legal game is a legal game.
 #[tactic(auto, using(crate::proofs::lemmas::LogFacts::prefix))]
 pub fn prefixes_are_games()
@@ -20,8 +22,8 @@ pub fn prefixes_are_games()
 /// Each start without a move is a legal game that goes on. A legal game can go on with a legal move as long as it has no
 /// outcome.
 pub fn games_grow()
-    ensures start { (n : ℕ) → n < 960 → Game960 n [] }
-    ensures going { (n : ℕ) → n < 960 → own_outcome n [] ≡ None }
+    ensures start { (n : ℕ) → n < STARTS → Game960 n [] }
+    ensures going { (n : ℕ) → n < STARTS → own_outcome n [] ≡ None }
     ensures more { (n : ℕ) (l : List Triple) (m : Triple) → Game960 n l → MayFollow n l m → Game960 n (l ++ m ∷ []) }
 {}
 

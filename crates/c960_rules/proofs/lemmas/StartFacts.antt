@@ -3,6 +3,7 @@
 use Rattle.std.proofs.Common.{◌≡◌, ◌≢◌, ℕ, ◌<◌, List, Bool, false, cond, None, refl, sym, ◌∙◌, arith, lit≤, ◌⊎◌, inl, inr}
 use Rattle.std.specs.Prelude.{◌==◌}
 use Rattle.std.proofs.lemmas.Bool.{and_parts, cond_both, eqb-true, true≢false}
+use Rattle.c960_board.specs.declared.numbering.TheConstants.{STARTS}
 use Rattle.c960_board.specs.declared.piece.Colour.{Colour}
 use Rattle.c960_board.specs.declared.piece.Colour.TheVariants.{White, Black}
 use Rattle.c960_board.specs.declared.piece.Kind.{Kind}
@@ -180,24 +181,24 @@ first_legal rank =
 -- ---- The starting positions by their numbers.
 
 -- Black, which does not have the move, is not in check
-pub start_is_lawful : (n : ℕ) → n < 960 → IsLawful (start n)
+pub start_is_lawful : (n : ℕ) → n < STARTS → IsLawful (start n)
 unfolding start start_of
 start_is_lawful n l = start_unchecked (array n) Black
 
 -- nor is White
-pub start_has_no_check : (n : ℕ) → n < 960 → InCheck (start n).placement White → ⊥
+pub start_has_no_check : (n : ℕ) → n < STARTS → InCheck (start n).placement White → ⊥
 unfolding start
 start_has_no_check n l = start_unchecked (array n) White
 
 -- White has a legal move
-pub start_has_move : (n : ℕ) → n < 960 → (m : Triple) × Legal (start n) m
+pub start_has_move : (n : ℕ) → n < STARTS → (m : Triple) × Legal (start n) m
 unfolding start
 start_has_move n l = (first_step, first_legal (array n))
 
 -- so it is not mated
-pub start_is_no_mate : (n : ℕ) → n < 960 → Mate (start n) → ⊥
+pub start_is_no_mate : (n : ℕ) → n < STARTS → Mate (start n) → ⊥
 start_is_no_mate n l mate = let w = start_has_move n l in mate.no_move w.0 w.1
 
 -- nor stalemated
-pub start_is_no_stalemate : (n : ℕ) → n < 960 → Stale (start n) → ⊥
+pub start_is_no_stalemate : (n : ℕ) → n < STARTS → Stale (start n) → ⊥
 start_is_no_stalemate n l stale = let w = start_has_move n l in stale.no_move w.0 w.1

@@ -1,6 +1,7 @@
 -- What an accepted step says about the history before it.
 use Rattle.std.proofs.Common.{◌≡◌, ℕ, ◌+◌, ◌-◌, ◌≤◌, nat_le, nat_lt, Bool, true, false, not, cond, is_some, ◌==◌, List, [], ◌∷◌, ◌++◌, length, take, Option, Some, None, sym, ap, ◌∙◌, true≢false, inl, inr, refl, arith}
 use Rattle.std.proofs.lemmas.Bool.Decides.{nat_tests}
+use Rattle.c960_board.specs.declared.numbering.TheConstants.{STARTS}
 use Rattle.c960_board.specs.Moves.{Triple}
 use Rattle.c960_game.specs.declared.ending.Ending.{Ending}
 use Rattle.c960_game.specs.declared.refusal.Refusal.TheVariants.{BoardExists, BadStart, TooManyBoards, GameOver, LogFull, Illegal, ClaimRefused, FollowerExists, TooManyFollowers, TooFarBack, NotYet}
@@ -38,9 +39,9 @@ accepts limits h s r ok took = ap is_accepted (sym (told limits h s r ok took)) 
 
 pub open_new : (limits : LimitNumbers) (h : History) (b : List ℕ) (n : ℕ) (r : Reply) → IsAllowed limits h (Open b n) r
     → is_accepted r ≡ true
-    → (start_of h b ≡ None) × (nat_le 960 n ≡ false)
+    → (start_of h b ≡ None) × (nat_le STARTS n ≡ false)
 open_new limits h b n r ok took =
-    by (start_of h b) (nat_le 960 n) (nat_le limits.boards (length (opened h))) (accepts limits h (Open b n) r ok took)
+    by (start_of h b) (nat_le STARTS n) (nat_le limits.boards (length (opened h))) (accepts limits h (Open b n) r ok took)
   where
     by : (o : Option ℕ) (bad full : Bool) → is_accepted
         (cond (is_some o) (Refused BoardExists) (cond bad (Refused BadStart) (cond full (Refused TooManyBoards) Opened))) ≡ true

@@ -22,9 +22,10 @@ use Rattle.relay_core.proofs.lemmas.Lists.{lookup-push, first_some, none_below}
 use Rattle.relay_core.proofs.lemmas.Names.{same_name_is}
 use Rattle.relay_core.proofs.lemmas.Refusals.{nothing, opened_where, reply_accepted, reply_refused}
 use Rattle.relay_core.proofs.lemmas.Refused.{goes_refused}
+use Rattle.c960_board.specs.declared.numbering.TheConstants.{STARTS}
 
 -- the game of a board that was not opened before
-new_game_of : (limits : LimitNumbers) (h : History) (b : List ℕ) (n : ℕ) → n < 960 → log h b ≡ [] → named h b ≡ None
+new_game_of : (limits : LimitNumbers) (h : History) (b : List ℕ) (n : ℕ) → n < STARTS → log h b ≡ [] → named h b ≡ None
     → new_game n limits.plies ≡ game_of limits h b n
 new_game_of limits h b n low empty free =
     rw (empty, free) (ap (λ (o : Option _). record { start = n; plies = limits.plies; log = []; outcome = o })
@@ -53,7 +54,7 @@ module _ (r : Held) (b : List ℕ) (n : ℕ) where
     none : lookup (same_name b) r.boards ≡ None
     none = nothing (lookup (same_name b) r.boards) (opened_where _ n _ _ u fine).0
 
-    low : n < 960
+    low : n < STARTS
     low = (opened_where _ n _ _ u fine).1
 
     unknown : (limits : LimitNumbers) (h : History) → HeldStands limits r h → start_of h b ≡ None

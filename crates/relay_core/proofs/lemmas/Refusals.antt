@@ -7,6 +7,7 @@ use Rattle.relay_core.specs.declared.reply.Reply.{Reply}
 use Rattle.relay_core.specs.declared.reply.Reply.TheVariants.{Refused}
 use Rattle.relay_core.specs.Refusals.{first_refusal, follow_grounds, open_grounds}
 use Rattle.relay_core.specs.Replies.{first_of}
+use Rattle.c960_board.specs.declared.numbering.TheConstants.{STARTS}
 
 -- a call that was refused: the reply names that refusal
 pub reply_refused : (all : List (Bool × Refusal)) (accepted : Reply) (refusal : Refusal) → Err refusal ≡ first_refusal all
@@ -42,16 +43,16 @@ within capacity since e = grind (arith, nat_tests)
 
 -- what holds if a board may be opened
 pub opened_where : (named : Bool) (start boards most : ℕ) (u : Unit {0}) → Ok u ≡ first_refusal (open_grounds named start boards most)
-    → (named ≡ false) × (start < 960) × (boards < most)
+    → (named ≡ false) × (start < STARTS) × (boards < most)
 opened_where true start boards most u e = cc
-opened_where false start boards most u e = by (nat_le 960 start) (nat_le most boards) refl refl e
+opened_where false start boards most u e = by (nat_le STARTS start) (nat_le most boards) refl refl e
   where
-    by : (bad full : Bool) → nat_le 960 start ≡ bad → nat_le most boards ≡ full
+    by : (bad full : Bool) → nat_le STARTS start ≡ bad → nat_le most boards ≡ full
         → Ok u ≡ cond bad (Err BadStart) (cond full (Err TooManyBoards) (Ok tt))
-        → (false ≡ false) × (start < 960) × (boards < most)
+        → (false ≡ false) × (start < STARTS) × (boards < most)
     by true full b f g = cc
     by false true b f g = cc
-    by false false b f g = (refl, below start 960 b, below boards most f)
+    by false false b f g = (refl, below start STARTS b, below boards most f)
 
 -- and if a spectator may follow
 pub followed_where : (follows : Bool) (long place capacity : ℕ) (full : Bool) (u : Unit {0})

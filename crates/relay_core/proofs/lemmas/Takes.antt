@@ -4,6 +4,7 @@ use Rattle.std.specs.Map.{lookup}
 use Rattle.std.specs.Option.{IfSome}
 use Rattle.std.proofs.lemmas.Bool.{eqb-true}
 use Rattle.c960_board.specs.Moves.{Triple}
+use Rattle.c960_game.specs.declared.limits.TheConstants.{MOST_PLIES}
 use Rattle.c960_game.specs.declared.outcome.Outcome.{Outcome}
 use Rattle.c960_game.specs.declared.refusal.Refusal.TheVariants.{NoSuchFollower}
 use Rattle.c960_game.specs.Limits.{LimitNumbers}
@@ -189,7 +190,7 @@ take_nobody r fs who nobody same = goes_refused r r.boards fs (Take who) NoSuchF
 
 -- ---- Places fit in 16 bits, and a closed follower was closed where its queue ends.
 
-pub has_places : (limits : LimitNumbers) (r : Held) (h : History) (who : ℕ) → HeldStands limits r h → limits.plies ≤ 16384
+pub has_places : (limits : LimitNumbers) (r : Held) (h : History) (who : ℕ) → HeldStands limits r h → limits.plies ≤ MOST_PLIES
     → IfSome (lookup (nat_eq who) r.followers) HasPlaces
 has_places limits r h who st most = subst (λ (o : Option HeldFollower). IfSome o HasPlaces) (sym (st.followers who)) (by (board_of h who) refl)
   where

@@ -1,4 +1,5 @@
 use Rattle.std.proofs.Common.{◌*◌, ◌/◌, ◌≤◌, ap, ◌∙◌, arith}
+use Rattle.c960_game.specs.declared.kept_positions.TheConstants.{MILE}
 use Rattle.c960_game.specs.GameRecord.{GameRecord}
 use Rattle.c960_game.proofs.lemmas.KeptFacts.{game_is, milestones_are}
 use Rattle.c960_game.proofs.MilestoneFacts.{milestone_is}
@@ -14,7 +15,7 @@ new-requires c =
     let read = rw c.from-mile.ensures at c.index.ensures in
     let begins = milestone_is n l c.self.inside.milestones.items c.args.place c.index.result.now kept c.requires read in
     let log = c.deref.ensures.value ∙ ap (λ (g : GameRecord). g.log) c.self.view_is in
-    let from = c.args.place / 64 * 64 in
+    let from = c.args.place / MILE * MILE in
     let mile = c.from-mile.ensures in
     record {
       few = rw (mile, c.from.ensures, log) (few_in_stretch l c.args.place);
@@ -31,5 +32,5 @@ returns c =
     let read = rw c.from-mile.ensures at c.index.ensures in
     let begins = milestone_is n l c.self.inside.milestones.items c.args.place c.index.result.now kept c.requires read in
     let log = c.deref.ensures.value ∙ ap (λ (g : GameRecord). g.log) c.self.view_is in
-    let past : c.args.place / 64 * 64 ≤ c.args.place = omega arith in
-    (rw (c.from-mile.ensures, c.from.ensures, begins, log) at c.new.ensures) ∙ position_stretch n l (c.args.place / 64 * 64) c.args.place past
+    let past : c.args.place / MILE * MILE ≤ c.args.place = omega arith in
+    (rw (c.from-mile.ensures, c.from.ensures, begins, log) at c.new.ensures) ∙ position_stretch n l (c.args.place / MILE * MILE) c.args.place past
