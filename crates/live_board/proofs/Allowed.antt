@@ -5,6 +5,7 @@ use lib.ListN.{get_elem?}
 use prog.Atomic.{either}
 use Rattle.atomic_table.specs.Table.{step, Act, keeps, Valid, carried_after, stepped, opening, Allows, Splits, Joins}
 use Rattle.atomic_table.proofs.Lists.{exchanged}
+use Rattle.c960_board.specs.declared.numbering.TheConstants.{STARTS}
 use Rattle.c960_board.specs.Moves.{Triple, IsMove}
 use Rattle.c960_board.specs.MoveTexts.{move_code}
 use Rattle.c960_rules.specs.Legal.{Legal}
@@ -13,6 +14,7 @@ use Rattle.c960_game.specs.Ending.{named_outcome}
 use Rattle.c960_game.specs.Ends.{own_outcome}
 use Rattle.c960_game.specs.Ground.{Ground}
 use Rattle.c960_game.specs.Positions.{last_position}
+use Rattle.live_board.specs.declared.words.TheConstants.{FIELD, MARK}
 use Rattle.live_board.specs.Limits.{AreBoardLimits}
 use Rattle.live_board.specs.SharedBoard.{move_at}
 use Rattle.live_board.specs.Events.{Event, Open, Follow, Close, Submit, End, Take, Leave, opened}
@@ -46,7 +48,7 @@ kept_silent : (z : BoardSetup) (s t : Table) (q : ShowsReached z s) → Shows z 
 kept_silent z s t q shows = record { events = q.events; now = q.now; runs = q.runs; shows = shows }
 
 -- 1
-pub table_made : (z : BoardSetup) → z.start < 960 → AreBoardLimits z.limits → (ws : List ℕ)
+pub table_made : (z : BoardSetup) → z.start < STARTS → AreBoardLimits z.limits → (ws : List ℕ)
     → ws ≡ header_word z.start z.limits.capacity ∷ replicate (z.limits.followers + z.limits.plies + 1) 0 → ShowsReached z (opening ws [] (starting z))
 table_made z numbered limits ws is =
     let h = makes_the_table z numbered limits ws is in
@@ -54,12 +56,12 @@ table_made z numbered limits ws is =
 
 -- 2
 pub allows_following : (z : BoardSetup) (slots id : ℕ) (m : Sitting) (k p : ℕ) → k < z.limits.followers → m.0.owns ≡ true → get_elem? m.0.notes k ≡ some Vacant → p ≤ length m.0.log → length m.0.log ≤ p + z.limits.capacity
-    → p < 4294967296
+    → p < MARK
     → Allows (ShowsReached z) slots id m (cursor_at k) (λ _. cursor_of p None) (λ _. follows (step slots (cursor_at k) (cursor_of p None) 0 none) m (cursor_of p None))
 allows_following z slots id m k p inside owns note low close small s q _ seat _ =
     let w = followed k p m.0 in
     let at-k : k + 2 - 2 ≡ k = omega arith in
-    let place : (p + 4294967296 * 1) % 4294967296 ≡ p = omega arith in
+    let place : (p + MARK * 1) % MARK ≡ p = omega arith in
     let kept = kept_event z s (after s (k + 2) (cursor_of p None) id m w) q (Follow k p) (stores_an_open_cursor z q.now s id m q.shows seat owns k p inside note low close) in
     (w, keeps, tt, kept, (told z s (k + 2) (cursor_of p None) id m w seat kept, λ i. followed (sym at-k i) (sym place i) m.0))
 
@@ -87,11 +89,11 @@ allows_publishing z slots id m x owns stored going legal free n is s q _ seat _ 
     let kept : ShowsReached z (after s 1 n id m w) = subst (λ (t : ℕ). ShowsReached z (after s 1 t id m w)) (sym is) (kept_event z s _ q (Submit x) (stores_the_length z q.now s id m q.shows seat owns x stored going legal free)) in
     (w, keeps, tt, kept, (told z s 1 n id m w seat kept, λ y e. ap (λ (t : Triple). published t m.0) (same_Some x y (sym stored ∙ e))))
 
-pub allows_finishing : (z : BoardSetup) (slots id : ℕ) (m : Sitting) (e : Ending) → m.0.owns ≡ true → m.0.outcome ≡ None → Ground z.start m.0.log e → length m.0.log < 65536 → (n : ℕ) → n ≡ status_word (length m.0.log) (Some (named_outcome e))
+pub allows_finishing : (z : BoardSetup) (slots id : ℕ) (m : Sitting) (e : Ending) → m.0.owns ≡ true → m.0.outcome ≡ None → Ground z.start m.0.log e → length m.0.log < FIELD → (n : ℕ) → n ≡ status_word (length m.0.log) (Some (named_outcome e))
     → Allows (ShowsReached z) slots id m 1 (λ _. n) (λ _. finishes (step slots 1 n 0 none) m n)
 allows_finishing z slots id m e owns going ground-holds short n is s q _ seat _ =
     let w = finished (Some (named_outcome e)) m.0 in
-    let number : n / 65536 ≡ outcome_number (Some (named_outcome e)) = omega arith in
+    let number : n / FIELD ≡ outcome_number (Some (named_outcome e)) = omega arith in
     let kept : ShowsReached z (after s 1 n id m w) = subst (λ (t : ℕ). ShowsReached z (after s 1 t id m w)) (sym is) (kept_event z s _ q (End e) (stores_the_outcome z q.now s id m q.shows seat owns e going ground-holds)) in
     (w, keeps, tt, kept, (told z s 1 n id m w seat kept, ap (λ o. finished o m.0) (sym (ap outcome_numbered number ∙ outcome_back (Some (named_outcome e))))))
 

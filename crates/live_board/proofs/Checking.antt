@@ -6,6 +6,7 @@ use mathlib.Core.Logic.{dite}
 use mathlib.Core.Option.{some, some-injective, some-ne-none}
 use native.Mathlib.Decide.{ℕ_discrete}
 use lib.ListN.{get_elem?}
+use Rattle.live_board.specs.declared.words.TheConstants.{MARK}
 use Rattle.live_board.specs.SharedBoard.{SharedFollower, SharedBoard, next, with_follower}
 use Rattle.live_board.specs.Events.{Close, Goes, changed, closed_at}
 use Rattle.live_board.proofs.SharedFollowers.{with_here}
@@ -60,7 +61,7 @@ learned_ok z a s r word p h =
     let n : ℕ = get_or s.words word 0 in
     pick (ShowsPart z a) (eqb (p.slot + 2) word) (learns n p) p
     (λ e. let is = eqb-true (p.slot + 2) word e in
-    let was : n ≡ next_of p + 4294967296 * mark h.closing = ap (λ (x : ℕ). get_or s.words x 0) (sym is) ∙ r.cursors p.slot h.inside ∙ ap cursor_word h.has in
+    let was : n ≡ next_of p + MARK * mark h.closing = ap (λ (x : ℕ). get_or s.words x 0) (sym is) ∙ r.cursors p.slot h.inside ∙ ap cursor_word h.has in
     let near-by = near z a s r p.slot _ h.has in
     let shows-closing : closing_in n ≡ h.closing = ap closing_in was ∙ closing_is (next_of p) h.closing near-by in
     record {

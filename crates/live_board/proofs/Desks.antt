@@ -19,6 +19,7 @@ use Rattle.live_board.proofs.SoundViews.{sound}
 use Rattle.live_board.specs.Carried.{Carries}
 use Rattle.live_board.specs.Seats.{NoneBefore, IsDesk}
 use Rattle.live_board.proofs.lemmas.Notes.{same_open, vacant_open, closed_open}
+use Rattle.c960_board.specs.declared.numbering.TheConstants.{STARTS}
 
 pub desk_of : {id : TableId} {key : BoardSetup} {seat : Seat (Unit {0}) View} {setup : BoardSetup} {len least : ℕ} {notes : List Note} {room : ℕ} (v : View) → seat.me.0 ≡ v → seat.table_id ≡ id → id.words ≡ word_count setup.limits → key ≡ setup
     → v.owns ≡ true → v.setup ≡ setup → len ≡ length v.log → notes ≡ v.notes → NoneBefore least notes → least ≤ len → room ≡ setup.limits.followers → seat.me.1 ≡ [] → IsSound seat.me.0
@@ -39,7 +40,7 @@ desk_of v is table words key owns setup-is len-is notes-are least-is least-low r
 }
 
 -- the first view of a board is sound
-pub starting_sound : (z : BoardSetup) → z.start < 960 → AreBoardLimits z.limits → IsSound (starting z)
+pub starting_sound : (z : BoardSetup) → z.start < STARTS → AreBoardLimits z.limits → IsSound (starting z)
 starting_sound z numbered limits =
     let made = table_made z numbered limits (header_word z.start z.limits.capacity ∷ replicate (z.limits.followers + z.limits.plies + 1) 0) refl in
     sound z made.now _ made.shows 0 (starting z) refl

@@ -5,6 +5,7 @@ use Rattle.std.proofs.Math.Seq.{get_or-append_seam}
 use Rattle.std.proofs.lemmas.Option.{same_Some, none-some}
 use mathlib.Core.Logic.{dite}
 use native.Mathlib.Decide.{ℕ_discrete}
+use Rattle.c960_board.specs.declared.numbering.TheConstants.{STARTS}
 use Rattle.c960_board.specs.Moves.{Triple}
 use Rattle.c960_game.specs.declared.outcome.Outcome.{Outcome}
 use Rattle.c960_game.specs.Ends.{own_outcome}
@@ -131,7 +132,7 @@ goes limits a b (Leave k) h (f, has, is) =
     subst (IsShared limits) (sym is) (one limits a k None h (λ g e. absurd (none-some g e)))
 
 -- a board without a move
-pub opens : (limits : BoardLimits) (n : ℕ) → n < 960 → IsShared limits (opened n)
+pub opens : (limits : BoardLimits) (n : ℕ) → n < STARTS → IsShared limits (opened n)
 opens limits n numbered = record {
   game = no_move_yet n numbered;
   room = omega arith;

@@ -2,6 +2,7 @@
 use Rattle.std.proofs.Common.{◌≡◌, ℕ, zero, suc, ◌+◌, ◌-◌, ◌%◌, ◌<◌, List, [], ◌∷◌, true≢false, None, sym, ◌∙◌, arith}
 use mathlib.Core.Option.{some, some-ne-none}
 use lib.ListN.{get_elem?}
+use Rattle.live_board.specs.declared.words.TheConstants.{MARK}
 use Rattle.live_board.specs.declared.view.Part.{Part}
 use Rattle.live_board.specs.declared.view.View.{View}
 use Rattle.live_board.specs.Words.{place_in, cursor_of}
@@ -40,8 +41,8 @@ pub given_sound : (v : View) → IsSound v → IsSound (given_part v)
 given_sound v s = record { parts = λ i p d. s.parts 0 p (first_at v.parts i p d); board = λ o. absurd (true≢false (sym o)) }
 
 -- the view of a board that has stored an open cursor
-pub followed_is : (w v : View) (k from n : ℕ) → w ≡ followed (k + 2 - 2) (place_in n) v → n ≡ cursor_of from None → from < 4294967296 → w ≡ followed k from v
+pub followed_is : (w v : View) (k from n : ℕ) → w ≡ followed (k + 2 - 2) (place_in n) v → n ≡ cursor_of from None → from < MARK → w ≡ followed k from v
 followed_is w v k from n is word low =
     let at-k : k + 2 - 2 ≡ k = omega arith in
-    let here : n % 4294967296 ≡ from = omega (arith, word, low) in
+    let here : n % MARK ≡ from = omega (arith, word, low) in
     is ∙ (λ i. followed (at-k i) (here i) v)

@@ -6,6 +6,7 @@ use mathlib.Core.Option.{some}
 use lib.ListN.{get_elem?}
 use Rattle.atomic_table.specs.Table.{keeps, stepped}
 use Rattle.c960_board.specs.Moves.{Triple}
+use Rattle.live_board.specs.declared.words.TheConstants.{FIELD}
 use Rattle.live_board.specs.SharedBoard.{SharedBoard, move_at}
 use Rattle.live_board.specs.declared.setup.BoardSetup.{BoardSetup}
 use Rattle.live_board.specs.declared.view.Part.{Part}
@@ -32,16 +33,16 @@ status_says z a s r =
     let room = r.shared.room in
     let plies = r.limits.most_plies in
     let n : ℕ = get_or s.words 1 0 in
-    let shown : n ≡ length a.log + 65536 * outcome_number a.outcome = r.status in
+    let shown : n ≡ length a.log + FIELD * outcome_number a.outcome = r.status in
     let few = outcome_small a.outcome in
-    let number : n / 65536 ≡ outcome_number a.outcome = omega arith in
+    let number : n / FIELD ≡ outcome_number a.outcome = omega arith in
     (omega arith, ap outcome_numbered number ∙ outcome_back a.outcome)
 
 pub loads_the_status : LoadsTheStatus
 loads_the_status z a s id m r seat =
     let n : ℕ = get_or s.words 1 0 in
     let says = status_says z a s r in
-    let len : n % 65536 ≡ length a.log = says.0 in
+    let len : n % FIELD ≡ length a.log = says.0 in
     loaded_by z a s r 1 id m (sees n) seat (λ k p. refl) (λ p h. let seen = h.seen in record {
       inside = h.inside;
       setup_is = h.setup_is;

@@ -6,6 +6,7 @@ use mathlib.Core.Option.{some}
 use native.Mathlib.Decide.{ℕ_discrete}
 use lib.ListN.{get_elem?}
 use Rattle.live_board.proofs.Stretches.{is_stretch}
+use Rattle.live_board.specs.declared.words.TheConstants.{MARK}
 use Rattle.live_board.specs.declared.setup.BoardSetup.{BoardSetup}
 use Rattle.live_board.specs.declared.note.Note.{Note}
 use Rattle.live_board.specs.declared.note.Note.TheVariants.{Vacant, Open, Closed}
@@ -32,13 +33,13 @@ open_closed j b c e = cc
 
 -- a cursor without a closing is not noted as closed except at 0
 closed_at_none : (x : Note) (n c : ℕ) → note_after x n ≡ Closed c → closing_in n ≡ None → c ≡ 0
-closed_at_none x n c is none = pick (λ (m : Note). m ≡ Closed c → c ≡ 0) (eqb n 0) Vacant (cond (eqb (n / 4294967296) 1) (Open (joined_noted x) (n % 4294967296)) (Closed (n / 4294967296 - 2)))
+closed_at_none x n c is none = pick (λ (m : Note). m ≡ Closed c → c ≡ 0) (eqb n 0) Vacant (cond (eqb (n / MARK) 1) (Open (joined_noted x) (n % MARK)) (Closed (n / MARK - 2)))
     (λ _ e. absurd (vacant_closed c e))
-    (λ _. pick (λ (m : Note). m ≡ Closed c → c ≡ 0) (eqb (n / 4294967296) 1) (Open (joined_noted x) (n % 4294967296)) (Closed (n / 4294967296 - 2))
-    (λ _ e. absurd (open_closed (joined_noted x) (n % 4294967296) c e))
-    (λ _ e. let same = same_closed (n / 4294967296 - 2) c e in dite (ℕ_discrete c 0) (λ (z : c ≡ 0). z)
-    (λ ne. let more : 1 < n / 4294967296 = omega (arith, same, ne) in
-    absurd (none-some (n / 4294967296 - 2) (sym none ∙ ap (λ b. cond b (Some (n / 4294967296 - 2)) None) (lt-ltb 1 (n / 4294967296) more))))))
+    (λ _. pick (λ (m : Note). m ≡ Closed c → c ≡ 0) (eqb (n / MARK) 1) (Open (joined_noted x) (n % MARK)) (Closed (n / MARK - 2))
+    (λ _ e. absurd (open_closed (joined_noted x) (n % MARK) c e))
+    (λ _ e. let same = same_closed (n / MARK - 2) c e in dite (ℕ_discrete c 0) (λ (z : c ≡ 0). z)
+    (λ ne. let more : 1 < n / MARK = omega (arith, same, ne) in
+    absurd (none-some (n / MARK - 2) (sym none ∙ ap (λ b. cond b (Some (n / MARK - 2)) None) (lt-ltb 1 (n / MARK) more))))))
     is
 
 -- the board's view after it took in the part, then loaded the status, then the part's cursor

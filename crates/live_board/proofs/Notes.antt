@@ -5,6 +5,7 @@ use mathlib.Core.Option.{some}
 use lib.ListN.{get_elem?}
 use Rattle.atomic_table.proofs.Lists.{at_set}
 use Rattle.c960_board.specs.Moves.{Triple}
+use Rattle.live_board.specs.declared.words.TheConstants.{MARK}
 use Rattle.live_board.specs.SharedBoard.{SharedFollower, next, with_follower}
 use Rattle.live_board.proofs.SharedFollowers.{with_here, with_there, with_cases}
 use Rattle.live_board.specs.declared.note.Note.{Note}
@@ -18,30 +19,30 @@ follower joined taken closing = record { joined = joined; taken = taken; closing
 
 -- the next place fits next to the mark
 abbrev pub Near : Option SharedFollower → Type 0
-Near o = (f : SharedFollower) → o ≡ Some f → next f < 4294967296
+Near o = (f : SharedFollower) → o ≡ Some f → next f < MARK
 
 -- the closing is read back
-pub closing_is : (x : ℕ) (d : Option ℕ) → x < 4294967296 → closing_in (x + 4294967296 * mark d) ≡ d
-closing_is x None small = let q : (x + 4294967296 * 1) / 4294967296 ≡ 1 = omega arith in let n : ℕ = (x + 4294967296 * 1) / 4294967296 in
+pub closing_is : (x : ℕ) (d : Option ℕ) → x < MARK → closing_in (x + MARK * mark d) ≡ d
+closing_is x None small = let q : (x + MARK * 1) / MARK ≡ 1 = omega arith in let n : ℕ = (x + MARK * 1) / MARK in
     ap (λ b. cond b (Some (n - 2)) None) (le-ltb 1 n (omega arith))
-closing_is x (Some c) small = let n : ℕ = (x + 4294967296 * (c + 2)) / 4294967296 in let q : n ≡ c + 2 = omega arith in let m : n - 2 ≡ c = omega arith in
+closing_is x (Some c) small = let n : ℕ = (x + MARK * (c + 2)) / MARK in let q : n ≡ c + 2 = omega arith in let m : n - 2 ≡ c = omega arith in
     ap (λ b. cond b (Some (n - 2)) None) (lt-ltb 1 n (omega arith)) ∙ ap Some m
 
 -- the note of an open cursor, and of a closed one
-open_is : (n : Note) (x : ℕ) → x < 4294967296 → note_after n (cursor_of x None) ≡ Open (joined_noted n) x
+open_is : (n : Note) (x : ℕ) → x < MARK → note_after n (cursor_of x None) ≡ Open (joined_noted n) x
 open_is n x small =
-    let w : ℕ = x + 4294967296 * 1 in
-    let q : w / 4294967296 ≡ 1 = omega arith in
-    let m : w % 4294967296 ≡ x = omega arith in
-    (λ i. cond (ne_eqb w 0 (λ e. omega arith) i) Vacant (cond (eq-eqb (w / 4294967296) 1 q i) (Open (joined_noted n) (w % 4294967296)) (Closed (w / 4294967296 - 2))))
+    let w : ℕ = x + MARK * 1 in
+    let q : w / MARK ≡ 1 = omega arith in
+    let m : w % MARK ≡ x = omega arith in
+    (λ i. cond (ne_eqb w 0 (λ e. omega arith) i) Vacant (cond (eq-eqb (w / MARK) 1 q i) (Open (joined_noted n) (w % MARK)) (Closed (w / MARK - 2))))
     ∙ ap (Open (joined_noted n)) m
 
-closed_is : (n : Note) (x c : ℕ) → x < 4294967296 → note_after n (cursor_of x (Some c)) ≡ Closed c
+closed_is : (n : Note) (x c : ℕ) → x < MARK → note_after n (cursor_of x (Some c)) ≡ Closed c
 closed_is n x c small =
-    let w : ℕ = x + 4294967296 * (c + 2) in
-    let q : w / 4294967296 ≡ c + 2 = omega arith in
-    let m : w / 4294967296 - 2 ≡ c = omega arith in
-    (λ i. cond (ne_eqb w 0 (λ e. omega arith) i) Vacant (cond (ne_eqb (w / 4294967296) 1 (λ e. omega arith) i) (Open (joined_noted n) (w % 4294967296)) (Closed (w / 4294967296 - 2))))
+    let w : ℕ = x + MARK * (c + 2) in
+    let q : w / MARK ≡ c + 2 = omega arith in
+    let m : w / MARK - 2 ≡ c = omega arith in
+    (λ i. cond (ne_eqb w 0 (λ e. omega arith) i) Vacant (cond (ne_eqb (w / MARK) 1 (λ e. omega arith) i) (Open (joined_noted n) (w % MARK)) (Closed (w / MARK - 2))))
     ∙ ap Closed m
 
 -- a true note becomes one that is true and follows from it

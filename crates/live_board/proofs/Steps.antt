@@ -6,6 +6,7 @@ use prog.Atomic.{either}
 use Rattle.atomic_table.specs.Table.{step, Allows}
 use Rattle.c960_board.specs.Moves.{Triple, IsMove}
 use Rattle.c960_board.specs.MoveTexts.{move_code}
+use Rattle.live_board.specs.declared.words.TheConstants.{MARK}
 use Rattle.live_board.specs.declared.setup.BoardSetup.{BoardSetup}
 use Rattle.live_board.specs.declared.note.Note.TheVariants.{Vacant, Open}
 use Rattle.live_board.specs.declared.view.Part.{Part}
@@ -16,7 +17,7 @@ use Rattle.live_board.specs.KindViews.{Sitting, follows, stores, reads, takes, c
 use Rattle.live_board.proofs.Allowed.{allows_following, allows_storing, allows_reading, allows_taking, allows_checking, allows_closing, allows_leaving}
 
 pub following : (z : BoardSetup) (slots id : ℕ) (m : Sitting) (k p word n : ℕ) → word ≡ k + 2 → n ≡ cursor_of p None → k < z.limits.followers → m.0.owns ≡ true → get_elem? m.0.notes k ≡ some Vacant → p ≤ length m.0.log → length m.0.log ≤ p + z.limits.capacity
-    → p < 4294967296
+    → p < MARK
     → Allows (ShowsReached z) slots id m word (λ _. n) (λ _. follows (step slots word n 0 none) m n)
 following z slots id m k p word n at is inside owns note low close small =
     subst (λ (y : ℕ × ℕ). Allows (ShowsReached z) slots id m y.0 (λ _. y.1) (λ _. follows (step slots y.0 y.1 0 none) m y.1)) (λ i. (sym at i, sym is i)) (allows_following z slots id m k p inside owns note low close small)

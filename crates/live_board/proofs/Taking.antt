@@ -6,6 +6,7 @@ use Rattle.std.proofs.lemmas.Option.{same_Some, none-some}
 use mathlib.Core.Option.{some, some-injective}
 use lib.ListN.{get_elem?}
 use Rattle.c960_board.specs.Moves.{Triple}
+use Rattle.live_board.specs.declared.words.TheConstants.{MARK}
 use Rattle.live_board.specs.SharedBoard.{SharedBoard, SharedFollower, next, move_at, with_follower}
 use Rattle.live_board.specs.Events.{Take, Goes, HasNext, changed}
 use Rattle.live_board.proofs.SharedFollowers.{with_here}
@@ -51,9 +52,9 @@ adds_one z a s id m r seat i p item mine known unclosed =
     let longer : length list ≡ length p.taken + 1 = length-append p.taken (logged ∷ []) in
     let o : Option SharedFollower = Some (follower p.joined list h.closing) in
     let n : ℕ = get_or s.words word 0 in
-    let was : n ≡ next_of p + 4294967296 * mark h.closing = r.cursors k inside ∙ ap cursor_word h.has in
+    let was : n ≡ next_of p + MARK * mark h.closing = r.cursors k inside ∙ ap cursor_word h.has in
     let n' : ℕ = (n + 1) % 2 ^ 64 in
-    let new : n' ≡ next (follower p.joined list h.closing) + 4294967296 * mark h.closing = omega arith in
+    let new : n' ≡ next (follower p.joined list h.closing) + MARK * mark h.closing = omega arith in
     let shows-closing : closing_in n ≡ h.closing = closing_shown z a s r p h in
     let more : HasNext a f = (
       omega arith,

@@ -1,6 +1,7 @@
 -- The events of a shared board. Each has a line that says when it is allowed, then what it does to the board; nothing else
 -- ever happens to a board.
 use Rattle.std.specs.Prelude.{ℕ, ◌≡◌, ◌<◌, ◌≤◌, ◌+◌, List, [], ◌∷◌, ◌++◌, length, Option, Some, None}
+use Rattle.c960_board.specs.declared.numbering.TheConstants.{STARTS}
 use Rattle.c960_board.specs.Moves.{Triple}
 use Rattle.c960_rules.specs.Legal.{Legal}
 use Rattle.c960_game.specs.declared.ending.Ending.{Ending}
@@ -85,7 +86,7 @@ Goes limits a (Leave k) b = (f : SharedFollower) × (a.followers k ≡ Some f)
 -- ---- Every event: the first one opens the board.
 
 abbrev pub Does : BoardLimits → Option SharedBoard → Event → SharedBoard → Type 0
-Does limits None (Open n) b = (n < 960) × (b ≡ opened n)
+Does limits None (Open n) b = (n < STARTS) × (b ≡ opened n)
 Does limits None _ b = ⊥
 Does limits (Some a) e b = Goes limits a e b
 

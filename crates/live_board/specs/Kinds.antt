@@ -5,6 +5,7 @@ use Rattle.std.specs.Prelude.{◌≡◌, ◌≢◌, ℕ, ◌+◌, ◌%◌, ◌^�
 use mathlib.Core.Option.{some}
 use lib.ListN.{get_elem?}
 use Rattle.atomic_table.specs.Table.{keeps, stepped, opening}
+use Rattle.c960_board.specs.declared.numbering.TheConstants.{STARTS}
 use Rattle.c960_board.specs.Moves.{Triple}
 use Rattle.c960_board.specs.MoveTexts.{move_code}
 use Rattle.c960_rules.specs.Legal.{Legal}
@@ -45,7 +46,7 @@ after s word n id me v = stepped s word n id me.1 v keeps
 -- 1. The table is made, with its words and the board's seat: the event open.
 abbrev pub MakesTheTable : Type 0
 MakesTheTable =
-    (z : BoardSetup) → z.start < 960 → AreBoardLimits z.limits
+    (z : BoardSetup) → z.start < STARTS → AreBoardLimits z.limits
     → (words : List ℕ)
     → words ≡ header_word z.start z.limits.capacity ∷ replicate (z.limits.followers + z.limits.plies + 1) 0
     → Does z.limits None (Open z.start) (opened z.start) × Shows z (opened z.start) (opening words [] (starting z))

@@ -6,6 +6,7 @@ use Rattle.c960_game.specs.Record.{IsOutcome}
 use Rattle.live_board.specs.declared.limits.BoardLimits.{BoardLimits}
 use Rattle.live_board.specs.SharedBoard.{SharedFollower, SharedBoard, next, stretch, move_at}
 use Rattle.live_board.specs.Events.{Event, Runs}
+use Rattle.c960_board.specs.declared.numbering.TheConstants.{STARTS}
 
 -- true of every board that a list of events leads to
 abbrev pub Always : (BoardLimits → SharedBoard → Type 0) → Type 0
@@ -18,7 +19,7 @@ AlwaysOfEach P = Always (λ limits now. (k : ℕ) (f : SharedFollower) → now.f
 
 -- the start has a number
 abbrev pub Numbered : BoardLimits → SharedBoard → Type 0
-Numbered limits a = a.start < 960
+Numbered limits a = a.start < STARTS
 
 -- the log is a legal game from its start, and no longer than the limit allows
 abbrev pub HasLegalGame : BoardLimits → SharedBoard → Type 0

@@ -2,6 +2,7 @@
 use Rattle.std.specs.Prelude.{◌≡◌, ℕ, ◌+◌, ◌<◌, ◌≤◌, ◌⊎◌, ◌++◌, true, List, length, take, unwrap_or, Option, Some, None, IfSome}
 use mathlib.Core.Option.{some}
 use lib.ListN.{get_elem?}
+use Rattle.c960_board.specs.declared.numbering.TheConstants.{STARTS}
 use Rattle.c960_board.specs.Moves.{Triple, IsMove}
 use Rattle.c960_game.specs.declared.outcome.Outcome.{Outcome}
 use Rattle.c960_game.specs.Game960.{Game960}
@@ -66,7 +67,7 @@ Agrees v (Closed c) p =
 -- the board's view
 pub record IsSoundBoard (v : View) : Type 0 where
   pub limits : AreBoardLimits v.setup.limits
-  pub start : v.setup.start < 960
+  pub start : v.setup.start < STARTS
   pub room : length v.log ≤ v.setup.limits.plies
   pub noted : length v.notes ≡ v.setup.limits.followers
   pub checked : length v.checks ≡ v.setup.limits.followers

@@ -4,6 +4,7 @@ use Rattle.c960_board.specs.declared.piece.Colour.TheVariants.{White, Black}
 use Rattle.c960_game.specs.declared.outcome.Outcome.{Outcome}
 use Rattle.c960_game.specs.declared.outcome.Outcome.TheVariants.{Checkmate, Stalemate, Resigned, Agreed, Abandoned, Threefold, Fifty, Fivefold, SeventyFive}
 use Rattle.c960_game.specs.Outcome.{outcome_code}
+use Rattle.live_board.specs.declared.words.TheConstants.{FIELD, MARK}
 use Rattle.live_board.specs.declared.limits.BoardLimits.{BoardLimits}
 use Rattle.live_board.specs.SharedBoard.{SharedFollower, next}
 use Rattle.live_board.specs.declared.note.Note.{Note}
@@ -31,7 +32,7 @@ word_count limits = limits.followers + 2 + limits.plies
 
 -- the header, which never changes
 abbrev pub header_word : ℕ → ℕ → ℕ
-header_word start capacity = start + 65536 * capacity
+header_word start capacity = start + FIELD * capacity
 
 -- 0 while the game goes on, else the outcome's code
 abbrev pub outcome_number : Option Outcome → ℕ
@@ -40,7 +41,7 @@ outcome_number (Some o) = outcome_code o
 
 -- the status: the log's length and the outcome
 abbrev pub status_word : ℕ → Option Outcome → ℕ
-status_word long o = long + 65536 * outcome_number o
+status_word long o = long + FIELD * outcome_number o
 
 -- what a cursor says besides the next place: 1 if it is open, closing + 2 if it is closed
 abbrev pub mark : Option ℕ → ℕ
@@ -49,7 +50,7 @@ mark (Some c) = c + 2
 
 -- a follower's cursor: the place of the move that it takes next, and its mark 2 ^ 32 higher
 abbrev pub cursor_of : ℕ → Option ℕ → ℕ
-cursor_of place closing = place + 4294967296 * mark closing
+cursor_of place closing = place + MARK * mark closing
 
 -- a cursor: 0 if nobody follows
 abbrev pub cursor_word : Option SharedFollower → ℕ
@@ -60,7 +61,7 @@ cursor_word (Some f) = cursor_of (next f) f.closing
 
 -- the length that a status says
 abbrev pub length_in : ℕ → ℕ
-length_in w = w % 65536
+length_in w = w % FIELD
 
 -- the outcome of a number
 abbrev pub outcome_numbered : ℕ → Option Outcome
@@ -72,15 +73,15 @@ outcome_numbered n =
 
 -- the outcome that a status says
 abbrev pub outcome_in : ℕ → Option Outcome
-outcome_in w = outcome_numbered (w / 65536)
+outcome_in w = outcome_numbered (w / FIELD)
 
 -- the next place that a cursor says
 abbrev pub place_in : ℕ → ℕ
-place_in w = w % 4294967296
+place_in w = w % MARK
 
 -- the closing that a cursor says
 abbrev pub closing_in : ℕ → Option ℕ
-closing_in w = if nat_lt 1 (w / 4294967296) then Some (w / 4294967296 - 2) else None
+closing_in w = if nat_lt 1 (w / MARK) then Some (w / MARK - 2) else None
 
 -- the joining place that a note has
 abbrev pub joined_noted : Note → ℕ
@@ -92,4 +93,4 @@ joined_noted (Closed c) = 0
 abbrev pub note_after : Note → ℕ → Note
 note_after n w =
     if w == 0 then Vacant
-    else (if w / 4294967296 == 1 then Open (joined_noted n) (place_in w) else Closed (w / 4294967296 - 2))
+    else (if w / MARK == 1 then Open (joined_noted n) (place_in w) else Closed (w / MARK - 2))

@@ -22,7 +22,7 @@ ghost use Rattle.live_board.specs.Order.{SubmittedInOrder};
 use crate::desk::Desk;
 use crate::follower::Follower;
 use crate::{BoardLimits, BoardSetup};
-use c960_board::{Move, Position};
+use c960_board::{Move, Position, STARTS};
 use c960_game::{Ending, Game, Limits, Outcome, Refusal, Replaying};
 use relay_core::{Account, Taken, may_join_at, without_move};
 use std::alloc::Global;
@@ -53,7 +53,7 @@ impl Board {
     /// contract allows `OutOfMemory`: it answers that only if the table has as many owners as can be counted.
     /// Refused: `BadStart` exactly from 960 on, and `OutOfMemory`.
     pub fn open(alloc: Global, start: u16, limits: Limits) -> Result<Board, Refusal>
-        ensures bad_start { (result ≡ Err Refusal.BadStart) ↔ (960 ≤ start) }
+        ensures bad_start { (result ≡ Err Refusal.BadStart) ↔ (STARTS ≤ start) }
         ensures refusals { IfErr result (λ r. (r ≡ Refusal.BadStart) ⊎ (r ≡ Refusal.OutOfMemory)) }
         ensures knows { IfOk result (λ b. b.knows ≡ starting (setup_of start limits)) }
         ensures valid { IfOk result (λ b. IsLegalGame b.knows) }

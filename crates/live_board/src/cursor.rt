@@ -2,6 +2,7 @@
 
 ghost use Rattle.std.specs.Prelude.{◌≡◌, ℕ, ◌<◌};
 ghost use Rattle.live_board.specs.declared.note.Note.TheVariants.{Open};
+ghost use Rattle.live_board.specs.declared.words.TheConstants.{MARK};
 ghost use Rattle.live_board.specs.Words.{joined_noted, note_after};
 
 use crate::Note;
@@ -22,7 +23,7 @@ fn joined_noted(note: Note) -> u64
 pub fn renew(note: &mut Note, word: u64) -> Note
     ensures note { note.new ≡ note_after note.old word }
     ensures result { result ≡ note_after note.old word }
-    ensures next { (joined next : ℕ) → result ≡ Open joined next → next < 4294967296 }
+    ensures next { (joined next : ℕ) → result ≡ Open joined next → next < MARK }
 {
     match *note {
         Note::Vacant if word == 0 => return Note::Vacant,

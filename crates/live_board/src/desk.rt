@@ -11,6 +11,7 @@ ghost use Rattle.c960_game.specs.Ground.{Ground};
 ghost use Rattle.c960_game.specs.Positions.{last_position};
 ghost use Rattle.live_board.specs.Limits.{AreBoardLimits};
 ghost use Rattle.live_board.specs.declared.note.Note.TheVariants.{Open, Vacant};
+ghost use Rattle.live_board.specs.declared.words.TheConstants.{MARK};
 ghost use Rattle.live_board.specs.Sound.{IsSound, IsSoundPart};
 ghost use Rattle.live_board.specs.Views.{finished, followed, kept_part, newcomer, published, starting, storing};
 ghost use Rattle.live_board.specs.Desk.{Asked, Checked, CheckedBelow, Exchanged, FreeBelow, IsNotedFull, LoadedBelow, MayBeFull, NoneVacant, NoneVacantBelow, Searched, Tried, TriedBelow, Unmoved};
@@ -26,8 +27,8 @@ use crate::words::{
 };
 use crate::{BoardSetup, LiveRule, Note, View};
 use atomic_table::{Seat, Table};
-use c960_board::Move;
-use c960_game::{Ending, Outcome};
+use c960_board::{Move, STARTS};
+use c960_game::{Ending, MOST_CAPACITY, Outcome};
 use std::alloc::{AllocError, Global};
 use std::marker::Model;
 use std::mem::swap;
@@ -69,7 +70,7 @@ impl Model for Desk {
 impl Desk {
     /// The table of a new board, with its words and the board's seat.
     pub fn new(alloc: Global, setup: BoardSetup) -> Result<Desk, AllocError>
-        requires start { setup.start < 960 }
+        requires start { setup.start < STARTS }
         requires limits { AreBoardLimits setup.limits }
         ensures knows { IfOk result (λ d. d.knows ≡ starting setup) }
         ensures sound { IfOk result (λ d. IsSound d.knows) }
@@ -135,7 +136,7 @@ impl Desk {
     pub fn check(&mut self, slot: u64) -> Note
         requires { slot < self.old.knows.setup.limits.followers }
         ensures note { get_elem? self.new.knows.notes slot ≡ some result }
-        ensures next { (joined next : ℕ) → result ≡ Open joined next → next < 4294967296 }
+        ensures next { (joined next : ℕ) → result ≡ Open joined next → next < MARK }
         ensures table { self.new.table ≡ self.old.table }
         ensures knows { Checked self.old.knows slot self.new.knows }
         ensures before { IsSound self.old.knows }
@@ -269,7 +270,7 @@ impl Desk {
     /// How many moves a follower's queue holds.
     pub fn capacity(&self) -> u64
         ensures value { result ≡ self.now.knows.setup.limits.capacity }
-        ensures most { result ≤ 1024 }
+        ensures most { result ≤ MOST_CAPACITY }
     {
         self.setup.limits.capacity
     }

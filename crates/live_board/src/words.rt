@@ -46,8 +46,8 @@ pub fn word_count(limits: BoardLimits) -> u64
 
 /// The header of a board with this start and this capacity of its queues.
 pub fn header(start: u64, capacity: u64) -> u64
-    requires start { start < 65536 }
-    requires capacity { capacity < 65536 }
+    requires start { start < FIELD }
+    requires capacity { capacity < FIELD }
     ensures { result ≡ header_word start capacity }
 {
     start + FIELD * capacity
@@ -55,7 +55,7 @@ pub fn header(start: u64, capacity: u64) -> u64
 
 /// The status of a board with this many moves and this outcome, if the game is over.
 pub fn status(len: u64, outcome: Option<Outcome>) -> u64
-    requires { len < 65536 }
+    requires { len < FIELD }
     ensures { result ≡ status_word len outcome }
 {
     let number = match outcome {
@@ -109,7 +109,7 @@ pub fn place_in(cursor: u64) -> u64
 /// Whether, according to a cursor, a follower is there that was not closed.
 #[inline(always)]
 pub fn is_open(cursor: u64) -> bool
-    ensures { result ≡ (cursor / 4294967296 == 1) }
+    ensures { result ≡ (cursor / MARK == 1) }
 {
     cursor / MARK == 1
 }

@@ -3,6 +3,7 @@ use Rattle.std.proofs.Common.{◌≡◌, ◌≢◌, ℕ, ◌+◌, ◌-◌, ◌/�
 use Rattle.atomic_table.proofs.Lists.{set_here, set_else}
 use mathlib.Core.Option.{some, some-injective, some-ne-none}
 use lib.ListN.{get_elem?}
+use Rattle.live_board.specs.declared.words.TheConstants.{MARK}
 use Rattle.live_board.specs.declared.note.Note.{Note}
 use Rattle.live_board.specs.declared.note.Note.TheVariants.{Vacant, Open, Closed}
 use Rattle.live_board.specs.Words.{joined_noted, note_after}
@@ -33,12 +34,12 @@ pub closed_open : (c j b : ℕ) → Closed c ≡ Open j b → ⊥
 closed_open c j b e = cc
 
 -- the word of a cursor that is noted open
-pub open_back : (n : Note) (r j b : ℕ) → note_after n r ≡ Open j b → (r / 4294967296 ≡ 1) × (r % 4294967296 ≡ b)
-open_back n r j b = pick (λ (x : Note). x ≡ Open j b → (r / 4294967296 ≡ 1) × (r % 4294967296 ≡ b)) (eqb r 0) Vacant (cond (eqb (r / 4294967296) 1) (Open (joined_noted n) (r % 4294967296)) (Closed (r / 4294967296 - 2)))
+pub open_back : (n : Note) (r j b : ℕ) → note_after n r ≡ Open j b → (r / MARK ≡ 1) × (r % MARK ≡ b)
+open_back n r j b = pick (λ (x : Note). x ≡ Open j b → (r / MARK ≡ 1) × (r % MARK ≡ b)) (eqb r 0) Vacant (cond (eqb (r / MARK) 1) (Open (joined_noted n) (r % MARK)) (Closed (r / MARK - 2)))
     (λ _ e. absurd (vacant_open j b e))
-    (λ _. pick (λ (x : Note). x ≡ Open j b → (r / 4294967296 ≡ 1) × (r % 4294967296 ≡ b)) (eqb (r / 4294967296) 1) (Open (joined_noted n) (r % 4294967296)) (Closed (r / 4294967296 - 2))
-    (λ q e. (eqb-true (r / 4294967296) 1 q, same_open (joined_noted n) j (r % 4294967296) b e))
-    (λ _ e. absurd (closed_open (r / 4294967296 - 2) j b e)))
+    (λ _. pick (λ (x : Note). x ≡ Open j b → (r / MARK ≡ 1) × (r % MARK ≡ b)) (eqb (r / MARK) 1) (Open (joined_noted n) (r % MARK)) (Closed (r / MARK - 2))
+    (λ q e. (eqb-true (r / MARK) 1 q, same_open (joined_noted n) j (r % MARK) b e))
+    (λ _ e. absurd (closed_open (r / MARK - 2) j b e)))
 
 -- ---- A note is set at the cursor k.
 

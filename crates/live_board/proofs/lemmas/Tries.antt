@@ -7,6 +7,7 @@ use mathlib.Core.Option.{some, some-injective}
 use native.Mathlib.Decide.{ℕ_discrete}
 use lib.ListN.{get_elem?}
 use Rattle.atomic_table.proofs.Lists.{set_here, set_else}
+use Rattle.live_board.specs.declared.words.TheConstants.{MARK}
 use Rattle.live_board.specs.declared.note.Note.{Note}
 use Rattle.live_board.specs.declared.note.Note.TheVariants.{Vacant, Open, Closed}
 use Rattle.live_board.specs.declared.step.BoardStep.{BoardStep}
@@ -107,7 +108,7 @@ tidied v w k t = by_try (Tidied v k) v w k t
       elsewhere = λ j d. noted_else u k n j d ∙ noted_else v k r j d;
       free = λ j b e.
           let word = open_back (Open full.0 place) n j b (some-injective _ _ (sym (loaded_note u k n (Open full.0 place) full.1) ∙ e)) in
-          ⊎_elim (λ (y : n ≡ 0). absurd (omega (arith, word.0, y))) (λ (y : place + 4294967296 * 1 < n). omega (arith, word.0, word.1, y, full.2)) later;
+          ⊎_elim (λ (y : n ≡ 0). absurd (omega (arith, word.0, y))) (λ (y : place + MARK * 1 < n). omega (arith, word.0, word.1, y, full.2)) later;
     })
 
 -- the notes below n are not those of full followers, and the others are as they were
