@@ -4,6 +4,7 @@ use Rattle.std.proofs.Common.{append_assoc, append-nil}
 use Rattle.std.proofs.Math.Seq.{take-append-add}
 use Rattle.std.proofs.KnownBytes.{Appends-trans, Appends-nil}
 use Rattle.std.specs.Io.KnownBytes.{Appends}
+use Rattle.relay960_engines.specs.declared.kept_line.TheConstants.{KEPT}
 use Rattle.relay960_engines.specs.Lines.{Giving, Answers, Between}
 use Rattle.relay960_engines.specs.Runs.{Known, Wrote, WrotePart}
 
@@ -24,12 +25,12 @@ Answers-append gives s t u (l ∷ ls) ms xs ys (answer, mid, rest, one, split, o
 
 -- a line is answered as its first 1,025 bytes are
 abbrev pub IsCut : {S : Type 0} → Giving S → Type 0
-IsCut {S} gives = (s : S) (l : List ℕ) (bytes : Option (List ℕ)) (t : S) → gives s (take 1025 l) bytes t → gives s l bytes t
+IsCut {S} gives = (s : S) (l : List ℕ) (bytes : Option (List ℕ)) (t : S) → gives s (take KEPT l) bytes t → gives s l bytes t
 
 -- and so are lines
 pub Answers-whole : {S : Type 0} (gives : Giving S) (s t : S) (ls : List (List ℕ)) (xs : List ℕ)
     → IsCut gives
-    → Answers gives s (map (take 1025) ls) xs t → Answers gives s ls xs t
+    → Answers gives s (map (take KEPT) ls) xs t → Answers gives s ls xs t
 unfolding Answers
 Answers-whole gives s t [] xs cut a = a
 Answers-whole gives s t (l ∷ ls) xs cut (answer, mid, rest, one, split, others) =
@@ -69,7 +70,7 @@ Wrote-part gives s t u ls ms a b c first second =
 -- the same for lines that are answered as their first 1,025 bytes are
 pub Wrote-whole : {S : Type 0} (gives : Giving S) (s t : S) (ls : List (List ℕ)) (a b : Known)
     → IsCut gives
-    → Wrote (Between gives s t) (map (take 1025) ls) a b → Wrote (Between gives s t) ls a b
+    → Wrote (Between gives s t) (map (take KEPT) ls) a b → Wrote (Between gives s t) ls a b
 Wrote-whole gives s t ls a b cut wrote = record {
   answers = wrote.answers;
   given = Answers-whole gives s t ls wrote.answers cut wrote.given;
@@ -78,7 +79,7 @@ Wrote-whole gives s t ls a b cut wrote = record {
 
 pub WrotePart-whole : {S : Type 0} (gives : Giving S) (s t : S) (ls : List (List ℕ)) (a b : Known)
     → IsCut gives
-    → WrotePart (Between gives s t) (map (take 1025) ls) a b → WrotePart (Between gives s t) ls a b
+    → WrotePart (Between gives s t) (map (take KEPT) ls) a b → WrotePart (Between gives s t) ls a b
 WrotePart-whole gives s t ls a b cut wrote = record {
   answers = wrote.answers;
   given = Answers-whole gives s t ls wrote.answers cut wrote.given;

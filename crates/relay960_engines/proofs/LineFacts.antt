@@ -1,8 +1,9 @@
--- Lemmas on the lines of bytes, and on lines of which the first 1,025 bytes are kept.
+-- Lemmas on the lines of bytes, and on lines of which the first KEPT bytes are kept.
 use Rattle.std.proofs.Common.{◌≡◌, ◌≢◌, ℕ, ◌-◌, ◌<◌, ◌≤◌, ◌==◌, nat_lt, slice_index, List, [], ◌∷◌, ◌++◌, length, take, map, zero, suc}
 use Rattle.std.proofs.Common.{Bool, true, false, cond, refl, sym, ap, ◌∙◌, arith, append_assoc, append-nil}
 use Rattle.std.proofs.lemmas.Bool.{ltb-true, ltb-false, ne_eqb}
 use Rattle.std.proofs.lemmas.List.{take-append-le, length-take, length-append, get_or-take, take_all}
+use Rattle.relay960_engines.specs.declared.kept_line.TheConstants.{KEPT}
 use Rattle.relay960_engines.specs.Lines.{whole_lines, last_piece, last_line, lines_of}
 use Rattle.relay960_engines.specs.Inner.Taking.{IsPlain, kept_behind, kept_with, kept_lines, kept_piece}
 
@@ -51,21 +52,21 @@ kept_lines-plain line (x ∷ xs) plain =
     ap (λ is_end. cond is_end (line ∷ kept_lines [] xs) (kept_lines (kept_with line x) xs)) (ne_eqb x 10 (plain 0 (omega arith)))
     ∙ kept_lines-plain (kept_with line x) xs (tail_plain x xs plain)
 
-behind_at : (has_room : Bool) (line : List ℕ) (x : ℕ) (xs : List ℕ) → nat_lt (length line) 1025 ≡ has_room
+behind_at : (has_room : Bool) (line : List ℕ) (x : ℕ) (xs : List ℕ) → nat_lt (length line) KEPT ≡ has_room
     → kept_behind (cond has_room (line ++ x ∷ []) line) xs ≡ kept_behind line (x ∷ xs)
 behind_at true line x xs e =
-    let short : length line < 1025 = ltb-true _ _ e in
-    let one : 1025 - length line ≡ suc (1025 - length (line ++ x ∷ [])) = omega (arith, short, length-append line (x ∷ [])) in
-    append_assoc line (x ∷ []) (take (1025 - length (line ++ x ∷ [])) xs) ∙ sym (ap (λ n. line ++ take n (x ∷ xs)) one)
+    let short : length line < KEPT = ltb-true _ _ e in
+    let one : KEPT - length line ≡ suc (KEPT - length (line ++ x ∷ [])) = omega (arith, short, length-append line (x ∷ [])) in
+    append_assoc line (x ∷ []) (take (KEPT - length (line ++ x ∷ [])) xs) ∙ sym (ap (λ n. line ++ take n (x ∷ xs)) one)
 behind_at false line x xs e =
-    let long : 1025 ≤ length line = ltb-false _ _ e in
-    let none : 1025 - length line ≡ 0 = omega (arith, long) in
+    let long : KEPT ≤ length line = ltb-false _ _ e in
+    let none : KEPT - length line ≡ 0 = omega (arith, long) in
     ap (λ n. line ++ take n xs) none ∙ sym (ap (λ n. line ++ take n (x ∷ xs)) none)
 
 -- they come after the line, as far as they are kept
 pub kept_piece-plain : (line xs : List ℕ) → IsPlain xs → kept_piece line xs ≡ kept_behind line xs
 unfolding kept_piece
-kept_piece-plain line [] plain = sym (ap (λ l. line ++ l) (take_all (1025 - length line) [] (omega arith)) ∙ append-nil line)
+kept_piece-plain line [] plain = sym (ap (λ l. line ++ l) (take_all (KEPT - length line) [] (omega arith)) ∙ append-nil line)
 kept_piece-plain line (x ∷ xs) plain =
     ap (λ is_end. cond is_end (kept_piece [] xs) (kept_piece (kept_with line x) xs)) (ne_eqb x 10 (plain 0 (omega arith)))
     ∙ kept_piece-plain (kept_with line x) xs (tail_plain x xs plain) ∙ behind_at _ line x xs refl
@@ -86,7 +87,7 @@ plain_front xs end n plain within = λ k below.
     let before : k < n = omega (arith, below, length-take n xs) in
     λ is. plain k (omega (arith, before, within)) (sym (get_or-take n xs k 0 before) ∙ is)
 
--- ---- What is kept is the first 1,025 bytes.
+-- ---- What is kept is the first KEPT bytes.
 
 -- a list that is short enough is taken whole
 take_short : (n : ℕ) (xs : List ℕ) → length xs ≤ n → take n xs ≡ xs
@@ -95,48 +96,48 @@ take_short (suc n) [] short = refl
 take_short zero (x ∷ xs) short = absurd (omega arith)
 take_short (suc n) (x ∷ xs) short = ap (λ l. x ∷ l) (take_short n xs (omega arith))
 
-kept_at : (has_room : Bool) (begun : List ℕ) (b : ℕ) → nat_lt (length (take 1025 begun)) 1025 ≡ has_room
-    → cond has_room (take 1025 begun ++ b ∷ []) (take 1025 begun) ≡ take 1025 (begun ++ b ∷ [])
+kept_at : (has_room : Bool) (begun : List ℕ) (b : ℕ) → nat_lt (length (take KEPT begun)) KEPT ≡ has_room
+    → cond has_room (take KEPT begun ++ b ∷ []) (take KEPT begun) ≡ take KEPT (begun ++ b ∷ [])
 kept_at true begun b e =
-    let kept : length (take 1025 begun) < 1025 = ltb-true _ _ e in
-    let short : length begun < 1025 = omega (arith, length-take 1025 begun) in
-    ap (λ l. l ++ b ∷ []) (take_short 1025 begun (omega arith))
-    ∙ sym (take_short 1025 (begun ++ b ∷ []) (omega (arith, length-append begun (b ∷ []))))
+    let kept : length (take KEPT begun) < KEPT = ltb-true _ _ e in
+    let short : length begun < KEPT = omega (arith, length-take KEPT begun) in
+    ap (λ l. l ++ b ∷ []) (take_short KEPT begun (omega arith))
+    ∙ sym (take_short KEPT (begun ++ b ∷ []) (omega (arith, length-append begun (b ∷ []))))
 kept_at false begun b e =
-    let kept : 1025 ≤ length (take 1025 begun) = ltb-false _ _ e in
-    let long : 1025 ≤ length begun = omega (arith, length-take 1025 begun) in
-    sym (take-append-le 1025 begun (b ∷ []) long)
+    let kept : KEPT ≤ length (take KEPT begun) = ltb-false _ _ e in
+    let long : KEPT ≤ length begun = omega (arith, length-take KEPT begun) in
+    sym (take-append-le KEPT begun (b ∷ []) long)
 
 -- one more byte is kept if it is one of the first
-pub kept_with-take : (begun : List ℕ) (b : ℕ) → kept_with (take 1025 begun) b ≡ take 1025 (begun ++ b ∷ [])
+pub kept_with-take : (begun : List ℕ) (b : ℕ) → kept_with (take KEPT begun) b ≡ take KEPT (begun ++ b ∷ [])
 kept_with-take begun b = kept_at _ begun b refl
 
 -- the kept lines are the first bytes of the lines
 pub kept_lines-take : (begun bytes : List ℕ)
-    → kept_lines (take 1025 begun) bytes ≡ map (take 1025) (whole_lines begun bytes)
+    → kept_lines (take KEPT begun) bytes ≡ map (take KEPT) (whole_lines begun bytes)
 unfolding kept_lines whole_lines
 kept_lines-take begun [] = refl
 kept_lines-take begun (b ∷ bs) =
-    elim (b == 10) as (λ is_end. cond is_end (take 1025 begun ∷ kept_lines [] bs)
-    (kept_lines (kept_with (take 1025 begun) b) bs)
-    ≡ map (take 1025) (cond is_end (begun ∷ whole_lines [] bs) (whole_lines (begun ++ b ∷ []) bs))) [
-      | true ↦ ap (λ ls. take 1025 begun ∷ ls) (kept_lines-take [] bs)
+    elim (b == 10) as (λ is_end. cond is_end (take KEPT begun ∷ kept_lines [] bs)
+    (kept_lines (kept_with (take KEPT begun) b) bs)
+    ≡ map (take KEPT) (cond is_end (begun ∷ whole_lines [] bs) (whole_lines (begun ++ b ∷ []) bs))) [
+      | true ↦ ap (λ ls. take KEPT begun ∷ ls) (kept_lines-take [] bs)
       | false ↦ ap (λ l. kept_lines l bs) (kept_with-take begun b) ∙ kept_lines-take (begun ++ b ∷ []) bs
     ]
 
 pub kept_piece-take : (begun bytes : List ℕ)
-    → kept_piece (take 1025 begun) bytes ≡ take 1025 (last_piece begun bytes)
+    → kept_piece (take KEPT begun) bytes ≡ take KEPT (last_piece begun bytes)
 unfolding kept_piece last_piece
 kept_piece-take begun [] = refl
 kept_piece-take begun (b ∷ bs) =
-    elim (b == 10) as (λ is_end. cond is_end (kept_piece [] bs) (kept_piece (kept_with (take 1025 begun) b) bs)
-    ≡ take 1025 (cond is_end (last_piece [] bs) (last_piece (begun ++ b ∷ []) bs))) [
+    elim (b == 10) as (λ is_end. cond is_end (kept_piece [] bs) (kept_piece (kept_with (take KEPT begun) b) bs)
+    ≡ take KEPT (cond is_end (last_piece [] bs) (last_piece (begun ++ b ∷ []) bs))) [
       | true ↦ kept_piece-take [] bs
       | false ↦ ap (λ l. kept_piece l bs) (kept_with-take begun b) ∙ kept_piece-take (begun ++ b ∷ []) bs
     ]
 
 -- a last piece is empty if nothing of it is kept
-pub last_line-take : (piece : List ℕ) → last_line (take 1025 piece) ≡ map (take 1025) (last_line piece)
+pub last_line-take : (piece : List ℕ) → last_line (take KEPT piece) ≡ map (take KEPT) (last_line piece)
 last_line-take [] = refl
 last_line-take (b ∷ bs) = refl
 
@@ -146,9 +147,9 @@ last_line-none [] none = refl
 last_line-none (b ∷ bs) none = absurd (omega arith)
 
 -- if nothing of it is kept there is none
-pub piece_none : (piece : List ℕ) → take 1025 piece ≡ [] → piece ≡ []
+pub piece_none : (piece : List ℕ) → take KEPT piece ≡ [] → piece ≡ []
 piece_none [] none = refl
-piece_none (b ∷ bs) none = absurd (omega (arith, ap length none, length-take 1025 (b ∷ bs)))
+piece_none (b ∷ bs) none = absurd (omega (arith, ap length none, length-take KEPT (b ∷ bs)))
 
 -- the lines of bytes that end with a line feed
 pub lines_ended : (bytes : List ℕ) → last_piece [] bytes ≡ [] → whole_lines [] bytes ≡ lines_of bytes

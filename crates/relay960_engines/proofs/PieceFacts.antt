@@ -3,6 +3,7 @@ use Rattle.std.proofs.Common.{◌≡◌, ◌≢◌, ℕ, ◌+◌, ◌-◌, ◌<�
 use Rattle.std.proofs.Common.{refl, sym, ap, ◌∙◌, subst, inl, inr, arith, take-append-drop}
 use Rattle.std.proofs.Math.Seq.{take-add}
 use Rattle.std.proofs.lemmas.List.{length-take, length-drop, take_all, take_more}
+use Rattle.relay960_engines.specs.declared.kept_line.TheConstants.{KEPT}
 use Rattle.relay960_engines.specs.declared.bounds.Bounds.{Bounds}
 use Rattle.relay960_engines.specs.declared.fault.RunFault.{RunFault}
 use Rattle.relay960_engines.specs.declared.fault.RunFault.TheVariants.{Read, Write, TooLong, OutOfMemory, BadStart}
@@ -25,7 +26,7 @@ ended_front xs end below feed = ap (λ b. take end xs ++ b ∷ []) (sym feed) �
 -- ---- What was taken.
 
 -- a line of which nothing was begun
-pub behind_none : (line xs : List ℕ) → length line ≡ 0 → kept_behind line xs ≡ take 1025 xs
+pub behind_none : (line xs : List ℕ) → length line ≡ 0 → kept_behind line xs ≡ take KEPT xs
 behind_none [] xs none = refl
 behind_none (b ∷ bs) xs none = absurd (omega arith)
 

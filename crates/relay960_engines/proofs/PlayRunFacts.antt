@@ -1,25 +1,27 @@
 -- A whole run over a live game: what the line engine did, in terms of the game.
 use Rattle.std.proofs.Common.{◌≡◌, ℕ, ◌<◌, List, ◌++◌, sym, ap, ◌∙◌, inl, refl, Result, Ok, Err, IfOk, IfErr}
+use Rattle.c960_game.specs.declared.limits.TheConstants.{MOST_PLIES}
 use Rattle.c960_game.specs.Record.{opened}
 use Rattle.c960_game.specs.GameRecord.{GameRecord}
 use Rattle.relay960_engines.specs.declared.bounds.Bounds.{Bounds}
 use Rattle.relay960_engines.specs.declared.fault.RunFault.{RunFault}
 use Rattle.relay960_engines.specs.declared.fault.RunFault.TheVariants.{Read, Write, TooLong, OutOfMemory, BadStart}
 use Rattle.relay960_engines.specs.Lines.{Giving, Answers, Before, Between}
-use Rattle.relay960_engines.specs.Play.{line_answers, most_plies, Plays, PlaysBefore, Played, PlayStopped}
+use Rattle.relay960_engines.specs.Play.{line_answers, Plays, PlaysBefore, Played, PlayStopped}
 use Rattle.relay960_engines.specs.Runs.{Known, Done, RunStopped}
 use Rattle.relay960_engines.proofs.PlayFacts.{IsGiven, given_answers, answers_before}
 use Rattle.relay960_engines.proofs.StopFacts.{Extends, done_said, reading_said, writing_within, past_said, memory_said, not_begun}
+use Rattle.c960_board.specs.declared.numbering.TheConstants.{STARTS}
 
 -- the answers to lines are the beginning of those to more lines
 play_extends : (n : ℕ) → Extends (Plays n)
 play_extends n ls ms text given =
-    let (rest, same) = answers_before (opened n most_plies) ls ms in (rest, ap (λ t. t ++ rest) given ∙ sym same)
+    let (rest, same) = answers_before (opened n MOST_PLIES) ls ms in (rest, ap (λ t. t ++ rest) given ∙ sym same)
 
 -- ---- The end of a run over the game of start n.
 
 module _ {S : Type 0} (gives : Giving S) (game : S → GameRecord) (law : IsGiven gives game) (s t : S) (n : ℕ) (bounds : Bounds)
-    (numbered : n < 960) (begun : game s ≡ opened n most_plies) (old_input new_input a b : Known) where
+    (numbered : n < STARTS) (begun : game s ≡ opened n MOST_PLIES) (old_input new_input a b : Known) where
   plays : (m : S) (ls : List (List ℕ)) (text : List ℕ) → Answers gives s ls text m → Plays n ls text
   plays m ls text given = given_answers gives game law s m ls text given ∙ ap (λ g. line_answers g ls) begun
 
@@ -45,7 +47,7 @@ module _ {S : Type 0} (gives : Giving S) (game : S → GameRecord) (law : IsGive
   play_stopped (Err BadStart) stopped = absurd stopped
 
 -- there was no memory for the game: nothing was read
-pub starved_before : (n : ℕ) (bounds : Bounds) (input output : Known) → n < 960
+pub starved_before : (n : ℕ) (bounds : Bounds) (input output : Known) → n < STARTS
     → PlayStopped n bounds input input output output OutOfMemory
 unfolding line_answers
 starved_before n bounds input output numbered = (numbered, not_begun (Plays n) (PlaysBefore n) bounds input output refl)

@@ -4,6 +4,7 @@ use Rattle.std.proofs.Common.{◌∷◌, None, refl, sym, ap, ◌∙◌, subst, 
 use Rattle.std.proofs.Common.{Result, Ok, Err, OnOk, IfOk, IfErr}
 use Rattle.std.proofs.lemmas.List.{length-map, length-append, map-append}
 use Rattle.std.specs.Io.KnownBytes.{Appends, Consumes}
+use Rattle.relay960_engines.specs.declared.kept_line.TheConstants.{KEPT}
 use Rattle.relay960_engines.specs.declared.bounds.Bounds.{Bounds}
 use Rattle.relay960_engines.specs.declared.fault.RunFault.{RunFault}
 use Rattle.relay960_engines.specs.declared.fault.RunFault.TheVariants.{Read, Write, TooLong, OutOfMemory, BadStart}
@@ -20,24 +21,24 @@ use Rattle.relay960_engines.proofs.SendingFacts.{SentAnswers-wrote, SentPart-wro
 
 -- ---- The lines of a run.
 
-kept_whole : (line bytes : List ℕ) → line ≡ [] → kept_lines line bytes ≡ map (take 1025) (whole_lines [] bytes)
+kept_whole : (line bytes : List ℕ) → line ≡ [] → kept_lines line bytes ≡ map (take KEPT) (whole_lines [] bytes)
 kept_whole line bytes new = ap (λ l. kept_lines l bytes) new ∙ kept_lines-take [] bytes
 
 kept_last : (line piece bytes : List ℕ) → line ≡ [] → piece ≡ kept_piece line bytes
-    → last_line piece ≡ map (take 1025) (last_line (last_piece [] bytes))
+    → last_line piece ≡ map (take KEPT) (last_line (last_piece [] bytes))
 kept_last line piece bytes new left =
     ap last_line (left ∙ ap (λ l. kept_piece l bytes) new ∙ kept_piece-take [] bytes) ∙ last_line-take (last_piece [] bytes)
 
 kept_all : (line piece bytes : List ℕ) → line ≡ [] → piece ≡ kept_piece line bytes
-    → kept_lines line bytes ++ last_line piece ≡ map (take 1025) (lines_of bytes)
+    → kept_lines line bytes ++ last_line piece ≡ map (take KEPT) (lines_of bytes)
 unfolding lines_of
 kept_all line piece bytes new left =
     ap (λ ls. ls ++ last_line piece) (kept_whole line bytes new)
-    ∙ ap (λ ls. map (take 1025) (whole_lines [] bytes) ++ ls) (kept_last line piece bytes new left)
-    ∙ sym (map-append (take 1025) (whole_lines [] bytes) (last_line (last_piece [] bytes)))
+    ∙ ap (λ ls. map (take KEPT) (whole_lines [] bytes) ++ ls) (kept_last line piece bytes new left)
+    ∙ sym (map-append (take KEPT) (whole_lines [] bytes) (last_line (last_piece [] bytes)))
 
 kept_number : (line bytes : List ℕ) → line ≡ [] → length (kept_lines line bytes) ≡ length (whole_lines [] bytes)
-kept_number line bytes new = ap length (kept_whole line bytes new) ∙ length-map (whole_lines [] bytes) (take 1025)
+kept_number line bytes new = ap length (kept_whole line bytes new) ∙ length-map (whole_lines [] bytes) (take KEPT)
 
 -- bytes whose last piece keeps nothing end with a line feed
 ended_whole : (line bytes : List ℕ) → line ≡ [] → kept_piece line bytes ≡ [] → last_piece [] bytes ≡ []
@@ -82,9 +83,9 @@ pub record AtLine {S : Type 0} (gives : Giving S) (s t : S) (lines : List (List 
   pub written : Appends a b answers
 
 at_line : {S : Type 0} (gives : Giving S) (s t : S) (lines : List (List ℕ)) (a b : Known) → IsCut gives
-    → Halted gives s t (map (take 1025) lines) (settled a) (settled b) → AtLine gives s t lines a b
+    → Halted gives s t (map (take KEPT) lines) (settled a) (settled b) → AtLine gives s t lines a b
 at_line gives s t lines a b cut halted =
-    let whole = map_split (take 1025) lines halted.before halted.stopped halted.split in
+    let whole = map_split (take KEPT) lines halted.before halted.stopped halted.split in
     let wrote = Wrote-whole gives s halted.mid whole.front a b cut
     (subst (λ ls. Wrote (Between gives s halted.mid) ls a b) (sym whole.images)
     (SentAnswers-wrote gives s halted.mid halted.before a b halted.sent)) in
@@ -117,7 +118,7 @@ module _ {S : Type 0} (gives : Giving S) (cut : IsCut gives) (s : S) (p : Progre
   all_fit seen fits =
       let number : length (kept_lines p.line seen) + length (last_line (kept_piece p.line seen)) ≡ length (lines_of seen) =
       sym (length-append (kept_lines p.line seen) (last_line (kept_piece p.line seen)))
-      ∙ ap length (kept_all p.line (kept_piece p.line seen) seen line refl) ∙ length-map (lines_of seen) (take 1025) in
+      ∙ ap length (kept_all p.line (kept_piece p.line seen) seen line refl) ∙ length-map (lines_of seen) (take KEPT) in
       omega (arith, fits, number)
 
   few_lines : (seen : List ℕ) → IsWithin bounds p seen → length (whole_lines [] seen) ≤ bounds.lines
@@ -188,7 +189,7 @@ module _ {S : Type 0} (gives : Giving S) (cut : IsCut gives) (s : S) (p : Progre
         let all : whole_lines [] within.seen ≡ lines_of within.seen = lines_ended within.seen ended in
         let at = at_line gives s t (lines_of within.seen) a b cut
         (subst (λ ls. Halted gives s t ls (settled a) (settled b))
-        (kept_whole p.line within.seen line ∙ ap (map (take 1025)) all) halted) in
+        (kept_whole p.line within.seen line ∙ ap (map (take KEPT)) all) halted) in
         inr (record {
           seen = within.seen;
           unseen = within.unseen;
@@ -213,13 +214,13 @@ module _ {S : Type 0} (gives : Giving S) (cut : IsCut gives) (s : S) (p : Progre
 
   -- it took all bytes of the reader, and then the last line was answered
   module _ (t u : S) (q : Progress) (b c : Known) (took : TakenAll gives s t p q old_input new_input a b) where
-    all_lines : kept_lines p.line took.input ++ last_line q.line ≡ map (take 1025) (lines_of took.input)
+    all_lines : kept_lines p.line took.input ++ last_line q.line ≡ map (take KEPT) (lines_of took.input)
     all_lines = kept_all p.line q.line took.input line took.took.piece
 
     all_number : length (kept_lines p.line took.input) + length (last_line q.line) ≡ length (lines_of took.input)
     all_number =
         sym (length-append (kept_lines p.line took.input) (last_line q.line)) ∙ ap length all_lines
-        ∙ length-map (lines_of took.input) (take 1025)
+        ∙ length-map (lines_of took.input) (take KEPT)
 
     taken_wrote : Wrote (Between gives s t) (kept_lines p.line took.input) a b
     taken_wrote = SentAnswers-wrote gives s t (kept_lines p.line took.input) a b took.took.sent

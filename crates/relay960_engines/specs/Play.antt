@@ -2,11 +2,13 @@
 use Rattle.std.specs.Prelude.{ℕ, ◌≡◌, ◌<◌, ◌≤◌, ◌⊎◌, List, [], ◌∷◌, ◌++◌, Option, Some, None, Result, Ok, Err, codes}
 use Rattle.std.specs.List.{concat}
 use Rattle.std.specs.Io.KnownBytes.{Appends, Keeps}
+use Rattle.c960_board.specs.declared.numbering.TheConstants.{STARTS}
 use Rattle.c960_board.specs.declared.moves.fault.MoveFault.{MoveFault}
 use Rattle.c960_board.specs.Fen.Canonical.{canonical}
 use Rattle.c960_board.specs.MoveReading.{move_read}
 use Rattle.c960_board.specs.Moves.{Triple}
 use Rattle.c960_board.specs.MoveTexts.{move_fault_code, move_fault_name}
+use Rattle.c960_game.specs.declared.limits.TheConstants.{MOST_PLIES}
 use Rattle.c960_game.specs.declared.outcome.Outcome.{Outcome}
 use Rattle.c960_game.specs.declared.refusal.Refusal.{Refusal}
 use Rattle.c960_game.specs.Outcome.{outcome_text}
@@ -67,13 +69,9 @@ unfoldable pub line_answers : GameRecord → List (List ℕ) → List ℕ
 line_answers g [] = []
 line_answers g (l ∷ ls) = line_answer g l ++ line_answers (game_after g l) ls
 
--- a game of the program may have this many plies
-abbrev pub most_plies : ℕ
-most_plies = 16384
-
 -- the answers to lines from the beginning of the game of start n
 abbrev pub play_answers : ℕ → List (List ℕ) → List ℕ
-play_answers n ls = line_answers (opened n most_plies) ls
+play_answers n ls = line_answers (opened n MOST_PLIES) ls
 
 -- what a whole run writes for the bytes that it reads
 abbrev pub play_output : ℕ → List ℕ → List ℕ
@@ -92,30 +90,30 @@ PlaysBefore n ls bytes l = Plays n ls bytes
 -- the input was read to its end, its output was written, and it has that many lines, within both bounds
 abbrev pub Played : ℕ → Bounds → Known → Known → Known → Known → ℕ → Type 0
 Played n bounds old_input new_input old_output new_output count =
-    (n < 960) × Done (Plays n) bounds old_input new_input old_output new_output count
+    (n < STARTS) × Done (Plays n) bounds old_input new_input old_output new_output count
 
 -- there is no such start: nothing was read, and the refusal was written
 pub record NoStart (n : ℕ) (old_input new_input old_output new_output : Known) : Type 0 where
-  pub unnumbered : 960 ≤ n
+  pub unnumbered : STARTS ≤ n
   pub unread : Keeps old_input new_input
   pub written : Appends old_output new_output refusal_line
 
 -- the same, and a prefix of the refusal was written
 pub record NoStartPart (n : ℕ) (old_input new_input old_output new_output : Known) : Type 0 where
-  pub unnumbered : 960 ≤ n
+  pub unnumbered : STARTS ≤ n
   pub unread : Keeps old_input new_input
   pub written : AppendsPart old_output new_output refusal_line
 
 -- what a run that ends with a fault has done
 abbrev pub PlayStopped : ℕ → Bounds → Known → Known → Known → Known → RunFault → Type 0
 PlayStopped n bounds old_input new_input old_output new_output Read =
-    (n < 960) × StoppedReading (Plays n) bounds old_input new_input old_output new_output
+    (n < STARTS) × StoppedReading (Plays n) bounds old_input new_input old_output new_output
 PlayStopped n bounds old_input new_input old_output new_output Write =
-    ((n < 960) × StoppedWithin (Plays n) bounds old_input new_input old_output new_output)
+    ((n < STARTS) × StoppedWithin (Plays n) bounds old_input new_input old_output new_output)
     ⊎ NoStartPart n old_input new_input old_output new_output
 PlayStopped n bounds old_input new_input old_output new_output TooLong =
-    (n < 960) × StoppedPast (Plays n) bounds old_input new_input old_output new_output
+    (n < STARTS) × StoppedPast (Plays n) bounds old_input new_input old_output new_output
 PlayStopped n bounds old_input new_input old_output new_output OutOfMemory =
-    (n < 960) × StoppedWithoutMemory (Plays n) (PlaysBefore n) bounds old_input new_input old_output new_output
+    (n < STARTS) × StoppedWithoutMemory (Plays n) (PlaysBefore n) bounds old_input new_input old_output new_output
 PlayStopped n bounds old_input new_input old_output new_output BadStart =
     NoStart n old_input new_input old_output new_output

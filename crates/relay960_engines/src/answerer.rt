@@ -2,12 +2,13 @@
 
 ghost use Rattle.std.specs.Prelude.{ℕ, List, take, Option, Some, None, IfOk, OnErr};
 ghost use Rattle.std.specs.Cow.{cow_slice_items};
+ghost use Rattle.relay960_engines.specs.declared.kept_line.TheConstants.{KEPT};
 
 use std::alloc::{AllocError, Global};
 use std::borrow::CowSlice;
 
 /// It answers lines, each of which leads from one state to the next. No answer depends on what comes after the first
-/// 1,025 bytes of its line.
+/// `KEPT` bytes of its line.
 pub trait Answerer {
     /// In a state a line is answered by these bytes, or by none if there was no memory for them, which leads to a state.
     ghost gives: { Self → List ℕ → Option (List ℕ) → Self → Type 0 };
@@ -24,6 +25,6 @@ pub trait Answerer {
     /// Even if there was no memory for the bytes, some bytes exist that would have been the answer.
     ghost spelt: { (s : Self) (l : List ℕ) (t : Self) → gives s l None t → (bytes : List ℕ) × gives s l (Some bytes) t };
 
-    /// A line is answered as its first 1,025 bytes are.
-    ghost cut: { (s : Self) (l : List ℕ) (bytes : Option (List ℕ)) (t : Self) → gives s (take 1025 l) bytes t → gives s l bytes t };
+    /// A line is answered as its first `KEPT` bytes are.
+    ghost cut: { (s : Self) (l : List ℕ) (bytes : Option (List ℕ)) (t : Self) → gives s (take KEPT l) bytes t → gives s l bytes t };
 }

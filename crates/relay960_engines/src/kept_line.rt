@@ -4,11 +4,12 @@ ghost use Rattle.std.specs.Prelude.{◌≡◌, ◌==◌, [], length, IfOk};
 ghost use Rattle.relay960_engines.specs.Inner.Taking.{kept_behind};
 
 use crate::pieces::front;
+use relay_messages::MOST_BYTES;
 use std::alloc::{AllocError, Global};
 use std::marker::Model;
 
-/// How many bytes of a line are kept, at most: no answer depends on a later one.
-pub const KEPT: usize = 1025;
+/// How many bytes of a line are kept, at most: no answer depends on a later one, since a longer line is too long for a command.
+pub const KEPT: usize = MOST_BYTES + 1;
 
 /// The first bytes of a line, at most `KEPT`, for which the memory is reserved at once. Contracts see the list of the bytes.
 #[derive(Drop)]
@@ -18,12 +19,13 @@ pub struct KeptLine {
 
 impl Model for KeptLine {
     ghost use Rattle.std.specs.Prelude.{ℕ, ◌≤◌, List, vec_capacity};
+    ghost use Rattle.relay960_engines.specs.declared.kept_line.TheConstants.{KEPT};
 
     ghost Value = { List ℕ };
 
     ghost view = { λ line. line.bytes.items };
 
-    ghost invariant = { λ line. 1025 ≤ vec_capacity line.bytes };
+    ghost invariant = { λ line. KEPT ≤ vec_capacity line.bytes };
 }
 
 impl KeptLine {

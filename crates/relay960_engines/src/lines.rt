@@ -77,7 +77,7 @@ fn answer_last<A: Answerer, W: WriteDevice>(
 }
 
 /// Answers each line of the reader on the writer, and returns the number of lines. A line ends with a line feed; a last
-/// piece without one is a line if it is not empty. The answerer is given the first 1,025 bytes of a line. At most
+/// piece without one is a line if it is not empty. The answerer is given the first `KEPT` bytes of a line. At most
 /// as many lines are answered and as many bytes taken as the bounds allow.
 ///
 /// # Errors

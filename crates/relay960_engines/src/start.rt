@@ -9,7 +9,7 @@ ghost use Rattle.relay960_engines.specs.Writing.{AppendsPart};
 use crate::devices::WriteDevice;
 use crate::fault::RunFault;
 use crate::writing::write_line;
-use c960_board::{Position, write_fen};
+use c960_board::{Position, STARTS, write_fen};
 
 /// Writes the line of a number from 960 on, which is refused.
 pub fn refuse<W: WriteDevice>(writer: &mut W) -> Result<(), RunFault>
@@ -24,7 +24,7 @@ pub fn refuse<W: WriteDevice>(writer: &mut W) -> Result<(), RunFault>
 /// Writes the line of start `number`: its FEN, or `refused 3 BadStart` from 960 on. It returns whether there is such a
 /// start. On a fault, which only the writer can cause, a prefix of the line was written.
 pub fn start_run<W: WriteDevice>(number: u16, writer: &mut W) -> Result<bool, RunFault>
-    ensures answer { IfOk result (λ good. IsTrue good ↔ (number < 960)) }
+    ensures answer { IfOk result (λ good. IsTrue good ↔ (number < STARTS)) }
     ensures whole { OnOk result (Appends (W.contents writer.old) (W.contents writer.new) (start_line number)) }
     ensures part { OnErr result (AppendsPart (W.contents writer.old) (W.contents writer.new) (start_line number)) }
     ensures fault { IfErr result (λ fault. fault ≡ RunFault.Write) }

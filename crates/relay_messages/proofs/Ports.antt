@@ -9,6 +9,7 @@ use Rattle.serde_json.specs.Read.{read}
 use Rattle.relay_core.specs.declared.step.Step.{Step}
 use Rattle.relay_messages.specs.declared.fault.MessageFault.{MessageFault}
 use Rattle.relay_messages.specs.declared.fault.MessageFault.TheVariants.{NotJson, UnknownCommand, BadField}
+use Rattle.relay_messages.specs.declared.reading.TheConstants.{MOST_BYTES}
 use Rattle.relay_messages.specs.declared.watch_command.WatchCommand.{WatchCommand}
 use Rattle.relay_messages.specs.declared.watch_command.WatchCommand.TheVariants as watch
 use Rattle.relay_messages.specs.Commands.{command_by, command_in, command_named, is_boards, on_both_ports, watch_command_in}
@@ -91,7 +92,7 @@ agree_at_values None = agree_at_faults NotJson
 agree : (text : List ℕ) → Agree (decoded text) (watch_decoded text)
 unfolding decoded watch_decoded text_says
 agree text =
-    agree_at_either (nat_lt 1024 (length text)) _ _ _ _ (agree_at_faults BadField)
+    agree_at_either (nat_lt MOST_BYTES (length text)) _ _ _ _ (agree_at_faults BadField)
     (agree_at_either (is_utf8 text) _ _ _ _ (agree_at_values (read text)) (agree_at_faults NotJson))
 
 pub same_steps : (text : List ℕ) (step : Step) → (decoded text ≡ Ok step) ↔ (watch_decoded text ≡ Ok (watch.Step step))

@@ -6,22 +6,19 @@ use Rattle.serde_json.specs.Read.{read}
 use Rattle.relay_core.specs.declared.step.Step.{Step}
 use Rattle.relay_messages.specs.declared.fault.MessageFault.{MessageFault}
 use Rattle.relay_messages.specs.declared.fault.MessageFault.TheVariants.{OutOfMemory, NotJson, BadField}
+use Rattle.relay_messages.specs.declared.reading.TheConstants.{MOST_BYTES}
 use Rattle.relay_messages.specs.declared.watch_command.WatchCommand.{WatchCommand}
 use Rattle.relay_messages.specs.Commands.{command_in, watch_command_in}
-
--- a text may have this many bytes
-abbrev pub most_bytes : ℕ
-most_bytes = 1024
 
 -- what the value that was read means, if one was
 abbrev pub value_says : {A : Type 0} → (Data → Result A MessageFault) → Option Data → Result A MessageFault
 value_says says (Some d) = says d
 value_says says None = Err NotJson
 
--- what a text means, if a JSON value means this; or its first fault
+-- what a text means, if a JSON value means this; or its first fault. A text may have MOST_BYTES bytes.
 unfoldable pub text_says : {A : Type 0} → (Data → Result A MessageFault) → List ℕ → Result A MessageFault
 text_says says text =
-    cond (nat_lt most_bytes (length text)) (Err BadField) (cond (is_utf8 text) (value_says says (read text)) (Err NotJson))
+    cond (nat_lt MOST_BYTES (length text)) (Err BadField) (cond (is_utf8 text) (value_says says (read text)) (Err NotJson))
 
 -- the command that a text gives, or its first fault
 unfoldable pub decoded : List ℕ → Result Step MessageFault
@@ -33,7 +30,7 @@ watch_decoded text = text_says watch_command_in text
 
 -- the answer is what the text means, or lack of memory, which cannot occur for a text of more bytes than it may have
 abbrev pub IsSaid : {A : Type 0} → List ℕ → Result A MessageFault → Result A MessageFault → Type 0
-IsSaid text said answer = (answer ≡ said) ⊎ ((length text ≤ most_bytes) × (answer ≡ Err OutOfMemory))
+IsSaid text said answer = (answer ≡ said) ⊎ ((length text ≤ MOST_BYTES) × (answer ≡ Err OutOfMemory))
 
 -- the results of decoding
 abbrev pub IsDecoding : List ℕ → Result Step MessageFault → Type 0

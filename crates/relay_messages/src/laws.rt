@@ -4,19 +4,20 @@ ghost use Rattle.std.specs.Prelude.{◌≡◌, ◌≢◌, ◌<◌, ◌↔◌, �
 ghost use Rattle.relay_messages.specs.Decoding.{decoded, watch_decoded};
 
 use crate::fault::MessageFault;
+use crate::reading::MOST_BYTES;
 use crate::watch_command::WatchCommand;
 use relay_core::Step;
 
-/// A text means what its first 1,025 bytes mean, so that no later byte of a line has to be kept.
+/// A text means what its first bytes mean, if they are more than a text may have, so that no later byte of a line has to be kept.
 #[tactic(auto, using(crate::proofs::lemmas::Decoding::decoded_front))]
 pub fn the_first_bytes_decide()
-    ensures { (text : List ℕ) → decoded (take 1025 text) ≡ decoded text }
+    ensures { (n : ℕ) (text : List ℕ) → MOST_BYTES < n → decoded (take n text) ≡ decoded text }
 {}
 
-/// A text of more than 1,024 bytes is `BadField`, whatever it contains.
+/// A text of more bytes than a text may have is `BadField`, whatever it contains.
 #[tactic(auto, using(crate::proofs::lemmas::Decoding::decoded_long))]
 pub fn long_texts_are_bad_fields()
-    ensures { (text : List ℕ) → 1024 < length text → decoded text ≡ Err MessageFault.BadField }
+    ensures { (text : List ℕ) → MOST_BYTES < length text → decoded text ≡ Err MessageFault.BadField }
 {}
 
 /// No text means that there was no memory: that fault depends only on the machine.

@@ -23,5 +23,5 @@ pub use answer::Answer;
 pub use board_summary::{BoardSummary, encode_board};
 pub use encoding::encode;
 pub use fault::MessageFault;
-pub use reading::{Command, Decoder, decode};
+pub use reading::{Command, Decoder, MOST_BYTES, decode};
 pub use watch_command::WatchCommand;

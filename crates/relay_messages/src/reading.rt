@@ -23,7 +23,7 @@ use std::str;
 pub type Command = Step;
 
 /// How many bytes a text may have.
-const MOST_BYTES: usize = 1024;
+pub const MOST_BYTES: usize = 1024;
 
 /// What is kept of an object that was opened, or none if an array was.
 fn read_opened<'a>(

@@ -18,7 +18,8 @@ use Rattle.relay_messages.specs.declared.answer.Answer.{Answer}
 use Rattle.relay_messages.specs.declared.answer.Answer.TheVariants as answers
 use Rattle.relay_messages.specs.declared.fault.MessageFault.{MessageFault}
 use Rattle.relay_messages.specs.declared.fault.MessageFault.TheVariants as faults
-use Rattle.relay_messages.specs.Decoding.{decoded, most_bytes}
+use Rattle.relay_messages.specs.declared.reading.TheConstants.{MOST_BYTES}
+use Rattle.relay_messages.specs.Decoding.{decoded}
 use Rattle.relay_pushing.specs.Connections.{is_among, opened_after}
 
 -- ---- The answer that is required, if there is memory.
@@ -79,7 +80,7 @@ pub record IsAsked (limits : LimitNumbers) (h : History) (boards : List (List �
 
 -- there was no memory to read the text, which is not too long, and nothing was made
 pub record IsUnread (limits : LimitNumbers) (h : History) (boards : List (List ℕ)) (text bytes : List ℕ) (later : RelayRecord) (now : List (List ℕ)) : Type 0 where
-  pub short : length text ≤ most_bytes
+  pub short : length text ≤ MOST_BYTES
   pub text_is : bytes ≡ answer_text (answers.Fault faults.OutOfMemory)
   pub made : IsAt limits h boards later now
 

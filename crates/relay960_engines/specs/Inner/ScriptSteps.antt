@@ -1,7 +1,7 @@
 -- What the answerer of a script gives: a line is answered by the relay's reply to its command, or by its fault. A line is
--- answered as its first 1,025 bytes are, since a longer one is too long for a command.
+-- answered as its first KEPT bytes are, since a longer one is too long for a command.
 use Rattle.std.specs.Prelude.{ℕ, ◌≡◌, List, take, Option, Some, None, Ok, Err, false}
-use Rattle.std.proofs.Common.{refl}
+use Rattle.std.proofs.Common.{refl, lit<}
 use Rattle.relay_core.specs.declared.step.Step.{Step}
 use Rattle.relay_core.specs.Leads.{Leads}
 use Rattle.relay_core.specs.State.{RelayRecord}
@@ -10,6 +10,7 @@ use Rattle.relay_messages.specs.declared.answer.Answer.{Answer}
 use Rattle.relay_messages.specs.declared.answer.Answer.TheVariants.{Reply, Fault}
 use Rattle.relay_messages.specs.Answers.{answer_text}
 use Rattle.relay_messages.specs.Decoding.{IsDecoding}
+use Rattle.relay960_engines.specs.declared.kept_line.TheConstants.{KEPT}
 use Rattle.relay960_engines.specs.Script.{is_want}
 use Rattle.relay960_engines.specs.Writing.{line}
 
@@ -34,10 +35,10 @@ pub with_line : (r : RelayRecord) (l : List ℕ) (q : RelayRecord) → ScriptGiv
 with_line r l q given =
     (line (answer_text given.answer), record { answer = given.answer; leads = given.leads; spelt = refl })
 
-leads_cut : (r : RelayRecord) (l : List ℕ) (answer : Answer) (q : RelayRecord) → LeadsTo r (take 1025 l) answer q → LeadsTo r l answer q
-leads_cut r l (Fault fault) q given = (decoding_of_front l (Err fault) given.0, given.1)
-leads_cut r l (Reply reply) q (step, says, leads) = (step, decoding_of_front l (Ok step) says, leads)
+leads_cut : (r : RelayRecord) (l : List ℕ) (answer : Answer) (q : RelayRecord) → LeadsTo r (take KEPT l) answer q → LeadsTo r l answer q
+leads_cut r l (Fault fault) q given = (decoding_of_front KEPT l (Err fault) (lit< tt) given.0, given.1)
+leads_cut r l (Reply reply) q (step, says, leads) = (step, decoding_of_front KEPT l (Ok step) (lit< tt) says, leads)
 
-pub answers_cut : (r : RelayRecord) (l : List ℕ) (bytes : Option (List ℕ)) (q : RelayRecord) → ScriptGives r (take 1025 l) bytes q → ScriptGives r l bytes q
+pub answers_cut : (r : RelayRecord) (l : List ℕ) (bytes : Option (List ℕ)) (q : RelayRecord) → ScriptGives r (take KEPT l) bytes q → ScriptGives r l bytes q
 answers_cut r l bytes q given =
     record { answer = given.answer; leads = leads_cut r l given.answer q given.leads; spelt = given.spelt }

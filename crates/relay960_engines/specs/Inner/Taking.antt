@@ -1,6 +1,7 @@
--- The effect of a stream's bytes on a run that keeps the first 1,025 bytes of a line.
+-- The effect of a stream's bytes on a run that keeps the first KEPT bytes of a line.
 use Rattle.std.specs.Prelude.{ℕ, ◌≡◌, ◌≢◌, ◌+◌, ◌-◌, ◌<◌, ◌≤◌, ◌⊎◌, ◌==◌, nat_lt, List, [], ◌∷◌, ◌++◌, length, take, slice_index, cond, None}
 use Rattle.std.specs.Io.KnownBytes.{Consumes, IsAtEnd}
+use Rattle.relay960_engines.specs.declared.kept_line.TheConstants.{KEPT}
 use Rattle.relay960_engines.specs.declared.bounds.Bounds.{Bounds}
 use Rattle.relay960_engines.specs.declared.fault.RunFault.{RunFault}
 use Rattle.relay960_engines.specs.declared.fault.RunFault.TheVariants.{Read, Write, TooLong, OutOfMemory, BadStart}
@@ -9,11 +10,11 @@ use Rattle.relay960_engines.specs.Lines.{Giving, Between, last_line}
 use Rattle.relay960_engines.specs.Runs.{Known, one_read}
 use Rattle.relay960_engines.specs.Inner.Sending.{Output, settled, SentAnswers, SentPart}
 
--- ---- Lines of which only the first 1,025 bytes are kept.
+-- ---- Lines of which only the first KEPT bytes are kept.
 
 -- what is kept of a line with one more byte
 abbrev pub kept_with : List ℕ → ℕ → List ℕ
-kept_with line b = cond (nat_lt (length line) 1025) (line ++ b ∷ []) line
+kept_with line b = cond (nat_lt (length line) KEPT) (line ++ b ∷ []) line
 
 -- what is kept of the lines that end with a line feed within the bytes; the first of them begins with what was kept before
 unfoldable pub kept_lines : List ℕ → List ℕ → List (List ℕ)
@@ -31,7 +32,7 @@ IsPlain bytes = (k : ℕ) → k < length bytes → slice_index bytes k ≢ 10
 
 -- what is kept of a line after these bytes are added
 abbrev pub kept_behind : List ℕ → List ℕ → List ℕ
-kept_behind line bytes = line ++ take (1025 - length line) bytes
+kept_behind line bytes = line ++ take (KEPT - length line) bytes
 
 -- ---- Bytes that were taken.
 

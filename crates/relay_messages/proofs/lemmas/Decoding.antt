@@ -13,20 +13,21 @@ use Rattle.serde_json.specs.Read.{read}
 use Rattle.relay_core.specs.declared.step.Step.{Step}
 use Rattle.relay_messages.specs.declared.fault.MessageFault.{MessageFault}
 use Rattle.relay_messages.specs.declared.fault.MessageFault.TheVariants.{OutOfMemory, NotJson, NotObject, UnknownCommand, BadField}
+use Rattle.relay_messages.specs.declared.reading.TheConstants.{MOST_BYTES}
 use Rattle.relay_messages.specs.Commands.{boards_in, command_by, command_in, command_named, end_in, follow_in, is_boards, leave_in, on_both_ports, open_in, submit_in, take_in, watch_command_in}
 use Rattle.relay_messages.specs.Fields.{text_at}
 use Rattle.relay_messages.specs.Decoding.{IsDecoding, IsReading, IsSaid, decoded, text_says, value_says, watch_decoded}
 
 -- ---- A text that is not too long.
 
-says_short : {A : Type 0} (says : Data → Result A MessageFault) (text : List ℕ) → length text ≤ 1024
+says_short : {A : Type 0} (says : Data → Result A MessageFault) (text : List ℕ) → length text ≤ MOST_BYTES
     → text_says says text ≡ cond (is_utf8 text) (value_says says (read text)) (Err NotJson)
 unfolding text_says
-says_short says text h = let short : nat_lt 1024 (length text) ≡ false = grind arith in rw short refl
+says_short says text h = let short : nat_lt MOST_BYTES (length text) ≡ false = grind arith in rw short refl
 
 -- reading a text in UTF-8 gives what decoding it gives
 pub said_of_reading : {A : Type 0} (says : Data → Result A MessageFault) (text : List ℕ) (answer : Result A MessageFault)
-    → length text ≤ 1024 → IsUtf8 text → IsReading says text answer → IsSaid text (text_says says text) answer
+    → length text ≤ MOST_BYTES → IsUtf8 text → IsReading says text answer → IsSaid text (text_says says text) answer
 said_of_reading says text answer short is_text (inl same) =
     inl (same ∙ sym (says_short says text short ∙ rw (is_utf8-from_IsUtf8 text is_text) refl))
 said_of_reading says text answer short is_text (inr want) = inr (short, want)
@@ -37,40 +38,40 @@ unread says true value none = ap (value_says says) (none refl)
 unread says false value none = refl
 
 -- not JSON, or not UTF-8
-pub says_no_value : {A : Type 0} (says : Data → Result A MessageFault) (text : List ℕ) → length text ≤ 1024
+pub says_no_value : {A : Type 0} (says : Data → Result A MessageFault) (text : List ℕ) → length text ≤ MOST_BYTES
     → (IsUtf8 text → read text ≡ None) → text_says says text ≡ Err NotJson
 says_no_value says text h none =
     says_short says text h ∙ unread says (is_utf8 text) (read text) (λ same. none (IsUtf8-from_is_utf8 text same))
 
 -- ---- A text that is too long.
 
-pub says_long : {A : Type 0} (says : Data → Result A MessageFault) (text : List ℕ) → 1024 < length text
+pub says_long : {A : Type 0} (says : Data → Result A MessageFault) (text : List ℕ) → MOST_BYTES < length text
     → text_says says text ≡ Err BadField
 unfolding text_says
-says_long says text h = let long : nat_lt 1024 (length text) ≡ true = grind arith in rw long refl
+says_long says text h = let long : nat_lt MOST_BYTES (length text) ≡ true = grind arith in rw long refl
 
-pub decoded_long : (text : List ℕ) → 1024 < length text → decoded text ≡ Err BadField
+pub decoded_long : (text : List ℕ) → MOST_BYTES < length text → decoded text ≡ Err BadField
 unfolding decoded
 decoded_long text = says_long command_in text
 
--- ---- The first 1,025 bytes decide.
+-- ---- The first bytes decide, if they are more than a text may have.
 
-pub says_front : {A : Type 0} (says : Data → Result A MessageFault) (text : List ℕ)
-    → text_says says (take 1025 text) ≡ text_says says text
-says_front says text =
-    elim (cases_lt 1024 (length text)) [
-      | inl long ↦ says_long says (take 1025 text) (omega (arith, length-take 1025 text)) ∙ sym (says_long says text long)
-      | inr short ↦ ap (text_says says) (take_all 1025 text (omega (arith, short)))
+pub says_front : {A : Type 0} (says : Data → Result A MessageFault) (n : ℕ) (text : List ℕ) → MOST_BYTES < n
+    → text_says says (take n text) ≡ text_says says text
+says_front says n text more =
+    elim (cases_lt MOST_BYTES (length text)) [
+      | inl long ↦ says_long says (take n text) (omega (arith, length-take n text, more, long)) ∙ sym (says_long says text long)
+      | inr short ↦ ap (text_says says) (take_all n text (omega (arith, short, more)))
     ]
 
-pub decoded_front : (text : List ℕ) → decoded (take 1025 text) ≡ decoded text
+pub decoded_front : (n : ℕ) (text : List ℕ) → MOST_BYTES < n → decoded (take n text) ≡ decoded text
 unfolding decoded
-decoded_front text = says_front command_in text
+decoded_front n text more = says_front command_in n text more
 
-pub decoding_of_front : (text : List ℕ) (answer : Result Step MessageFault)
-    → IsDecoding (take 1025 text) answer → IsDecoding text answer
-decoding_of_front text answer (inl same) = inl (same ∙ decoded_front text)
-decoding_of_front text answer (inr want) = inr (omega (arith, length-take 1025 text, want.0), want.1)
+pub decoding_of_front : (n : ℕ) (text : List ℕ) (answer : Result Step MessageFault) → MOST_BYTES < n
+    → IsDecoding (take n text) answer → IsDecoding text answer
+decoding_of_front n text answer more (inl same) = inl (same ∙ decoded_front n text more)
+decoding_of_front n text answer more (inr want) = inr (omega (arith, length-take n text, want.0, more), want.1)
 
 -- ---- No text means that there was no memory.
 
@@ -132,7 +133,7 @@ says_no_memory : {A : Type 0} (says : Data → Result A MessageFault) → ((d : 
     → IsOfText (text_says says text)
 unfolding text_says
 says_no_memory says of_value text =
-    either (nat_lt 1024 (length text)) _ _ bad_field
+    either (nat_lt MOST_BYTES (length text)) _ _ bad_field
     (either (is_utf8 text) _ _ (any_value says of_value (read text)) not_json)
 
 pub never_memory : (text : List ℕ) → decoded text ≡ Err OutOfMemory → ⊥
