@@ -9,7 +9,8 @@ use Rattle.websocket.specs.declared.protocol.frame.coding.Data.TheVariants.{Cont
 use Rattle.websocket.specs.declared.protocol.frame.header.FrameHeader.{FrameHeader}
 use Rattle.relay_frames.specs.declared.breach.Breach.{Breach}
 use Rattle.relay_frames.specs.declared.breach.Breach.TheVariants.{ReservedBit, Unmasked}
-use Rattle.relay_frames.specs.Reading.{Message, HasRoom, most_bytes, most_fragments, size_breach, control_breach, fragment_breach, data_breach, opcode_breach, head_breach, with_payload, frame_effect}
+use Rattle.relay_frames.specs.declared.peer.TheConstants.{MOST_BYTES, MOST_FRAGMENTS}
+use Rattle.relay_frames.specs.Reading.{Message, HasRoom, size_breach, control_breach, fragment_breach, data_breach, opcode_breach, head_breach, with_payload, frame_effect}
 use Rattle.relay_frames.specs.Hearing.{bytes_of, fragments_of}
 
 -- a rule that was not broken
@@ -17,9 +18,9 @@ passed : (b : Bool) (x : Breach) (o : Option Breach) → cond b (Some x) o ≡ N
 passed true x o is = absurd (cc is)
 passed false x o is = (refl, is)
 
-size_kept : (before n : ℕ) → size_breach before n ≡ None → before + n ≤ most_bytes
+size_kept : (before n : ℕ) → size_breach before n ≡ None → before + n ≤ MOST_BYTES
 size_kept before n is =
-    let fits : nat_lt most_bytes (before + n) ≡ false = (passed _ _ _ is).0 in
+    let fits : nat_lt MOST_BYTES (before + n) ≡ false = (passed _ _ _ is).0 in
     grind (arith, nat_tests)
 
 control_kept : (is_final : Bool) (n : ℕ) → control_breach is_final n ≡ None → n ≤ 125
@@ -27,12 +28,12 @@ control_kept is_final n is =
     let fits : nat_lt 125 n ≡ false = (passed _ _ _ (passed _ _ _ is).1).0 in
     grind (arith, nat_tests)
 
-fragment_kept : (m : Message) (n : ℕ) → fragment_breach m n ≡ None → (length m.bytes + n ≤ most_bytes) × (m.fragments < most_fragments)
+fragment_kept : (m : Message) (n : ℕ) → fragment_breach m n ≡ None → (length m.bytes + n ≤ MOST_BYTES) × (m.fragments < MOST_FRAGMENTS)
 fragment_kept m n is =
-    let few : nat_le most_fragments m.fragments ≡ false = (passed _ _ _ is).0 in
+    let few : nat_le MOST_FRAGMENTS m.fragments ≡ false = (passed _ _ _ is).0 in
     (size_kept (length m.bytes) n (passed _ _ _ is).1, grind (arith, nat_tests))
 
-opcode_kept : (begun : Option Message) (op : OpCode) (is_final : Bool) (n : ℕ) → opcode_breach begun op is_final n ≡ None → (n ≤ most_bytes) × HasRoom begun op
+opcode_kept : (begun : Option Message) (op : OpCode) (is_final : Bool) (n : ℕ) → opcode_breach begun op is_final n ≡ None → (n ≤ MOST_BYTES) × HasRoom begun op
 opcode_kept None (codes.Control control) is_final n is = (omega (arith, control_kept is_final n is), tt)
 opcode_kept (Some m) (codes.Control control) is_final n is = (omega (arith, control_kept is_final n is), tt)
 opcode_kept None (codes.Data Continue) is_final n is = absurd (cc is)
@@ -52,11 +53,11 @@ place_kept begun h n is =
     (passed (not (is_some h.mask)) Unmasked by_place plain.1).1
 
 -- its payload is within a message's bound, and the message accepts it
-pub head_kept : (begun : Option Message) (h : FrameHeader) (n : ℕ) → head_breach begun h n ≡ None → (n ≤ most_bytes) × HasRoom begun h.opcode
+pub head_kept : (begun : Option Message) (h : FrameHeader) (n : ℕ) → head_breach begun h n ≡ None → (n ≤ MOST_BYTES) × HasRoom begun h.opcode
 head_kept begun h n is = opcode_kept begun h.opcode h.is_final n (place_kept begun h n is)
 
 -- with what has come of the message its payload is within the bound, or that of a control frame
-pub payload_kept : (begun : Option Message) (op : OpCode) (is_final : Bool) (n : ℕ) → opcode_breach begun op is_final n ≡ None → bytes_of begun ≤ most_bytes → n + bytes_of begun ≤ most_bytes + 125
+pub payload_kept : (begun : Option Message) (op : OpCode) (is_final : Bool) (n : ℕ) → opcode_breach begun op is_final n ≡ None → bytes_of begun ≤ MOST_BYTES → n + bytes_of begun ≤ MOST_BYTES + 125
 payload_kept begun (codes.Control control) is_final n is fits = omega (arith, control_kept is_final n is, fits)
 payload_kept None (codes.Data Continue) is_final n is fits = absurd (cc is)
 payload_kept None (codes.Data Text) is_final n is fits = omega (arith, size_kept 0 n is)
@@ -69,7 +70,7 @@ payload_kept (Some m) (codes.Data Binary) is_final n is fits = absurd (cc is)
 
 -- and so is the message with it
 with_payload_kept : (begun : Option Message) (kind : Data) (payload : List ℕ) → data_breach begun kind (length payload) ≡ None
-    → (length (with_payload begun kind payload).bytes ≤ most_bytes) × ((with_payload begun kind payload).fragments ≤ most_fragments)
+    → (length (with_payload begun kind payload).bytes ≤ MOST_BYTES) × ((with_payload begun kind payload).fragments ≤ MOST_FRAGMENTS)
 with_payload_kept None Continue payload is = absurd (cc is)
 with_payload_kept None Text payload is = (omega (arith, size_kept 0 (length payload) is), omega arith)
 with_payload_kept None Binary payload is = (omega (arith, size_kept 0 (length payload) is), omega arith)
@@ -81,7 +82,7 @@ with_payload_kept (Some m) Binary payload is = absurd (cc is)
 
 -- for a message that goes on
 abbrev IsWithin : Option Message → Type 0
-IsWithin begun = (bytes_of begun ≤ most_bytes) × (fragments_of begun ≤ most_fragments)
+IsWithin begun = (bytes_of begun ≤ MOST_BYTES) × (fragments_of begun ≤ MOST_FRAGMENTS)
 
 pub effect_kept : (begun : Option Message) (op : OpCode) (is_final : Bool) (payload : List ℕ) → opcode_breach begun op is_final (length payload) ≡ None
     → IsWithin begun → IsWithin (frame_effect begun op is_final payload).begun

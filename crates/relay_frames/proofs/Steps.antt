@@ -11,16 +11,17 @@ use Rattle.websocket.proofs.FrameHeaderLemmas.{decode_header-append}
 use Rattle.websocket.proofs.MaskLemmas.{length-apply_mask_if}
 use Rattle.relay_frames.specs.declared.breach.Breach.{Breach}
 use Rattle.relay_frames.specs.declared.breach.Breach.TheVariants.{NoHead}
+use Rattle.relay_frames.specs.declared.peer.TheConstants.{MOST_BYTES, MOST_FRAGMENTS}
 use Rattle.relay_frames.specs.Events.{Told, broken, is_last}
-use Rattle.relay_frames.specs.Reading.{Message, Reading, Effect, Step, over, fed, head_breach, frame_effect, waits, breaks, goes_on, payload_at, read_frame, read_checked, read_head, next_step, most_bytes, most_fragments}
+use Rattle.relay_frames.specs.Reading.{Message, Reading, Effect, Step, over, fed, head_breach, frame_effect, waits, breaks, goes_on, payload_at, read_frame, read_checked, read_head, next_step}
 use Rattle.relay_frames.specs.Hearing.{IsSmall, bytes_of, fragments_of}
 use Rattle.relay_frames.proofs.Heads.{header_short, header_len_short}
 use Rattle.relay_frames.proofs.Rules.{effect_kept, payload_kept, place_kept}
 
 -- what is kept of a message is within its bounds, and nothing is kept once the connection has ended
 pub record Fits (r : Reading) : Type 0 where
-  pub message : bytes_of r.begun ≤ most_bytes
-  pub fragments : fragments_of r.begun ≤ most_fragments
+  pub message : bytes_of r.begun ≤ MOST_BYTES
+  pub fragments : fragments_of r.begun ≤ MOST_FRAGMENTS
   pub ended : r.is_over ≡ true → r.unread ≡ []
 
 over_fits : Fits over
@@ -79,7 +80,7 @@ behind_shorter n rest e short =
       | false ↦ short
     ]
 
-behind_fits : (rest : List ℕ) (e : Effect) → (bytes_of e.begun ≤ most_bytes) × (fragments_of e.begun ≤ most_fragments) → Fits (behind_frame rest e)
+behind_fits : (rest : List ℕ) (e : Effect) → (bytes_of e.begun ≤ MOST_BYTES) × (fragments_of e.begun ≤ MOST_FRAGMENTS) → Fits (behind_frame rest e)
 behind_fits rest e kept =
     elim (is_last e.told) as (λ b. Fits (cond b over (live rest e.begun))) [
       | true ↦ over_fits

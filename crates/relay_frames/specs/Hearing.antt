@@ -1,7 +1,8 @@
 -- All events of a peer, over any bytes in any pieces.
 use Rattle.std.specs.Prelude.{◌≡◌, ℕ, zero, suc, ◌+◌, ◌≤◌, true, List, [], ◌∷◌, ◌++◌, length, fold, ⊤, Option, None, Some}
+use Rattle.relay_frames.specs.declared.peer.TheConstants.{MOST_BYTES, MOST_FRAGMENTS}
 use Rattle.relay_frames.specs.Events.{Told, is_last}
-use Rattle.relay_frames.specs.Reading.{Message, Reading, Step, opened, fed, next_step, most_bytes, most_fragments}
+use Rattle.relay_frames.specs.Reading.{Message, Reading, Step, opened, fed, next_step}
 
 -- the events so far, in order, and what is known then
 pub record Heard : Type 0 where
@@ -53,6 +54,6 @@ fragments_of (Some m) = m.fragments
 -- of a message no more is kept than it may have, and besides that less than a frame: a head of 14 bytes, and 125 bytes if it is a control
 -- frame, or otherwise what the message may still get
 pub record IsSmall (r : Reading) : Type 0 where
-  pub message : bytes_of r.begun ≤ most_bytes
-  pub fragments : fragments_of r.begun ≤ most_fragments
-  pub kept : length r.unread + bytes_of r.begun ≤ most_bytes + 139
+  pub message : bytes_of r.begun ≤ MOST_BYTES
+  pub fragments : fragments_of r.begun ≤ MOST_FRAGMENTS
+  pub kept : length r.unread + bytes_of r.begun ≤ MOST_BYTES + 139

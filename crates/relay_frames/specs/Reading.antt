@@ -15,6 +15,7 @@ use Rattle.websocket.specs.FrameHeader.{Decoded, decode_header, header_len}
 use Rattle.websocket.specs.Mask.{apply_mask_if}
 use Rattle.relay_frames.specs.declared.breach.Breach.{Breach}
 use Rattle.relay_frames.specs.declared.breach.Breach.TheVariants.{NoHead, ReservedBit, Unmasked, ControlInFragments, LongControl, NothingToContinue, MessageWithinMessage, BadClose, NotUtf8, TooLong, TooManyFragments}
+use Rattle.relay_frames.specs.declared.peer.TheConstants.{MOST_BYTES, MOST_FRAGMENTS}
 use Rattle.relay_frames.specs.Codes.{may_be_sent}
 use Rattle.relay_frames.specs.Events.{Told, fragment, text, binary, ping, pong, closed, broken, is_last}
 
@@ -48,16 +49,9 @@ fed r bytes = cond r.is_over r (record r { unread = r.unread ++ bytes })
 
 -- ---- the rules for a frame's head
 
--- a message has at most this many bytes, and this many fragments
-abbrev pub most_bytes : ℕ
-most_bytes = 65536
-
-abbrev pub most_fragments : ℕ
-most_fragments = 1024
-
--- a message of this many bytes, so far and with this frame
+-- a message of this many bytes, so far and with this frame; it may have MOST_BYTES, and MOST_FRAGMENTS fragments
 abbrev pub size_breach : ℕ → ℕ → Option Breach
-size_breach before n = cond (nat_lt most_bytes (before + n)) (Some TooLong) None
+size_breach before n = cond (nat_lt MOST_BYTES (before + n)) (Some TooLong) None
 
 -- section 5.5
 abbrev pub control_breach : Bool → ℕ → Option Breach
@@ -65,7 +59,7 @@ control_breach is_final n = cond (not is_final) (Some ControlInFragments) (cond 
 
 -- a further fragment of n bytes for this message
 abbrev pub fragment_breach : Message → ℕ → Option Breach
-fragment_breach m n = cond (nat_le most_fragments m.fragments) (Some TooManyFragments) (size_breach (length m.bytes) n)
+fragment_breach m n = cond (nat_le MOST_FRAGMENTS m.fragments) (Some TooManyFragments) (size_breach (length m.bytes) n)
 
 -- section 5.4
 abbrev pub data_breach : Option Message → Data → ℕ → Option Breach
@@ -169,7 +163,7 @@ IsEffect t begun e = (t ≡ e.told) × (begun ≡ e.begun)
 abbrev pub HasRoom : Option Message → OpCode → Type 0
 HasRoom None op = ⊤
 HasRoom (Some m) (codes.Control control) = ⊤
-HasRoom (Some m) (codes.Data kind) = m.fragments < most_fragments
+HasRoom (Some m) (codes.Data kind) = m.fragments < MOST_FRAGMENTS
 
 -- the payload of n bytes after the head
 abbrev pub payload_at : List ℕ → FrameHeader → ℕ → List ℕ

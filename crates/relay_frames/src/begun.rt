@@ -40,7 +40,7 @@ impl Begun {
 
     /// The message with one more fragment.
     pub(crate) fn and_one_more(&self) -> Begun
-        requires { self.now.fragments < 1024 }
+        requires { self.now.fragments < MOST_FRAGMENTS }
         ensures { result ≡ record self.now { fragments = self.now.fragments + 1 } }
     {
         Begun {

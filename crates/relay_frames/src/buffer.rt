@@ -2,9 +2,10 @@
 
 ghost use Rattle.std.specs.Prelude.{◌≡◌, ◌+◌, ◌≤◌, [], ◌++◌, length, take, drop, vec_capacity, vec_len, IfOk, OnOk, OnErr};
 ghost use Rattle.websocket.specs.FrameHeader.{header_len};
-ghost use Rattle.relay_frames.specs.Reading.{most_bytes, payload_at};
+ghost use Rattle.relay_frames.specs.Reading.{payload_at};
 
 use crate::payload::{move_down, unmasked};
+use crate::peer::MOST_BYTES;
 use std::alloc::{AllocError, Global};
 use std::marker::Model;
 use std::mem;
@@ -108,7 +109,7 @@ impl Buffer {
         size: usize,
     ) -> Result<Vec<u8>, AllocError>
         requires whole { header_len header.now size + size ≤ length self.old.unread }
-        requires small { size ≤ most_bytes }
+        requires small { size ≤ MOST_BYTES }
         ensures payload { IfOk result (λ payload. payload.items ≡ payload_at self.old.unread header.now size) }
         ensures read { OnOk result (self.new ≡ record self.old { unread = drop (header_len header.now size + size) self.old.unread }) }
         ensures unchanged { OnErr result (self.new ≡ self.old) }
@@ -122,7 +123,7 @@ impl Buffer {
     /// Reads a frame of the message that has begun, and appends its payload to the message so far.
     pub(crate) fn read_on(&mut self, header: &FrameHeader, size: usize)
         requires whole { header_len header.now size + size ≤ length self.old.unread }
-        requires small { size ≤ most_bytes }
+        requires small { size ≤ MOST_BYTES }
         ensures { self.new ≡ record { message = self.old.message ++ payload_at self.old.unread header.now size; unread = drop (header_len header.now size + size) self.old.unread } }
     {
         let start = self.read + header.len(size as u64);
@@ -149,7 +150,7 @@ impl Buffer {
         size: usize,
     ) -> Result<Vec<u8>, AllocError>
         requires whole { header_len header.now size + size ≤ length self.old.unread }
-        requires small { size ≤ most_bytes }
+        requires small { size ≤ MOST_BYTES }
         ensures message { IfOk result (λ bytes. bytes.items ≡ self.old.message ++ payload_at self.old.unread header.now size) }
         ensures read { OnOk result (self.new ≡ record { message = []; unread = drop (header_len header.now size + size) self.old.unread }) }
         ensures unchanged { OnErr result (self.new ≡ self.old) }

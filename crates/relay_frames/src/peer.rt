@@ -5,7 +5,7 @@ ghost use Rattle.websocket.specs.FrameHeader.{header_len};
 ghost use Rattle.websocket.specs.declared.protocol.frame.coding.OpCode.TheVariants as OpCode;
 ghost use Rattle.relay_frames.specs.Events.{broken, told};
 ghost use Rattle.relay_frames.specs.Holding.{continued};
-ghost use Rattle.relay_frames.specs.Reading.{HasRoom, IsEffect, IsStep, control_breach, data_breach, fed, frame_effect, goes_on, head_breach, is_midway, message_effect, most_bytes, next_step, opened, over, payload_at, read_checked, read_frame, with_payload};
+ghost use Rattle.relay_frames.specs.Reading.{HasRoom, IsEffect, IsStep, control_breach, data_breach, fed, frame_effect, goes_on, head_breach, is_midway, message_effect, next_step, opened, over, payload_at, read_checked, read_frame, with_payload};
 
 use crate::begun::{Begun, size_breach};
 use crate::breach::Breach;
@@ -132,7 +132,7 @@ impl Peer {
     /// What the frame with this head means, which keeps the rules. If more of it has to come, there is room for it from then on.
     fn next_whole(&mut self, header: &FrameHeader, size: usize) -> Result<Option<Event>, AllocError>
         requires open { self.old.is_over ≡ false }
-        requires small { size ≤ most_bytes }
+        requires small { size ≤ MOST_BYTES }
         requires room { HasRoom self.old.begun header.now.opcode }
         ensures told { IfOk result (λ event. option_map told event ≡ (read_frame self.old header.now size).told) }
         ensures then { OnOk result (self.new ≡ (read_frame self.old header.now size).then) }
@@ -178,7 +178,7 @@ impl Peer {
     fn next_frame(&mut self, header: &FrameHeader, size: usize) -> Result<Event, AllocError>
         requires open { self.old.is_over ≡ false }
         requires whole { header_len header.now size + size ≤ length self.old.unread }
-        requires small { size ≤ most_bytes }
+        requires small { size ≤ MOST_BYTES }
         requires room { HasRoom self.old.begun header.now.opcode }
         ensures frame { IfOk result (λ event. IsStep (told event) self.new (goes_on (drop (header_len header.now size + size) self.old.unread) (frame_effect self.old.begun header.now.opcode header.now.is_final (payload_at self.old.unread header.now size)))) }
         ensures unchanged { OnErr result (self.new ≡ self.old) }
@@ -203,7 +203,7 @@ impl Peer {
         size: usize,
     ) -> Result<Event, AllocError>
         requires whole { header_len header.now size + size ≤ length self.old.unread }
-        requires small { size ≤ most_bytes }
+        requires small { size ≤ MOST_BYTES }
         requires room { HasRoom self.old.begun (OpCode.Data kind) }
         ensures effect { IfOk result (λ event. IsEffect (told event) self.new.begun (message_effect (with_payload self.old.begun kind (payload_at self.old.unread header.now size)) header.now.is_final)) }
         ensures rest { OnOk result (self.new.unread ≡ drop (header_len header.now size + size) self.old.unread) }

@@ -52,7 +52,7 @@ impl Head {
         alloc: Global,
         stream: &mut S,
     ) -> Result<Head, HeadFault>
-        ensures bound { IfOk result (λ head. head.end ≤ 8192) }
+        ensures bound { IfOk result (λ head. head.end ≤ MOST_HEAD_BYTES) }
         ensures unread { IfOk result (λ head. head.given ≡ head.end) }
     {
         let deadline = Deadline::after(clock, Duration::from_secs(MOST_HEAD_SECONDS))?;
