@@ -2,6 +2,7 @@
 -- what they are after it.
 use Rattle.std.specs.Prelude.{ℕ, ◌≡◌, ◌⊎◌, nat_lt, cond, codes, Bool, List}
 use Rattle.std.specs.Io.KnownBytes.{Appends, Keeps}
+use Rattle.c960_board.specs.declared.numbering.TheConstants.{STARTS}
 use Rattle.c960_game.specs.Limits.{LimitNumbers}
 use Rattle.relay960_engines.specs.declared.fault.RunFault.{RunFault}
 use Rattle.relay960_engines.specs.declared.fault.RunFault.TheVariants.{Read, Write, TooLong, OutOfMemory, BadStart}
@@ -27,7 +28,7 @@ fault_status BadStart = status.Refused
 
 -- done with the line of start n, or refused with that of its refusal; or a device failed, with a prefix of the line
 abbrev pub StartEnds : ℕ → Known → Known → Status → Type 0
-StartEnds n old new s = ((s ≡ cond (nat_lt n 960) status.Done status.Refused) × Appends old new (start_line n)) ⊎ ((s ≡ status.DeviceFailed) × AppendsPart old new (start_line n))
+StartEnds n old new s = ((s ≡ cond (nat_lt n STARTS) status.Done status.Refused) × Appends old new (start_line n)) ⊎ ((s ≡ status.DeviceFailed) × AppendsPart old new (start_line n))
 
 -- done with the lines of a lawful position, or refused with the line that refuses the text; or a fault's, with what holds then
 abbrev pub MovesEnds : List ℕ → Known → Known → Status → Type 0

@@ -4,6 +4,7 @@ use Rattle.std.specs.Prelude.{ℕ, Bool, ◌≡◌, ◌≢◌, ◌⊎◌, if◌t
 use Rattle.std.specs.Str.{bytes_eq}
 use Rattle.std.specs.Str.Parse.{IsNumeral, digits_value, without_leading_plus}
 use Rattle.std.specs.Net.Grammar.{IsSocketText}
+use Rattle.c960_game.specs.declared.limits.TheConstants.{MOST_BOARDS, MOST_CAPACITY, MOST_FOLLOWERS, MOST_PLIES}
 use Rattle.c960_game.specs.Limits.{LimitNumbers}
 use Rattle.clap.specs.Words.{App, IsAmong, Row, Rule, Text, fault_of, first_of, matches_of, new_app, new_rule, one_of, subcommand_of, with_rule, with_subcommand}
 use Rattle.clap.specs.declared.builder.action.ArgAction.TheVariants.{Set, SetTrue}
@@ -49,10 +50,10 @@ text_rule name = record (new_rule name) { long = Some name; action = Some Set; v
 -- a command with the options of a relay's limits
 abbrev pub with_limits : App → App
 with_limits a = with_rule (with_rule (with_rule (with_rule a
-    (option_rule (codes "boards") 1 256 (codes "16")))
-    (option_rule (codes "followers") 1 1024 (codes "64")))
-    (option_rule (codes "capacity") 1 1024 (codes "64")))
-    (option_rule (codes "plies") 1 16384 (codes "1024"))
+    (option_rule (codes "boards") 1 MOST_BOARDS (codes "16")))
+    (option_rule (codes "followers") 1 MOST_FOLLOWERS (codes "64")))
+    (option_rule (codes "capacity") 1 MOST_CAPACITY (codes "64")))
+    (option_rule (codes "plies") 1 MOST_PLIES (codes "1024"))
 
 -- a command with the options of a service, except those of its limits
 abbrev pub with_service : App → App

@@ -15,7 +15,7 @@ use crate::chime::{BoardBell, Chime};
 use crate::key::Key;
 use crate::lookout::Lookout;
 use crate::occupancy::Occupancy;
-use c960_board::{Move, Position};
+use c960_board::{Move, Position, STARTS};
 use c960_game::{Ending, Limits, Outcome, Refusal, Replaying};
 use live_board::{Board, Follower};
 use once_cell::race::OnceBox;
@@ -58,7 +58,7 @@ impl Broadcast {
     ) -> Result<Broadcast, Refusal>
         ensures name { IfOk result (λ broadcast. broadcast.name ≡ name) }
         ensures owner { IfOk result (λ broadcast. broadcast.owner ≡ owner) }
-        ensures bad_start { (result ≡ Err Refusal.BadStart) ↔ (960 ≤ start) }
+        ensures bad_start { (result ≡ Err Refusal.BadStart) ↔ (STARTS ≤ start) }
         ensures refusals { IfErr result (λ r. (r ≡ Refusal.BadStart) ⊎ (r ≡ Refusal.OutOfMemory)) }
     {
         let board = Board::open(alloc, start, limits)?;

@@ -18,6 +18,7 @@ use crate::key::Key;
 use crate::lookout::Lookout;
 use crate::patience::Patience;
 use crate::shown::Shown;
+use c960_board::STARTS;
 use c960_game::{Ending, Limits, Refusal};
 use relay_core::BoardName;
 use std::alloc::{AllocError, Global};
@@ -488,7 +489,7 @@ impl Registry {
     ) -> Result<Arc<Broadcast, Global>, Refusal>
         ensures named { IfOk result (λ b. (arc_value b).name ≡ name) }
         ensures owner { IfOk result (λ b. (arc_value b).owner ≡ owner) }
-        ensures bad_start { (result ≡ Err Refusal.BadStart) → 960 ≤ start }
+        ensures bad_start { (result ≡ Err Refusal.BadStart) → STARTS ≤ start }
         ensures refusals { IfErr result (λ r. (r ≡ Refusal.BadStart) ⊎ (r ≡ Refusal.OutOfMemory)) }
     {
         let Ok(lookouts) = Arc::try_clone(&self.lookouts) else {

@@ -3,6 +3,7 @@ use Rattle.std.proofs.Common.{◌≡◌, ℕ, ◌<◌, ◌≤◌, nat_le, Bool, 
 use Rattle.std.specs.Map.{lookup}
 use Rattle.std.proofs.lemmas.Bool.Decides.{nat_tests}
 use Rattle.std.proofs.lemmas.List.{map-append, length-map}
+use Rattle.c960_board.specs.declared.numbering.TheConstants.{STARTS}
 use Rattle.c960_game.specs.declared.refusal.Refusal.TheVariants.{BoardExists, BadStart, TooManyBoards}
 use Rattle.c960_game.specs.Limits.{LimitNumbers}
 use Rattle.relay_core.specs.declared.step.Step.{Step}
@@ -65,7 +66,7 @@ known_by_names r names room board known kept is limits h st =
 had_room : (limits : LimitNumbers) (h : History) (b : List ℕ) (n : ℕ) (reply : Reply) → IsAllowed limits h (Open b n) reply
     → is_accepted reply ≡ true → length (opened h) < limits.boards
 had_room limits h b n reply ok took =
-    by (is_some (start_of h b)) (nat_le 960 n) (nat_le limits.boards (length (opened h))) refl
+    by (is_some (start_of h b)) (nat_le STARTS n) (nat_le limits.boards (length (opened h))) refl
     (ap is_accepted (sym (told limits h (Open b n) reply ok took)) ∙ took)
   where
     by : (there bad full : Bool) → nat_le limits.boards (length (opened h)) ≡ full

@@ -6,6 +6,7 @@ use Rattle.std.specs.Map.{keys_of, lookup}
 use Rattle.indexmap.specs.IndexMap.{insert_entry}
 use Rattle.std.proofs.lemmas.Map.Entries.{length-keys_of}
 use Rattle.indexmap.proofs.CallerLemmas.{insert_entry-new}
+use Rattle.c960_board.specs.declared.numbering.TheConstants.{STARTS}
 use Rattle.c960_game.specs.declared.refusal.Refusal.{Refusal}
 use Rattle.c960_game.specs.declared.refusal.Refusal.TheVariants.{BadStart, BoardExists, TooManyBoards}
 use Rattle.relay_core.specs.Name.{same_name}
@@ -42,7 +43,7 @@ returns-clause-entered c =
     let most = c.args.self.now.limits.boards in
     let names = keys_of boards.entries in
     let told : c.admit.result ≡ admission names most name c.args.start = search rules in
-    let may = grounds (is_taken names name) (nat_le 960 c.args.start) (nat_le most (length names)) c.admit.result told c.in_ok-admit.was in
+    let may = grounds (is_taken names name) (nat_le STARTS c.args.start) (nat_le most (length names)) c.admit.result told c.in_ok-admit.was in
     let free = absent (lookup (same_name name) boards.entries) (taken_where_found name boards.entries ∙ may.0) in
     c.in-Ok.ensures.entries ∙ insert_entry-new same_name boards name c.args.broadcast free
 
@@ -53,7 +54,7 @@ invariant_of-self c =
     let most = c.args.self.now.limits.boards in
     let names = keys_of boards.entries in
     let told : c.admit.result ≡ admission names most name c.args.start = search rules in
-    let may = grounds (is_taken names name) (nat_le 960 c.args.start) (nat_le most (length names)) c.admit.result told c.in_ok-admit.was in
+    let may = grounds (is_taken names name) (nat_le STARTS c.args.start) (nat_le most (length names)) c.admit.result told c.in_ok-admit.was in
     let free = absent (lookup (same_name name) boards.entries) (taken_where_found name boards.entries ∙ may.0) in
     let fewer : length boards.entries < most = subst (λ n. n < most) (length-keys_of boards.entries) (few most (length names) may.1) in
     let room : most ≤ length boards.entries + spare boards = search rules in
