@@ -84,6 +84,9 @@ def refused_by_the_system():
                     connection(server).close()
                 except ConnectionRefusedError:
                     break
+                except (ConnectionAbortedError, ConnectionResetError):
+                    # The listener was closed while this one waited to be accepted.
+                    pass
                 time.sleep(0.02)
             else:
                 sys.exit("behind the last connection the port still takes others")

@@ -10,6 +10,10 @@ from relay_client.program import PATIENCE
 from relay_client.server import Server
 
 
+# How many bytes at each end of a head come one after another.
+BYTE_BY_BYTE = 100
+
+
 class Heads(unittest.TestCase):
     def is_answered(self, peer, status):
         """The peer gets the beginning of an answer with this status."""
@@ -28,14 +32,18 @@ class Heads(unittest.TestCase):
                     self.is_answered(peer, status)
             server.has_served(2)
 
-    def test_a_head_byte_by_byte_may_have_8192_bytes_and_not_8193(self):
+    def test_a_head_whose_ends_come_byte_by_byte_may_have_8192_bytes_and_not_8193(self):
+        """What is between comes at once: 8,192 calls beside all other tests may take longer than a head may."""
         with Server("--connections", "2") as server:
             for size, status in (8192, 101), (8193, 431):
                 with socket.create_connection(("127.0.0.1", server.port), timeout=PATIENCE) as peer:
                     peer.setsockopt(socket.IPPROTO_TCP, socket.TCP_NODELAY, 1)
                     request = REQUEST[:-2] + b"A: " + b"x" * (size - len(REQUEST) - 5) + b"\r\n\r\n"
                     self.assertEqual(len(request), size)
-                    for byte in request:
+                    for byte in request[:BYTE_BY_BYTE]:
+                        peer.sendall(bytes([byte]))
+                    peer.sendall(request[BYTE_BY_BYTE:-BYTE_BY_BYTE])
+                    for byte in request[-BYTE_BY_BYTE:]:
                         peer.sendall(bytes([byte]))
                     self.is_answered(peer, status)
             server.has_served(2)
