@@ -6,6 +6,7 @@
 //   reader arrives KIND PORT FOLLOWERS MOVES PIDS the same, but nothing is read until the server rests: prints when the last one had each move
 //   reader connects KIND PORT CONNECTIONS PIDS    connections opened and closed, 64 at a time; prints how many a second, processor time
 //   reader rush KIND PORT JOININGS MOVES PIDS     the same of followers that come to a board of this many moves, and go once they are greeted
+//   reader joins KIND PORT JOININGS MOVES PIDS    followers that join such a board all at once on connections that stand; prints what a joining takes
 //   reader idle KIND PORT FOLLOWERS PIDS          followers that wait; prints the server's resident kilobytes before and with them
 //
 // KIND is relay, nchan or mosquitto. Of a relay PORT may be MAIN/WATCH: then followers watch at the second one. PIDS are the server's processes,
@@ -302,18 +303,63 @@ static void connects(int count, int joins, struct peer *waiting, int waiting_cou
            since(before) * 1e6 / count, (spent_in_all().own - before.own) * 1e6 / count, resident());
 }
 
-// Followers that come at once to a board with this many moves.
-static void rush(int joinings, int count) {
+// A board with this many moves, and a follower of it that stays, so that it is watched all the time.
+static void board_with_moves(struct peer waiting[2], int count) {
     unsigned char frame[160];
-    struct peer waiting[2] = {publisher()};
     if (kind != RELAY) die("only a relay tells who joined");
+    waiting[0] = publisher();
     for (int ply = 0; ply < count; ply++) {
         put(waiting[0].fd, frame, publication(frame, ply));
         read_text(&waiting[0]);
     }
     set_nonblocking(waiting[0].fd);
-    waiting[1] = follower();  // stays, so that the board is watched all the time
+    waiting[1] = follower();
+}
+
+// Followers that come at once to a board with this many moves.
+static void rush(int joinings, int count) {
+    struct peer waiting[2];
+    board_with_moves(waiting, count);
     connects(joinings, 1, waiting, 2);
+}
+
+// These ask at once, and are waited for until each is greeted.
+static void join_all(struct peer *peers, int count) {
+    char text[128];
+    unsigned char frame[160];
+    snprintf(text, sizeof text, "{\"cmd\":\"follow\",\"board\":\"%s\",\"spectator\":1}", name);
+    size_t length = ws_text(frame, text);
+    for (int i = 0; i < count; i++) put(peers[i].fd, frame, length);
+    for (int i = 0; i < count; i++) {
+        read_text(&peers[i]);
+        if (!strstr(peers[i].last, "following")) die(peers[i].last);
+    }
+}
+
+// What a joining takes by itself. The connections stand before it is measured, as many at once as a process may have, and go after it.
+static void joins(int joinings, int count) {
+    struct peer waiting[2], *peers = calloc(MOST_A_PROCESS, sizeof *peers);
+    struct seconds used = {0, 0};
+    double took = 0;
+    board_with_moves(waiting, count);
+    for (int done = 0, some; done < joinings; done += some) {
+        some = joinings - done < MOST_A_PROCESS ? joinings - done : MOST_A_PROCESS;
+        for (int i = 0; i < some; i++) peers[i] = (struct peer){.fd = shake_hands(follow_port, "/")};
+        server_rests();
+        struct seconds before = spent_in_all();
+        double start = now();
+        join_all(peers, some);
+        took += now() - start;
+        server_rests();
+        struct seconds after = spent_in_all();
+        used.own += after.own - before.own;
+        used.system += after.system - before.system;
+        for (int i = 0; i < some; i++) close(peers[i].fd);
+        server_rests();
+        look_after(waiting, 2);
+    }
+    printf("{\"joinings\": %d, \"a_second\": %.0f, \"cpu_us\": %.1f, \"own_us\": %.1f}\n", joinings, joinings / took, (used.own + used.system) * 1e6 / joinings,
+           used.own * 1e6 / joinings);
 }
 
 static void idle(int followers) {
@@ -352,6 +398,7 @@ int main(int argc, char **argv) {
     int first = atoi(argv[4]);
     if (!strcmp(argv[1], "connects")) connects(first, 0, NULL, 0);
     else if (!strcmp(argv[1], "rush")) rush(first, atoi(argv[5]));
+    else if (!strcmp(argv[1], "joins")) joins(first, atoi(argv[5]));
     else if (!strcmp(argv[1], "idle")) idle(first);
     else if (!strcmp(argv[1], "arrives")) arrivals(first, atoi(argv[5]));
     else moves(first, atoi(argv[5]), !strcmp(argv[1], "burst"));

@@ -4,7 +4,7 @@ the same reading client (reader.c, built by cc). Prints a table's rows: the medi
 
     benches/serving.py                        all servers, 100 followers, 1,000 moves, 7 rounds
     benches/serving.py --followers 1000 --only relay --rounds 5
-    benches/serving.py --what turns|arrives|connects|rush|idle
+    benches/serving.py --what turns|arrives|connects|rush|joins|idle
     benches/serving.py --what arrives --only relay-watch-8,nchan-8 --followers 100000 --moves 5 --rounds 1 --tables
     benches/serving.py --only relay-watch-2 --rounds 1 --under "strace -c -f -o calls"
 
@@ -120,16 +120,16 @@ def servers(names, given, room, most):
 
 def main():
     words = argparse.ArgumentParser(description=__doc__, formatter_class=argparse.RawDescriptionHelpFormatter)
-    words.add_argument("--what", default="burst", choices=["burst", "turns", "arrives", "connects", "rush", "idle"])
+    words.add_argument("--what", default="burst", choices=["burst", "turns", "arrives", "connects", "rush", "joins", "idle"])
     words.add_argument("--only", default="relay,relay-watch-2,nchan-1,nchan-4,mosquitto", help="which, parted by commas; the number is that of its workers or loops")
-    words.add_argument("--followers", type=int, default=100, help="of connects and rush: how many connections")
+    words.add_argument("--followers", type=int, default=100, help="of connects, rush and joins: how many connections")
     words.add_argument("--moves", type=int, default=1000)
     words.add_argument("--rounds", type=int, default=7)
     words.add_argument("--binary", default=str(PROGRAM))
     words.add_argument("--under", default="", help="what the relay runs under")
     words.add_argument("--tables", action="store_true", help="a table of descriptors for each loop of the relay")
     given = words.parse_args()
-    most = raised_limit(64 if given.what in ("connects", "rush", "arrives") else given.followers)
+    most = raised_limit({"connects": 64, "rush": 64, "arrives": 64, "joins": min(given.followers, 18000)}.get(given.what, given.followers))
     with tempfile.TemporaryDirectory() as room:
         os.chmod(room, 0o755)
         reader = built(room, "reader")
