@@ -9,7 +9,7 @@ import unittest
 
 HERE = pathlib.Path(__file__).resolve().parent
 # At most this many tests are tried again. They depend on time, and a machine may be too busy with the others.
-MOST_AGAIN = 5
+MOST_AGAIN = 20
 
 
 def cases(suite):
