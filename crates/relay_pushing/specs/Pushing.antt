@@ -84,3 +84,8 @@ IsTurnCounted old new (Ended end) = IsDeviceFaultCounted old new end
 abbrev pub IsNextCounted : ℕ → ℕ → Option Turn → Type 0
 IsNextCounted old new None = ⊤
 IsNextCounted old new (Some turn) = IsTurnCounted old new turn
+
+-- the text is that of this answer, if it is of one
+abbrev pub IsTextOf : Option Taken → List ℕ → Type 0
+IsTextOf None text = ⊤
+IsTextOf (Some taken) text = text ≡ text_of taken

@@ -5,11 +5,11 @@ ghost use Rattle.relay_pushing.specs.Pushing.{HasPushed, IsDeviceFaultCounted, I
 ghost use Rattle.relay_pushing.specs.Sending.{Counts, Gains};
 
 use crate::bell::Bell;
+use crate::last_text::LastText;
 use crate::outlet::{Outlet, SendFault};
 use crate::source::Source;
 use c960_game::Outcome;
-use relay_core::{Reply, Taken};
-use relay_messages::{Answer, encode};
+use relay_core::Taken;
 use std::alloc::Global;
 use std::sync::Wait;
 
@@ -36,19 +36,23 @@ pub enum Turn {
 }
 
 /// Sends the text of a take's answer.
-fn send_taken<O: Outlet>(alloc: Global, outlet: &mut O, taken: Taken) -> Result<(), SendFault>
+fn send_taken<O: Outlet>(last: &mut LastText, outlet: &mut O, taken: Taken) -> Result<(), SendFault>
     ensures ok { OnOk result (Gains (O.sent outlet.old) (O.sent outlet.new) (text_of taken)) }
     ensures err { OnErr result (O.sent outlet.new ≡ O.sent outlet.old) }
     ensures counts { Counts (O.failures outlet.old) (O.failures outlet.new) result }
 {
-    match encode(alloc, &Answer::Reply(Reply::Took(taken))) {
-        Ok(text) => outlet.send(text.as_str()),
+    match last.make(taken) {
+        Ok(()) => outlet.send(last.as_str()),
         Err(_) => Err(SendFault::OutOfMemory),
     }
 }
 
 /// Takes what is next and sends it. Returns None if a move was sent, so that there may be more.
-fn push_next<O: Outlet, S: Source>(alloc: Global, outlet: &mut O, source: &mut S) -> Option<Turn>
+fn push_next<O: Outlet, S: Source>(
+    last: &mut LastText,
+    outlet: &mut O,
+    source: &mut S,
+) -> Option<Turn>
     ensures pushed { HasPushed S.gives source.old source.new (O.sent outlet.old) (O.sent outlet.new) result }
     ensures kept { O.failures outlet.old ≤ O.failures outlet.new }
     ensures device { IsNextCounted (O.failures outlet.old) (O.failures outlet.new) result }
@@ -56,15 +60,15 @@ fn push_next<O: Outlet, S: Source>(alloc: Global, outlet: &mut O, source: &mut S
     let taken = source.take();
     match taken {
         Taken::Nothing => Some(Turn::Waits),
-        Taken::Move(_, _) => match send_taken(alloc, outlet, taken) {
+        Taken::Move(_, _) => match send_taken(last, outlet, taken) {
             Ok(()) => None,
             Err(fault) => Some(Turn::Ended(PushEnd::Failed(fault))),
         },
-        Taken::Over(outcome) => match send_taken(alloc, outlet, taken) {
+        Taken::Over(outcome) => match send_taken(last, outlet, taken) {
             Ok(()) => Some(Turn::Ended(PushEnd::Over(outcome))),
             Err(fault) => Some(Turn::Ended(PushEnd::Failed(fault))),
         },
-        Taken::Cut => match send_taken(alloc, outlet, taken) {
+        Taken::Cut => match send_taken(last, outlet, taken) {
             Ok(()) => Some(Turn::Ended(PushEnd::Cut)),
             Err(fault) => Some(Turn::Ended(PushEnd::Failed(fault))),
         },
@@ -74,7 +78,7 @@ fn push_next<O: Outlet, S: Source>(alloc: Global, outlet: &mut O, source: &mut S
 /// Sends what the source gives as long as the outlet has room: one turn, after which another may go on. What was taken was sent,
 /// unless the turn ended pushing: the outlet is asked for room before each take. It neither flushes nor waits. Turns of which the last one
 /// ended pushing are together the same as one call of `push_all` (`laws::pushed_on`).
-pub fn push_some<O: Outlet, S: Source>(alloc: Global, outlet: &mut O, source: &mut S) -> Turn
+pub fn push_some<O: Outlet, S: Source>(last: &mut LastText, outlet: &mut O, source: &mut S) -> Turn
     ensures turned { Turned S.gives source.old source.new (O.sent outlet.old) (O.sent outlet.new) result }
     ensures kept { O.failures outlet.old ≤ O.failures outlet.new }
     ensures device { IsTurnCounted (O.failures outlet.old) (O.failures outlet.new) result }
@@ -83,7 +87,7 @@ pub fn push_some<O: Outlet, S: Source>(alloc: Global, outlet: &mut O, source: &m
         if !outlet.has_room() {
             return Turn::IsFull;
         }
-        if let Some(turn) = push_next(alloc, outlet, source) {
+        if let Some(turn) = push_next(last, outlet, source) {
             return turn;
         }
     }
@@ -103,9 +107,10 @@ pub fn push_all<R: Wait, O: Outlet, S: Source, B: Bell>(
     ensures pushed { Pushed S.gives source.old source.new (O.sent outlet.old) (O.sent outlet.new) result }
     ensures device { IsDeviceFaultCounted (O.failures outlet.old) (O.failures outlet.new) result }
 {
+    let mut last = LastText::new(alloc);
     let mut heard = bell.count();
     for _ in rt.forever() {
-        match push_next(alloc, outlet, source) {
+        match push_next(&mut last, outlet, source) {
             None => {}
             Some(Turn::Waits) => match outlet.flush() {
                 Ok(()) => heard = bell.wait(heard),

@@ -9,7 +9,7 @@ use crate::broadcast::Broadcast;
 use crate::chime::BoardBell;
 use live_board::Follower;
 use relay_core::{BoardName, Taken};
-use relay_pushing::{Outlet, PushEnd, Source, Turn, push_all, push_some};
+use relay_pushing::{LastText, Outlet, PushEnd, Source, Turn, push_all, push_some};
 use std::alloc::Global;
 use std::marker::Model;
 use std::sync::{Arc, Wait};
@@ -79,10 +79,10 @@ impl Spectating {
     }
 
     /// Sends what the follower takes as long as the outlet has room: one turn, which another may follow.
-    pub(crate) fn push_some<O: Outlet>(&mut self, alloc: Global, outlet: &mut O) -> Turn
+    pub(crate) fn push_some<O: Outlet>(&mut self, last: &mut LastText, outlet: &mut O) -> Turn
         ensures { Turned Gives self.old.source self.new.source (O.sent outlet.old) (O.sent outlet.new) result }
     {
-        push_some(alloc, outlet, &mut self.source)
+        push_some(last, outlet, &mut self.source)
     }
 
     /// The board that it follows.

@@ -22,8 +22,7 @@ use crate::spectating::Spectating;
 use crate::stream::Stream;
 use relay_core::BoardName;
 use relay_frames::{Code, Event};
-use relay_pushing::{PushEnd, Turn};
-use std::alloc::Global;
+use relay_pushing::{LastText, PushEnd, Turn};
 use std::io::{Read, Write};
 use std::marker::Model;
 use std::sync::Wait;
@@ -120,7 +119,7 @@ impl<S: Stream + Drop> Spectator<S> {
 
     /// Sends what can be taken, as long as there is room. After the end it has left its board, whose slot is then free, and the texts
     /// that are due come before the close.
-    pub(crate) fn push<R: Wait>(&mut self, rt: &R, alloc: Global, registry: &Registry) -> Turn
+    pub(crate) fn push<R: Wait>(&mut self, rt: &R, last: &mut LastText, registry: &Registry) -> Turn
         ensures turned { (f : FollowerSeat) → self.old.standing ≡ Following f → TookTurn f self.old.texts self.new.standing self.new.texts result }
         ensures gone { IsGone self.old.standing → (self.new ≡ self.old) × (result ≡ turns.Waits) }
         ensures unread { self.new.unread ≡ self.old.unread }
@@ -129,7 +128,7 @@ impl<S: Stream + Drop> Spectator<S> {
             return Turn::Waits;
         };
         let board = spectating.board();
-        let turn = spectating.push_some(alloc, &mut self.outlet);
+        let turn = spectating.push_some(last, &mut self.outlet);
         if let Turn::Ended(end) = turn {
             leave(&mut self.state, ending_of(&end), registry);
             // Without memory for the close, only the texts are sent, and then the end of the output.
@@ -174,13 +173,18 @@ impl<S: Stream + Drop> Spectator<S> {
     }
 
     /// The same, however much is kept for it already.
-    pub(crate) fn push_all<R: Wait>(&mut self, rt: &R, alloc: Global, registry: &Registry) -> Turn
+    pub(crate) fn push_all<R: Wait>(
+        &mut self,
+        rt: &R,
+        last: &mut LastText,
+        registry: &Registry,
+    ) -> Turn
         ensures turned { (f : FollowerSeat) → self.old.standing ≡ Following f → TookTurn f self.old.texts self.new.standing self.new.texts result }
         ensures gone { IsGone self.old.standing → (self.new ≡ self.old) × (result ≡ turns.Waits) }
         ensures unread { self.new.unread ≡ self.old.unread }
     {
         self.lift(true);
-        let turn = self.push(rt, alloc, registry);
+        let turn = self.push(rt, last, registry);
         self.lift(false);
         turn
     }

@@ -14,7 +14,7 @@ use mio::unix::SourceFd;
 use mio::{Interest, Token};
 use relay_frames::Event;
 use relay_frames::silence::Verdict;
-use relay_pushing::{PushEnd, Turn};
+use relay_pushing::{LastText, PushEnd, Turn};
 use slab::Slab;
 use std::alloc::{AllocError, Global};
 use std::mem;
@@ -48,6 +48,8 @@ pub(crate) struct Spectators<'a, R> {
     /// The second in which they were last looked at.
     looked_at: u64,
     courtesy: Courtesy,
+    /// The text that was sent last.
+    last: LastText,
 }
 
 impl<'a, R: Wait + Clock> Spectators<'a, R> {
@@ -63,6 +65,7 @@ impl<'a, R: Wait + Clock> Spectators<'a, R> {
             now: 0,
             looked_at: 0,
             courtesy: Courtesy::new(),
+            last: LastText::new(alloc),
         }
     }
 
@@ -248,7 +251,9 @@ impl<'a, R: Wait + Clock> Spectators<'a, R> {
         let Some(attendee) = self.attendees.get_mut(key) else {
             return;
         };
-        let turn = attendee.spectator.push(self.rt, self.alloc, self.registry);
+        let turn = attendee
+            .spectator
+            .push(self.rt, &mut self.last, self.registry);
         if matches!(turn, Turn::Ended(PushEnd::Failed(_))) {
             self.remove(key);
             return;
@@ -530,7 +535,7 @@ impl<'a, R: Wait + Clock> Spectators<'a, R> {
         if audience.rings() > most {
             let _ = attendee
                 .spectator
-                .push_all(self.rt, self.alloc, self.registry);
+                .push_all(self.rt, &mut self.last, self.registry);
         }
     }
 }
