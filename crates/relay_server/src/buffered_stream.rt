@@ -1,14 +1,16 @@
 //! A stream that keeps its output back until the peer is waited for.
 
-ghost use Rattle.std.specs.Prelude.{◌≡◌, ◌+◌, ◌≤◌, ◌<◌, ◌⊎◌, ◌↔◌, IsTrue, true, false, [], None, Some, is_some, length, take, drop, vec_capacity, vec_len, IfOk, OnOk, OnErr, IsErr};
+ghost use Rattle.std.specs.Prelude.{◌≡◌, ◌+◌, ◌≤◌, ◌<◌, ◌⊎◌, ◌↔◌, IsTrue, true, false, [], None, Some, is_some, length, take, drop, vec_capacity, vec_len, IfOk, OnOk, OnErr, IsErr, IsOk};
 ghost use Rattle.std.specs.Io.{ReadsAtMost, WritesAtMost};
 ghost use Rattle.std.specs.Io.KnownBytes.{Appends, Keeps, ReadConsumes, WriteAppends};
+ghost use Rattle.relay_frames.specs.Frames.{text_frame};
 ghost use Rattle.relay_server.specs.Heads.{left};
 ghost use Rattle.relay_server.specs.BufferedStreams.{IsOffered, IsSilent, ReadsLast, ReadsOn, Sends, written};
 
 use crate::head::Head;
 use crate::stream::{Stream, read_some};
-use std::alloc::Global;
+use relay_frames::outgoing;
+use std::alloc::{AllocError, Global};
 use std::io;
 use std::io::{ErrorKind, Read, Write};
 use std::time::Duration;
@@ -164,6 +166,20 @@ impl<S: Read + Write> BufferedStream<S> {
         self.keep_back(bytes)
     }
 
+    /// Writes the frame of a text: it is kept back, after what was written before.
+    ///
+    /// # Errors
+    ///
+    /// The stream failed, now or before, or there was no memory. Then nothing of it was written.
+    pub(crate) fn put_text(&mut self, text: &str) -> io::Result<()>
+        ensures ok { OnOk result (Appends (written S.contents self.old) (written S.contents self.new) (text_frame text.now)) }
+        ensures err { OnErr result (Keeps (written S.contents self.old) (written S.contents self.new)) }
+    {
+        self.make_room()?;
+        let done = outgoing::text(text, &mut self.output);
+        self.note_kept(done)
+    }
+
     /// Keeps these bytes back, after those kept back already. They have not been offered yet.
     fn keep_back(&mut self, bytes: &[u8]) -> io::Result<()>
         ensures ok { OnOk result (Appends (written S.contents self.old) (written S.contents self.new) bytes.now) }
@@ -171,7 +187,18 @@ impl<S: Read + Write> BufferedStream<S> {
         ensures kept { OnErr result ((self.new.stream ≡ self.old.stream) × (self.new.output.items ≡ self.old.output.items)) }
         ensures unoffered { OnOk result (self.new.is_stuck ≡ false) }
     {
-        match self.output.extend_from_slice(bytes) {
+        let done = self.output.extend_from_slice(bytes);
+        self.note_kept(done)
+    }
+
+    /// Notes that output was kept back which was not offered yet, if there was memory for it.
+    fn note_kept(&mut self, done: Result<(), AllocError>) -> io::Result<()>
+        ensures done { IsOk result ↔ IsOk done }
+        ensures stream { self.new.stream ≡ self.old.stream }
+        ensures output { self.new.output ≡ self.old.output }
+        ensures unoffered { OnOk result (self.new.is_stuck ≡ false) }
+    {
+        match done {
             Ok(()) => {
                 self.is_stuck = false;
                 Ok(())

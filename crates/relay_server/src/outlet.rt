@@ -31,7 +31,7 @@ use tungstenite::Error;
 /// How many pings in a row are sent to a peer that stays silent.
 const MOST_PINGS: u32 = 2;
 
-/// After how many seconds of silence a peer that is read from is sent a ping.
+/// After how many seconds of silence a peer that a session reads from is sent a ping. In the loops `relay_frames::silence` has it.
 pub(crate) const MOST_SILENT_SECONDS: u64 = 30;
 
 /// How many seconds a peer may take over half a message.
@@ -160,9 +160,7 @@ impl<S: Read + Write + Drop> SocketOutlet<S> {
         ensures unnoted { OnErr result (self.new.texts ≡ self.old.texts) }
         ensures failures { self.new.failures ≡ self.old.failures }
     {
-        let mut frame = Vec::new(self.alloc);
-        outgoing::text(text, &mut frame)?;
-        self.buffered.put(frame.as_slice())?;
+        self.buffered.put_text(text)?;
         self.texts = self.texts.and(text);
         Ok(())
     }
