@@ -1,4 +1,4 @@
--- When two positions are the same for a claim (FIDE Laws, Article 9.2).
+-- When two positions are the same, for claims and for fivefold repetition (FIDE Laws, Articles 9.2, 9.6.1).
 use Rattle.std.specs.Prelude.{◌≡◌, ◌↔◌}
 use Rattle.c960_board.specs.declared.parts.Parts.{Parts}
 use Rattle.c960_board.specs.Moves.{Triple}

@@ -1,4 +1,4 @@
-//! Positions that are the same for a claim (FIDE Laws, Article 9.2).
+//! When two positions are the same, for claims and for fivefold repetition (FIDE Laws, Articles 9.2, 9.6.1).
 
 ghost use Rattle.std.specs.Prelude.{◌≡◌, ◌↔◌, IsTrue, nat_eq};
 ghost use Rattle.std.specs.Cmp.Lexicographic.{pointwise};
@@ -56,7 +56,7 @@ fn test_same(one: &Lawful, two: &Lawful) -> bool
         && same_captures(one, two)
 }
 
-/// Whether two positions are the same for a claim.
+/// Whether two positions are the same, for a claim and for fivefold repetition.
 #[tactic(auto, using(crate::proofs::SameFacts::same_decides))]
 pub fn same(one: &Lawful, two: &Lawful) -> bool
     ensures value { result ≡ same one.now two.now }

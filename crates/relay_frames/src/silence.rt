@@ -1,16 +1,17 @@
 //! How long a silent peer is waited for, in seconds of its caller's clock.
 
 ghost use Rattle.std.specs.Prelude.{◌≡◌, ◌≤◌, ◌<◌, ◌+◌, ◌-◌, ◌/◌, ◌↔◌, false, true, None, Some, IsSome, IsSomeAnd, IsTrue};
+ghost use Rattle.relay_frames.specs.declared.silence.TheConstants.{MOST_HALF_SECONDS, MOST_PINGS, MOST_SILENT_SECONDS};
 
 /// How many seconds half a message may take.
-const MOST_HALF_SECONDS: u64 = 10;
+pub const MOST_HALF_SECONDS: u64 = 10;
 
 /// After how many seconds of silence a peer is sent a ping, and then another one. Peers are looked at once a second, so with 30 a vanished
-/// peer would be noticed only after more than 90.
-const MOST_SILENT_SECONDS: u64 = 29;
+/// peer would be noticed only after more than 90. A peer that a session's thread reads is waited for elsewhere (`relay_server`: `outlet.rt`).
+pub const MOST_SILENT_SECONDS: u64 = 29;
 
 /// How many pings in a row are sent to a peer that stays silent.
-const MOST_PINGS: u64 = 2;
+pub const MOST_PINGS: u64 = 2;
 
 /// How many seconds a peer that has been sent everything may take to end its connection.
 pub const MOST_LEAVING_SECONDS: u64 = 10;
@@ -85,7 +86,7 @@ impl Silence {
 
     /// Whether half a message has taken too long.
     pub fn is_half_too_long(&self, now: u64) -> bool
-        ensures { IsTrue result ↔ IsSomeAnd self.now.midway_since (λ at. 10 ≤ now - at) }
+        ensures { IsTrue result ↔ IsSomeAnd self.now.midway_since (λ at. MOST_HALF_SECONDS ≤ now - at) }
     {
         has_passed(self.midway_since, now, MOST_HALF_SECONDS)
     }
@@ -93,8 +94,8 @@ impl Silence {
     /// Whether a peer that was not heard from is sent a ping, or is gone. If its connection does not take what is kept for it, it is sent
     /// none: a ping would come after that.
     pub fn verdict(&mut self, now: u64, is_kept_waiting: bool) -> Verdict
-        ensures gone { (result ≡ Verdict.Gone) ↔ ((self.old.pings < (now - self.old.heard_at) / 29) × (2 ≤ self.old.pings)) }
-        ensures ping { (result ≡ Verdict.Ping) ↔ ((self.old.pings < (now - self.old.heard_at) / 29) × (self.old.pings < 2) × (is_kept_waiting ≡ false)) }
+        ensures gone { (result ≡ Verdict.Gone) ↔ ((self.old.pings < (now - self.old.heard_at) / MOST_SILENT_SECONDS) × (MOST_PINGS ≤ self.old.pings)) }
+        ensures ping { (result ≡ Verdict.Ping) ↔ ((self.old.pings < (now - self.old.heard_at) / MOST_SILENT_SECONDS) × (self.old.pings < MOST_PINGS) × (is_kept_waiting ≡ false)) }
         ensures counted { result ≡ Verdict.Ping → self.new ≡ record self.old { pings = self.old.pings + 1 } }
         ensures same { (result ≡ Verdict.Ping → ⊥) → self.new ≡ self.old }
     {
