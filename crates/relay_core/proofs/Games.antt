@@ -1,7 +1,7 @@
 -- Each board's log is a legal game.
-use Rattle.std.proofs.Common.{◌≡◌, ℕ, ◌<◌, nat_le, Bool, true, false, ◌&&◌, cond, is_some, List, [], ◌∷◌, ◌++◌, Option, Some, None, refl, sym, ap, subst, ◌∙◌, true≢false, arith}
+use Rattle.std.proofs.Common.{◌≡◌, ℕ, ◌<◌, nat_le, Bool, true, false, ◌&&◌, cond, is_some, List, [], ◌∷◌, ◌++◌, Option, Some, None, refl, sym, ap, subst, ◌∙◌, true≢false}
 use Rattle.std.specs.Map.{lookup}
-use Rattle.std.proofs.lemmas.Bool.Decides.{nat_tests}
+use Rattle.std.proofs.lemmas.Bool.{leb-false}
 use Rattle.c960_board.specs.declared.numbering.TheConstants.{STARTS}
 use Rattle.c960_board.specs.Moves.{Triple}
 use Rattle.c960_game.specs.declared.outcome.Outcome.{Outcome}
@@ -27,9 +27,6 @@ neither : (a b : Option Outcome) → is_some (or_else a b) ≡ false → b ≡ N
 neither (Some x) b e = absurd (true≢false e)
 neither None (Some x) e = absurd (true≢false e)
 neither None None e = refl
-
-below : (n : ℕ) → nat_le STARTS n ≡ false → n < STARTS
-below n e = grind (arith, nat_tests)
 
 -- an accepted submit makes a legal move in a game that goes on
 may_follow : (limits : LimitNumbers) (h : History) (b : List ℕ) (m : Triple) (r : Reply) (n : ℕ)
@@ -61,7 +58,7 @@ games limits ((Open to start, r) ∷ h) (ok, law) b n at =
         → lookup (same_name b) (cond took (opened h ++ (to, start) ∷ []) (opened h)) ≡ Some n → Game960 n (log h b)
     by false before fine g = before g
     by true before fine g =
-        new before (start_of h b) refl (below start (fine refl).1) (same_name b to)
+        new before (start_of h b) refl (leb-false STARTS start (fine refl).1) (same_name b to)
         (sym (lookup-push (same_name b) (opened h) to start) ∙ g)
 games limits ((Submit to m, r) ∷ h) (ok, law) b n at =
     by (is_accepted r) (same_name to b) (games limits h law b n at) (λ took there. may_follow limits h to m r n ok took there)

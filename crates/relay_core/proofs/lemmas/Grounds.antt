@@ -1,5 +1,6 @@
 -- What an accepted step says about the history before it.
 use Rattle.std.proofs.Common.{◌≡◌, ℕ, ◌+◌, ◌-◌, ◌≤◌, nat_le, nat_lt, Bool, true, false, not, cond, is_some, ◌==◌, List, [], ◌∷◌, ◌++◌, length, take, Option, Some, None, sym, ap, ◌∙◌, true≢false, inl, inr, refl, arith}
+use Rattle.std.proofs.lemmas.Bool.{ltb-false}
 use Rattle.std.proofs.lemmas.Bool.Decides.{nat_tests}
 use Rattle.c960_board.specs.declared.numbering.TheConstants.{STARTS}
 use Rattle.c960_board.specs.Moves.{Triple}
@@ -130,11 +131,8 @@ follow_new limits h who b from r ok took = by (start_of h b) (accepts limits h (
     by (Some n) g =
         let (new, early, far) = free (board_of h who) (nat_lt (length (log h b)) (place_of h b from))
         (nat_lt limits.capacity (length (log h b) - place_of h b from)) (nat_le limits.followers (crowd h b)) (place_of h b from) n g in
-        let low = reached (length (log h b)) (place_of h b from) early in
+        let low = ltb-false (length (log h b)) (place_of h b from) early in
         (new, low, near (length (log h b)) (place_of h b from) limits.capacity low far)
       where
-        reached : (l p : ℕ) → nat_lt l p ≡ false → p ≤ l
-        reached l p e = grind (arith, nat_tests)
-
         near : (l p c : ℕ) → p ≤ l → nat_lt c (l - p) ≡ false → l ≤ p + c
         near l p c low e = grind (arith, nat_tests)

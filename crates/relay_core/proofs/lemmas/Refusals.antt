@@ -1,6 +1,6 @@
 -- The first ground that holds, as a call returns it and as a reply names it.
-use Rattle.std.proofs.Common.{◌≡◌, ℕ, ◌-◌, ◌<◌, ◌≤◌, nat_le, nat_lt, Bool, true, false, cond, List, [], ◌∷◌, Option, Some, None, is_some, Ok, Err, refl, sym, ap, arith}
-use Rattle.std.proofs.lemmas.Bool.Decides.{nat_tests}
+use Rattle.std.proofs.Common.{◌≡◌, ℕ, ◌-◌, ◌<◌, ◌≤◌, nat_le, nat_lt, Bool, true, false, cond, List, [], ◌∷◌, Option, Some, None, is_some, Ok, Err, refl, sym, ap}
+use Rattle.std.proofs.lemmas.Bool.{leb-false, ltb-false}
 use Rattle.c960_game.specs.declared.refusal.Refusal.{Refusal}
 use Rattle.c960_game.specs.declared.refusal.Refusal.TheVariants.{BadStart, TooManyBoards, NotYet, TooFarBack, TooManyFollowers}
 use Rattle.relay_core.specs.declared.reply.Reply.{Reply}
@@ -32,15 +32,6 @@ reply_accepted (one ∷ rest) accepted u e = by one.0 e (reply_accepted rest acc
     by true g more = cc
     by false g more = more g
 
-below : (a b : ℕ) → nat_le b a ≡ false → a < b
-below a b e = grind (arith, nat_tests)
-
-reached : (long place : ℕ) → nat_lt long place ≡ false → place ≤ long
-reached long place e = grind (arith, nat_tests)
-
-within : (capacity since : ℕ) → nat_lt capacity since ≡ false → since ≤ capacity
-within capacity since e = grind (arith, nat_tests)
-
 -- what holds if a board may be opened
 pub opened_where : (named : Bool) (start boards most : ℕ) (u : Unit {0}) → Ok u ≡ first_refusal (open_grounds named start boards most)
     → (named ≡ false) × (start < STARTS) × (boards < most)
@@ -52,7 +43,7 @@ opened_where false start boards most u e = by (nat_le STARTS start) (nat_le most
         → (false ≡ false) × (start < STARTS) × (boards < most)
     by true full b f g = cc
     by false true b f g = cc
-    by false false b f g = (refl, below start STARTS b, below boards most f)
+    by false false b f g = (refl, leb-false STARTS start b, leb-false most boards f)
 
 -- and if a spectator may follow
 pub followed_where : (follows : Bool) (long place capacity : ℕ) (full : Bool) (u : Unit {0})
@@ -68,7 +59,7 @@ followed_where false long place capacity full u e =
     by true far many a b g = cc
     by false true many a b g = cc
     by false false true a b g = cc
-    by false false false a b g = (refl, reached long place a, within capacity (long - place) b, refl)
+    by false false false a b g = (refl, ltb-false long place a, ltb-false capacity (long - place) b, refl)
 
 -- what is not there is none
 pub nothing : {X : Type 0} (o : Option X) → is_some o ≡ false → o ≡ None

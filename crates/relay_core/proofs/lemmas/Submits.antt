@@ -40,9 +40,6 @@ asked limits r h b m st = ap (λ o. reply_of (play_answer_at m o)) (st.boards b)
     by None = refl
     by (Some n) = placed (length (log h b)) (play_answer (game_of limits h b n) m) ∙ sym (reply_to_play limits h b m n)
 
-abbrev both : ℕ → Option Outcome → ℕ × Option Outcome
-both place outcome = (place, outcome)
-
 module _ (r : Held) (bs : List (List ℕ × GameRecord)) (fs : List (ℕ × HeldFollower)) (b : List ℕ) (m : Triple) where
   accepted : (limits : LimitNumbers) (h : History) (n place : ℕ) (outcome : Option Outcome) → HeldStands limits r h
       → start_of h b ≡ Some n
@@ -58,7 +55,7 @@ module _ (r : Held) (bs : List (List ℕ × GameRecord)) (fs : List (ℕ × Held
           → HeldStands limits (turned r bs fs) ((Submit b m, Played place outcome) ∷ h)
       by (Err refusal) e g = cc
       by (Ok o) e g =
-          let pair : both (length (log h b)) o ≡ both place outcome = cc in
+          let pair : ◌≡◌ {A = ℕ × Option Outcome} (length (log h b), o) (place, outcome) = cc in
           let p : length (log h b) ≡ place = ap (λ x. x.0) pair in
           let q : o ≡ outcome = ap (λ x. x.1) pair in
           rw (pushed, ← p, ← q) (submitted limits r bs h b m n o st (facts limits h st.lawful) at e updates len)
