@@ -25,11 +25,11 @@ use Rattle.live_board.specs.declared.view.View.{View}
 use Rattle.live_board.specs.Board.{game_of, setup_of}
 use Rattle.live_board.specs.Carried.{Carries}
 use Rattle.live_board.specs.Seats.{BoardSeat}
-use Rattle.relay_live.specs.Live.{Boards, held_by, games, holders, IsSeated, IsLive, vacancy}
+use Rattle.relay_live.specs.Live.{Boards, held_by, game, games, holders, IsSeated, IsLive, vacancy}
 use Rattle.live_board.specs.Shows.{total}
 use Rattle.live_board.specs.Sound.{IsSound}
 use Rattle.live_board.specs.Views.{finished}
-use Rattle.relay_live.proofs.Swaps.{each_on, game, games_changed, games_counted, held_still, holders_on, seated_still}
+use Rattle.relay_live.proofs.Swaps.{each_on, games_changed, games_counted, held_still, holders_on, seated_still}
 
 module _ (limits : LimitNumbers) (old new : Boards) (fs : List (ℕ × Seated)) (name : List ℕ) (ending : Ending) (live : IsLive limits old fs)
     (b c : BoardSeat) (there : lookup (same_name name) old ≡ Some b) (is : c.knows ≡ finished (Some (named_outcome ending)) b.knows) (ok' : IsSound c.knows) (new-is : new ≡ set_value (same_name name) old c) where

@@ -1,7 +1,7 @@
 -- A follow on a live relay.
 use Rattle.std.proofs.Common.{◌≡◌, ◌≢◌, ◌+◌, ◌-◌, ◌<◌, ◌≤◌, ℕ, zero, suc, nat_eq, add-zero, nat_le, is_some, Bool, true, false, not, List, [], ◌∷◌, ◌++◌, length, drop, take, unwrap_or, Option, Some, None, option_map, Ok, sym, refl, ap, ◌∙◌, subst, cond, arith, fold, inl, inr, ⊎_elim, ◌⊎◌}
 use Rattle.std.specs.Prelude.{count_by, MatchOption}
-use Rattle.std.proofs.lemmas.Bool.Decides.{nat_tests}
+use Rattle.std.proofs.lemmas.Bool.{le-leb, lt-leb}
 use Rattle.std.proofs.Math.Seq.{take-length}
 use Rattle.std.proofs.lemmas.Option.{same_Some}
 use Rattle.std.specs.Map.{lookup, set_value}
@@ -28,7 +28,7 @@ use Rattle.relay_core.specs.Replies.{reply_to_follow}
 use Rattle.relay_core.specs.Stands.{game_of as history_game}
 use Rattle.relay_core.proofs.lemmas.Followed.{follow_goes}
 use Rattle.relay_core.specs.BoardAnswers.{place_in}
-use Rattle.relay_core.proofs.lemmas.Lists.{lookup-map, none_below, not_le, shown-push}
+use Rattle.relay_core.proofs.lemmas.Lists.{lookup-map, none_below, shown-push}
 use Rattle.relay_core.proofs.lemmas.Names.{is_same_name}
 use Rattle.relay_core.proofs.lemmas.Refused.{goes_refused}
 use Rattle.relay_core.specs.Held.Stands.{Goes}
@@ -45,10 +45,10 @@ use Rattle.live_board.specs.Carried.{Carries, closing_found}
 use Rattle.live_board.specs.Desk.{NoneVacant}
 use Rattle.live_board.specs.Seats.{BoardSeat}
 use Rattle.relay_live.specs.declared.seated.Seated.{Seated}
-use Rattle.relay_live.specs.Live.{Boards, held_at, held_in, view_in, held_by, games, holders, IsSeated, IsLive, Swapped, vacancy}
+use Rattle.relay_live.specs.Live.{Boards, held_at, held_in, view_in, held_by, game, games, holders, IsSeated, IsLive, Swapped, vacancy}
 use Rattle.live_board.proofs.lemmas.Notes.{at_within}
 use Rattle.relay_live.proofs.Entries.{crowd, one_if_true, crowd_push, none_vacant}
-use Rattle.relay_live.proofs.Swaps.{Each, each_on, each_turned, flipped, game, held_still, holders_on, same_games, seated_still, swapped_here}
+use Rattle.relay_live.proofs.Swaps.{Each, each_on, each_turned, flipped, held_still, holders_on, same_games, seated_still, sound_board, swapped_here}
 
 -- how many spectators follow, as the record counts them
 pub crowd_held : (q : List ℕ) (k : ℕ) (boards : Boards) (fs : List (ℕ × Seated)) → count_by (λ e. same_name q e.1.board) (holders k boards fs) ≡ crowd q fs
@@ -57,9 +57,6 @@ crowd_held q k boards fs = from 0 fs
     from : (n : ℕ) (l : List (ℕ × Seated)) → fold (λ (a : ℕ) (e : ℕ × HeldFollower). a + cond (same_name q e.1.board) 1 0) n (holders k boards l) ≡ fold (λ (a : ℕ) (e : ℕ × Seated). a + cond (same_name q e.1.board) 1 0) n l
     from n [] = refl
     from n (x ∷ xs) = from (n + cond (same_name q x.1.board) 1 0) xs
-
-at_least : (a b : ℕ) → a ≤ b → nat_le a b ≡ true
-at_least a b h = grind (arith, nat_tests)
 
 -- no slot is vacant only if as many follow as there are slots
 pub full : (limits : LimitNumbers) (boards : Boards) (fs : List (ℕ × Seated)) (name : List ℕ) (b : BoardSeat) → IsLive limits boards fs → lookup (same_name name) boards ≡ Some b → NoneVacant b.knows → crowd name fs ≡ limits.followers
@@ -108,9 +105,9 @@ module _ (limits : LimitNumbers) (boards : Boards) (fs : List (ℕ × Seated)) (
           → MatchOption vacant (NoneVacant b.knows) (λ k. (k < b.knows.setup.limits.followers) × (get_elem? b.knows.notes k ≡ some Vacant))
           → is_full ≡ nat_le limits.followers (count_by (λ e. same_name name e.1.board) (holders limits.capacity boards fs))
       full_is true None e none = sym (ap (nat_le limits.followers) (crowd_held name limits.capacity boards fs ∙ full limits boards fs name b live there none)
-          ∙ at_least limits.followers limits.followers (omega arith))
+          ∙ le-leb limits.followers limits.followers (omega arith))
       full_is false (Some k) e vacant = sym (ap (nat_le limits.followers) (crowd_held name limits.capacity boards fs)
-          ∙ not_le (crowd name fs) limits.followers (room limits boards fs name b k live there vacant.1))
+          ∙ lt-leb limits.followers (crowd name fs) (room limits boards fs name b k live there vacant.1))
       full_is true (Some k) e vacant = cc
       full_is false None e none = cc
 
@@ -141,7 +138,7 @@ module _ (limits : LimitNumbers) (old new : Boards) (fs fs' : List (ℕ × Seate
   here = swapped_here old new name b c there new-is s.board (sym s-board)
 
   ok : IsSoundBoard b.knows
-  ok = (live.sound name b there).board (live.owns name b there)
+  ok = sound_board limits old fs live name b there
 
   low : slot < length b.knows.notes
   low = at_within b.knows.notes slot Vacant vacant

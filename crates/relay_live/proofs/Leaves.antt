@@ -34,9 +34,9 @@ use Rattle.live_board.specs.Carried.{Carries, closing_found, closing_at}
 use Rattle.live_board.specs.Meeting.{closing_noted}
 use Rattle.live_board.specs.Seats.{BoardSeat}
 use Rattle.relay_live.specs.declared.seated.Seated.{Seated}
-use Rattle.relay_live.specs.Live.{Boards, held_at, held_in, view_in, held_by, games, holders, IsSeated, IsLive, vacancy}
+use Rattle.relay_live.specs.Live.{Boards, held_at, held_in, view_in, held_by, game, games, holders, IsSeated, IsLive, vacancy}
 use Rattle.relay_live.proofs.Entries.{crowd, one_if_true, crowd_removed, removed, taken, up, up_apart, up_one, without_keeps}
-use Rattle.relay_live.proofs.Swaps.{Each, each_on, each_turned, flipped, game, held_still, holders_on, same_games, seated_still}
+use Rattle.relay_live.proofs.Swaps.{Each, each_on, each_turned, flipped, held_still, holders_on, same_games, seated_still, sound_board}
 
 -- a closing is a length of the log, so it fits in 16 bits
 pub closing_low : (v : View) (slot i : ℕ) (p : Part) (c : ℕ) → IsSoundBoard v → get_elem? v.parts i ≡ some p → p.slot ≡ slot → closing_at v slot ≡ Some c → c < 65536
@@ -59,7 +59,7 @@ module _ (limits : LimitNumbers) (old new : Boards) (fs fs' : List (ℕ × Seate
     (b c : BoardSeat) (there : lookup (same_name f.board) old ≡ Some b) (status cursor : ℕ) (left : c.knows ≡ left_at (f.slot + 2) cursor (each_part (sees status) b.knows)) (sound' : IsSound c.knows)
     (new-is : new ≡ set_value (same_name f.board) old c) (fs-is : fs' ≡ remove_entry (nat_eq who) fs) (gone : (q : ℕ) → lookup (nat_eq q) fs' ≡ cond (nat_eq who q) None (lookup (nat_eq q) fs)) where
   ok : IsSoundBoard b.knows
-  ok = (live.sound f.board b there).board (live.owns f.board b there)
+  ok = sound_board limits old fs live f.board b there
 
   notes_other : (k : ℕ) → k ≢ f.slot → get_elem? c.knows.notes k ≡ get_elem? b.knows.notes k
   notes_other k ne = ap (λ (x : View). get_elem? x.notes k) left ∙ at_other b.knows.notes f.slot k Vacant ne

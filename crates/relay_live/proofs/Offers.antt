@@ -141,22 +141,27 @@ total_same g [] (y ∷ ys) e all = absurd (omega arith)
 total_same g (x ∷ xs) [] e all = absurd (omega arith)
 total_same g (x ∷ xs) (y ∷ ys) e all = omega (arith, all 0 x y refl refl, total_same g xs ys (omega arith) (λ k a b d d'. all (suc k) a b d d'))
 
--- what a submit does to the notes, if each slot that is not vacant is carried
-module _ (m : Triple) (v w : View) (ok' : IsSoundBoard w) (sub : Submitted m v w) (noted : length v.notes ≡ v.setup.limits.followers) (carried : (k : ℕ) (n : Note) → get_elem? v.notes k ≡ some n → n ≢ Vacant → Carries v k) where
-  shut : Closes v.setup.limits.followers v sub.0
+-- what a submit leaves as it was
+module _ (m : Triple) (v w : View) (sub : Submitted m v w) where
+  pub shut : Closes v.setup.limits.followers v sub.0
   shut = closes v.setup.limits.followers v sub.0 sub.1
 
+  pub still_owns : w.owns ≡ v.owns
+  still_owns = ap (λ (x : View). x.owns) sub.2 ∙ ap (λ (x : View). x.owns) shut.tidied.same
+
+  pub setup-is : w.setup ≡ v.setup
+  setup-is = ap (λ (x : View). x.setup) sub.2 ∙ ap (λ (x : View). x.setup) shut.tidied.same
+
+  pub bares : map holding_of w.parts ≡ map holding_of v.parts
+  bares = ap (λ (x : View). map holding_of x.parts) sub.2 ∙ shut.held
+
+-- what it does to the notes, if each slot that is not vacant is carried
+module _ (m : Triple) (v w : View) (ok' : IsSoundBoard w) (sub : Submitted m v w) (noted : length v.notes ≡ v.setup.limits.followers) (carried : (k : ℕ) (n : Note) → get_elem? v.notes k ≡ some n → n ≢ Vacant → Carries v k) where
   notes-are : w.notes ≡ sub.0.notes
   notes-are = ap (λ (x : View). x.notes) sub.2
 
-  setup-is : w.setup ≡ v.setup
-  setup-is = ap (λ (x : View). x.setup) sub.2 ∙ ap (λ (x : View). x.setup) shut.tidied.same
-
-  bares : map holding_of w.parts ≡ map holding_of v.parts
-  bares = ap (λ (x : View). map holding_of x.parts) sub.2 ∙ shut.held
-
   carried_on : (k : ℕ) → Carries v k → Carries w k
-  carried_on k (i, p, e, here) = let q = same_part v w i p bares e in (i, q.0, q.1, ap (λ (x : Holding). x.0) q.2 ∙ here)
+  carried_on k (i, p, e, here) = let q = same_part v w i p (bares m v w sub) e in (i, q.0, q.1, ap (λ (x : Holding). x.0) q.2 ∙ here)
 
   not_vacant : (k : ℕ) (n : Note) → get_elem? w.notes k ≡ some n → Carries v k → n ≢ Vacant
   not_vacant k n e c is =
@@ -164,7 +169,7 @@ module _ (m : Triple) (v w : View) (ok' : IsSoundBoard w) (sub : Submitted m v w
       ok'.agree d.0 d.1 d.2 Vacant (ap (get_elem? w.notes) d.3 ∙ e ∙ ap some is)
 
   goes_at : (k : ℕ) (a n : Note) → get_elem? v.notes k ≡ some a → get_elem? w.notes k ≡ some n → Turns (length v.log) sub.0.parts k a n
-  goes_at k a n e d = shut.turns k a n (let x = at_within v.notes k a e in omega arith) e (ap (λ (l : List Note). get_elem? l k) (sym notes-are) ∙ d)
+  goes_at k a n e d = (shut m v w sub).turns k a n (let x = at_within v.notes k a e in omega arith) e (ap (λ (l : List Note). get_elem? l k) (sym notes-are) ∙ d)
 
   -- vacant before exactly if vacant after
   pub same_vacancy : (k : ℕ) (a n : Note) → get_elem? v.notes k ≡ some a → get_elem? w.notes k ≡ some n → vacancy n ≡ vacancy a
@@ -184,7 +189,7 @@ module _ (m : Triple) (v w : View) (ok' : IsSoundBoard w) (sub : Submitted m v w
 
   pub carried_after : (k : ℕ) (n : Note) → get_elem? w.notes k ≡ some n → n ≢ Vacant → Carries w k
   carried_after k n e ne =
-      let a = note_there v.notes k (let x = at_within w.notes k n e in let f = ap (λ (z : BoardSetup). z.limits.followers) setup-is in omega (arith, ok'.noted)) in
+      let a = note_there v.notes k (let x = at_within w.notes k n e in let f = ap (λ (z : BoardSetup). z.limits.followers) (setup-is m v w sub) in omega (arith, ok'.noted)) in
       by a.0 a.1
     where
       by : (a : Note) → get_elem? v.notes k ≡ some a → Carries w k
@@ -193,4 +198,4 @@ module _ (m : Triple) (v w : View) (ok' : IsSoundBoard w) (sub : Submitted m v w
       by (Closed b) d = carried_on k (carried k (Closed b) d (λ z. cc))
 
   pub vacancies : total vacancy w.notes ≡ total vacancy v.notes
-  vacancies = total_same vacancy v.notes w.notes (let f = ap (λ (z : BoardSetup). z.limits.followers) setup-is in omega (arith, ok'.noted)) same_vacancy
+  vacancies = total_same vacancy v.notes w.notes (let f = ap (λ (z : BoardSetup). z.limits.followers) (setup-is m v w sub) in omega (arith, ok'.noted)) same_vacancy

@@ -27,9 +27,9 @@ use Rattle.live_board.specs.Board.{game_of, setup_of}
 use Rattle.live_board.specs.Carried.{Carries}
 use Rattle.live_board.specs.Seats.{BoardSeat}
 use Rattle.relay_live.specs.declared.seated.Seated.{Seated}
-use Rattle.relay_live.specs.Live.{Boards, held_at, held_in, view_in, held_by, games, holders, IsSeated, IsLive, vacancy}
+use Rattle.relay_live.specs.Live.{Boards, held_at, held_in, view_in, held_by, game, games, holders, IsSeated, IsLive, vacancy}
 use Rattle.relay_live.proofs.Entries.{at_replicate, all_vacant, crowd_none}
-use Rattle.relay_live.proofs.Swaps.{game, holders_on}
+use Rattle.relay_live.proofs.Swaps.{holders_on}
 
 -- ---- The grounds according to what the relay keeps are those of its record.
 

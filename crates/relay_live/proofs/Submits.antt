@@ -1,5 +1,5 @@
 -- A submit to a live relay.
-use Rattle.std.proofs.Common.{◌≡◌, ◌≢◌, ◌==◌, ℕ, suc, ◌+◌, Bool, true, false, List, [], ◌∷◌, map, length, Result, Ok, Err, Option, Some, option_map, sym, refl, ap, ◌∙◌, arith, cond, ◌&&◌, not, is_some}
+use Rattle.std.proofs.Common.{◌≡◌, ◌≢◌, ◌==◌, ℕ, suc, ◌+◌, Bool, true, false, List, [], ◌∷◌, length, Result, Ok, Err, Option, Some, option_map, sym, refl, ap, ◌∙◌, arith, cond, ◌&&◌, not, is_some}
 use Rattle.std.proofs.lemmas.Option.{same_Some}
 use Rattle.std.specs.Prelude.{count_by}
 use Rattle.live_board.specs.declared.note.Note.{Note}
@@ -26,42 +26,29 @@ use Rattle.relay_live.specs.declared.seated.Seated.{Seated}
 use Rattle.live_board.specs.declared.setup.BoardSetup.{BoardSetup}
 use Rattle.live_board.specs.declared.view.View.{View}
 use Rattle.live_board.specs.Board.{game_of, setup_of}
-use Rattle.live_board.specs.Carried.{Carries, holding_of}
+use Rattle.live_board.specs.Carried.{Carries}
 use Rattle.live_board.specs.Desk.{Submitted}
 use Rattle.live_board.specs.Seats.{BoardSeat}
-use Rattle.relay_live.specs.Live.{Boards, held_at, held_in, view_in, held_by, games, holders, IsSeated, IsLive, vacancy}
+use Rattle.relay_live.specs.Live.{Boards, held_at, held_in, view_in, held_by, game, games, holders, IsSeated, IsLive, vacancy}
 use Rattle.live_board.specs.Shows.{total}
 use Rattle.live_board.specs.Sound.{IsSound, IsSoundBoard}
 use Rattle.live_board.specs.Views.{published as published_view, storing}
-use Rattle.relay_live.proofs.Offers.{offered_here, same_part, carried_after, vacancies}
-use Rattle.relay_live.proofs.Closings.{Closes, closes}
-use Rattle.relay_live.proofs.Swaps.{each_on, game, games_changed, games_counted, seated_still, swapped_before, swapped_elsewhere, swapped_here}
-
-abbrev both : ℕ → Option Outcome → ℕ × Option Outcome
-both place outcome = (place, outcome)
+use Rattle.relay_live.proofs.Offers.{bares, carried_after, offered_here, same_part, setup-is, shut, still_owns, vacancies}
+use Rattle.relay_live.proofs.Swaps.{each_on, games_changed, games_counted, seated_still, sound_board, swapped_before, swapped_elsewhere, swapped_here}
 
 module _ (limits : LimitNumbers) (old new : Boards) (fs : List (ℕ × Seated)) (name : List ℕ) (m : Triple) (live : IsLive limits old fs)
     (b c : BoardSeat) (there : lookup (same_name name) old ≡ Some b) (sub : Submitted m b.knows c.knows) (sound' : IsSound c.knows) (new-is : new ≡ set_value (same_name name) old c) where
   ok : IsSoundBoard b.knows
-  ok = (live.sound name b there).board (live.owns name b there)
-
-  shut : Closes b.knows.setup.limits.followers b.knows sub.0
-  shut = closes b.knows.setup.limits.followers b.knows sub.0 sub.1
-
-  owns : c.knows.owns ≡ b.knows.owns
-  owns = ap (λ (x : View). x.owns) sub.2 ∙ ap (λ (x : View). x.owns) shut.tidied.same
+  ok = sound_board limits old fs live name b there
 
   ok' : IsSoundBoard c.knows
-  ok' = sound'.board (owns ∙ live.owns name b there)
+  ok' = sound'.board (still_owns m b.knows c.knows sub ∙ live.owns name b there)
 
   setup : c.knows.setup ≡ b.knows.setup
-  setup = ap (λ (x : View). x.setup) sub.2 ∙ ap (λ (x : View). x.setup) shut.tidied.same
-
-  bares : map holding_of c.knows.parts ≡ map holding_of b.knows.parts
-  bares = ap (λ (x : View). map holding_of x.parts) sub.2 ∙ shut.held
+  setup = setup-is m b.knows c.knows sub
 
   seated_on : (f : Seated) → IsSeated old f → IsSeated new f
-  seated_on f s = seated_still old new name b c there new-is f s (λ same e. let q = same_part b.knows c.knows s.index s.part bares e in (s.index, q.0, q.1, q.2))
+  seated_on f s = seated_still old new name b c there new-is f s (λ same e. let q = same_part b.knows c.knows s.index s.part (bares m b.knows c.knows sub) e in (s.index, q.0, q.1, q.2))
 
   offered_on : (f : Seated) → IsSeated old f → held_at limits.capacity new f ≡ offered name (length b.knows.log) m (held_at limits.capacity old f)
   offered_on f s = by (same_name name f.board) refl
@@ -86,14 +73,14 @@ module _ (limits : LimitNumbers) (old new : Boards) (fs : List (ℕ × Seated)) 
   pushed (x ∷ xs) all = λ i. (x.0, offered_on x.1 (all 0 x refl) i) ∷ pushed xs (λ k e d. all (suc k) e d) i
 
   moved : game c ≡ with_move (game b) m
-  moved = ap game_of sub.2 ∙ ap (λ (u : View). game_of (published_view m (storing m u))) shut.tidied.same
+  moved = ap game_of sub.2 ∙ ap (λ (u : View). game_of (published_view m (storing m u))) (shut m b.knows c.knows sub).tidied.same
 
   module _ (place : ℕ) (outcome : Option Outcome) (answer : Ok (place, outcome) ≡ play_answer_at m (option_map game (lookup (same_name name) old))) where
     place_is : place ≡ length b.knows.log
     place_is = by (play_answer (game b) m) (answer ∙ ap (λ o. play_answer_at m (option_map game o)) there)
       where
         by : (a : Result (Option Outcome) Refusal) → Ok (place, outcome) ≡ with_place (length b.knows.log) a → place ≡ length b.knows.log
-        by (Ok x) e = let pair : both place outcome ≡ both (length b.knows.log) x = cc in ap (λ y. y.0) pair
+        by (Ok x) e = let pair : ◌≡◌ {A = ℕ × Option Outcome} (place, outcome) (length b.knows.log, x) = cc in ap (λ y. y.0) pair
         by (Err x) e = cc
 
     pub goes : Goes (held_by limits old fs) (held_by limits new fs) (Submit name m) (Played place outcome)
@@ -107,7 +94,7 @@ module _ (limits : LimitNumbers) (old new : Boards) (fs : List (ℕ × Seated)) 
       kept = keeps (held_by limits old fs) (held_by limits new fs) (Submit name m) (Played place outcome) live.kept refl goes;
       setups = each_on old new name b c there new-is (λ q v. v.setup ≡ setup_of v.setup.start limits) live.setups
           (λ q same h. setup ∙ h ∙ ap (λ (z : BoardSetup). setup_of z.start limits) (sym setup));
-      owns = each_on old new name b c there new-is (λ q v. v.owns ≡ true) live.owns (λ q same h. owns ∙ h);
+      owns = each_on old new name b c there new-is (λ q v. v.owns ≡ true) live.owns (λ q same h. still_owns m b.knows c.knows sub ∙ h);
       sound = each_on old new name b c there new-is (λ q v. IsSound v) live.sound (λ q same h. sound');
       seated = λ i e d. seated_on e.1 (live.seated i e d);
       apart = live.apart;

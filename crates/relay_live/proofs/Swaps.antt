@@ -7,20 +7,18 @@ use Rattle.std.specs.Map.{lookup, set_value}
 use mathlib.Core.Option.{some}
 use lib.ListN.{get_elem?}
 use Rattle.c960_game.specs.GameRecord.{GameRecord}
+use Rattle.c960_game.specs.Limits.{LimitNumbers}
 use Rattle.relay_core.specs.Name.{same_name}
 use Rattle.relay_core.proofs.lemmas.Lists.{lookup-map, set_value-map}
 use Rattle.relay_core.proofs.lemmas.Names.{same_name_is, is_same_name}
 use Rattle.live_board.specs.declared.view.Part.{Part}
 use Rattle.live_board.specs.declared.view.View.{View}
-use Rattle.live_board.specs.Board.{game_of}
 use Rattle.live_board.specs.Carried.{Holding, closing_found, holding_of}
 use Rattle.live_board.specs.Seats.{BoardSeat}
+use Rattle.live_board.specs.Sound.{IsSoundBoard}
 use Rattle.relay_live.specs.declared.seated.Seated.{Seated}
-use Rattle.relay_live.specs.Live.{Boards, held_at, held_in, view_in, games, holders, IsSeated}
+use Rattle.relay_live.specs.Live.{Boards, held_at, held_in, view_in, game, games, holders, IsSeated, IsLive}
 use Rattle.relay_live.proofs.Maps.{seek_same, seek_other}
-
-abbrev pub game : BoardSeat → GameRecord
-game b = game_of b.knows
 
 -- two names compare equal either way round
 pub flipped : (a b : List ℕ) (t : Bool) → same_name a b ≡ t → same_name b a ≡ t
@@ -34,6 +32,10 @@ flipped a b false at = back (same_name b a) refl
 -- what is true of each board's view, for the board's name
 abbrev pub Each : (List ℕ → View → Type 0) → Boards → Type 0
 Each P boards = (q : List ℕ) (x : BoardSeat) → lookup (same_name q) boards ≡ Some x → P q x.knows
+
+-- the view of each board is sound, as its table's owner has it
+pub sound_board : (limits : LimitNumbers) (boards : Boards) (fs : List (ℕ × Seated)) → IsLive limits boards fs → (name : List ℕ) (b : BoardSeat) → lookup (same_name name) boards ≡ Some b → IsSoundBoard b.knows
+sound_board limits boards fs live name b there = (live.sound name b there).board (live.owns name b there)
 
 -- if each follower shows the same, all do
 pub holders_on : (capacity : ℕ) (old new : Boards) (l : List (ℕ × Seated)) → ((i : ℕ) (e : ℕ × Seated) → get_elem? l i ≡ some e → held_at capacity new e.1 ≡ held_at capacity old e.1) → holders capacity new l ≡ holders capacity old l

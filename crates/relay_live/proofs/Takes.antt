@@ -32,14 +32,14 @@ use Rattle.live_board.specs.declared.setup.BoardSetup.{BoardSetup}
 use Rattle.live_board.specs.Board.{setup_of}
 use Rattle.live_board.specs.Carried.{TookAt, Holding, with_items, items_of, closing_at, due_at, Carries, holding_of}
 use Rattle.live_board.specs.Seats.{BoardSeat}
-use Rattle.relay_live.specs.Live.{Boards, held_at, held_in, view_in, held_by, games, holders, with_one_more, IsSeated, IsLive, vacancy}
+use Rattle.relay_live.specs.Live.{Boards, held_at, held_in, view_in, held_by, game, games, holders, with_one_more, IsSeated, IsLive, vacancy}
 use Rattle.live_board.specs.Shows.{total}
 use Rattle.live_board.specs.Sound.{IsSound}
 use Rattle.std.specs.Prelude.{count_by}
 use Rattle.live_board.proofs.lemmas.Cases.{pick}
 use Rattle.live_board.specs.declared.note.Note.TheVariants.{Vacant}
 use Rattle.relay_live.proofs.Maps.{seek_same, seek_other, written}
-use Rattle.relay_live.proofs.Swaps.{Each, each_on, each_turned, game, held_still, same_games, seated_still, swapped_here}
+use Rattle.relay_live.proofs.Swaps.{Each, each_on, each_turned, held_still, same_games, seated_still, swapped_here}
 use Rattle.live_board.proofs.lemmas.Totals.{at_map_back}
 
 abbrev pub after : Taken → Seated → Seated

@@ -47,8 +47,12 @@ view_in (Some b) = b.knows
 abbrev pub held_at : ℕ → Boards → Seated → HeldFollower
 held_at capacity boards f = held_in capacity (view_in (lookup (same_name f.board) boards)) f
 
+-- the game that a board shows
+abbrev pub game : BoardSeat → GameRecord
+game b = game_of b.knows
+
 abbrev pub games : Boards → List (List ℕ × GameRecord)
-games boards = map (λ e. (e.0, game_of e.1.knows)) boards
+games boards = map (λ e. (e.0, game e.1)) boards
 
 abbrev pub holders : ℕ → Boards → List (ℕ × Seated) → List (ℕ × HeldFollower)
 holders capacity boards fs = map (λ e. (e.0, held_at capacity boards e.1)) fs

@@ -9,9 +9,8 @@ use Rattle.relay_core.proofs.lemmas.Standing.{shown_is}
 use Rattle.live_board.specs.Shows.{total}
 use Rattle.live_board.specs.Board.{setup_of}
 use Rattle.live_board.specs.Seats.{BoardSeat}
-use Rattle.relay_live.specs.Live.{SlotsLeft, holders, vacancy}
+use Rattle.relay_live.specs.Live.{SlotsLeft, game, holders, vacancy}
 use Rattle.relay_live.proofs.Follows.{crowd_held}
-use Rattle.relay_live.proofs.Swaps.{game}
 use Rattle.relay_live.proofs.holdings.Holdings.into_board.Goals as goal
 
 -- what holds for the one that is there
