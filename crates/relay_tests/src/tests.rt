@@ -12,4 +12,5 @@ mod live_boards;
 mod messages;
 mod pushing;
 mod relays;
+mod values;
 mod watching;

@@ -4,7 +4,8 @@
 use crate::relay_keeper::RelayKeeper;
 use crate::tests::connections::Keeping::{Makes, NotAsked, Refuses};
 use crate::tests::connections::Who::{Guest, Owner, Stranger};
-use crate::tests::fakes::{NotingKeeper, board};
+use crate::tests::fakes::NotingKeeper;
+use crate::tests::values::board_of;
 use c960_game::{Ending, Outcome};
 use relay_core::{BoardName, Reply, Step, Taken};
 use relay_pushing::{Conn, Keeper};
@@ -205,9 +206,9 @@ fn a_connection_may_what_its_boards_let_it(rt: HostRuntime) {
     owner.finish(&mut noting);
     stranger.finish(&mut noting);
     let ends = [
-        Step::End(board("b1"), Ending::Abandoned),
-        Step::End(board("a"), Ending::Abandoned),
-        Step::End(board("c"), Ending::Abandoned),
+        Step::End(board_of(&rt, "b1"), Ending::Abandoned),
+        Step::End(board_of(&rt, "a"), Ending::Abandoned),
+        Step::End(board_of(&rt, "c"), Ending::Abandoned),
     ];
     assert_eq!(rt; noting.steps.as_slice().get(asked..), Some(ends.as_slice()));
 }
@@ -294,8 +295,8 @@ fn a_relay_answers_as_its_history_asks(rt: HostRuntime) {
     assert!(rt; refusals <= 1);
     // Only the owner's boards are ended, and a game that was agreed drawn before stays a draw.
     keeper.finish(stranger);
-    assert!(rt; outcome_of(&mut keeper, board("a")).is_none());
+    assert!(rt; outcome_of(&mut keeper, board_of(&rt, "a")).is_none());
     keeper.finish(owner);
-    assert!(rt; outcome_of(&mut keeper, board("a")) == Some(Outcome::Abandoned));
-    assert!(rt; outcome_of(&mut keeper, board("b1")) == Some(Outcome::Agreed));
+    assert!(rt; outcome_of(&mut keeper, board_of(&rt, "a")) == Some(Outcome::Abandoned));
+    assert!(rt; outcome_of(&mut keeper, board_of(&rt, "b1")) == Some(Outcome::Agreed));
 }

@@ -10,21 +10,6 @@ use relay960_engines::default_limits;
 use std::alloc::{AllocError, Global};
 use std::cell::Cell;
 
-/// The name of a board.
-pub fn board(name: &str) -> BoardName {
-    match BoardName::new(name.as_bytes()) {
-        Some(name) => name,
-        None => board_of_no_name(),
-    }
-}
-
-fn board_of_no_name() -> BoardName {
-    match BoardName::new(b"no-name") {
-        Some(name) => name,
-        None => unreachable!(),
-    }
-}
-
 /// The limits of these numbers.
 fn limits_of(boards: u16, followers: u16, capacity: u16, plies: u16) -> Result<Limits, AllocError> {
     Limits::new(boards, followers, capacity, plies).ok_or(AllocError)

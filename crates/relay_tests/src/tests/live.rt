@@ -3,9 +3,8 @@
 
 use crate::list_outlet::ListOutlet;
 use crate::tests::fakes::Ringing;
-use crate::tests::pushing::{
-    NO_DEVICE, NO_MEMORY, TEXTS_OF_CUT, assert_first, assert_rest, move_of,
-};
+use crate::tests::pushing::{NO_DEVICE, NO_MEMORY, TEXTS_OF_CUT, assert_first, assert_rest};
+use crate::tests::values::move_of;
 use c960_game::{Limits, Refusal};
 use live_board::{Board, Follower};
 use relay_core::{Account, Taken};

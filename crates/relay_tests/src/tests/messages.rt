@@ -7,5 +7,4 @@ mod commands;
 mod decoders;
 mod faults;
 mod round_trip;
-mod values;
 mod watch_commands;

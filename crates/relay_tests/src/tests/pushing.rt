@@ -2,8 +2,8 @@
 //! --fail-alloc N`): then pushing ends after the texts that were sent before.
 
 use crate::list_outlet::ListOutlet;
-use crate::tests::fakes::{Answers, RelaySource, Ringing, board, relay};
-use c960_board::{Move, read_move};
+use crate::tests::fakes::{Answers, RelaySource, Ringing, relay};
+use crate::tests::values::{board_of, move_of};
 use c960_game::{Outcome, Refusal};
 use relay_core::{Relay, Reply, Step, Taken};
 use relay_pushing::{PushEnd, SendFault, Source, push_all};
@@ -27,14 +27,6 @@ pub const NO_MEMORY: PushEnd = PushEnd::Failed(SendFault::OutOfMemory);
 
 pub const NO_DEVICE: PushEnd = PushEnd::Failed(SendFault::Device);
 
-/// The move of a text.
-pub fn move_of(rt: &impl Abort, text: &str) -> Move {
-    match read_move(text.as_bytes()) {
-        Ok(m) => m,
-        Err(_) => panic!(rt; "no move"),
-    }
-}
-
 /// Makes a step, again if it was refused for lack of memory.
 fn make(relay: &mut Relay, step: &Step) {
     if relay.step(*step) == Reply::Refused(Refusal::OutOfMemory) {
@@ -48,10 +40,13 @@ fn full_queue(rt: &impl Abort, alloc: Global) -> RelaySource {
         Ok(relay) => relay,
         Err(AllocError) => relay(alloc, 2).expect(rt, "one refusal at the most"),
     };
-    make(&mut relay, &Step::Open(board("b1"), 518));
-    make(&mut relay, &Step::Follow(1, board("b1"), None));
+    make(&mut relay, &Step::Open(board_of(rt, "b1"), 518));
+    make(&mut relay, &Step::Follow(1, board_of(rt, "b1"), None));
     for text in ["e2e4", "e7e5", "g1f3"] {
-        make(&mut relay, &Step::Submit(board("b1"), move_of(rt, text)));
+        make(
+            &mut relay,
+            &Step::Submit(board_of(rt, "b1"), move_of(rt, text)),
+        );
     }
     RelaySource {
         relay,

@@ -3,7 +3,8 @@
 
 ghost use Rattle.std.specs.Prelude.{◌≡◌, ◌+◌, ◌<◌, length, None, OnOk};
 
-use c960_board::{Colour, Move, Position, read_fen, read_move};
+use crate::tests::values::move_of;
+use c960_board::{Colour, Position, read_fen};
 use c960_game::{Game, Outcome};
 use relay_watching::{Tape, Watcher};
 use std::alloc::Global;
@@ -30,10 +31,6 @@ const CROWDED: &[u8] =
 
 const AT_CROWDED: &[u8] =
     b"\x81\x7e\0\x80{\"fen\":\"r1b1k1r1/p1p1p1p1/1p1p1p1p/n1b1q1n1/N1B1Q1N1/1P1P1P1P/P1P1P1P1/R1B1K1R1 w GAga - 99 999\",\"joined\":0,\"reply\":\"following\"}";
-
-fn move_of(rt: &impl Abort, text: &str) -> Move {
-    read_move(text.as_bytes()).expect(rt, "a move")
-}
 
 /// Everything that is due is written, at most `most` bytes at a time.
 fn write_all(

@@ -1,7 +1,9 @@
 //! What a board is opened with, its moves and its positions.
 
-use crate::tests::live_boards::games::{limits_of, move_of};
-use c960_board::{Position, read_fen};
+use crate::tests::live_boards::games::limits_of;
+use crate::tests::values::{
+    FOUR_PLIES, ONE_PLY, START_518, THREE_PLIES, TWO_PLIES, move_of, position_of,
+};
 use c960_game::Refusal;
 use live_board::Board;
 use std::process::Abort;
@@ -9,31 +11,11 @@ use std::test::Fail;
 
 /// Moves from start 518, each with the position after it.
 const GAME: [(&str, &str); 4] = [
-    (
-        "e2e4",
-        "rnbqkbnr/pppppppp/8/8/4P3/8/PPPP1PPP/RNBQKBNR b HAha e3 0 1",
-    ),
-    (
-        "e7e5",
-        "rnbqkbnr/pppp1ppp/8/4p3/4P3/8/PPPP1PPP/RNBQKBNR w HAha e6 0 2",
-    ),
-    (
-        "g1f3",
-        "rnbqkbnr/pppp1ppp/8/4p3/4P3/5N2/PPPP1PPP/RNBQKB1R b HAha - 1 2",
-    ),
-    (
-        "b8c6",
-        "r1bqkbnr/pppp1ppp/2n5/4p3/4P3/5N2/PPPP1PPP/RNBQKB1R w HAha - 2 3",
-    ),
+    ("e2e4", ONE_PLY),
+    ("e7e5", TWO_PLIES),
+    ("g1f3", THREE_PLIES),
+    ("b8c6", FOUR_PLIES),
 ];
-
-/// The position of a text.
-fn position_of(rt: &impl Abort, text: &str) -> Position {
-    let Ok(position) = read_fen(text.as_bytes()) else {
-        panic!(rt; "no position: {text}");
-    };
-    position
-}
 
 #[test]
 fn its_positions_are_those_of_the_game(rt: HostRuntime) -> Result<(), Fail> {
@@ -50,8 +32,7 @@ fn its_positions_are_those_of_the_game(rt: HostRuntime) -> Result<(), Fail> {
         assert!(rt; board.position_at(places) == Some(position_of(&rt, fen)));
         places = places.saturating_add(1);
     }
-    let start = "rnbqkbnr/pppppppp/8/8/8/8/PPPPPPPP/RNBQKBNR w HAha - 0 1";
-    assert!(rt; board.position_at(0) == Some(position_of(&rt, start)));
+    assert!(rt; board.position_at(0) == Some(position_of(&rt, START_518)));
     assert!(rt; board.position_at(5) == None);
     let limits = limits_of(&rt, 1, 1, 1);
     for start in [960, 961, 65535] {

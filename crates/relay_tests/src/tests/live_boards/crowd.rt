@@ -1,6 +1,7 @@
 //! As many followers as a board may have.
 
-use crate::tests::live_boards::games::{limits_of, move_of};
+use crate::tests::live_boards::games::limits_of;
+use crate::tests::values::move_of;
 use c960_game::Refusal;
 use live_board::{Board, Follower};
 use relay_core::{Account, Taken};

@@ -1,6 +1,7 @@
 //! Games of many moves.
 
-use c960_board::{Move, read_move};
+use crate::tests::values::move_of;
+use c960_board::Move;
 use c960_game::Limits;
 use std::alloc::{AllocError, Global};
 use std::process::Abort;
@@ -18,14 +19,6 @@ const BETWEEN: [&str; 7] = [
     "a1b1 a8b8",
     "a3c4 a6c5",
 ];
-
-/// The move of a text.
-pub fn move_of(rt: &impl Abort, text: &str) -> Move {
-    let Ok(m) = read_move(text.as_bytes()) else {
-        panic!(rt; "no move: {text}");
-    };
-    m
-}
 
 /// The limits of one board: followers, capacity, plies.
 pub fn limits_of(rt: &impl Abort, followers: u16, capacity: u16, plies: u16) -> Limits {

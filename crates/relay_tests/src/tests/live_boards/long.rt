@@ -1,6 +1,7 @@
 //! A game of as many plies as there may be, of which each move is taken at once, since a queue holds one.
 
-use crate::tests::live_boards::games::{limits_of, move_of};
+use crate::tests::live_boards::games::limits_of;
+use crate::tests::values::move_of;
 use c960_board::{Move, read_move};
 use c960_game::Refusal;
 use live_board::Board;

@@ -1,7 +1,8 @@
 //! Lack of memory. If one allocation is refused (`rt try --test --fail-alloc N`, for each N in turn), the call that needed it says
 //! so and changes nothing, and is accepted when made again; no other call allocates.
 
-use crate::tests::live_boards::games::{limits_of, move_of};
+use crate::tests::live_boards::games::limits_of;
+use crate::tests::values::move_of;
 use c960_game::{Ending, Limits, Outcome, Refusal};
 use live_board::{Board, Follower};
 use relay_core::{Account, Taken};

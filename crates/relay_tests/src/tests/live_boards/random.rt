@@ -1,8 +1,9 @@
 //! Questions drawn at random, whose answers are those of the plain board.
 
-use crate::tests::live_boards::games::{limits_of, move_of};
+use crate::tests::live_boards::games::limits_of;
 use crate::tests::live_boards::plain::Plain;
 use crate::tests::live_boards::stage::{Answer, Ask, Stage};
+use crate::tests::values::move_of;
 use c960_board::Colour;
 use c960_game::{Ending, Game};
 use relay_core::Taken;

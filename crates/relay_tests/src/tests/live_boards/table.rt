@@ -1,7 +1,8 @@
 //! Cases as tables: what is asked of a live board and its followers, and what they have to answer, one row each.
 
-use crate::tests::live_boards::games::{limits_of, move_of};
+use crate::tests::live_boards::games::limits_of;
 use crate::tests::live_boards::stage::{Answer, Ask, Stage};
+use crate::tests::values::move_of;
 use c960_game::{Ending, Outcome, Refusal};
 use relay_core::{Account, Taken};
 use std::alloc::Global;

@@ -1,6 +1,7 @@
 //! A follower that moves to another thread and leaves there, and what board and follower know once they have met.
 
-use crate::tests::live_boards::games::{limits_of, move_of};
+use crate::tests::live_boards::games::limits_of;
+use crate::tests::values::move_of;
 use c960_game::{Ending, Outcome, Refusal};
 use live_board::{Board, meet};
 use relay_core::{Account, Taken};

@@ -1,6 +1,6 @@
 //! The texts of answers. The tests hold with each allocation refused in turn (`rt try --test --fail-alloc N`).
 
-use crate::tests::messages::values::{START_518, move_of, position_of};
+use crate::tests::values::{START_518, move_of, position_of};
 use c960_board::Colour;
 use c960_game::{Outcome, Refusal};
 use relay_core::{Account, Reply, Taken};

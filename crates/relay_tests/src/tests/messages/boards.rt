@@ -1,6 +1,6 @@
 //! The texts that describe boards.
 
-use crate::tests::messages::values::{START_518, board_of, move_of, position_of};
+use crate::tests::values::{MATED, ONE_PLY, START_518, board_of, move_of, position_of};
 use c960_board::Colour;
 use c960_game::Outcome;
 use relay_messages::{BoardSummary, encode_board};
@@ -35,10 +35,7 @@ fn opened(rt: &impl Abort) -> BoardSummary {
 /// The same after 1. f3 e5 2. g4 Qh4 mate.
 fn mated(rt: &impl Abort) -> BoardSummary {
     BoardSummary {
-        position: position_of(
-            rt,
-            "rnb1kbnr/pppp1ppp/8/4p3/6Pq/5P2/PPPPP2P/RNBQKBNR w HAha - 1 3",
-        ),
+        position: position_of(rt, MATED),
         last: Some(move_of(rt, "d8h4")),
         plies: 4,
         outcome: Some(Outcome::Checkmate(Colour::Black)),
@@ -56,10 +53,7 @@ fn each_board_has_its_text(rt: HostRuntime) {
         ),
         (
             BoardSummary {
-                position: position_of(
-                    &rt,
-                    "rnbqkbnr/pppppppp/8/8/4P3/8/PPPP1PPP/RNBQKBNR b HAha e3 0 1",
-                ),
+                position: position_of(&rt, ONE_PLY),
                 last: Some(move_of(&rt, "e2e4")),
                 plies: 1,
                 ..opened(&rt)
@@ -135,10 +129,7 @@ fn a_board_is_read_as_an_object_of_seven_members_that_say_the_same(
     assert!(rt; members.len() == 7);
     for (key, said) in [
         ("board", "b1"),
-        (
-            "fen",
-            "rnb1kbnr/pppp1ppp/8/4p3/6Pq/5P2/PPPPP2P/RNBQKBNR w HAha - 1 3",
-        ),
+        ("fen", MATED),
         ("last", "d8h4"),
         ("outcome", "black mates"),
         ("reply", "board"),

@@ -1,6 +1,6 @@
 //! Numbers up to their bounds.
 
-use crate::tests::messages::values::board_of;
+use crate::tests::values::board_of;
 use relay_core::Step;
 use relay_messages::decode;
 

@@ -1,6 +1,6 @@
 //! Texts that give a command.
 
-use crate::tests::messages::values::{board_of, move_of};
+use crate::tests::values::{board_of, move_of};
 use c960_board::Colour;
 use c960_game::Ending;
 use relay_core::Step;

@@ -1,6 +1,6 @@
 //! One decoder for many texts. The tests hold with each allocation refused in turn (`rt try --test --fail-alloc N`).
 
-use crate::tests::messages::values::board_of;
+use crate::tests::values::board_of;
 use relay_core::Step;
 use relay_messages::{Decoder, MessageFault};
 

@@ -1,6 +1,6 @@
 //! The texts of answers, read again as JSON.
 
-use crate::tests::messages::values::{START_518, move_of, position_of};
+use crate::tests::values::{START_518, move_of, position_of};
 use c960_board::Colour;
 use c960_game::{Outcome, Refusal};
 use relay_core::{Account, Reply, Taken};

@@ -1,6 +1,6 @@
 //! Texts on the watch port, and the same texts on the main port.
 
-use crate::tests::messages::values::{board_of, move_of};
+use crate::tests::values::{board_of, move_of};
 use c960_game::Ending;
 use relay_core::Step;
 use relay_messages::{Decoder, MessageFault, WatchCommand, decode};

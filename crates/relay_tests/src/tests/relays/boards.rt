@@ -4,7 +4,8 @@ use crate::tests::relays::table::Asked::{End, Follow, Leave, Open, Submit, Take}
 use crate::tests::relays::table::Told::{
     Ended, Following, Left, Nothing, Opened, Over, Played, Refused, Took,
 };
-use crate::tests::relays::table::{START_0, START_518, assert_case, with_capacity};
+use crate::tests::relays::table::{assert_case, with_capacity};
+use crate::tests::values::{START_0, START_518, THREE_PLIES};
 use c960_board::Colour;
 use c960_game::{Ending, Outcome, Refusal};
 use std::test::Fail;
@@ -23,13 +24,7 @@ fn two_boards(rt: HostRuntime) -> Result<(), Fail> {
         (Take(2), Took(0, "d2d4")),
         (Submit("A", "g1f3"), Played(2)),
         (Leave(1), Left(0, 1, 3, false)),
-        (
-            Follow(1, "A"),
-            Following(
-                3,
-                "rnbqkbnr/pppp1ppp/8/4p3/4P3/5N2/PPPP1PPP/RNBQKB1R b HAha - 1 2",
-            ),
-        ),
+        (Follow(1, "A"), Following(3, THREE_PLIES)),
         (Submit("A", "b8c6"), Played(3)),
         (Take(1), Took(3, "b8c6")),
         (Take(1), Nothing),

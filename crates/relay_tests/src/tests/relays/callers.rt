@@ -1,7 +1,8 @@
 //! The example of a caller that is written for both kinds of relay, tried with each.
 
 use crate::tests::relays::kinds::Kind;
-use crate::tests::relays::table::{START_518, board_of, following, limits_of, with_capacity};
+use crate::tests::relays::table::{following, limits_of, with_capacity};
+use crate::tests::values::{START_518, board_of};
 use crate::visits::visit;
 use relay_core::{Account, Relay, Reply, Step};
 use relay_live::LiveRelay;

@@ -4,7 +4,8 @@ use crate::tests::relays::table::Asked::{Follow, Leave, Open, Submit, Take};
 use crate::tests::relays::table::Told::{
     Cut, Following, Left, Nothing, Opened, Played, Refused, Took,
 };
-use crate::tests::relays::table::{Asked, START_518, Told, assert_case, with_capacity};
+use crate::tests::relays::table::{Asked, Told, assert_case, with_capacity};
+use crate::tests::values::START_518;
 use c960_game::Refusal;
 use std::test::Fail;
 

@@ -4,7 +4,8 @@ use crate::tests::relays::table::Asked::{End, Follow, Leave, Open, Submit, Submi
 use crate::tests::relays::table::Told::{
     Cut, Ended, Following, Left, Nothing, Opened, Over, Played, PlayedLast, Refused, Took,
 };
-use crate::tests::relays::table::{START_518, assert_case, with_capacity};
+use crate::tests::relays::table::{assert_case, with_capacity};
+use crate::tests::values::{MATED, START_518};
 use c960_board::Colour;
 use c960_game::{Ending, Outcome, Refusal};
 use std::test::Fail;
@@ -19,13 +20,7 @@ fn mate_and_over(rt: HostRuntime) -> Result<(), Fail> {
         (Submit("b1", "e7e5"), Played(1)),
         (Submit("b1", "g2g4"), Played(2)),
         (Submit("b1", "d8h4"), PlayedLast(3, mated)),
-        (
-            Follow(2, "b1"),
-            Following(
-                4,
-                "rnb1kbnr/pppp1ppp/8/4p3/6Pq/5P2/PPPPP2P/RNBQKBNR w HAha - 1 3",
-            ),
-        ),
+        (Follow(2, "b1"), Following(4, MATED)),
         (Take(1), Took(0, "f2f3")),
         (Take(1), Took(1, "e7e5")),
         (Take(1), Took(2, "g2g4")),

@@ -2,7 +2,8 @@
 
 use crate::handing::play_and_hand_out;
 use crate::tests::relays::closing::FULL_QUEUE;
-use crate::tests::relays::table::{Asked, Told, board_of, case_of, limits_of};
+use crate::tests::relays::table::{Asked, Told, case_of, limits_of};
+use crate::tests::values::board_of;
 use c960_game::Refusal;
 use relay_live::Board;
 use std::alloc::{AllocError, Global};

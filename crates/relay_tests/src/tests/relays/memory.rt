@@ -6,10 +6,8 @@ use crate::tests::relays::table::Asked::{End, Follow, FollowFrom, Leave, Open, S
 use crate::tests::relays::table::Told::{
     Cut, Ended, Following, Left, Nothing, Opened, Over, Played, PlayedLast, Took,
 };
-use crate::tests::relays::table::{
-    Asked, START_0, START_518, Told, board_of, following, limits_of, line_of, move_of, reply_of,
-    step_of,
-};
+use crate::tests::relays::table::{Asked, Told, following, limits_of, line_of, reply_of, step_of};
+use crate::tests::values::{ONE_PLY, START_0, START_518, TWO_PLIES, board_of, move_of};
 use c960_board::Colour;
 use c960_game::{Ending, Limits, Outcome, Refusal};
 use relay_core::{Account, Relay, Reply, Step, Stepper, Taken};
@@ -111,12 +109,6 @@ fn left(joined: u16, taken: u16, limit: u16, cut: bool) -> Reply {
         cut,
     })
 }
-
-/// The position of start 518 after e2e4.
-const ONE_PLY: &str = "rnbqkbnr/pppppppp/8/8/4P3/8/PPPP1PPP/RNBQKBNR b HAha e3 0 1";
-
-/// The position of start 518 after e2e4 e7e5.
-const TWO_PLIES: &str = "rnbqkbnr/pppp1ppp/8/4p3/4P3/8/PPPP1PPP/RNBQKBNR w HAha e6 0 2";
 
 /// Two boards, one follower each, one move a queue. A step refused for lack of memory takes no board and no seat, and leaves
 /// the other board, its follower and the queue as they were.

@@ -5,17 +5,9 @@ use crate::tests::relays::table::Told::{
     Cut, Ended, Following, Left, Nothing, Opened, Over, Played, Refused, Took,
 };
 use crate::tests::relays::table::{assert_case, with_capacity};
+use crate::tests::values::{FOUR_PLIES, ONE_PLY, TWO_PLIES};
 use c960_game::{Ending, Outcome, Refusal};
 use std::test::Fail;
-
-/// The position of start 518 after e2e4.
-const ONE_PLY: &str = "rnbqkbnr/pppppppp/8/8/4P3/8/PPPP1PPP/RNBQKBNR b HAha e3 0 1";
-
-/// After e2e4 e7e5.
-const TWO_PLIES: &str = "rnbqkbnr/pppp1ppp/8/4p3/4P3/8/PPPP1PPP/RNBQKBNR w HAha e6 0 2";
-
-/// After e2e4 e7e5 g1f3 b8c6.
-const FOUR_PLIES: &str = "r1bqkbnr/pppp1ppp/2n5/4p3/4P3/5N2/PPPP1PPP/RNBQKB1R w HAha - 2 3";
 
 #[test]
 fn follow_from(rt: HostRuntime) -> Result<(), Fail> {

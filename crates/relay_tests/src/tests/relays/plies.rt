@@ -4,7 +4,8 @@ use crate::tests::relays::table::Asked::{End, Follow, FollowFrom, Open, Submit, 
 use crate::tests::relays::table::Told::{
     Ended, Following, Nothing, Opened, Over, Played, PlayedLast, Refused, Took,
 };
-use crate::tests::relays::table::{START_518, assert_case, with_capacity};
+use crate::tests::relays::table::{assert_case, with_capacity};
+use crate::tests::values::{ONE_PLY, START_518};
 use c960_board::Colour;
 use c960_game::{Ending, Outcome, Refusal};
 use std::test::Fail;
@@ -17,13 +18,7 @@ fn ply_limit(rt: HostRuntime) -> Result<(), Fail> {
         (Submit("b1", "e7e5"), Refused(Refusal::LogFull)),
         (Submit("b1", "e2e5"), Refused(Refusal::LogFull)),
         // A full log is not an end.
-        (
-            Follow(1, "b1"),
-            Following(
-                1,
-                "rnbqkbnr/pppppppp/8/8/4P3/8/PPPP1PPP/RNBQKBNR b HAha e3 0 1",
-            ),
-        ),
+        (Follow(1, "b1"), Following(1, ONE_PLY)),
         (Take(1), Nothing),
         (End("b1", Ending::Agreed), Ended(Outcome::Agreed)),
         (Submit("b1", "e7e5"), Refused(Refusal::GameOver)),

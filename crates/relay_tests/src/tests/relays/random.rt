@@ -1,7 +1,8 @@
 //! Lists of steps drawn at random, whose replies are those of the plain relay.
 
 use crate::tests::relays::plain::Plain;
-use crate::tests::relays::table::{assert_replies, board_of, limits_of, move_of};
+use crate::tests::relays::table::{assert_replies, limits_of};
+use crate::tests::values::{board_of, move_of};
 use c960_board::Colour;
 use c960_game::Ending;
 use relay_core::{Reply, Step, Taken};

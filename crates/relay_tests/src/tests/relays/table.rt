@@ -1,19 +1,13 @@
 //! Cases as tables: what is asked of a relay, and what it has to answer, one row each.
 
 use crate::tests::relays::kinds::Kind;
-use c960_board::{Move, read_fen, read_move};
+use crate::tests::values::{board_of, move_of, position_of};
 use c960_game::{Ending, Limits, Outcome, Refusal};
-use relay_core::{Account, BoardName, Relay, Reply, Spectator, Step, Taken};
+use relay_core::{Account, Relay, Reply, Spectator, Step, Taken};
 use relay_live::LiveRelay;
 use std::alloc::{AllocError, Global};
 use std::process::Abort;
 use std::test::Fail;
-
-/// The position of start 518.
-pub const START_518: &str = "rnbqkbnr/pppppppp/8/8/8/8/PPPPPPPP/RNBQKBNR w HAha - 0 1";
-
-/// The position of start 0.
-pub const START_0: &str = "bbqnnrkr/pppppppp/8/8/8/8/PPPPPPPP/BBQNNRKR w HFhf - 0 1";
 
 /// A step, or a line of submits of moves separated by spaces.
 #[derive(Clone, Copy)]
@@ -72,28 +66,12 @@ pub const fn with_capacity(capacity: u16) -> (u16, u16, u16, u16) {
     (16, 64, capacity, 1024)
 }
 
-/// The board of a name.
-pub fn board_of(rt: &impl Abort, text: &str) -> BoardName {
-    let Some(board) = BoardName::new(text.as_bytes()) else {
-        panic!(rt; "no name: {text}");
-    };
-    board
-}
-
-/// The move of a text.
-pub fn move_of(rt: &impl Abort, text: &str) -> Move {
-    let Ok(m) = read_move(text.as_bytes()) else {
-        panic!(rt; "no move: {text}");
-    };
-    m
-}
-
 /// The reply to a follow.
 pub fn following(rt: &impl Abort, joined: u16, text: &str) -> Reply {
-    let Ok(position) = read_fen(text.as_bytes()) else {
-        panic!(rt; "no position: {text}");
-    };
-    Reply::Following { joined, position }
+    Reply::Following {
+        joined,
+        position: position_of(rt, text),
+    }
 }
 
 /// The step of a row; for a line of submits, the one with this move.

@@ -1,4 +1,4 @@
-//! The values used in the cases, made from texts.
+//! Texts that several cases use, and the values made from such texts.
 
 use c960_board::{Move, Position, read_fen, read_move};
 use relay_core::BoardName;
@@ -6,6 +6,24 @@ use std::process::Abort;
 
 /// The position of start 518.
 pub const START_518: &str = "rnbqkbnr/pppppppp/8/8/8/8/PPPPPPPP/RNBQKBNR w HAha - 0 1";
+
+/// The position of start 0.
+pub const START_0: &str = "bbqnnrkr/pppppppp/8/8/8/8/PPPPPPPP/BBQNNRKR w HFhf - 0 1";
+
+/// The position of start 518 after e2e4.
+pub const ONE_PLY: &str = "rnbqkbnr/pppppppp/8/8/4P3/8/PPPP1PPP/RNBQKBNR b HAha e3 0 1";
+
+/// After e2e4 e7e5.
+pub const TWO_PLIES: &str = "rnbqkbnr/pppp1ppp/8/4p3/4P3/8/PPPP1PPP/RNBQKBNR w HAha e6 0 2";
+
+/// After e2e4 e7e5 g1f3.
+pub const THREE_PLIES: &str = "rnbqkbnr/pppp1ppp/8/4p3/4P3/5N2/PPPP1PPP/RNBQKB1R b HAha - 1 2";
+
+/// After e2e4 e7e5 g1f3 b8c6.
+pub const FOUR_PLIES: &str = "r1bqkbnr/pppp1ppp/2n5/4p3/4P3/5N2/PPPP1PPP/RNBQKB1R w HAha - 2 3";
+
+/// After f2f3 e7e5 g2g4 d8h4, which mates.
+pub const MATED: &str = "rnb1kbnr/pppp1ppp/8/4p3/6Pq/5P2/PPPPP2P/RNBQKBNR w HAha - 1 3";
 
 /// The board of a name.
 pub fn board_of(rt: &impl Abort, text: &str) -> BoardName {
