@@ -1,44 +1,15 @@
 //! Questions drawn at random, whose answers are those of the plain board.
 
+use crate::tests::chance::{Dice, ENDINGS, MOVES, has_kind};
 use crate::tests::live_boards::games::limits_of;
 use crate::tests::live_boards::plain::Plain;
 use crate::tests::live_boards::stage::{Answer, Ask, Stage};
 use crate::tests::values::move_of;
-use c960_board::Colour;
-use c960_game::{Ending, Game};
+use c960_game::Game;
 use relay_core::Taken;
 use std::alloc::{AllocError, Global};
 use std::process::Abort;
 use std::test::Fail;
-
-/// Random numbers, the same in each run.
-#[derive(Drop)]
-pub struct Dice {
-    pub seed: u32,
-}
-
-impl Dice {
-    pub fn roll(&mut self) -> u32 {
-        self.seed = self.seed.wrapping_mul(1664525).wrapping_add(1013904223);
-        self.seed >> 16
-    }
-}
-
-/// Moves, of which few are legal at a time; the first four mate.
-const MOVES: [&str; 8] = [
-    "f2f3", "e7e5", "g2g4", "d8h4", "g1f3", "g8f6", "f3g1", "f6g8",
-];
-
-const ENDINGS: [Ending; 8] = [
-    Ending::Resigns(Colour::White),
-    Ending::Resigns(Colour::Black),
-    Ending::Agreed,
-    Ending::Abandoned,
-    Ending::ClaimThreefold(Colour::White),
-    Ending::ClaimThreefold(Colour::Black),
-    Ending::ClaimFifty(Colour::White),
-    Ending::ClaimFifty(Colour::Black),
-];
 
 /// A question: of 128, 56 submit, 1 ends, 8 follow from the present and 8 from an early place, 44 take, 10 leave, 1 goes.
 fn any_ask(rt: &impl Abort, dice: &mut Dice) -> Ask {
@@ -73,15 +44,6 @@ fn kind_of(answer: &Answer) -> &'static str {
         Answer::Amiss => "amiss",
         Answer::Refused(refusal) => refusal.name(),
     }
-}
-
-fn has_kind(answers: &[Answer], kind: &str) -> bool {
-    for answer in answers {
-        if kind_of(answer) == kind {
-            return true;
-        }
-    }
-    false
 }
 
 /// Every answer that there is, except for lack of memory and a bad start.
@@ -157,7 +119,7 @@ fn questions_by_chance_are_answered_as_by_the_plain_board(rt: HostRuntime) -> Re
         }
     }
     for kind in KINDS {
-        assert!(rt; has_kind(seen.as_slice(), kind), "no {kind}");
+        assert!(rt; has_kind(seen.as_slice(), kind_of, kind), "no {kind}");
     }
     Ok(())
 }

@@ -1,7 +1,7 @@
 //! A game that one thread plays while followers come, take in threads of their own, and leave again, many times over.
 
+use crate::tests::chance::Dice;
 use crate::tests::live_boards::games::{hundred_plies, limits_of};
-use crate::tests::live_boards::random::Dice;
 use crate::tests::live_boards::threads::{Took, take_all};
 use c960_board::Move;
 use c960_game::{Ending, Outcome, Refusal};

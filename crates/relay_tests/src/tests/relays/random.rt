@@ -1,47 +1,17 @@
 //! Lists of steps drawn at random, whose replies are those of the plain relay.
 
+use crate::tests::chance::{Dice, ENDINGS, MOVES, has_kind};
 use crate::tests::relays::plain::Plain;
 use crate::tests::relays::table::{assert_replies, limits_of};
 use crate::tests::values::{board_of, move_of};
-use c960_board::Colour;
-use c960_game::Ending;
 use relay_core::{Reply, Step, Taken};
 use std::alloc::AllocError;
 use std::process::Abort;
 use std::test::Fail;
 
-/// Random numbers, the same in each run.
-#[derive(Drop)]
-struct Dice {
-    seed: u32,
-}
-
-impl Dice {
-    fn roll(&mut self) -> u32 {
-        self.seed = self.seed.wrapping_mul(1664525).wrapping_add(1013904223);
-        self.seed >> 16
-    }
-}
-
-/// Moves, of which few are legal at a time; the first four mate.
-const MOVES: [&str; 8] = [
-    "f2f3", "e7e5", "g2g4", "d8h4", "g1f3", "g8f6", "f3g1", "f6g8",
-];
-
 const STARTS: [u16; 4] = [518, 518, 0, 960];
 
 const BOARDS: [&str; 2] = ["a", "b"];
-
-const ENDINGS: [Ending; 8] = [
-    Ending::Resigns(Colour::White),
-    Ending::Resigns(Colour::Black),
-    Ending::Agreed,
-    Ending::Abandoned,
-    Ending::ClaimThreefold(Colour::White),
-    Ending::ClaimThreefold(Colour::Black),
-    Ending::ClaimFifty(Colour::White),
-    Ending::ClaimFifty(Colour::Black),
-];
 
 /// A step: of 64, 4 open, 24 submit, 2 end, 4 follow from the present and 4 from an early place, 20 take and 6 leave.
 fn any_step(rt: &impl Abort, dice: &mut Dice) -> Step {
@@ -91,16 +61,6 @@ fn kind_of(reply: &Reply) -> &'static str {
         Reply::Left(_) => "left",
         Reply::Refused(refusal) => refusal.name(),
     }
-}
-
-/// Whether one of the replies is of the kind.
-fn has_kind(replies: &[Reply], kind: &str) -> bool {
-    for reply in replies {
-        if kind_of(reply) == kind {
-            return true;
-        }
-    }
-    false
 }
 
 /// Every reply that there is, except for lack of memory.
@@ -158,7 +118,7 @@ fn steps_by_chance_are_answered_as_by_the_plain_relay(rt: HostRuntime) -> Result
         seen.extend_from_slice(replies.as_slice())?;
     }
     for kind in KINDS {
-        assert!(rt; has_kind(seen.as_slice(), kind), "no {kind}");
+        assert!(rt; has_kind(seen.as_slice(), kind_of, kind), "no {kind}");
     }
     Ok(())
 }

@@ -1,0 +1,45 @@
+//! Random numbers, what is drawn by them, and whether each kind of answer came.
+
+use c960_board::Colour;
+use c960_game::Ending;
+
+/// Random numbers, the same in each run.
+#[derive(Drop)]
+pub struct Dice {
+    pub seed: u32,
+}
+
+impl Dice {
+    pub fn roll(&mut self) -> u32 {
+        self.seed = self.seed.wrapping_mul(1664525).wrapping_add(1013904223);
+        self.seed >> 16
+    }
+}
+
+/// Moves, of which few are legal at a time; the first four mate.
+pub const MOVES: [&str; 8] = [
+    "f2f3", "e7e5", "g2g4", "d8h4", "g1f3", "g8f6", "f3g1", "f6g8",
+];
+
+pub const ENDINGS: [Ending; 8] = [
+    Ending::Resigns(Colour::White),
+    Ending::Resigns(Colour::Black),
+    Ending::Agreed,
+    Ending::Abandoned,
+    Ending::ClaimThreefold(Colour::White),
+    Ending::ClaimThreefold(Colour::Black),
+    Ending::ClaimFifty(Colour::White),
+    Ending::ClaimFifty(Colour::Black),
+];
+
+/// Whether one of these is of the kind.
+pub fn has_kind<T, F: Fn(&T) -> &'static str>(all: &[T], kind_of: F, kind: &str) -> bool
+    requires { F.IsAlwaysCallable kind_of }
+{
+    for one in all {
+        if kind_of(one) == kind {
+            return true;
+        }
+    }
+    false
+}
