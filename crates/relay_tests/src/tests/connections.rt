@@ -2,6 +2,7 @@
 //! --fail-alloc N`): then the call that needed it says so, and made the whole step that was asked for, or none.
 
 use crate::relay_keeper::RelayKeeper;
+use crate::tests::again::again;
 use crate::tests::connections::Keeping::{Makes, NotAsked, Refuses};
 use crate::tests::connections::Who::{Guest, Owner, Stranger};
 use crate::tests::fakes::NotingKeeper;
@@ -245,16 +246,6 @@ const ANSWERS: [(Who, &str, [&str; 2]); 12] = [
     (Stranger, FOLLOW_B1, [FOLLOWING, FOLLOWS]),
 ];
 
-/// A keeper without boards, made again if it was refused.
-fn new_keeper(rt: &impl Abort, alloc: Global) -> RelayKeeper {
-    match RelayKeeper::new(alloc, default_limits()) {
-        Ok(keeper) => keeper,
-        Err(AllocError) => {
-            RelayKeeper::new(alloc, default_limits()).expect(rt, "one refusal at the most")
-        }
-    }
-}
-
 /// Asserts that a text gets this answer. Returns whether memory was refused; then the text was sent once more.
 fn assert_answer(
     rt: &impl Abort,
@@ -281,7 +272,7 @@ fn assert_answer(
 
 #[test]
 fn a_relay_answers_as_its_history_asks(rt: HostRuntime) {
-    let mut keeper = new_keeper(&rt, rt.alloc());
+    let mut keeper = again(&rt, || RelayKeeper::new(rt.alloc(), default_limits()));
     let mut owner = Conn::new(rt.alloc());
     let mut stranger = Conn::new(rt.alloc());
     let mut refusals = 0u32;

@@ -118,11 +118,13 @@ impl Source for Answers<'_> {
     }
 }
 
-/// A bell that is rung when it is waited for, and counts these waits.
+/// A bell that is rung when it is waited for. It counts the waits, and those of them that would last: nobody had rung since the count that
+/// was heard.
 #[derive(Drop)]
 pub struct Ringing {
     pub rings: Cell<u64>,
     pub waits: Cell<u64>,
+    pub sleeps: Cell<u64>,
 }
 
 impl Ringing {
@@ -130,6 +132,7 @@ impl Ringing {
         Ringing {
             rings: Cell::new(0),
             waits: Cell::new(0),
+            sleeps: Cell::new(0),
         }
     }
 }
@@ -144,9 +147,14 @@ impl Bell for Ringing {
     }
 
     fn wait(&self, heard: u64) -> u64 {
+        self.waits.set(self.waits.get().wrapping_add(1));
+        let now = self.rings.get();
+        if now != heard {
+            return now;
+        }
+        self.sleeps.set(self.sleeps.get().wrapping_add(1));
         let next = if heard == u64::MAX { 0 } else { heard + 1 };
         self.rings.set(next);
-        self.waits.set(self.waits.get().wrapping_add(1));
         next
     }
 }

@@ -1,42 +1,14 @@
 //! What becomes due between a look and the wait after it.
 
 use crate::list_outlet::ListOutlet;
+use crate::tests::fakes::Ringing;
 use relay_core::Taken;
 use relay_pushing::{Bell, PushEnd, SendFault, Source, push_all};
-use std::cell::Cell;
-
-/// A bell that counts the waits that would last: nobody had rung since the count that was heard.
-#[derive(Drop)]
-struct Counted {
-    rings: Cell<u64>,
-    sleeps: Cell<u64>,
-}
-
-impl Bell for Counted {
-    fn count(&self) -> u64 {
-        self.rings.get()
-    }
-
-    fn ring(&self) {
-        self.rings.set(self.rings.get().wrapping_add(1));
-    }
-
-    fn wait(&self, heard: u64) -> u64 {
-        let now = self.rings.get();
-        if now != heard {
-            return now;
-        }
-        self.sleeps.set(self.sleeps.get().wrapping_add(1));
-        let next = if heard == u64::MAX { 0 } else { heard + 1 };
-        self.rings.set(next);
-        next
-    }
-}
 
 /// A source that has nothing at first, and whose bell is rung right after that answer; then it is closed.
 #[derive(Drop)]
 struct Late<'a> {
-    bell: &'a Counted,
+    bell: &'a Ringing,
     looks: u32,
 }
 
@@ -55,10 +27,7 @@ impl Source for Late<'_> {
 
 #[test]
 fn a_ring_behind_a_look_is_not_slept_through(rt: HostRuntime) {
-    let bell = Counted {
-        rings: Cell::new(0),
-        sleeps: Cell::new(0),
-    };
+    let bell = Ringing::new();
     let mut source = Late {
         bell: &bell,
         looks: 0,

@@ -2,12 +2,13 @@
 //! (`rt try --test --fail-alloc N`): then pushing ends after the texts that were sent before.
 
 use crate::list_outlet::ListOutlet;
+use crate::tests::again::{follow, open};
 use crate::tests::fakes::Ringing;
 use crate::tests::pushing::{NO_DEVICE, NO_MEMORY, TEXTS_OF_CUT, assert_first, assert_rest};
-use crate::tests::values::move_of;
+use crate::tests::values::{account, move_of};
 use c960_game::{Limits, Refusal};
 use live_board::{Board, Follower};
-use relay_core::{Account, Taken};
+use relay_core::Taken;
 use relay_pushing::{PushEnd, Source, push_all};
 use std::alloc::Global;
 use std::process::Abort;
@@ -28,62 +29,26 @@ impl Source for Live {
     }
 }
 
-/// A board that one spectator may follow and whose queues hold two moves; it is opened again if it was refused for lack of memory.
-fn open(rt: &impl Abort, alloc: Global) -> Board {
-    let limits = Limits::new(1, 1, 2, 64).expect(rt, "limits");
-    match Board::open(alloc, 518, limits) {
-        Ok(board) => board,
-        Err(refusal) => {
-            assert!(rt; refusal == Refusal::OutOfMemory);
-            let Ok(board) = Board::open(alloc, 518, limits) else {
-                panic!(rt; "one refusal at the most");
-            };
-            board
-        }
-    }
-}
-
-/// A follower from the present on, asked for again if it was refused for lack of memory.
-fn follow(rt: &impl Abort, board: &mut Board) -> Live {
-    match board.follow(None) {
-        Ok(follower) => Live { follower },
-        Err(refusal) => {
-            assert!(rt; refusal == Refusal::OutOfMemory);
-            let Ok(follower) = board.follow(None) else {
-                panic!(rt; "one refusal at the most");
-            };
-            Live { follower }
-        }
-    }
-}
-
-/// A board, and its follower, which was closed when the third move was made.
+/// A board that one spectator may follow and whose queues hold two moves, and its follower, which was closed when the third move was made.
 fn full_queue(rt: &impl Abort, alloc: Global) -> (Board, Live) {
-    let mut board = open(rt, alloc);
-    let live = follow(rt, &mut board);
-    assert!(rt; live.follower.joined() == 0);
+    let limits = Limits::new(1, 1, 2, 64).expect(rt, "limits");
+    let mut board = open(rt, alloc, limits);
+    let follower = follow(rt, &mut board, None);
+    assert!(rt; follower.joined() == 0);
     let mut place = 0u16;
     for text in ["e2e4", "e7e5", "g1f3"] {
         assert!(rt; board.submit(move_of(rt, text)) == Ok((place, None)));
         place = place.saturating_add(1);
     }
-    (board, live)
+    (board, Live { follower })
 }
 
 /// Asserts that the follower leaves with this many moves taken, and that its slot on the board is given back.
 fn assert_leaves(rt: &impl Abort, mut board: Board, live: Live, taken: u16) {
     assert!(rt; matches!(board.follow(None), Err(Refusal::TooManyFollowers)));
-    let (account, _) = live.follower.leave();
-    assert!(rt;
-        account
-            == (Account {
-                joined: 0,
-                taken,
-                limit: 2,
-                cut: true
-            })
-    );
-    assert!(rt; follow(rt, &mut board).follower.joined() == 3);
+    let (told, _) = live.follower.leave();
+    assert!(rt; told == account(0, taken, 2, true));
+    assert!(rt; follow(rt, &mut board, None).joined() == 3);
 }
 
 #[test]

@@ -2,12 +2,13 @@
 //! --fail-alloc N`): then pushing ends after the texts that were sent before.
 
 use crate::list_outlet::ListOutlet;
+use crate::tests::again::again;
 use crate::tests::fakes::{Answers, RelaySource, Ringing, relay};
 use crate::tests::values::{board_of, move_of};
 use c960_game::{Outcome, Refusal};
 use relay_core::{Relay, Reply, Step, Taken};
 use relay_pushing::{PushEnd, SendFault, Source, push_all};
-use std::alloc::{AllocError, Global};
+use std::alloc::Global;
 use std::process::Abort;
 use std::sync::Wait;
 
@@ -36,10 +37,7 @@ fn make(relay: &mut Relay, step: &Step) {
 
 /// A follower that was closed at its capacity of 2.
 fn full_queue(rt: &impl Abort, alloc: Global) -> RelaySource {
-    let mut relay = match relay(alloc, 2) {
-        Ok(relay) => relay,
-        Err(AllocError) => relay(alloc, 2).expect(rt, "one refusal at the most"),
-    };
+    let mut relay = again(rt, || relay(alloc, 2));
     make(&mut relay, &Step::Open(board_of(rt, "b1"), 518));
     make(&mut relay, &Step::Follow(1, board_of(rt, "b1"), None));
     for text in ["e2e4", "e7e5", "g1f3"] {

@@ -1,7 +1,7 @@
-//! Texts that several cases use, and the values made from such texts.
+//! Texts that several cases use, and values made from texts and numbers.
 
 use c960_board::{Move, Position, read_fen, read_move};
-use relay_core::BoardName;
+use relay_core::{Account, BoardName};
 use std::process::Abort;
 
 /// The position of start 518.
@@ -47,4 +47,14 @@ pub fn position_of(rt: &impl Abort, text: &str) -> Position {
         panic!(rt; "no position: {text}");
     };
     position
+}
+
+/// The account of a follower: the place at which it joined, how many it took, its limit, and whether it was closed.
+pub fn account(joined: u16, taken: u16, limit: u16, cut: bool) -> Account {
+    Account {
+        joined,
+        taken,
+        limit,
+        cut,
+    }
 }

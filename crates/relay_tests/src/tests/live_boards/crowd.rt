@@ -1,10 +1,10 @@
 //! As many followers as a board may have.
 
 use crate::tests::live_boards::games::limits_of;
-use crate::tests::values::move_of;
+use crate::tests::values::{account, move_of};
 use c960_game::Refusal;
 use live_board::{Board, Follower};
-use relay_core::{Account, Taken};
+use relay_core::Taken;
 use std::alloc::{AllocError, Global};
 use std::process::Abort;
 use std::test::Fail;
@@ -34,18 +34,9 @@ fn assert_takes_one(rt: &impl Abort, mut follower: Follower, place: u16, text: &
     assert!(rt; follower.take() == Taken::Move(place, move_of(rt, text)));
     let idle = if cut { Taken::Cut } else { Taken::Nothing };
     assert!(rt; follower.take() == idle);
-    let (account, _) = follower.leave();
+    let (told, _) = follower.leave();
     let taken = place.saturating_add(1);
-    let limit = taken;
-    assert!(rt;
-        account
-            == (Account {
-                joined: 0,
-                taken,
-                limit,
-                cut
-            })
-    );
+    assert!(rt; told == account(0, taken, taken, cut));
 }
 
 #[test]

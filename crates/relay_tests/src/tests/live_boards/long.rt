@@ -1,11 +1,11 @@
 //! A game of as many plies as there may be, of which each move is taken at once, since a queue holds one.
 
 use crate::tests::live_boards::games::limits_of;
-use crate::tests::values::move_of;
+use crate::tests::values::{account, move_of};
 use c960_board::{Move, read_move};
 use c960_game::Refusal;
 use live_board::Board;
-use relay_core::{Account, Taken};
+use relay_core::Taken;
 use std::alloc::AllocError;
 use std::process::Abort;
 use std::test::Fail;
@@ -164,21 +164,9 @@ fn each_move_of_a_game_of_the_most_plies_is_taken(rt: HostRuntime) -> Result<(),
     let next = moves[usize::from(PLIES)];
     assert!(rt; board.submit(next) == Err(Refusal::LogFull));
     assert!(rt; quick.take() == Taken::Nothing);
-    let (account, _) = quick.leave();
-    let whole = Account {
-        joined: 0,
-        taken: PLIES,
-        limit: PLIES,
-        cut: false,
-    };
-    assert!(rt; account == whole);
-    let (account, _) = slow.leave();
-    let closed = Account {
-        joined: 0,
-        taken: 0,
-        limit: 1,
-        cut: true,
-    };
-    assert!(rt; account == closed);
+    let (told, _) = quick.leave();
+    assert!(rt; told == account(0, PLIES, PLIES, false));
+    let (told, _) = slow.leave();
+    assert!(rt; told == account(0, 0, 1, true));
     Ok(())
 }

@@ -2,9 +2,9 @@
 
 use crate::tests::live_boards::games::limits_of;
 use crate::tests::live_boards::stage::{Answer, Ask, Stage};
-use crate::tests::values::move_of;
+use crate::tests::values::{account, move_of};
 use c960_game::{Ending, Outcome, Refusal};
-use relay_core::{Account, Taken};
+use relay_core::Taken;
 use std::alloc::Global;
 use std::process::Abort;
 use std::test::Fail;
@@ -74,14 +74,7 @@ fn answer_of(rt: &impl Abort, told: Told, after: u16) -> Answer {
         Told::Nothing => Answer::Took(Taken::Nothing),
         Told::Over(outcome) => Answer::Took(Taken::Over(outcome)),
         Told::Cut => Answer::Took(Taken::Cut),
-        Told::Left(joined, taken, limit, cut) => {
-            Answer::Left(Account {
-                joined,
-                taken,
-                limit,
-                cut,
-            })
-        }
+        Told::Left(joined, taken, limit, cut) => Answer::Left(account(joined, taken, limit, cut)),
         Told::Dropped => Answer::Dropped,
         Told::Word(word) => Answer::Word(Some(word)),
         Told::NoWord => Answer::Word(None),

@@ -1,10 +1,10 @@
 //! A follower that moves to another thread and leaves there, and what board and follower know once they have met.
 
 use crate::tests::live_boards::games::limits_of;
-use crate::tests::values::move_of;
+use crate::tests::values::{account, move_of};
 use c960_game::{Ending, Outcome, Refusal};
 use live_board::{Board, meet};
-use relay_core::{Account, Taken};
+use relay_core::Taken;
 use std::test::Fail;
 use std::thread;
 
@@ -18,50 +18,24 @@ fn a_follower_goes_to_another_thread(rt: HostRuntime) -> Result<(), Fail> {
     };
     let played = board.submit(move_of(&rt, "e2e4"));
     assert!(rt; played == Ok((0, None)));
-    let met = meet(&mut board, &mut follower);
-    assert!(rt;
-        met == (Account {
-            joined: 0,
-            taken: 0,
-            limit: 1,
-            cut: false
-        })
-    );
+    assert!(rt; meet(&mut board, &mut follower) == account(0, 0, 1, false));
     assert!(rt; matches!(board.follow(None), Err(Refusal::TooManyFollowers)));
     let child = thread::spawn(&rt, move || {
         let first = follower.take();
         let second = follower.take();
-        let (account, _) = follower.leave();
-        (first, second, account)
+        let (told, _) = follower.leave();
+        (first, second, told)
     })?;
-    let (first, second, account) = child.join(&rt);
+    let (first, second, told) = child.join(&rt);
     assert!(rt; first == Taken::Move(0, move_of(&rt, "e2e4")));
     assert!(rt; second == Taken::Nothing);
-    assert!(rt;
-        account
-            == (Account {
-                joined: 0,
-                taken: 1,
-                limit: 1,
-                cut: false
-            })
-    );
+    assert!(rt; told == account(0, 1, 1, false));
     let Ok(next) = board.follow(None) else {
         panic!(rt; "the slot was not found again");
     };
     assert!(rt; next.joined() == 1);
     assert!(rt; next.taken() == 0);
     Ok(())
-}
-
-/// The account of a follower that joined at 0.
-fn told(taken: u16, limit: u16, cut: bool) -> Account {
-    Account {
-        joined: 0,
-        taken,
-        limit,
-        cut,
-    }
 }
 
 #[test]
@@ -74,15 +48,15 @@ fn after_a_meeting_it_knows_what_the_board_knows(rt: HostRuntime) -> Result<(), 
     };
     assert!(rt; board.submit(move_of(&rt, "e2e4")) == Ok((0, None)));
     assert!(rt; board.submit(move_of(&rt, "e7e5")) == Ok((1, None)));
-    assert!(rt; meet(&mut board, &mut slow) == told(0, 2, false));
+    assert!(rt; meet(&mut board, &mut slow) == account(0, 0, 2, false));
     assert!(rt; board.submit(move_of(&rt, "g1f3")) == Ok((2, None)));
-    assert!(rt; meet(&mut board, &mut slow) == told(0, 2, true));
+    assert!(rt; meet(&mut board, &mut slow) == account(0, 0, 2, true));
     assert!(rt; slow.take() == Taken::Move(0, move_of(&rt, "e2e4")));
     assert!(rt; slow.take() == Taken::Move(1, move_of(&rt, "e7e5")));
     assert!(rt; slow.take() == Taken::Cut);
     assert!(rt; board.end(Ending::Agreed) == Ok(Outcome::Agreed));
-    assert!(rt; meet(&mut board, &mut slow) == told(2, 2, true));
-    let (account, _) = slow.leave();
-    assert!(rt; account == told(2, 2, true));
+    assert!(rt; meet(&mut board, &mut slow) == account(0, 2, 2, true));
+    let (told, _) = slow.leave();
+    assert!(rt; told == account(0, 2, 2, true));
     Ok(())
 }

@@ -1,22 +1,17 @@
 //! The texts of answers. The tests hold with each allocation refused in turn (`rt try --test --fail-alloc N`).
 
-use crate::tests::values::{START_518, move_of, position_of};
+use crate::tests::again::again;
+use crate::tests::values::{START_518, account, move_of, position_of};
 use c960_board::Colour;
 use c960_game::{Outcome, Refusal};
-use relay_core::{Account, Reply, Taken};
+use relay_core::{Reply, Taken};
 use relay_messages::{Answer, MessageFault, encode};
 use std::alloc::Global;
 use std::process::Abort;
 
 /// The text of an answer, asked for again if there was no memory for it.
 fn text_of(rt: &impl Abort, alloc: Global, answer: &Answer) -> String {
-    if let Ok(text) = encode(alloc, answer) {
-        return text;
-    }
-    let Ok(text) = encode(alloc, answer) else {
-        panic!(rt; "one refusal at the most");
-    };
-    text
+    again(rt, || encode(alloc, answer))
 }
 
 #[test]
@@ -45,21 +40,11 @@ fn each_reply_has_its_text(rt: HostRuntime) {
             r#"{"outcome":"black mates","place":16383,"reply":"played"}"#,
         ),
         (
-            Reply::Left(Account {
-                joined: 0,
-                taken: 4,
-                limit: 5,
-                cut: false,
-            }),
+            Reply::Left(account(0, 4, 5, false)),
             r#"{"cut":false,"joined":0,"limit":5,"reply":"left","taken":4}"#,
         ),
         (
-            Reply::Left(Account {
-                joined: 10,
-                taken: 64,
-                limit: 74,
-                cut: true,
-            }),
+            Reply::Left(account(10, 64, 74, true)),
             r#"{"cut":true,"joined":10,"limit":74,"reply":"left","taken":64}"#,
         ),
         (

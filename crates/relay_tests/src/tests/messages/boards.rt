@@ -1,5 +1,6 @@
 //! The texts that describe boards.
 
+use crate::tests::again::again;
 use crate::tests::values::{MATED, ONE_PLY, START_518, board_of, move_of, position_of};
 use c960_board::Colour;
 use c960_game::Outcome;
@@ -11,13 +12,7 @@ use std::test::Fail;
 
 /// The text of a board, asked for again if there was no memory for it.
 fn text_of(rt: &impl Abort, alloc: Global, summary: &BoardSummary) -> String {
-    if let Ok(text) = encode_board(alloc, summary) {
-        return text;
-    }
-    let Ok(text) = encode_board(alloc, summary) else {
-        panic!(rt; "one refusal at the most");
-    };
-    text
+    again(rt, || encode_board(alloc, summary))
 }
 
 /// A board that was opened with start 518.

@@ -1,9 +1,9 @@
 //! The texts of answers, read again as JSON.
 
-use crate::tests::values::{START_518, move_of, position_of};
+use crate::tests::values::{START_518, account, move_of, position_of};
 use c960_board::Colour;
 use c960_game::{Outcome, Refusal};
-use relay_core::{Account, Reply, Taken};
+use relay_core::{Reply, Taken};
 use relay_messages::{Answer, MessageFault, encode};
 use serde_json::Value;
 use std::test::Fail;
@@ -44,12 +44,7 @@ fn answers_are_read_as_objects_that_say_the_same(rt: HostRuntime) -> Result<(), 
         place: 8,
         outcome: Some(Outcome::Checkmate(Colour::White)),
     });
-    let left = Answer::Reply(Reply::Left(Account {
-        joined: 1,
-        taken: 2,
-        limit: 3,
-        cut: true,
-    }));
+    let left = Answer::Reply(Reply::Left(account(1, 2, 3, true)));
     let opened = Answer::Reply(Reply::Opened);
     let ended = Answer::Reply(Reply::Ended(Outcome::Agreed));
     let moved = Answer::Reply(Reply::Took(Taken::Move(65535, move_of(&rt, "a7a8q"))));

@@ -2,9 +2,9 @@
 
 use crate::tests::relays::kinds::Kind;
 use crate::tests::relays::table::{following, limits_of, with_capacity};
-use crate::tests::values::{START_518, board_of};
+use crate::tests::values::{START_518, account, board_of};
 use crate::visits::visit;
-use relay_core::{Account, Relay, Reply, Step};
+use relay_core::{Relay, Reply, Step};
 use relay_live::LiveRelay;
 use std::alloc::{AllocError, Global};
 use std::process::Abort;
@@ -16,14 +16,7 @@ fn assert_visit<K: Kind>(rt: &impl Abort, alloc: Global) -> Result<(), AllocErro
     assert!(rt; relay.step(Step::Open(board, 518)) == Reply::Opened);
     let (joined, left) = visit(&mut relay, 1, board);
     assert!(rt; joined == following(rt, 0, START_518));
-    assert!(rt;
-        left == Reply::Left(Account {
-            joined: 0,
-            taken: 0,
-            limit: 0,
-            cut: false
-        })
-    );
+    assert!(rt; left == Reply::Left(account(0, 0, 0, false)));
     Ok(())
 }
 

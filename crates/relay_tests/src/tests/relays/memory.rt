@@ -7,10 +7,10 @@ use crate::tests::relays::table::Told::{
     Cut, Ended, Following, Left, Nothing, Opened, Over, Played, PlayedLast, Took,
 };
 use crate::tests::relays::table::{Asked, Told, following, limits_of, line_of, reply_of, step_of};
-use crate::tests::values::{ONE_PLY, START_0, START_518, TWO_PLIES, board_of, move_of};
+use crate::tests::values::{ONE_PLY, START_0, START_518, TWO_PLIES, account, board_of, move_of};
 use c960_board::Colour;
 use c960_game::{Ending, Limits, Outcome, Refusal};
-use relay_core::{Account, Relay, Reply, Step, Stepper, Taken};
+use relay_core::{Relay, Reply, Step, Stepper, Taken};
 use relay_live::LiveRelay;
 use std::alloc::{AllocError, Global};
 use std::process::Abort;
@@ -99,15 +99,6 @@ fn played(place: u16) -> Reply {
         place,
         outcome: None,
     }
-}
-
-fn left(joined: u16, taken: u16, limit: u16, cut: bool) -> Reply {
-    Reply::Left(Account {
-        joined,
-        taken,
-        limit,
-        cut,
-    })
 }
 
 /// Two boards, one follower each, one move a queue. A step refused for lack of memory takes no board and no seat, and leaves
@@ -224,7 +215,7 @@ fn refusals_of_a_run<K: Kind>(rt: &impl Abort, alloc: Global) -> u32 {
         played(1),
         Reply::Took(Taken::Move(0, e2e4)),
         Reply::Took(Taken::Cut),
-        left(0, 1, 1, true),
+        Reply::Left(account(0, 1, 1, true)),
         Reply::Refused(Refusal::Illegal),
     ];
     let replies = run(rt, &mut relay, &steps, &mut refused);

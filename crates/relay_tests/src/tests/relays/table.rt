@@ -1,9 +1,9 @@
 //! Cases as tables: what is asked of a relay, and what it has to answer, one row each.
 
 use crate::tests::relays::kinds::Kind;
-use crate::tests::values::{board_of, move_of, position_of};
+use crate::tests::values::{account, board_of, move_of, position_of};
 use c960_game::{Ending, Limits, Outcome, Refusal};
-use relay_core::{Account, Relay, Reply, Spectator, Step, Taken};
+use relay_core::{Relay, Reply, Spectator, Step, Taken};
 use relay_live::LiveRelay;
 use std::alloc::{AllocError, Global};
 use std::process::Abort;
@@ -109,12 +109,7 @@ pub fn reply_of(rt: &impl Abort, told: Told, after: u16) -> Reply {
         Told::Nothing => Reply::Took(Taken::Nothing),
         Told::Over(outcome) => Reply::Took(Taken::Over(outcome)),
         Told::Cut => Reply::Took(Taken::Cut),
-        Told::Left(joined, taken, limit, cut) => Reply::Left(Account {
-            joined,
-            taken,
-            limit,
-            cut,
-        }),
+        Told::Left(joined, taken, limit, cut) => Reply::Left(account(joined, taken, limit, cut)),
         Told::Refused(refusal) => Reply::Refused(refusal),
     }
 }

@@ -1,0 +1,46 @@
+//! Calls that are made again if they were refused for lack of memory: where one allocation is refused, the second call is accepted.
+
+use c960_game::{Limits, Refusal};
+use live_board::{Board, Follower};
+use std::alloc::{AllocError, Global};
+use std::process::Abort;
+
+/// What a call makes, which is made again if there was no memory for it.
+pub fn again<T, F: Fn() -> Result<T, AllocError>>(rt: &impl Abort, make: F) -> T
+    requires { F.IsAlwaysCallable make }
+{
+    match make() {
+        Ok(made) => made,
+        Err(AllocError) => make().expect(rt, "one refusal at the most"),
+    }
+}
+
+/// A new board of start 518, opened again if it was refused.
+pub fn open(rt: &impl Abort, alloc: Global, limits: Limits) -> Board {
+    match Board::open(alloc, 518, limits) {
+        Ok(board) => board,
+        Err(refusal) => {
+            assert!(rt; refusal == Refusal::OutOfMemory);
+            let Ok(board) = Board::open(alloc, 518, limits) else {
+                panic!(rt; "one refusal at the most");
+            };
+            board
+        }
+    }
+}
+
+/// A follower, asked for again if it was refused: then the board is as it was.
+pub fn follow(rt: &impl Abort, board: &mut Board, from: Option<u16>) -> Follower {
+    let len = board.len();
+    match board.follow(from) {
+        Ok(follower) => follower,
+        Err(refusal) => {
+            assert!(rt; refusal == Refusal::OutOfMemory);
+            assert!(rt; board.len() == len);
+            let Ok(follower) = board.follow(from) else {
+                panic!(rt; "one refusal at the most");
+            };
+            follower
+        }
+    }
+}
