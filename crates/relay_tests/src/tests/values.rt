@@ -1,6 +1,7 @@
 //! Texts that several cases use, and values made from texts and numbers.
 
-use c960_board::{Move, Position, read_fen, read_move};
+use c960_board::{Colour, Move, Position, read_fen, read_move};
+use c960_game::Outcome;
 use relay_core::{Account, BoardName};
 use std::process::Abort;
 
@@ -24,6 +25,22 @@ pub const FOUR_PLIES: &str = "r1bqkbnr/pppp1ppp/2n5/4p3/4P3/5N2/PPPP1PPP/RNBQKB1
 
 /// After f2f3 e7e5 g2g4 d8h4, which mates.
 pub const MATED: &str = "rnb1kbnr/pppp1ppp/8/4p3/6Pq/5P2/PPPPP2P/RNBQKBNR w HAha - 1 3";
+
+/// Twelve moves of knights, after which the position is the one before.
+pub const SHUFFLE: &str = "g1f3 g8f6 f3g1 f6g8 g1f3 g8f6 f3g1 f6g8 g1f3 g8f6 f3g1 f6g8";
+
+/// The first 98 moves of a game from start 518 without a pawn's move or a capture. After g1f3 g8f6 White may claim a draw.
+pub const NINETY_EIGHT: &str = "\
+    g1f3 g8f6 f3g1 f6g8 g1f3 g8f6 f3g1 f6g8 g1f3 g8f6 f3g1 f6g8 b1c3 b8c6 \
+    g1f3 g8f6 f3g1 f6g8 g1f3 g8f6 f3g1 f6g8 g1f3 g8f6 f3g1 f6g8 a1b1 a8b8 \
+    g1f3 g8f6 f3g1 f6g8 g1f3 g8f6 f3g1 f6g8 g1f3 g8f6 f3g1 f6g8 b1a1 b8a8 \
+    g1f3 g8f6 f3g1 f6g8 g1f3 g8f6 f3g1 f6g8 g1f3 g8f6 f3g1 f6g8 c3b1 c6b8 \
+    g1f3 g8f6 f3g1 f6g8 g1f3 g8f6 f3g1 f6g8 g1f3 g8f6 f3g1 f6g8 b1a3 b8a6 \
+    g1f3 g8f6 f3g1 f6g8 g1f3 g8f6 f3g1 f6g8 g1f3 g8f6 f3g1 f6g8 a1b1 a8b8 \
+    g1f3 g8f6 f3g1 f6g8 g1f3 g8f6 f3g1 f6g8 g1f3 g8f6 f3g1 f6g8 a3c4 a6c5";
+
+/// How the game ends in which Black mates.
+pub const BLACK_MATES: Outcome = Outcome::Checkmate(Colour::Black);
 
 /// The board of a name.
 pub fn board_of(rt: &impl Abort, text: &str) -> BoardName {

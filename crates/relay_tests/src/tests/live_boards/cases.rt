@@ -8,11 +8,10 @@ use crate::tests::live_boards::table::Told::{
     Took, Word,
 };
 use crate::tests::live_boards::table::assert_case;
+use crate::tests::values::BLACK_MATES;
 use c960_board::Colour;
 use c960_game::{Ending, Outcome, Refusal};
 use std::test::Fail;
-
-const BLACK_MATES: Outcome = Outcome::Checkmate(Colour::Black);
 
 const WHITE_RESIGNED: Outcome = Outcome::Resigned(Colour::White);
 

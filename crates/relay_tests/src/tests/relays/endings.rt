@@ -4,68 +4,74 @@ use crate::tests::relays::table::Asked::{End, Follow, Leave, Open, Submit, Submi
 use crate::tests::relays::table::Told::{
     Cut, Ended, Following, Left, Nothing, Opened, Over, Played, PlayedLast, Refused, Took,
 };
-use crate::tests::relays::table::{assert_case, with_capacity};
-use crate::tests::values::{MATED, START_518};
+use crate::tests::relays::table::{Asked, Told, assert_case, with_capacity};
+use crate::tests::values::{BLACK_MATES, MATED, START_518};
 use c960_board::Colour;
 use c960_game::{Ending, Outcome, Refusal};
+use std::alloc::Global;
+use std::process::Abort;
 use std::test::Fail;
 
 #[test]
 fn mate_and_over(rt: HostRuntime) -> Result<(), Fail> {
-    let mated = Outcome::Checkmate(Colour::Black);
     let rows = [
         (Open("b1", 518), Opened),
         (Follow(1, "b1"), Following(0, START_518)),
         (Submit("b1", "f2f3"), Played(0)),
         (Submit("b1", "e7e5"), Played(1)),
         (Submit("b1", "g2g4"), Played(2)),
-        (Submit("b1", "d8h4"), PlayedLast(3, mated)),
+        (Submit("b1", "d8h4"), PlayedLast(3, BLACK_MATES)),
         (Follow(2, "b1"), Following(4, MATED)),
         (Take(1), Took(0, "f2f3")),
         (Take(1), Took(1, "e7e5")),
         (Take(1), Took(2, "g2g4")),
         (Take(1), Took(3, "d8h4")),
-        (Take(1), Over(mated)),
-        (Take(1), Over(mated)),
+        (Take(1), Over(BLACK_MATES)),
+        (Take(1), Over(BLACK_MATES)),
         (Submit("b1", "a2a3"), Refused(Refusal::GameOver)),
         (End("b1", Ending::Agreed), Refused(Refusal::GameOver)),
     ];
     assert_case(&rt, rt.alloc(), with_capacity(64), &rows)
 }
 
+/// A mate, and what a follower that joined before the first move takes, whether its queue holds four moves or three.
+const MATE: [(Asked, Told); 7] = [
+    (Open("b1", 518), Opened),
+    (Follow(1, "b1"), Following(0, START_518)),
+    (SubmitLine("b1", "f2f3 e7e5 g2g4"), Played(0)),
+    (Submit("b1", "d8h4"), PlayedLast(3, BLACK_MATES)),
+    (Take(1), Took(0, "f2f3")),
+    (Take(1), Took(1, "e7e5")),
+    (Take(1), Took(2, "g2g4")),
+];
+
+/// Asserts that a relay whose queues have this capacity answers these rows after that mate.
+fn assert_after_mate(
+    rt: &impl Abort,
+    alloc: Global,
+    capacity: u16,
+    rest: &[(Asked, Told)],
+) -> Result<(), Fail> {
+    let mut rows = Vec::new(alloc);
+    rows.extend_from_slice(&MATE)?;
+    rows.extend_from_slice(rest)?;
+    assert_case(rt, alloc, with_capacity(capacity), rows.as_slice())
+}
+
 #[test]
 fn mate_and_over_with_a_queue_of_four(rt: HostRuntime) -> Result<(), Fail> {
-    let mated = Outcome::Checkmate(Colour::Black);
-    let rows = [
-        (Open("b1", 518), Opened),
-        (Follow(1, "b1"), Following(0, START_518)),
-        (SubmitLine("b1", "f2f3 e7e5 g2g4"), Played(0)),
-        (Submit("b1", "d8h4"), PlayedLast(3, mated)),
-        (Take(1), Took(0, "f2f3")),
-        (Take(1), Took(1, "e7e5")),
-        (Take(1), Took(2, "g2g4")),
+    let rest = [
         (Take(1), Took(3, "d8h4")),
-        (Take(1), Over(mated)),
+        (Take(1), Over(BLACK_MATES)),
         (Leave(1), Left(0, 4, 4, false)),
     ];
-    assert_case(&rt, rt.alloc(), with_capacity(4), &rows)
+    assert_after_mate(&rt, rt.alloc(), 4, &rest)
 }
 
 #[test]
 fn mate_and_over_with_a_queue_of_three(rt: HostRuntime) -> Result<(), Fail> {
-    let mated = Outcome::Checkmate(Colour::Black);
-    let rows = [
-        (Open("b1", 518), Opened),
-        (Follow(1, "b1"), Following(0, START_518)),
-        (SubmitLine("b1", "f2f3 e7e5 g2g4"), Played(0)),
-        (Submit("b1", "d8h4"), PlayedLast(3, mated)),
-        (Take(1), Took(0, "f2f3")),
-        (Take(1), Took(1, "e7e5")),
-        (Take(1), Took(2, "g2g4")),
-        (Take(1), Cut),
-        (Leave(1), Left(0, 3, 3, true)),
-    ];
-    assert_case(&rt, rt.alloc(), with_capacity(3), &rows)
+    let rest = [(Take(1), Cut), (Leave(1), Left(0, 3, 3, true))];
+    assert_after_mate(&rt, rt.alloc(), 3, &rest)
 }
 
 /// Four moves after which the position is as before.

@@ -7,8 +7,9 @@ use crate::tests::relays::table::Told::{
     Cut, Ended, Following, Left, Nothing, Opened, Over, Played, PlayedLast, Took,
 };
 use crate::tests::relays::table::{Asked, Told, following, limits_of, line_of, reply_of, step_of};
-use crate::tests::values::{ONE_PLY, START_0, START_518, TWO_PLIES, account, board_of, move_of};
-use c960_board::Colour;
+use crate::tests::values::{
+    BLACK_MATES, ONE_PLY, START_0, START_518, TWO_PLIES, account, board_of, move_of,
+};
 use c960_game::{Ending, Limits, Outcome, Refusal};
 use relay_core::{Relay, Reply, Step, Stepper, Taken};
 use relay_live::LiveRelay;
@@ -164,18 +165,16 @@ const MATE: [(Asked, Told); 14] = [
     (Submit("b1", "f2f3"), Played(0)),
     (Submit("b1", "e7e5"), Played(1)),
     (Submit("b1", "g2g4"), Played(2)),
-    (Submit("b1", "d8h4"), PlayedLast(3, MATED)),
+    (Submit("b1", "d8h4"), PlayedLast(3, BLACK_MATES)),
     (Take(1), Took(0, "f2f3")),
     (Take(1), Took(1, "e7e5")),
     (Take(1), Took(2, "g2g4")),
     (Take(1), Took(3, "d8h4")),
-    (Take(1), Over(MATED)),
+    (Take(1), Over(BLACK_MATES)),
     (Submit("b1", "a2a3"), Told::Refused(Refusal::GameOver)),
     (End("b1", Ending::Agreed), Told::Refused(Refusal::GameOver)),
     (Leave(1), Left(0, 4, 4, false)),
 ];
-
-const MATED: Outcome = Outcome::Checkmate(Colour::Black);
 
 #[test]
 fn the_steps_after_an_opening_and_a_follow_are_answered_whatever_is_refused(rt: HostRuntime) {

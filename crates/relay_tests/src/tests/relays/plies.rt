@@ -5,7 +5,7 @@ use crate::tests::relays::table::Told::{
     Ended, Following, Nothing, Opened, Over, Played, PlayedLast, Refused, Took,
 };
 use crate::tests::relays::table::{assert_case, with_capacity};
-use crate::tests::values::{ONE_PLY, START_518};
+use crate::tests::values::{NINETY_EIGHT, ONE_PLY, SHUFFLE, START_518};
 use c960_board::Colour;
 use c960_game::{Ending, Outcome, Refusal};
 use std::test::Fail;
@@ -26,29 +26,13 @@ fn ply_limit(rt: HostRuntime) -> Result<(), Fail> {
     assert_case(&rt, rt.alloc(), (16, 64, 64, 1), &rows)
 }
 
-/// Twelve moves of knights.
-const SHUFFLE: &str = "g1f3 g8f6 f3g1 f6g8 g1f3 g8f6 f3g1 f6g8 g1f3 g8f6 f3g1 f6g8";
-
 #[test]
 fn fifty_moves(rt: HostRuntime) -> Result<(), Fail> {
     let black = Ending::ClaimFifty(Colour::Black);
     let white = Ending::ClaimFifty(Colour::White);
     let rows = [
         (Open("b1", 518), Opened),
-        (SubmitLine("b1", SHUFFLE), Played(0)),
-        (SubmitLine("b1", "b1c3 b8c6"), Played(12)),
-        (SubmitLine("b1", SHUFFLE), Played(14)),
-        (SubmitLine("b1", "a1b1 a8b8"), Played(26)),
-        (SubmitLine("b1", SHUFFLE), Played(28)),
-        (SubmitLine("b1", "b1a1 b8a8"), Played(40)),
-        (SubmitLine("b1", SHUFFLE), Played(42)),
-        (SubmitLine("b1", "c3b1 c6b8"), Played(54)),
-        (SubmitLine("b1", SHUFFLE), Played(56)),
-        (SubmitLine("b1", "b1a3 b8a6"), Played(68)),
-        (SubmitLine("b1", SHUFFLE), Played(70)),
-        (SubmitLine("b1", "a1b1 a8b8"), Played(82)),
-        (SubmitLine("b1", SHUFFLE), Played(84)),
-        (SubmitLine("b1", "a3c4 a6c5"), Played(96)),
+        (SubmitLine("b1", NINETY_EIGHT), Played(0)),
         (Submit("b1", "g1f3"), Played(98)),
         (End("b1", black), Refused(Refusal::ClaimRefused)),
         (Submit("b1", "g8f6"), Played(99)),
@@ -93,20 +77,7 @@ fn fivefold(rt: HostRuntime) -> Result<(), Fail> {
 fn seventy_five(rt: HostRuntime) -> Result<(), Fail> {
     let rows = [
         (Open("b1", 518), Opened),
-        (SubmitLine("b1", SHUFFLE), Played(0)),
-        (SubmitLine("b1", "b1c3 b8c6"), Played(12)),
-        (SubmitLine("b1", SHUFFLE), Played(14)),
-        (SubmitLine("b1", "a1b1 a8b8"), Played(26)),
-        (SubmitLine("b1", SHUFFLE), Played(28)),
-        (SubmitLine("b1", "b1a1 b8a8"), Played(40)),
-        (SubmitLine("b1", SHUFFLE), Played(42)),
-        (SubmitLine("b1", "c3b1 c6b8"), Played(54)),
-        (SubmitLine("b1", SHUFFLE), Played(56)),
-        (SubmitLine("b1", "b1a3 b8a6"), Played(68)),
-        (SubmitLine("b1", SHUFFLE), Played(70)),
-        (SubmitLine("b1", "a1b1 a8b8"), Played(82)),
-        (SubmitLine("b1", SHUFFLE), Played(84)),
-        (SubmitLine("b1", "a3c4 a6c5"), Played(96)),
+        (SubmitLine("b1", NINETY_EIGHT), Played(0)),
         (SubmitLine("b1", SHUFFLE), Played(98)),
         (SubmitLine("b1", "c4e3 c5e6"), Played(110)),
         (SubmitLine("b1", SHUFFLE), Played(112)),
