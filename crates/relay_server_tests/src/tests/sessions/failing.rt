@@ -1,7 +1,7 @@
 //! Sessions over a device that fails: how they end, that nothing more is written, and that their boards are over.
 
-use crate::tests::sessions::frames::{CLOSE, REQUEST, RESPONSE_BYTES, TEXT, frame, lines};
-use crate::tests::sessions::rows::registry;
+use crate::tests::sessions::frames::{CLOSE, NORMAL, REQUEST, TEXT};
+use crate::tests::sessions::rows::{input, registry, talked};
 use crate::tests::sessions::texts::{FOLLOW_B1, OPEN_B1, SUBMIT_E2E4};
 use relay_server::{OpenGate, Registry, SessionEnd, session};
 use std::alloc::{AllocError, Global};
@@ -75,14 +75,27 @@ const DEVICE: [ErrorKind; 4] = [
     ErrorKind::BrokenPipe,
 ];
 
-/// The request, and an owner's two commands and its close.
-fn owner(alloc: Global) -> Result<Vec<u8>, AllocError> {
-    let mut bytes = Vec::new(alloc);
-    bytes.extend_from_slice(REQUEST)?;
-    bytes.extend_from_slice(frame(alloc, TEXT, OPEN_B1.as_bytes())?.as_slice())?;
-    bytes.extend_from_slice(frame(alloc, TEXT, SUBMIT_E2E4.as_bytes())?.as_slice())?;
-    bytes.extend_from_slice(frame(alloc, CLOSE, &[0x03, 0xe8])?.as_slice())?;
-    Ok(bytes)
+/// How the session of an owner ends, which sends two commands and a close, if its reads give this many bytes of these and then fail in this
+/// way, or end.
+fn end_of_owner<R: Wait + Clock, W: Write + Drop>(
+    rt: &R,
+    alloc: Global,
+    registry: &Registry,
+    (until, failure): (usize, Option<ErrorKind>),
+    writer: W,
+) -> Result<SessionEnd, AllocError> {
+    let frames = [
+        (TEXT, OPEN_B1.as_bytes()),
+        (TEXT, SUBMIT_E2E4.as_bytes()),
+        (CLOSE, NORMAL),
+    ];
+    let bytes = input(alloc, &frames)?;
+    let reader = FailingReader {
+        left: &bytes.as_slice()[..until.min(bytes.len())],
+        failure,
+    };
+    let stream = Duplex { reader, writer };
+    Ok(session(rt, alloc, registry, 1, stream, &OpenGate))
 }
 
 /// How a session ends whose reads give this many bytes of an owner and then fail in this way, or end.
@@ -92,17 +105,8 @@ fn end_of_reading<R: Wait + Clock>(
     until: usize,
     failure: Option<ErrorKind>,
 ) -> Result<SessionEnd, AllocError> {
-    let shared = registry(alloc)?;
-    let bytes = owner(alloc)?;
     let mut sent = Vec::new(alloc);
-    let stream = Duplex {
-        reader: FailingReader {
-            left: &bytes.as_slice()[..until.min(bytes.len())],
-            failure,
-        },
-        writer: &mut sent,
-    };
-    Ok(session(rt, alloc, &shared, 1, stream, &OpenGate))
+    end_of_owner(rt, alloc, &registry(alloc)?, (until, failure), &mut sent)
 }
 
 /// How many bytes are read before a read fails or is the end, and how the session ends then: in the handshake, behind it, and in a frame.
@@ -134,16 +138,9 @@ fn told_of_b1<R: Wait + Clock>(
     alloc: Global,
     registry: &Registry,
 ) -> Result<Vec<u8>, AllocError> {
-    let mut bytes = Vec::new(alloc);
-    bytes.extend_from_slice(REQUEST)?;
-    bytes.extend_from_slice(frame(alloc, TEXT, FOLLOW_B1.as_bytes())?.as_slice())?;
-    let mut sent = Vec::new(alloc);
-    let stream = Duplex {
-        reader: bytes.as_slice(),
-        writer: &mut sent,
-    };
-    let _ = session(rt, alloc, registry, 2, stream, &OpenGate);
-    lines(alloc, sent.as_slice().get(RESPONSE_BYTES..).unwrap_or(&[]))
+    let follow = [(TEXT, FOLLOW_B1.as_bytes())];
+    let (_, told) = talked(rt, alloc, registry, 2, &follow, &OpenGate)?;
+    Ok(told)
 }
 
 const NO_BOARD: &[u8] = b"{\"code\":1,\"name\":\"NoSuchBoard\",\"reply\":\"refused\"}\n";
@@ -169,21 +166,14 @@ fn fails_for_good<R: Wait + Clock>(
     kind: ErrorKind,
 ) -> Result<bool, AllocError> {
     let shared = registry(alloc)?;
-    let bytes = owner(alloc)?;
     let mut sent = Vec::new(alloc);
-    let stream = Duplex {
-        reader: FailingReader {
-            left: bytes.as_slice(),
-            failure: Some(kind),
-        },
-        writer: FailingWriter {
-            taken: &mut sent,
-            room,
-            kind,
-            has_failed: false,
-        },
+    let writer = FailingWriter {
+        taken: &mut sent,
+        room,
+        kind,
+        has_failed: false,
     };
-    let end = session(rt, alloc, &shared, 1, stream, &OpenGate);
+    let end = end_of_owner(rt, alloc, &shared, (usize::MAX, Some(kind)), writer)?;
     let told = told_of_b1(rt, alloc, &shared)?;
     let is_told = if is_opened {
         told.as_slice().ends_with(ABANDONED)

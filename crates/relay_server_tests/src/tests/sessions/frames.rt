@@ -22,6 +22,9 @@ pub const FIRST_PART: u8 = 0x01;
 
 pub const LAST_PART: u8 = 0x80;
 
+/// What a close says that has the code 1000.
+pub const NORMAL: &[u8] = &[0x03, 0xe8];
+
 /// A frame with a mask of zeros.
 pub fn frame(alloc: Global, first: u8, payload: &[u8]) -> Result<Vec<u8>, AllocError> {
     let mut bytes = Vec::new(alloc);

@@ -1,18 +1,17 @@
 //! The gate of a first command, notified before the command is carried out.
 
-use crate::tests::sessions::frames::{CLOSE, RESPONSE_BYTES, TEXT, lines};
-use crate::tests::sessions::rows::{Frame, input, registry};
-use relay_server::{Gate, OpenGate, Registry, SessionEnd, session};
+use crate::tests::sessions::frames::{CLOSE, NORMAL, TEXT};
+use crate::tests::sessions::rows::{Frame, registry, talked};
+use relay_server::{Gate, OpenGate, Registry, SessionEnd};
 use std::alloc::{AllocError, Global};
 use std::cell::Cell;
 use std::sync::Wait;
 use std::test::Fail;
 use std::time::Clock;
-use tungstenite::Duplex;
 
 const FRAMES: &[Frame] = &[
     (TEXT, b"{\"cmd\":\"open\",\"board\":\"b1\",\"start\":518}"),
-    (CLOSE, &[0x03, 0xe8]),
+    (CLOSE, NORMAL),
 ];
 
 const OPENED: &[u8] = b"{\"reply\":\"opened\"}\nclose 1000\n";
@@ -25,15 +24,8 @@ fn opens_b1<R: Wait + Clock>(
     alloc: Global,
     registry: &Registry,
 ) -> Result<bool, AllocError> {
-    let bytes = input(alloc, FRAMES)?;
-    let mut sent = Vec::new(alloc);
-    let stream = Duplex {
-        reader: bytes.as_slice(),
-        writer: &mut sent,
-    };
-    let end = session(rt, alloc, registry, 2, stream, &OpenGate);
-    let answers = sent.as_slice().get(RESPONSE_BYTES..).unwrap_or(&[]);
-    Ok(end == SessionEnd::Closed && lines(alloc, answers)?.as_slice() == OPENED)
+    let (end, told) = talked(rt, alloc, registry, 2, FRAMES, &OpenGate)?;
+    Ok(end == SessionEnd::Closed && told.as_slice() == OPENED)
 }
 
 /// A gate at which another connection opens b1 in the meantime. It notes whether that one succeeded.
@@ -64,16 +56,9 @@ fn a_gate_is_told_before_the_first_command_is_carried_out(rt: HostRuntime) -> Re
         registry: &shared,
         was_opened: Cell::new(false),
     };
-    let bytes = input(alloc, FRAMES)?;
-    let mut sent = Vec::new(alloc);
-    let stream = Duplex {
-        reader: bytes.as_slice(),
-        writer: &mut sent,
-    };
-    let end = session(&rt, alloc, &shared, 1, stream, &gate);
+    let (end, told) = talked(&rt, alloc, &shared, 1, FRAMES, &gate)?;
     assert_eq!(rt; end, SessionEnd::Closed);
     assert!(rt; gate.was_opened.get());
-    let answers = sent.as_slice().get(RESPONSE_BYTES..).unwrap_or(&[]);
-    assert_eq!(rt; lines(alloc, answers)?.as_slice(), EXISTS);
+    assert_eq!(rt; told.as_slice(), EXISTS);
     Ok(())
 }

@@ -1,6 +1,6 @@
 //! What a session asks of its stream and of its gate, in order.
 
-use crate::tests::sessions::frames::{CLOSE, REQUEST, TEXT, frame};
+use crate::tests::sessions::frames::{CLOSE, NORMAL, REQUEST, TEXT, frame};
 use crate::tests::sessions::journal::{Journal, NotedGate, NotedStream};
 use crate::tests::sessions::rows::registry;
 use crate::tests::sessions::texts::{FOLLOW_B1_FROM_0, OPEN_B1, SUBMIT_E2E4, SUBMIT_E7E5};
@@ -12,8 +12,6 @@ use std::sync::Wait;
 use std::test::Fail;
 use std::time::Clock;
 use tungstenite::Duplex;
-
-const NORMAL: &[u8] = &[0x03, 0xe8];
 
 /// An owner sends its request; then the command to open and one half of a move; then the other half and a second move; then a close.
 ///

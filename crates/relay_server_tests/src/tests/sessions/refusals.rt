@@ -1,7 +1,8 @@
 //! Lack of memory. If one allocation is refused, each in turn, a session says so or ends, its boards are ended, and later sessions
 //! find the registry in order.
 
-use crate::tests::sessions::frames::{CLOSE, REQUEST, RESPONSE_BYTES, TEXT, frame, lines};
+use crate::tests::sessions::frames::{CLOSE, NORMAL, RESPONSE_BYTES, TEXT, lines};
+use crate::tests::sessions::rows::{Frame, input};
 use c960_game::Limits;
 use relay_server::{OpenGate, Registry, SessionEnd, session};
 use std::alloc::{AllocError, Global};
@@ -10,25 +11,22 @@ use std::sync::Wait;
 use std::time::Clock;
 use tungstenite::Duplex;
 
+/// What a call makes, which is made again if there was no memory for it.
+fn again<T, F: Fn() -> Result<T, AllocError>>(rt: &impl Abort, make: F) -> T
+    requires { F.IsAlwaysCallable make }
+{
+    match make() {
+        Ok(made) => made,
+        Err(AllocError) => make().expect(rt, "one refusal at the most"),
+    }
+}
+
 /// A registry with one board and one follower at a time, so that anything not given back is noticed.
 fn new_registry(rt: &impl Abort, alloc: Global) -> Registry {
     let Some(limits) = Limits::new(1, 1, 2, 1024) else {
         panic!(rt; "limits in range");
     };
-    match Registry::new(alloc, limits) {
-        Ok(registry) => registry,
-        Err(AllocError) => Registry::new(alloc, limits).expect(rt, "one refusal at the most"),
-    }
-}
-
-/// The request, and then these frames.
-fn frames_of(alloc: Global, frames: &[(u8, &[u8])]) -> Result<Vec<u8>, AllocError> {
-    let mut bytes = Vec::new(alloc);
-    bytes.extend_from_slice(REQUEST)?;
-    for (first, payload) in frames {
-        bytes.extend_from_slice(frame(alloc, *first, payload)?.as_slice())?;
-    }
-    Ok(bytes)
+    again(rt, || Registry::new(alloc, limits))
 }
 
 /// How many bytes a peer takes: more than any session here sends.
@@ -37,10 +35,7 @@ const ROOM: usize = 1024;
 /// What a peer was sent, which is nothing yet. Its room is reserved from the start: if a peer had none while something is sent to it, that
 /// would be a device that fails, and not lack of memory in the session.
 fn peer(rt: &impl Abort, alloc: Global) -> Vec<u8> {
-    match Vec::with_capacity(alloc, ROOM) {
-        Ok(sent) => sent,
-        Err(AllocError) => Vec::with_capacity(alloc, ROOM).expect(rt, "one refusal at the most"),
-    }
+    again(rt, || Vec::with_capacity(alloc, ROOM))
 }
 
 /// How a session over these frames ends, and the lines of what it sends after the response.
@@ -49,39 +44,32 @@ fn talk<R: Wait + Clock + Abort>(
     alloc: Global,
     registry: &Registry,
     connection: u32,
-    frames: &[(u8, &[u8])],
+    frames: &[Frame],
 ) -> (SessionEnd, Vec<u8>) {
-    let input = match frames_of(alloc, frames) {
-        Ok(input) => input,
-        Err(AllocError) => frames_of(alloc, frames).expect(rt, "one refusal at the most"),
-    };
+    let bytes = again(rt, || input(alloc, frames));
     let mut sent = peer(rt, alloc);
     let stream = Duplex {
-        reader: input.as_slice(),
+        reader: bytes.as_slice(),
         writer: &mut sent,
     };
     let end = session(rt, alloc, registry, connection, stream, &OpenGate);
     let texts = sent.as_slice().get(RESPONSE_BYTES..).unwrap_or(&[]);
-    let told = match lines(alloc, texts) {
-        Ok(told) => told,
-        Err(AllocError) => lines(alloc, texts).expect(rt, "one refusal at the most"),
-    };
-    (end, told)
+    (end, again(rt, || lines(alloc, texts)))
 }
 
-const OWNER: [(u8, &[u8]); 3] = [
+const OWNER: [Frame; 3] = [
     (TEXT, b"{\"cmd\":\"open\",\"board\":\"b1\",\"start\":518}"),
     (
         TEXT,
         b"{\"cmd\":\"submit\",\"board\":\"b1\",\"move\":\"e2e4\"}",
     ),
-    (CLOSE, &[0x03, 0xe8]),
+    (CLOSE, NORMAL),
 ];
 
 const OWNED: &[u8] =
     b"{\"reply\":\"opened\"}\n{\"outcome\":null,\"place\":0,\"reply\":\"played\"}\nclose 1000\n";
 
-const GUEST: [(u8, &[u8]); 1] = [(
+const GUEST: [Frame; 1] = [(
     TEXT,
     b"{\"cmd\":\"follow\",\"board\":\"b1\",\"spectator\":9,\"from\":0}",
 )];
@@ -126,11 +114,11 @@ fn a_refusal_ends_the_boards_and_leaves_no_seat_taken(rt: HostRuntime) {
     assert_eq!(rt; guests_told(&rt, rt.alloc(), &registry, left.as_slice()), 3);
 }
 
-const OPENER: [(u8, &[u8]); 4] = [
+const OPENER: [Frame; 4] = [
     (TEXT, b"{\"cmd\":\"open\",\"board\":\"b1\",\"start\":518}"),
     (TEXT, b"{\"cmd\":\"open\",\"board\":\"b1\",\"start\":518}"),
     (TEXT, b"{\"cmd\":\"open\",\"board\":\"b1\",\"start\":960}"),
-    (CLOSE, &[0x03, 0xe8]),
+    (CLOSE, NORMAL),
 ];
 
 /// What these answer, and what they answer if the first found no memory. For a name that exists no 12 is answered, whatever is refused: the

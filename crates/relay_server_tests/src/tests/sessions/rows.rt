@@ -1,17 +1,18 @@
 //! What peers send over a stream in memory, and how their sessions end.
 
 use crate::tests::sessions::frames::{
-    BINARY, CLOSE, FIRST_PART, LAST_PART, PING, REQUEST, TEXT, frame,
+    BINARY, CLOSE, FIRST_PART, LAST_PART, NORMAL, PING, REQUEST, RESPONSE_BYTES, TEXT, frame, lines,
 };
 use c960_game::Limits;
-use relay_server::{Registry, SessionEnd};
+use relay_server::{Gate, Registry, SessionEnd, session};
 use std::alloc::{AllocError, Global};
+use std::sync::Wait;
+use std::time::Clock;
+use tungstenite::Duplex;
 
 const OPEN_B1: &[u8] = b"{\"board\":\"b1\",\"cmd\":\"open\",\"start\":518}";
 
 const OPEN_B2: &[u8] = b"{\"board\":\"b2\",\"cmd\":\"open\",\"start\":518}";
-
-const NORMAL: &[u8] = &[0x03, 0xe8];
 
 /// The longest text allowed, and one that is too long.
 const LONGEST: [u8; 1024] = [b' '; 1024];
@@ -113,4 +114,24 @@ pub fn input(alloc: Global, frames: &[Frame]) -> Result<Vec<u8>, AllocError> {
         bytes.extend_from_slice(frame(alloc, *first, payload)?.as_slice())?;
     }
     Ok(bytes)
+}
+
+/// How the session of a peer that sends these frames ends, and what it answers, as lines.
+pub fn talked<R: Wait + Clock, G: Gate>(
+    rt: &R,
+    alloc: Global,
+    registry: &Registry,
+    connection: u32,
+    frames: &[Frame],
+    gate: &G,
+) -> Result<(SessionEnd, Vec<u8>), AllocError> {
+    let bytes = input(alloc, frames)?;
+    let mut sent = Vec::new(alloc);
+    let stream = Duplex {
+        reader: bytes.as_slice(),
+        writer: &mut sent,
+    };
+    let end = session(rt, alloc, registry, connection, stream, gate);
+    let answers = sent.as_slice().get(RESPONSE_BYTES..).unwrap_or(&[]);
+    Ok((end, lines(alloc, answers)?))
 }
