@@ -1,15 +1,15 @@
 //! The list of legal moves and the calls that need no list agree with their plain references.
 
 use crate::tests::rules::reading::{played, position_of};
-use crate::tests::rules::reference::{ep_of_list, legal_by_trial, state_of_list};
+use crate::tests::rules::reference::{ep_of_list, legal_by, state_of_list};
 use c960_board::Move;
-use c960_rules::{Lawful, any_legal, ep_legal, legal_moves, state};
+use c960_rules::{Lawful, any_legal, ep_legal, is_legal, legal_moves, state};
 use std::alloc::{AllocError, Global};
 use std::process::Abort;
 
 /// Whether all agree at a position with these legal moves.
 fn agree_at(alloc: Global, lawful: &Lawful, moves: &[Move]) -> Result<bool, AllocError> {
-    let tried = legal_by_trial(alloc, lawful)?;
+    let tried = legal_by(alloc, |m| is_legal(lawful, m))?;
     let tried = tried.as_slice();
     Ok(
         moves == tried

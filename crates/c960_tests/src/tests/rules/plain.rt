@@ -3,7 +3,6 @@
 ghost use Rattle.std.specs.Prelude.{◌≤◌};
 
 use c960_board::{Colour, Kind, Move, Parts, Piece};
-use std::alloc::{AllocError, Global};
 
 /// The contents of the square with a number; nothing beyond the last.
 fn cell(cells: &[Option<Piece>; 64], square: u8) -> Option<Piece> {
@@ -257,22 +256,4 @@ fn castles(parts: &Parts, m: &Move) -> bool {
 /// Whether the move is legal.
 pub fn is_legal(parts: &Parts, m: &Move) -> bool {
     (reaches(parts, m) || castles(parts, m)) && !in_check(&placement_after(parts, m), parts.turn)
-}
-
-/// The move at a place in the order by the square that is left, then by the goal, then by the promotion.
-fn move_at(place: u64) -> Option<Move> {
-    Move::of_code(place / 320 + 64 * (place / 5 % 64) + 4096 * (place % 5))
-}
-
-/// The legal moves, found by trying all 20,480 moves in order.
-pub fn legal_moves(alloc: Global, parts: &Parts) -> Result<Vec<Move>, AllocError> {
-    let mut found = Vec::new(alloc);
-    for place in 0..20480 {
-        if let Some(m) = move_at(place)
-            && is_legal(parts, &m)
-        {
-            found.push(m)?;
-        }
-    }
-    Ok(found)
 }

@@ -1,7 +1,7 @@
 //! Plain references: trying every move, and what can be read off the list of legal moves.
 
 use c960_board::{Kind, Move, Square};
-use c960_rules::{Lawful, State, in_check, is_legal};
+use c960_rules::{Lawful, State, in_check};
 use std::alloc::{AllocError, Global};
 
 /// The move at a place in the order by the square that is left, then by the goal, then by the promotion.
@@ -9,12 +9,14 @@ fn move_at(place: u64) -> Option<Move> {
     Move::of_code(place / 320 + 64 * (place / 5 % 64) + 4096 * (place % 5))
 }
 
-/// The legal moves, found by trying all 20,480 moves in order.
-pub fn legal_by_trial(alloc: Global, lawful: &Lawful) -> Result<Vec<Move>, AllocError> {
+/// The moves that are legal by this test, found by trying all 20,480 moves in order.
+pub fn legal_by<F: Fn(Move) -> bool>(alloc: Global, is_legal: F) -> Result<Vec<Move>, AllocError>
+    requires { F.IsAlwaysCallable is_legal }
+{
     let mut found = Vec::new(alloc);
     for place in 0..20480 {
         if let Some(m) = move_at(place)
-            && is_legal(lawful, m)
+            && is_legal(m)
         {
             found.push(m)?;
         }

@@ -2,6 +2,7 @@
 
 use crate::tests::rules::plain;
 use crate::tests::rules::reading::{played, position_of, standard, start};
+use crate::tests::rules::reference::legal_by;
 use c960_board::{Colour, Kind, Move, Parts, Piece, Position, Square};
 use c960_rules::{Lawful, any_legal, attacked, attackers, ep_legal, in_check, legal_moves};
 use std::alloc::{AllocError, Global};
@@ -96,7 +97,7 @@ fn is_list(
     parts: &Parts,
     moves: &[Move],
 ) -> Result<bool, AllocError> {
-    let found = plain::legal_moves(alloc, parts)?;
+    let found = legal_by(alloc, |m| plain::is_legal(parts, &m))?;
     let found = found.as_slice();
     Ok(
         moves == found
