@@ -12,40 +12,32 @@ use std::alloc::Global;
 use std::process::Abort;
 use std::test::Fail;
 
-#[test]
-fn mate_and_over(rt: HostRuntime) -> Result<(), Fail> {
-    let rows = [
-        (Open("b1", 518), Opened),
-        (Follow(1, "b1"), Following(0, START_518)),
-        (Submit("b1", "f2f3"), Played(0)),
-        (Submit("b1", "e7e5"), Played(1)),
-        (Submit("b1", "g2g4"), Played(2)),
-        (Submit("b1", "d8h4"), PlayedLast(3, BLACK_MATES)),
-        (Follow(2, "b1"), Following(4, MATED)),
-        (Take(1), Took(0, "f2f3")),
-        (Take(1), Took(1, "e7e5")),
-        (Take(1), Took(2, "g2g4")),
-        (Take(1), Took(3, "d8h4")),
-        (Take(1), Over(BLACK_MATES)),
-        (Take(1), Over(BLACK_MATES)),
-        (Submit("b1", "a2a3"), Refused(Refusal::GameOver)),
-        (End("b1", Ending::Agreed), Refused(Refusal::GameOver)),
-    ];
-    assert_case(&rt, rt.alloc(), with_capacity(64), &rows)
-}
-
-/// A mate, and what a follower that joined before the first move takes, whether its queue holds four moves or three.
-const MATE: [(Asked, Told); 7] = [
+/// A mate that one follower takes move by move while another one joins after it. Only the opening and the two follows take memory.
+pub const MATE: [(Asked, Told); 16] = [
     (Open("b1", 518), Opened),
     (Follow(1, "b1"), Following(0, START_518)),
-    (SubmitLine("b1", "f2f3 e7e5 g2g4"), Played(0)),
+    (Submit("b1", "f2f3"), Played(0)),
+    (Submit("b1", "e7e5"), Played(1)),
+    (Submit("b1", "g2g4"), Played(2)),
     (Submit("b1", "d8h4"), PlayedLast(3, BLACK_MATES)),
+    (Follow(2, "b1"), Following(4, MATED)),
     (Take(1), Took(0, "f2f3")),
     (Take(1), Took(1, "e7e5")),
     (Take(1), Took(2, "g2g4")),
+    (Take(1), Took(3, "d8h4")),
+    (Take(1), Over(BLACK_MATES)),
+    (Take(1), Over(BLACK_MATES)),
+    (Submit("b1", "a2a3"), Refused(Refusal::GameOver)),
+    (End("b1", Ending::Agreed), Refused(Refusal::GameOver)),
+    (Leave(1), Left(0, 4, 4, false)),
 ];
 
-/// Asserts that a relay whose queues have this capacity answers these rows after that mate.
+#[test]
+fn mate_and_over(rt: HostRuntime) -> Result<(), Fail> {
+    assert_case(&rt, rt.alloc(), with_capacity(64), &MATE)
+}
+
+/// Asserts that a relay whose queues have this capacity answers these rows after the mate, once the follower has taken three of its moves.
 fn assert_after_mate(
     rt: &impl Abort,
     alloc: Global,
@@ -53,7 +45,8 @@ fn assert_after_mate(
     rest: &[(Asked, Told)],
 ) -> Result<(), Fail> {
     let mut rows = Vec::new(alloc);
-    rows.extend_from_slice(&MATE)?;
+    rows.extend_from_slice(&MATE[..6])?;
+    rows.extend_from_slice(&MATE[7..10])?;
     rows.extend_from_slice(rest)?;
     assert_case(rt, alloc, with_capacity(capacity), rows.as_slice())
 }

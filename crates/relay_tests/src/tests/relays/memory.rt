@@ -1,15 +1,14 @@
 //! Lack of memory. If one allocation is refused (`rt try --test --fail-alloc N`, for each N in turn), the call that needed
 //! it says so and changes nothing, and is accepted when made again; everything else is answered as ever.
 
+use crate::tests::relays::endings::MATE;
 use crate::tests::relays::kinds::Kind;
 use crate::tests::relays::table::Asked::{End, Follow, FollowFrom, Leave, Open, Submit, Take};
 use crate::tests::relays::table::Told::{
-    Cut, Ended, Following, Left, Nothing, Opened, Over, Played, PlayedLast, Took,
+    Cut, Ended, Following, Left, Nothing, Opened, Over, Played, Took,
 };
 use crate::tests::relays::table::{Asked, Told, following, limits_of, line_of, reply_of, step_of};
-use crate::tests::values::{
-    BLACK_MATES, ONE_PLY, START_0, START_518, TWO_PLIES, account, board_of, move_of,
-};
+use crate::tests::values::{ONE_PLY, START_0, START_518, TWO_PLIES, account, board_of, move_of};
 use c960_game::{Ending, Limits, Outcome, Refusal};
 use relay_core::{Relay, Reply, Step, Stepper, Taken};
 use relay_live::LiveRelay;
@@ -150,38 +149,26 @@ fn refusals_in<K: Kind>(
     refused.count
 }
 
-#[test]
-fn a_refused_step_is_accepted_when_made_again(rt: HostRuntime) {
-    let limits = (2, 1, 1, 1024);
-    let plain = refusals_in::<Relay>(&rt, rt.alloc(), limits, &ROWS);
-    let live = refusals_in::<LiveRelay>(&rt, rt.alloc(), limits, &ROWS);
+/// Asserts that new relays of both kinds answer these rows, and that at most one call was refused for lack of memory.
+fn assert_rows(
+    rt: &impl Abort,
+    alloc: Global,
+    limits: (u16, u16, u16, u16),
+    rows: &[(Asked, Told)],
+) {
+    let plain = refusals_in::<Relay>(rt, alloc, limits, rows);
+    let live = refusals_in::<LiveRelay>(rt, alloc, limits, rows);
     assert!(rt; plain.saturating_add(live) <= 1);
 }
 
-/// A mate that one follower takes move by move. Only the first two steps take memory.
-const MATE: [(Asked, Told); 14] = [
-    (Open("b1", 518), Opened),
-    (Follow(1, "b1"), Following(0, START_518)),
-    (Submit("b1", "f2f3"), Played(0)),
-    (Submit("b1", "e7e5"), Played(1)),
-    (Submit("b1", "g2g4"), Played(2)),
-    (Submit("b1", "d8h4"), PlayedLast(3, BLACK_MATES)),
-    (Take(1), Took(0, "f2f3")),
-    (Take(1), Took(1, "e7e5")),
-    (Take(1), Took(2, "g2g4")),
-    (Take(1), Took(3, "d8h4")),
-    (Take(1), Over(BLACK_MATES)),
-    (Submit("b1", "a2a3"), Told::Refused(Refusal::GameOver)),
-    (End("b1", Ending::Agreed), Told::Refused(Refusal::GameOver)),
-    (Leave(1), Left(0, 4, 4, false)),
-];
+#[test]
+fn a_refused_step_is_accepted_when_made_again(rt: HostRuntime) {
+    assert_rows(&rt, rt.alloc(), (2, 1, 1, 1024), &ROWS);
+}
 
 #[test]
 fn the_steps_after_an_opening_and_a_follow_are_answered_whatever_is_refused(rt: HostRuntime) {
-    let limits = (16, 64, 64, 1024);
-    let plain = refusals_in::<Relay>(&rt, rt.alloc(), limits, &MATE);
-    let live = refusals_in::<LiveRelay>(&rt, rt.alloc(), limits, &MATE);
-    assert!(rt; plain.saturating_add(live) <= 1);
+    assert_rows(&rt, rt.alloc(), (16, 64, 64, 1024), &MATE);
 }
 
 /// Asserts that a new relay of the kind answers a run. Returns how many calls were refused for lack of memory.

@@ -140,32 +140,22 @@ pub fn case_of(rt: &impl Abort, alloc: Global, rows: &[(Asked, Told)]) -> Result
     Ok(case)
 }
 
-/// Whether a new relay of the kind gives these replies step by step.
-fn answers_by_step<K: Kind>(
+/// Asserts that new relays of the kind, which is named so, give these replies to these steps, one step by step and one in one run.
+fn assert_kind<K: Kind>(
+    rt: &impl Abort,
     alloc: Global,
+    name: &str,
     limits: Limits,
-    steps: &[Step],
-    replies: &[Reply],
-) -> Result<bool, AllocError> {
+    (steps, replies): (&[Step], &[Reply]),
+) -> Result<(), Fail> {
     let mut relay = K::made(alloc, limits)?;
     for i in 0..steps.len().min(replies.len()) {
-        if relay.step(steps[i]) != replies[i] {
-            return Ok(false);
-        }
+        assert!(rt; relay.step(steps[i]) == replies[i], "{name} by step");
     }
-    Ok(true)
-}
-
-/// Whether a new relay of the kind gives these replies in one run.
-fn answers_by_run<K: Kind>(
-    alloc: Global,
-    limits: Limits,
-    steps: &[Step],
-    replies: &[Reply],
-) -> Result<bool, AllocError> {
     let mut relay = K::made(alloc, limits)?;
     let given = relay.ran(steps)?;
-    Ok(given.as_slice() == replies)
+    assert!(rt; given.as_slice() == replies, "{name} by run");
+    Ok(())
 }
 
 /// Asserts that a new relay of either kind with these limits gives these replies to these steps, step by step and in one run.
@@ -176,23 +166,8 @@ pub fn assert_replies(
     steps: &[Step],
     replies: &[Reply],
 ) -> Result<(), Fail> {
-    assert!(rt;
-        answers_by_step::<Relay>(alloc, limits, steps, replies)?,
-        "by step"
-    );
-    assert!(rt;
-        answers_by_run::<Relay>(alloc, limits, steps, replies)?,
-        "by run"
-    );
-    assert!(rt;
-        answers_by_step::<LiveRelay>(alloc, limits, steps, replies)?,
-        "live, by step"
-    );
-    assert!(rt;
-        answers_by_run::<LiveRelay>(alloc, limits, steps, replies)?,
-        "live, by run"
-    );
-    Ok(())
+    assert_kind::<Relay>(rt, alloc, "relay", limits, (steps, replies))?;
+    assert_kind::<LiveRelay>(rt, alloc, "live relay", limits, (steps, replies))
 }
 
 /// Asserts that a relay of either kind with these limits answers each row in this way, step by step and in runs.
