@@ -1,52 +1,17 @@
-//! A plain board: its game, and for each follower the list of the moves that wait, each with its place.
+//! A plain board: its game, and for each follower a plain queue.
 
 use crate::tests::live_boards::stage::{Answer, Ask};
+use crate::tests::plain_queue::PlainQueue;
 use c960_board::Move;
-use c960_game::{Ending, Game, Limits, Outcome, Refusal};
-use relay_core::{Account, Taken};
+use c960_game::{Ending, Game, Limits, Refusal};
 use std::alloc::{AllocError, Global};
-
-/// A follower: what it has had, its closing, and the moves that wait for it.
-#[derive(Drop)]
-struct PlainFollower {
-    joined: u16,
-    taken: u16,
-    closed_at: Option<u16>,
-    queue: Vec<(u16, Move)>,
-}
-
-impl PlainFollower {
-    /// What its follower has had and knows, given that the log has this length.
-    fn account(&self, len: u16) -> Account {
-        Account {
-            joined: self.joined,
-            taken: self.taken,
-            limit: self.closed_at.unwrap_or(len),
-            cut: self.closed_at.is_some(),
-        }
-    }
-
-    /// Takes the next move that waits, or reports why there is none.
-    fn take(&mut self, outcome: Option<Outcome>) -> Taken {
-        if !self.queue.is_empty() {
-            let (place, m) = self.queue.remove(0);
-            self.taken = self.taken.saturating_add(1);
-            return Taken::Move(place, m);
-        }
-        match (self.closed_at, outcome) {
-            (Some(_), _) => Taken::Cut,
-            (None, Some(outcome)) => Taken::Over(outcome),
-            (None, None) => Taken::Nothing,
-        }
-    }
-}
 
 /// A plain board with its followers.
 #[derive(Drop)]
 pub struct Plain {
     game: Game,
     limits: Limits,
-    followers: Vec<Option<PlainFollower>>,
+    followers: Vec<Option<PlainQueue>>,
     /// How many slots are given out: the slot of a follower that goes without leaving stays taken.
     given_out: u16,
     alloc: Global,
@@ -95,14 +60,8 @@ impl Plain {
         };
         let capacity = usize::from(self.limits.capacity());
         for follower in &mut self.followers {
-            if let Some(follower) = follower {
-                if follower.closed_at.is_none() {
-                    if follower.queue.len() >= capacity {
-                        follower.closed_at = Some(place);
-                    } else {
-                        follower.queue.push((place, m))?;
-                    }
-                }
+            if let Some(queue) = follower {
+                queue.add(capacity, place, m)?;
             }
         }
         Ok(Answer::Played(place, outcome))
@@ -115,17 +74,6 @@ impl Plain {
         }
     }
 
-    /// The moves of the game from a place on, each with its place.
-    fn moves_from(&self, place: u16) -> Result<Vec<(u16, Move)>, AllocError> {
-        let mut moves = Vec::new(self.alloc);
-        for at in place..self.game.len() {
-            if let Some(m) = self.game.move_at(at) {
-                moves.push((at, m))?;
-            }
-        }
-        Ok(moves)
-    }
-
     fn follow(&mut self, who: usize, from: Option<u16>) -> Result<Answer, AllocError> {
         if !matches!(self.followers.get(who), Some(None)) {
             return Ok(Answer::Amiss);
@@ -134,7 +82,7 @@ impl Plain {
         if joined > self.game.len() {
             return Ok(Answer::Refused(Refusal::NotYet));
         }
-        let queue = self.moves_from(joined)?;
+        let queue = PlainQueue::new(self.alloc, &self.game, joined)?;
         if queue.len() > usize::from(self.limits.capacity()) {
             return Ok(Answer::Refused(Refusal::TooFarBack));
         }
@@ -142,12 +90,7 @@ impl Plain {
             return Ok(Answer::Refused(Refusal::TooManyFollowers));
         }
         if let Some(follower) = self.followers.get_mut(who) {
-            *follower = Some(PlainFollower {
-                joined,
-                taken: 0,
-                closed_at: None,
-                queue,
-            });
+            *follower = Some(queue);
             self.given_out = self.given_out.saturating_add(1);
         }
         Ok(Answer::Following(joined, 0))
@@ -159,7 +102,7 @@ impl Plain {
             return Answer::Amiss;
         }
         match &mut self.followers[who] {
-            Some(follower) => Answer::Took(follower.take(outcome)),
+            Some(queue) => Answer::Took(queue.take(outcome)),
             None => Answer::Amiss,
         }
     }
@@ -168,11 +111,11 @@ impl Plain {
         let Some(slot) = self.followers.get_mut(who) else {
             return Answer::Amiss;
         };
-        let Some(follower) = slot.take() else {
+        let Some(queue) = slot.take() else {
             return Answer::Amiss;
         };
         self.given_out = self.given_out.saturating_sub(1);
-        Answer::Left(follower.account(self.game.len()))
+        Answer::Left(queue.account(self.game.len()))
     }
 
     fn drop_follower(&mut self, who: usize) -> Answer {

@@ -1,8 +1,9 @@
-//! A plain relay, written from the table of steps, with vectors as queues and flags for closings. Its games are `Game`s.
+//! A plain relay, written from the table of steps, with plain queues. Its games are `Game`s.
 
+use crate::tests::plain_queue::PlainQueue;
 use c960_board::{Move, Position};
 use c960_game::{Ending, Game, Limits, Outcome, Refusal};
-use relay_core::{Account, BoardName, Reply, Spectator, Step, Taken};
+use relay_core::{BoardName, Reply, Spectator, Step};
 use std::alloc::{AllocError, Global};
 
 /// A board by its name.
@@ -12,15 +13,12 @@ struct Board {
     game: Game,
 }
 
-/// A follower of a board, with the moves that wait, each with its place.
+/// A follower of a board.
 #[derive(Drop)]
 struct PlainFollower {
     who: Spectator,
     board: BoardName,
-    joined: u16,
-    taken: u16,
-    closed_at: Option<u16>,
-    queue: Vec<(u16, Move)>,
+    queue: PlainQueue,
 }
 
 /// A plain relay.
@@ -110,12 +108,8 @@ impl Plain {
     fn publish(&mut self, name: BoardName, place: u16, m: Move) -> Result<(), AllocError> {
         let capacity = usize::from(self.limits.capacity());
         for follower in &mut self.followers {
-            if follower.board == name && follower.closed_at.is_none() {
-                if follower.queue.len() >= capacity {
-                    follower.closed_at = Some(place);
-                } else {
-                    follower.queue.push((place, m))?;
-                }
+            if follower.board == name {
+                follower.queue.add(capacity, place, m)?;
             }
         }
         Ok(())
@@ -131,17 +125,6 @@ impl Plain {
             }
         }
         Reply::Refused(Refusal::NoSuchBoard)
-    }
-
-    /// The moves of a game from a place on, each with its place.
-    fn moves_from(&self, game: &Game, place: u16) -> Result<Vec<(u16, Move)>, AllocError> {
-        let mut moves = Vec::new(self.alloc);
-        for at in place..game.len() {
-            if let Some(m) = game.move_at(at) {
-                moves.push((at, m))?;
-            }
-        }
-        Ok(moves)
     }
 
     fn follow(
@@ -160,7 +143,7 @@ impl Plain {
         let Some(position) = replayed(self.alloc, game, joined)? else {
             return Ok(Reply::Refused(Refusal::NotYet));
         };
-        let queue = self.moves_from(game, joined)?;
+        let queue = PlainQueue::new(self.alloc, game, joined)?;
         if queue.len() > usize::from(self.limits.capacity()) {
             return Ok(Reply::Refused(Refusal::TooFarBack));
         }
@@ -175,9 +158,6 @@ impl Plain {
         self.followers.push(PlainFollower {
             who,
             board: name,
-            joined,
-            taken: 0,
-            closed_at: None,
             queue,
         })?;
         Ok(Reply::Following { joined, position })
@@ -186,15 +166,8 @@ impl Plain {
     fn take(&mut self, who: Spectator) -> Reply {
         for follower in &mut self.followers {
             if follower.who == who {
-                if !follower.queue.is_empty() {
-                    let (place, m) = follower.queue.remove(0);
-                    follower.taken = follower.taken.saturating_add(1);
-                    return Reply::Took(Taken::Move(place, m));
-                }
-                if follower.closed_at.is_some() {
-                    return Reply::Took(Taken::Cut);
-                }
-                return Reply::Took(over_or_nothing(&self.boards, follower.board));
+                let outcome = outcome_of(&self.boards, follower.board);
+                return Reply::Took(follower.queue.take(outcome));
             }
         }
         Reply::Refused(Refusal::NoSuchFollower)
@@ -213,12 +186,7 @@ impl Plain {
             Some(game) => game.len(),
             None => 0,
         };
-        Reply::Left(Account {
-            joined: follower.joined,
-            taken: follower.taken,
-            limit: follower.closed_at.unwrap_or(present),
-            cut: follower.closed_at.is_some(),
-        })
+        Reply::Left(follower.queue.account(present))
     }
 }
 
@@ -236,15 +204,12 @@ fn replayed(alloc: Global, game: &Game, moves: u16) -> Result<Option<Position>, 
     Ok(Some(again.position()))
 }
 
-/// The answer for a board when no move waits.
-fn over_or_nothing(boards: &[Board], name: BoardName) -> Taken {
+/// How the game of a board has ended, if it has.
+fn outcome_of(boards: &[Board], name: BoardName) -> Option<Outcome> {
     for board in boards {
         if board.name == name {
-            return match board.game.outcome() {
-                Some(outcome) => Taken::Over(outcome),
-                None => Taken::Nothing,
-            };
+            return board.game.outcome();
         }
     }
-    Taken::Nothing
+    None
 }
