@@ -1,8 +1,8 @@
 //! Sessions over a device that fails: how they end, that nothing more is written, and that their boards are over.
 
-use crate::tests::sessions::frames::{CLOSE, NORMAL, REQUEST, TEXT};
+use crate::tests::sessions::frames::{REQUEST, TEXT};
 use crate::tests::sessions::rows::{input, registry, talked};
-use crate::tests::sessions::texts::{FOLLOW_B1, OPEN_B1, SUBMIT_E2E4};
+use crate::tests::sessions::texts::{FOLLOW_B1, OWNER};
 use relay_server::{OpenGate, Registry, SessionEnd, session};
 use std::alloc::{AllocError, Global};
 use std::io;
@@ -75,8 +75,7 @@ const DEVICE: [ErrorKind; 4] = [
     ErrorKind::BrokenPipe,
 ];
 
-/// How the session of an owner ends, which sends two commands and a close, if its reads give this many bytes of these and then fail in this
-/// way, or end.
+/// How the session of an owner ends if its reads give this many bytes of what it sends and then fail in this way, or end.
 fn end_of_owner<R: Wait + Clock, W: Write + Drop>(
     rt: &R,
     alloc: Global,
@@ -84,12 +83,7 @@ fn end_of_owner<R: Wait + Clock, W: Write + Drop>(
     (until, failure): (usize, Option<ErrorKind>),
     writer: W,
 ) -> Result<SessionEnd, AllocError> {
-    let frames = [
-        (TEXT, OPEN_B1.as_bytes()),
-        (TEXT, SUBMIT_E2E4.as_bytes()),
-        (CLOSE, NORMAL),
-    ];
-    let bytes = input(alloc, &frames)?;
+    let bytes = input(alloc, &OWNER)?;
     let reader = FailingReader {
         left: &bytes.as_slice()[..until.min(bytes.len())],
         failure,

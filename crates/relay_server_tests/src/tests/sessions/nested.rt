@@ -2,6 +2,7 @@
 
 use crate::tests::sessions::frames::{CLOSE, NORMAL, TEXT};
 use crate::tests::sessions::rows::{Frame, registry, talked};
+use crate::tests::sessions::texts::OPEN_B1;
 use relay_server::{Gate, OpenGate, Registry, SessionEnd};
 use std::alloc::{AllocError, Global};
 use std::cell::Cell;
@@ -9,10 +10,7 @@ use std::sync::Wait;
 use std::test::Fail;
 use std::time::Clock;
 
-const FRAMES: &[Frame] = &[
-    (TEXT, b"{\"cmd\":\"open\",\"board\":\"b1\",\"start\":518}"),
-    (CLOSE, NORMAL),
-];
+const FRAMES: &[Frame] = &[(TEXT, OPEN_B1.as_bytes()), (CLOSE, NORMAL)];
 
 const OPENED: &[u8] = b"{\"reply\":\"opened\"}\nclose 1000\n";
 

@@ -3,6 +3,7 @@
 
 use crate::tests::sessions::frames::{CLOSE, NORMAL, RESPONSE_BYTES, TEXT, lines};
 use crate::tests::sessions::rows::{Frame, input};
+use crate::tests::sessions::texts::{OPEN_B1, OWNER};
 use c960_game::Limits;
 use relay_server::{OpenGate, Registry, SessionEnd, session};
 use std::alloc::{AllocError, Global};
@@ -57,15 +58,6 @@ fn talk<R: Wait + Clock + Abort>(
     (end, again(rt, || lines(alloc, texts)))
 }
 
-const OWNER: [Frame; 3] = [
-    (TEXT, b"{\"cmd\":\"open\",\"board\":\"b1\",\"start\":518}"),
-    (
-        TEXT,
-        b"{\"cmd\":\"submit\",\"board\":\"b1\",\"move\":\"e2e4\"}",
-    ),
-    (CLOSE, NORMAL),
-];
-
 const OWNED: &[u8] =
     b"{\"reply\":\"opened\"}\n{\"outcome\":null,\"place\":0,\"reply\":\"played\"}\nclose 1000\n";
 
@@ -115,8 +107,8 @@ fn a_refusal_ends_the_boards_and_leaves_no_seat_taken(rt: HostRuntime) {
 }
 
 const OPENER: [Frame; 4] = [
-    (TEXT, b"{\"cmd\":\"open\",\"board\":\"b1\",\"start\":518}"),
-    (TEXT, b"{\"cmd\":\"open\",\"board\":\"b1\",\"start\":518}"),
+    (TEXT, OPEN_B1.as_bytes()),
+    (TEXT, OPEN_B1.as_bytes()),
     (TEXT, b"{\"cmd\":\"open\",\"board\":\"b1\",\"start\":960}"),
     (CLOSE, NORMAL),
 ];
