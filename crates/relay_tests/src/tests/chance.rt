@@ -1,4 +1,4 @@
-//! Random numbers, what is drawn by them, and whether each kind of answer came.
+//! Random numbers, and what is drawn by them.
 
 use c960_board::Colour;
 use c960_game::Ending;
@@ -31,15 +31,3 @@ pub const ENDINGS: [Ending; 8] = [
     Ending::ClaimFifty(Colour::White),
     Ending::ClaimFifty(Colour::Black),
 ];
-
-/// Whether one of these is of the kind.
-pub fn has_kind<T, F: Fn(&T) -> &'static str>(all: &[T], kind_of: F, kind: &str) -> bool
-    requires { F.IsAlwaysCallable kind_of }
-{
-    for one in all {
-        if kind_of(one) == kind {
-            return true;
-        }
-    }
-    false
-}

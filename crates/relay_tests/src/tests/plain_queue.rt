@@ -44,9 +44,10 @@ impl PlainQueue {
         }
         if self.waiting.len() >= capacity {
             self.closed_at = Some(place);
-            return Ok(());
+        } else {
+            self.waiting.push((place, m))?;
         }
-        self.waiting.push((place, m))
+        Ok(())
     }
 
     /// Takes the next move that waits, or reports why there is none.

@@ -1,6 +1,6 @@
 //! Lists of steps drawn at random, whose replies are those of the plain relay.
 
-use crate::tests::chance::{Dice, ENDINGS, MOVES, has_kind};
+use crate::tests::chance::{Dice, ENDINGS, MOVES};
 use crate::tests::relays::plain::Plain;
 use crate::tests::relays::table::{assert_replies, limits_of};
 use crate::tests::values::{board_of, move_of};
@@ -63,6 +63,16 @@ fn kind_of(reply: &Reply) -> &'static str {
     }
 }
 
+/// Whether one of the replies is of the kind.
+fn has_kind(replies: &[Reply], kind: &str) -> bool {
+    for reply in replies {
+        if kind_of(reply) == kind {
+            return true;
+        }
+    }
+    false
+}
+
 /// Every reply that there is, except for lack of memory.
 const KINDS: [&str; 24] = [
     "opened",
@@ -118,7 +128,7 @@ fn steps_by_chance_are_answered_as_by_the_plain_relay(rt: HostRuntime) -> Result
         seen.extend_from_slice(replies.as_slice())?;
     }
     for kind in KINDS {
-        assert!(rt; has_kind(seen.as_slice(), kind_of, kind), "no {kind}");
+        assert!(rt; has_kind(seen.as_slice(), kind), "no {kind}");
     }
     Ok(())
 }
