@@ -132,7 +132,7 @@ fn told_of_b1<R: Wait + Clock>(
     alloc: Global,
     registry: &Registry,
 ) -> Result<Vec<u8>, AllocError> {
-    let follow = [(TEXT, FOLLOW_B1.as_bytes())];
+    let follow = [(TEXT, FOLLOW_B1)];
     let (_, told) = talked(rt, alloc, registry, 2, &follow, &OpenGate)?;
     Ok(told)
 }

@@ -10,7 +10,7 @@ use std::sync::Wait;
 use std::test::Fail;
 use std::time::Clock;
 
-const FRAMES: &[Frame] = &[(TEXT, OPEN_B1.as_bytes()), (CLOSE, NORMAL)];
+const FRAMES: &[Frame] = &[(TEXT, OPEN_B1), (CLOSE, NORMAL)];
 
 const OPENED: &[u8] = b"{\"reply\":\"opened\"}\nclose 1000\n";
 

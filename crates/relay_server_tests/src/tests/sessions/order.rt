@@ -68,26 +68,26 @@ fn bytes(alloc: Global, bytes: &[u8]) -> Result<Vec<u8>, AllocError> {
 
 /// What the owner sends, piece by piece.
 fn owner(alloc: Global) -> Result<Vec<Vec<u8>>, AllocError> {
-    let mut first = frame(alloc, TEXT, OPEN_B1.as_bytes())?;
-    let half = frame(alloc, TEXT, SUBMIT_E2E4.as_bytes())?;
+    let mut first = frame(alloc, TEXT, OPEN_B1)?;
+    let half = frame(alloc, TEXT, SUBMIT_E2E4)?;
     let middle = half.len() / 2;
     first.extend_from_slice(&half.as_slice()[..middle])?;
     let mut second = bytes(alloc, &half.as_slice()[middle..])?;
-    second.extend_from_slice(frame(alloc, TEXT, SUBMIT_E7E5.as_bytes())?.as_slice())?;
+    second.extend_from_slice(frame(alloc, TEXT, SUBMIT_E7E5)?.as_slice())?;
     let close = frame(alloc, CLOSE, NORMAL)?;
     Ok(vec![in alloc; bytes(alloc, REQUEST)?, first, second, close]?)
 }
 
 /// What the follower sends, piece by piece.
 fn follower(alloc: Global) -> Result<Vec<Vec<u8>>, AllocError> {
-    let follow = frame(alloc, TEXT, FOLLOW_B1_FROM_0.as_bytes())?;
+    let follow = frame(alloc, TEXT, FOLLOW_B1_FROM_0)?;
     Ok(vec![in alloc; bytes(alloc, REQUEST)?, follow]?)
 }
 
 /// What a peer sends with this frame after its second command.
 fn breach(alloc: Global, broken: &[u8]) -> Result<Vec<Vec<u8>>, AllocError> {
-    let mut piece = frame(alloc, TEXT, OPEN_B1.as_bytes())?;
-    piece.extend_from_slice(frame(alloc, TEXT, SUBMIT_E2E4.as_bytes())?.as_slice())?;
+    let mut piece = frame(alloc, TEXT, OPEN_B1)?;
+    piece.extend_from_slice(frame(alloc, TEXT, SUBMIT_E2E4)?.as_slice())?;
     piece.extend_from_slice(broken)?;
     Ok(vec![in alloc; bytes(alloc, REQUEST)?, piece]?)
 }

@@ -107,8 +107,8 @@ fn a_refusal_ends_the_boards_and_leaves_no_seat_taken(rt: HostRuntime) {
 }
 
 const OPENER: [Frame; 4] = [
-    (TEXT, OPEN_B1.as_bytes()),
-    (TEXT, OPEN_B1.as_bytes()),
+    (TEXT, OPEN_B1),
+    (TEXT, OPEN_B1),
     (TEXT, b"{\"cmd\":\"open\",\"board\":\"b1\",\"start\":960}"),
     (CLOSE, NORMAL),
 ];
