@@ -201,11 +201,6 @@ nothing_left None told = refl
 nothing_left (Some (Here present)) told = let no : ⊥ = cc in absurd no
 nothing_left (Some (Waits until)) told = let no : ⊥ = cc in absurd no
 
--- a key that is not found has no presence
-pub absent_is : (p : Option Presence) → is_some p ≡ false → p ≡ None
-absent_is None absent = refl
-absent_is (Some presence) absent = absurd (true≢false absent)
-
 -- what holds in any case holds for what is lent
 pub whatever : {A P : Type 0} (lent : Option A) → P → IfSome lent (λ _. P)
 whatever None p = tt

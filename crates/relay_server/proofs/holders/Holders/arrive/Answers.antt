@@ -1,33 +1,32 @@
-use Rattle.std.proofs.Common.{◌≡◌, ◌<◌, ◌++◌, ◌∷◌, [], ◌∙◌, None, is_some, length, sym, ap, subst, rules, arith}
+use Rattle.std.proofs.Common.{◌≡◌, ◌<◌, ◌∙◌, None, is_some, length, sym, ap, subst, rules, arith}
 use Rattle.relay_server.specs.declared.holders.Holder.{Holder}
 use Rattle.relay_server.specs.declared.presence.Presence.TheVariants.{Here}
 use Rattle.relay_server.specs.Holders.{OthersStay, is_waiting, presence_of, with_newcomer}
 use Rattle.relay_server.proofs.Standing.{has_come, key_changed, key_has, once_as_changed, others_as_come, others_of_changed, waited_is}
+use Rattle.relay_server.proofs.holders.Holders.arrive.Goals.{After-enter}
 use Rattle.relay_server.proofs.holders.Holders.arrive.Goals as goal
+
+-- the key had no connection, and now has its first
+absent : (c : After-enter) → presence_of c.args.key.now c.args.self.now.rows.items ≡ None
+absent c = search rules
+
+abbrev first : After-enter → Holder
+first c = record { key = c.args.key.now; presence = Here 1 }
 
 pub returns-in_default-clause-there : goal.returns-in_default-clause-there
 returns-in_default-clause-there c =
-    let rows = c.args.self.now.rows.items in
-    let h : Holder = record { key = c.args.key.now; presence = Here 1 } in
-    let absent : presence_of c.args.key.now rows ≡ None = search rules in
-    let come : c.enter.new.self.rows.items ≡ rows ++ h ∷ [] = c.in_ok-enter.ensures.entered in
-    ap (λ rs. is_some (presence_of c.args.key.now rs)) come ∙ ap is_some (has_come rows h absent)
+    let at = (goal.at.returns-in_default-clause-there c).After-enter in
+    ap (λ rs. is_some (presence_of c.args.key.now rs)) c.in_ok-enter.ensures.entered ∙ ap is_some (has_come c.args.self.now.rows.items (first at) (absent at))
 
 pub returns-in_default-clause-counted : goal.returns-in_default-clause-counted
 returns-in_default-clause-counted c =
-    let rows = c.args.self.now.rows.items in
-    let h : Holder = record { key = c.args.key.now; presence = Here 1 } in
-    let absent : presence_of c.args.key.now rows ≡ None = search rules in
-    let come : c.enter.new.self.rows.items ≡ rows ++ h ∷ [] = c.in_ok-enter.ensures.entered in
-    ap (presence_of c.args.key.now) come ∙ has_come rows h absent ∙ sym (ap with_newcomer absent)
+    let at = (goal.at.returns-in_default-clause-counted c).After-enter in
+    ap (presence_of c.args.key.now) c.in_ok-enter.ensures.entered ∙ has_come c.args.self.now.rows.items (first at) (absent at) ∙ sym (ap with_newcomer (absent at))
 
 pub returns-in_default-clause-others : goal.returns-in_default-clause-others
 returns-in_default-clause-others c =
-    let rows = c.args.self.now.rows.items in
-    let h : Holder = record { key = c.args.key.now; presence = Here 1 } in
-    let absent : presence_of c.args.key.now rows ≡ None = search rules in
-    let come : c.enter.new.self.rows.items ≡ rows ++ h ∷ [] = c.in_ok-enter.ensures.entered in
-    subst (OthersStay c.args.key.now rows) (sym come) (others_as_come rows h absent)
+    let at = (goal.at.returns-in_default-clause-others c).After-enter in
+    subst (OthersStay c.args.key.now c.args.self.now.rows.items) (sym c.in_ok-enter.ensures.entered) (others_as_come c.args.self.now.rows.items (first at) (absent at))
 
 pub invariant_of-self : goal.invariant_of-self
 invariant_of-self c =
