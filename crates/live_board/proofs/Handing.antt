@@ -9,18 +9,10 @@ use Rattle.live_board.specs.Views.{first_of, others, kept_part, given_part, carr
 use Rattle.live_board.specs.Shows.{total, is_at, ShowsPart}
 use Rattle.live_board.specs.Kinds.{SplitsOff, SplitsOffNothing, JoinsParts}
 use Rattle.live_board.proofs.EachStep.{Fits, fits, fits_set, owner_set, owner_append, viewed, with_parts, off}
+use Rattle.live_board.proofs.Hands.{first_at, others_at}
 use Rattle.live_board.proofs.lemmas.Totals.{total-append, total-set}
 
 -- ---- 3.
-
-first_at : (ps : List Part) (i : ℕ) (x : Part) → get_elem? (first_of ps) i ≡ some x → get_elem? ps 0 ≡ some x
-first_at [] i x e = absurd (some-ne-none x (sym e))
-first_at (p ∷ ps) zero x e = e
-first_at (p ∷ ps) (suc i) x e = absurd (some-ne-none x (sym e))
-
-others_at : (ps : List Part) (i : ℕ) (x : Part) → get_elem? (others ps) i ≡ some x → get_elem? ps (suc i) ≡ some x
-others_at [] i x e = absurd (some-ne-none x (sym e))
-others_at (p ∷ ps) i x e = e
 
 cut_total : (f : Part → ℕ) (ps : List Part) → total f (others ps) + total f (first_of ps) ≡ total f ps
 cut_total f [] = refl

@@ -9,11 +9,12 @@ use Rattle.live_board.specs.Words.{place_in, cursor_of}
 use Rattle.live_board.specs.Views.{first_of, others, kept_part, given_part, followed}
 use Rattle.live_board.specs.Sound.{IsSound}
 
-others_at : (ps : List Part) (i : ℕ) (x : Part) → get_elem? (others ps) i ≡ some x → get_elem? ps (suc i) ≡ some x
+-- a part behind the first, and the first
+pub others_at : (ps : List Part) (i : ℕ) (x : Part) → get_elem? (others ps) i ≡ some x → get_elem? ps (suc i) ≡ some x
 others_at [] i x e = absurd (some-ne-none x (sym e))
 others_at (p ∷ ps) i x e = e
 
-first_at : (ps : List Part) (i : ℕ) (x : Part) → get_elem? (first_of ps) i ≡ some x → get_elem? ps 0 ≡ some x
+pub first_at : (ps : List Part) (i : ℕ) (x : Part) → get_elem? (first_of ps) i ≡ some x → get_elem? ps 0 ≡ some x
 first_at [] i x e = absurd (some-ne-none x (sym e))
 first_at (p ∷ ps) zero x e = e
 first_at (p ∷ ps) (suc i) x e = absurd (some-ne-none x (sym e))
