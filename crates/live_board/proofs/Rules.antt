@@ -1,5 +1,5 @@
 -- What the rule of a take says, by its answer.
-use Rattle.std.proofs.Common.{◌≡◌, ℕ, ◌+◌, ◌<◌, ◌≤◌, nat_lt, Bool, true, false, cond, eqb, eq-eqb, eqb-true, [], length, Option, Some, None, refl, sym, ap, ◌∙◌, subst, arith}
+use Rattle.std.proofs.Common.{◌≡◌, ℕ, ◌+◌, ◌<◌, ◌≤◌, nat_lt, Bool, true, false, cond, eqb, eq-eqb, eqb-true, ltb-false, [], length, Option, Some, None, refl, sym, ap, ◌∙◌, subst, arith}
 use Rattle.std.proofs.lemmas.Bool.Decides.{nat_tests}
 use Rattle.c960_game.specs.declared.outcome.Outcome.{Outcome}
 use Rattle.relay_core.specs.declared.reply.Taken.{Taken}
@@ -52,10 +52,7 @@ module _ (closing : Option ℕ) (next long : ℕ) (over : Option Outcome) where
           → (long ≤ next) × (answer ≡ taken_of next over None [])
       by true less l g = let same : answer ≡ Cut = cc in absurd (uncut same)
       by false true l g = cc
-      by false false l g = let same : answer ≡ taken_of next over None [] = cc in (past l, same)
-        where
-          past : nat_lt next long ≡ false → long ≤ next
-          past f = grind (arith, nat_tests)
+      by false false l g = let same : answer ≡ taken_of next over None [] = cc in (ltb-false next long l, same)
 
   -- hence the follower is not at its closing
   pub more_uncut : without_move closing next long over ≡ None → closing ≡ Some next → ⊥
