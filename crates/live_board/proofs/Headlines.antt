@@ -5,7 +5,7 @@ use Rattle.std.proofs.lemmas.List.{get_or-take, get_or-drop, drop-drop, length-t
 use Rattle.c960_board.specs.Moves.{Triple}
 use Rattle.relay_core.specs.declared.reply.Taken.{Taken}
 use Rattle.relay_core.specs.declared.reply.Taken.TheVariants.{Move, Nothing, Over, Cut}
-use Rattle.live_board.specs.SharedBoard.{no_move, move_at, stretch}
+use Rattle.live_board.specs.SharedBoard.{no_move, move_at}
 use Rattle.live_board.specs.declared.view.Part.{Part}
 use Rattle.live_board.specs.Views.{next_of}
 use Rattle.live_board.specs.Sound.{BearsOut, IsSoundPart, end_of}

@@ -1,6 +1,5 @@
 -- What the rule says of one view by itself.
-use Rattle.std.proofs.Common.{◌≡◌, ℕ, zero, suc, ◌+◌, ◌≤◌, List, [], ◌∷◌, ◌++◌, length, take, drop, set, Option, Some, None, sym, refl, ap, ◌∙◌, subst, ⊎_elim, arith}
-use Rattle.std.proofs.lemmas.List.{length-take-le, take-append-le, take-append-drop, drop-append-le}
+use Rattle.std.proofs.Common.{◌≡◌, ℕ, zero, suc, ◌+◌, ◌≤◌, List, [], ◌∷◌, ◌++◌, length, set, Option, Some, None, sym, refl, ap, ◌∙◌, subst, ⊎_elim, arith}
 use Rattle.std.proofs.lemmas.Option.{same_Some, none-some, IfSome_then}
 use mathlib.Core.Option.{some, some-ne-none}
 use lib.ListN.{get_elem?}
@@ -8,8 +7,10 @@ use Rattle.atomic_table.specs.Table.{keeps, stepped}
 use Rattle.c960_board.specs.Moves.{Triple, IsMove}
 use Rattle.c960_game.specs.Game960.{Game960}
 use Rattle.c960_game.specs.Record.{IsOutcome}
+use Rattle.relay_core.specs.Following.{stretch}
+use Rattle.relay_core.proofs.lemmas.Stretches.{joined_stretches}
 use Rattle.live_board.specs.Limits.{AreBoardLimits}
-use Rattle.live_board.specs.SharedBoard.{SharedFollower, SharedBoard, move_at, stretch}
+use Rattle.live_board.specs.SharedBoard.{SharedFollower, SharedBoard, move_at}
 use Rattle.live_board.proofs.Stretches.{is_stretch}
 use Rattle.live_board.specs.declared.setup.BoardSetup.{BoardSetup}
 use Rattle.live_board.specs.declared.note.Note.{Note}
@@ -25,16 +26,6 @@ use Rattle.live_board.proofs.Codes.{logged_is_move}
 use Rattle.live_board.proofs.Notes.{follower}
 use Rattle.live_board.proofs.Parts.{same_part}
 use Rattle.live_board.proofs.EachStep.{opt_cases}
-
--- two stretches, one after the other
-stretches_join : (j n m : ℕ) (l : List Triple) → j ≤ n → n ≤ m → m ≤ length l → stretch j n l ++ stretch n m l ≡ stretch j m l
-stretches_join j n m l low high short =
-    let first : List Triple = take m l in
-    let long : length first ≡ m = length-take-le m l short in
-    let same : take n l ≡ take n first = ap (take n) (sym (take-append-drop m l)) ∙ take-append-le n first (drop m l) (omega arith) in
-    let near : length (take n first) ≡ n = length-take-le n first (omega arith) in
-    ap (λ (x : List Triple). drop j x ++ drop n first) same
-    ∙ sym (drop-append-le j (take n first) (drop n first) (omega arith)) ∙ ap (drop j) (take-append-drop n first)
 
 -- the log of the board that a table shows agrees with each part
 bears_out : (z : BoardSetup) (a : SharedBoard) (s : Table) → Shows z a s → (p : Part) (h : ShowsPart z a p) → BearsOut a.log h.closing p
@@ -54,7 +45,7 @@ bears_out z a s r p h =
       game = subst (λ (n : ℕ). Game960 n a.log) start r.shared.game;
       room = omega arith;
       whole = ap (λ (x : List Triple). x ++ stretch (next_of p) (end_of a.log h.closing) a.log) (is_stretch p.taken a.log p.joined here.stretch within)
-          ∙ stretches_join p.joined (next_of p) (end_of a.log h.closing) a.log (omega arith) low high;
+          ∙ joined_stretches p.joined (next_of p) (end_of a.log h.closing) a.log (omega arith) low high;
       before = h.before;
       reached = (low, high);
       bounded = omega arith;

@@ -2,7 +2,8 @@
 use Rattle.std.proofs.Common.{◌≡◌, ℕ, ◌+◌, ◌≤◌, ◌<◌, List, length, take, sym, ◌∙◌, arith, length-take, length-drop}
 use Rattle.std.proofs.lemmas.List.{ext_get_or, get_or-take, get_or-drop}
 use Rattle.c960_board.specs.Moves.{Triple}
-use Rattle.live_board.specs.SharedBoard.{no_move, move_at, stretch}
+use Rattle.relay_core.specs.Following.{stretch}
+use Rattle.live_board.specs.SharedBoard.{no_move, move_at}
 
 pub is_stretch : (t l : List Triple) (j : ℕ) → ((i : ℕ) → i < length t → move_at t i ≡ move_at l (j + i)) → j + length t ≤ length l
     → t ≡ stretch j (j + length t) l

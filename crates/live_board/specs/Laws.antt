@@ -3,8 +3,9 @@ use Rattle.std.specs.Prelude.{ℕ, ◌≡◌, ◌<◌, ◌≤◌, ◌+◌, List,
 use Rattle.c960_game.specs.declared.outcome.Outcome.{Outcome}
 use Rattle.c960_game.specs.Game960.{Game960}
 use Rattle.c960_game.specs.Record.{IsOutcome}
+use Rattle.relay_core.specs.Following.{stretch}
 use Rattle.live_board.specs.declared.limits.BoardLimits.{BoardLimits}
-use Rattle.live_board.specs.SharedBoard.{SharedFollower, SharedBoard, next, stretch, move_at}
+use Rattle.live_board.specs.SharedBoard.{SharedFollower, SharedBoard, next, move_at}
 use Rattle.live_board.specs.Events.{Event, Runs}
 use Rattle.c960_board.specs.declared.numbering.TheConstants.{STARTS}
 

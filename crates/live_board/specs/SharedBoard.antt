@@ -1,5 +1,5 @@
 -- A shared board between two events.
-use Rattle.std.specs.Prelude.{ℕ, ◌+◌, ◌==◌, if◌then◌else◌, List, length, drop, take, get_or, Option, None}
+use Rattle.std.specs.Prelude.{ℕ, ◌+◌, ◌==◌, if◌then◌else◌, List, length, get_or, Option, None}
 use Rattle.c960_board.specs.Moves.{Triple}
 use Rattle.c960_game.specs.declared.outcome.Outcome.{Outcome}
 
@@ -20,10 +20,6 @@ pub record SharedBoard : Type 0 where
 -- the place of the move that the follower takes next
 abbrev pub next : SharedFollower → ℕ
 next f = f.joined + length f.taken
-
--- the items of a list at the places a to b - 1
-abbrev pub stretch : ℕ → ℕ → List Triple → List Triple
-stretch a b l = drop a (take b l)
 
 -- a triple that stands for no move
 abbrev pub no_move : Triple

@@ -7,8 +7,9 @@ use Rattle.c960_board.specs.Moves.{Triple, IsMove}
 use Rattle.c960_game.specs.declared.outcome.Outcome.{Outcome}
 use Rattle.c960_game.specs.Game960.{Game960}
 use Rattle.c960_game.specs.Record.{IsOutcome}
+use Rattle.relay_core.specs.Following.{stretch}
 use Rattle.live_board.specs.Limits.{AreBoardLimits}
-use Rattle.live_board.specs.SharedBoard.{move_at, stretch}
+use Rattle.live_board.specs.SharedBoard.{move_at}
 use Rattle.live_board.specs.declared.note.Note.{Note}
 use Rattle.live_board.specs.declared.note.Note.TheVariants.{Vacant, Open, Closed}
 use Rattle.live_board.specs.declared.view.Part.{Part}

@@ -3,7 +3,7 @@ use Rattle.std.proofs.Common.{◌≡◌, ℕ, ◌+◌, ◌≤◌, List, ◌++◌
 use Rattle.std.proofs.Math.Seq.{take-append_seam, drop-append_seam}
 use Rattle.std.proofs.lemmas.List.{drop-drop, length-take-le, take-append-le, take-append-drop, drop-append-le}
 use Rattle.c960_board.specs.Moves.{Triple}
-use Rattle.live_board.specs.SharedBoard.{stretch}
+use Rattle.relay_core.specs.Following.{stretch}
 use Rattle.live_board.specs.declared.view.Part.{Part}
 use Rattle.live_board.specs.Views.{next_of}
 use Rattle.live_board.specs.Sound.{BearsOut, end_of}
