@@ -3,7 +3,7 @@ use Rattle.relay960_engines.proofs.AnswerFacts.{passed_on}
 use Rattle.relay960_engines.proofs.PieceFacts.{taken_line, taken_piece, stops_at_lines, stops_at_bytes, stops_at_line}
 use Rattle.relay960_engines.proofs.SendingFacts.{sends_nothing}
 use Rattle.relay960_engines.proofs.TakingFacts.{stops_unsent}
-use Rattle.relay960_engines.proofs.progress.take_front.Goals.{then-end-bytes, else-end-bytes, then-progress-bounds-via-then-progress-bounds, then-progress-bounds-via-else-progress-bounds+then-count-bounds}
+use Rattle.relay960_engines.proofs.progress.take_front.Goals.{After-answer_ended, then-end-bytes, else-end-bytes, then-progress-bounds-via-then-progress-bounds, then-progress-bounds-via-else-progress-bounds+then-count-bounds}
 use Rattle.relay960_engines.proofs.progress.take_front.Goals as goal
 
 pub returns-in_err-send-clause-failed : goal.returns-in_err-send-clause-failed
@@ -31,28 +31,29 @@ returns-then-progress-bounds-clause-failed g c =
           (sends_nothing _ _ _ c.in_ok-send.ensures.whole)
     ]
 
-pub returns-in_err-answer_ended-clause-failed : goal.returns-in_err-answer_ended-clause-failed
-returns-in_err-answer_ended-clause-failed g c =
+-- where a line ends in the bytes, its line feed is counted
+ended : (g : _) (c : After-answer_ended g) → (c.line_end-end.result < length c.args.bytes.now) × (c.if-end-bytes.count ≡ c.line_end-end.result + 1)
+ended g c =
     let below : c.line_end-end.result < length c.args.bytes.now = search rules in
     let count : c.if-end-bytes.count ≡ c.line_end-end.result + 1 =
     elim c.if-end-bytes.branch [
       | then-end-bytes w ↦ search rules
       | else-end-bytes w ↦ search rules
     ] in
+    (below, count)
+
+pub returns-in_err-answer_ended-clause-failed : goal.returns-in_err-answer_ended-clause-failed
+returns-in_err-answer_ended-clause-failed g c =
+    let w = ended g (goal.at.returns-in_err-answer_ended-clause-failed g c).After-answer_ended in
     passed_on _ _ _ c.from_residual-in_err-answer_ended.ensures.1 (stops_at_line _ _ _ _ _ _ c.line_end-end.result _ _ _
-    c.line_end-end.ensures.plain below (c.line_end-end.ensures.feed below) c.requires.within (search rules)
-    (omega (arith, count, c.if-count-bounds.false)) c.in_err-answer_ended.ensures.failed)
+    c.line_end-end.ensures.plain w.0 (c.line_end-end.ensures.feed w.0) c.requires.within (search rules)
+    (omega (arith, w.1, c.if-count-bounds.false)) c.in_err-answer_ended.ensures.failed)
 
 pub returns-in_ok-answer_ended-clause-took : goal.returns-in_ok-answer_ended-clause-took
 returns-in_ok-answer_ended-clause-took g c =
-    let below : c.line_end-end.result < length c.args.bytes.now = search rules in
-    let count : c.if-end-bytes.count ≡ c.line_end-end.result + 1 =
-    elim c.if-end-bytes.branch [
-      | then-end-bytes w ↦ search rules
-      | else-end-bytes w ↦ search rules
-    ] in
-    taken_line _ _ _ _ _ _ c.line_end-end.result c.if-end-bytes.count _ _ c.line_end-end.ensures.plain below
-    (c.line_end-end.ensures.feed below) count c.in_ok-answer_ended.ensures.sent c.in_ok-answer_ended.ensures.none refl refl
+    let w = ended g (goal.at.returns-in_ok-answer_ended-clause-took g c).After-answer_ended in
+    taken_line _ _ _ _ _ _ c.line_end-end.result c.if-end-bytes.count _ _ c.line_end-end.ensures.plain w.0
+    (c.line_end-end.ensures.feed w.0) w.1 c.in_ok-answer_ended.ensures.sent c.in_ok-answer_ended.ensures.none refl refl
 
 pub returns-else-end-bytes-2-clause-took : goal.returns-else-end-bytes-2-clause-took
 returns-else-end-bytes-2-clause-took g c =
