@@ -1,12 +1,9 @@
 -- Lemmas on lines that were answered one after another.
-use Rattle.std.proofs.Common.{ℕ, ◌+◌, List, [], ◌∷◌, ◌++◌, length, take, map, Option, Some, refl, sym, ap, ◌∙◌, subst}
+use Rattle.std.proofs.Common.{ℕ, List, [], ◌∷◌, ◌++◌, take, map, Option, Some, refl, sym, ap, ◌∙◌, subst}
 use Rattle.std.proofs.Common.{append_assoc, append-nil}
-use Rattle.std.proofs.Math.Seq.{take-append-add}
-use Rattle.std.proofs.KnownBytes.{Appends-trans, Appends-nil}
-use Rattle.std.specs.Io.KnownBytes.{Appends}
 use Rattle.relay960_engines.specs.declared.kept_line.TheConstants.{KEPT}
 use Rattle.relay960_engines.specs.Lines.{Giving, Answers, Between}
-use Rattle.relay960_engines.specs.Runs.{Known, Wrote, WrotePart}
+use Rattle.relay960_engines.specs.Runs.{Answered, Answering}
 
 -- some lines followed by more
 pub Answers-append : {S : Type 0} (gives : Giving S) (s t u : S) (ls ms : List (List ℕ)) (xs ys : List ℕ)
@@ -41,47 +38,31 @@ pub Answers-one : {S : Type 0} (gives : Giving S) (s t : S) (l xs : List ℕ) �
 unfolding Answers
 Answers-one gives s t l xs one = (xs, t, [], one, sym (append-nil xs), (refl, refl))
 
-pub Wrote-nil : {S : Type 0} (gives : Giving S) (s : S) (a : Known) → Wrote (Between gives s s) [] a a
+-- no lines
+pub Answered-nil : {S : Type 0} (gives : Giving S) (s : S) {W : List ℕ → Type 0} → W [] → Answered W (Between gives s s) []
 unfolding Answers
-Wrote-nil gives s a = record { answers = []; given = (refl, refl); written = Appends-nil a }
+Answered-nil gives s none = record { answers = []; given = (refl, refl); written = none }
 
-pub Wrote-trans : {S : Type 0} (gives : Giving S) (s t u : S) (ls ms : List (List ℕ)) (a b c : Known)
-    → Wrote (Between gives s t) ls a b → Wrote (Between gives t u) ms b c → Wrote (Between gives s u) (ls ++ ms) a c
-Wrote-trans gives s t u ls ms a b c first second = record {
+-- some lines and then more, if so much is true of both answers together
+pub Answered-trans : {S : Type 0} (gives : Giving S) (s t u : S) (ls ms : List (List ℕ)) {V W X : List ℕ → Type 0}
+    → ((xs ys : List ℕ) → V xs → W ys → X (xs ++ ys))
+    → Answered V (Between gives s t) ls → Answered W (Between gives t u) ms → Answered X (Between gives s u) (ls ++ ms)
+Answered-trans gives s t u ls ms join first second = record {
   answers = first.answers ++ second.answers;
   given = Answers-append gives s t u ls ms first.answers second.answers first.given second.given;
-  written = Appends-trans a b c first.answers second.answers first.written second.written;
+  written = join first.answers second.answers first.written second.written;
 }
 
-pub Wrote-part : {S : Type 0} (gives : Giving S) (s t u : S) (ls ms : List (List ℕ)) (a b c : Known)
-    → Wrote (Between gives s t) ls a b → WrotePart (Between gives t u) ms b c → WrotePart (Between gives s u) (ls ++ ms) a c
-Wrote-part gives s t u ls ms a b c first second =
-    let (n, part) = second.written in
-    record {
-      answers = first.answers ++ second.answers;
-      given = Answers-append gives s t u ls ms first.answers second.answers first.given second.given;
-      written = (
-        length first.answers + n,
-        subst (Appends a c) (sym (take-append-add first.answers second.answers n))
-            (Appends-trans a b c first.answers (take n second.answers) first.written part),
-      );
-    }
+-- what follows of the answers
+pub Answered-then : {A : Answering} {ls : List (List ℕ)} {V W : List ℕ → Type 0} → ((xs : List ℕ) → V xs → W xs)
+    → Answered V A ls → Answered W A ls
+Answered-then then some = record { answers = some.answers; given = some.given; written = then some.answers some.written }
 
--- the same for lines that are answered as their first 1,025 bytes are
-pub Wrote-whole : {S : Type 0} (gives : Giving S) (s t : S) (ls : List (List ℕ)) (a b : Known)
-    → IsCut gives
-    → Wrote (Between gives s t) (map (take KEPT) ls) a b → Wrote (Between gives s t) ls a b
-Wrote-whole gives s t ls a b cut wrote = record {
-  answers = wrote.answers;
-  given = Answers-whole gives s t ls wrote.answers cut wrote.given;
-  written = wrote.written;
-}
-
-pub WrotePart-whole : {S : Type 0} (gives : Giving S) (s t : S) (ls : List (List ℕ)) (a b : Known)
-    → IsCut gives
-    → WrotePart (Between gives s t) (map (take KEPT) ls) a b → WrotePart (Between gives s t) ls a b
-WrotePart-whole gives s t ls a b cut wrote = record {
-  answers = wrote.answers;
-  given = Answers-whole gives s t ls wrote.answers cut wrote.given;
-  written = wrote.written;
+-- lines that are answered as their first 1,025 bytes are
+pub Answered-whole : {S : Type 0} (gives : Giving S) (s t : S) (ls : List (List ℕ)) {W : List ℕ → Type 0} → IsCut gives
+    → Answered W (Between gives s t) (map (take KEPT) ls) → Answered W (Between gives s t) ls
+Answered-whole gives s t ls cut some = record {
+  answers = some.answers;
+  given = Answers-whole gives s t ls some.answers cut some.given;
+  written = some.written;
 }

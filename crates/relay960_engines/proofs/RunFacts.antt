@@ -3,6 +3,7 @@ use Rattle.std.proofs.Common.{◌≡◌, ℕ, ◌+◌, ◌≤◌, List, [], ◌+
 use Rattle.std.proofs.Common.{◌∷◌, None, refl, sym, ap, ◌∙◌, subst, inl, inr, arith, append-nil}
 use Rattle.std.proofs.Common.{Result, Ok, Err, OnOk, IfOk, IfErr}
 use Rattle.std.proofs.lemmas.List.{length-map, length-append, map-append}
+use Rattle.std.proofs.KnownBytes.{Appends-trans}
 use Rattle.std.specs.Io.KnownBytes.{Appends, Consumes}
 use Rattle.relay960_engines.specs.declared.kept_line.TheConstants.{KEPT}
 use Rattle.relay960_engines.specs.declared.bounds.Bounds.{Bounds}
@@ -16,7 +17,8 @@ use Rattle.relay960_engines.specs.Inner.Taking.{kept_lines, kept_piece, Within, 
 use Rattle.relay960_engines.proofs.LineFacts.{kept_lines-take, kept_piece-take, last_line-take, lines_ended, piece_none}
 use Rattle.relay960_engines.proofs.TakingFacts.{last_fits}
 use Rattle.relay960_engines.proofs.StopFacts.{not_begun}
-use Rattle.relay960_engines.proofs.AnsweredFacts.{IsCut, Wrote-trans, Wrote-part, Wrote-whole, WrotePart-whole}
+use Rattle.relay960_engines.proofs.AnsweredFacts.{IsCut, Answered-trans, Answered-whole}
+use Rattle.relay960_engines.proofs.Prefixes.{part_behind}
 use Rattle.relay960_engines.proofs.SendingFacts.{SentAnswers-wrote, SentPart-wrote, halted_behind}
 
 -- ---- The lines of a run.
@@ -86,7 +88,7 @@ at_line : {S : Type 0} (gives : Giving S) (s t : S) (lines : List (List ℕ)) (a
     → Halted gives s t (map (take KEPT) lines) (settled a) (settled b) → AtLine gives s t lines a b
 at_line gives s t lines a b cut halted =
     let whole = map_split (take KEPT) lines halted.before halted.stopped halted.split in
-    let wrote = Wrote-whole gives s halted.mid whole.front a b cut
+    let wrote : Wrote (Between gives s halted.mid) whole.front a b = Answered-whole gives s halted.mid whole.front cut
     (subst (λ ls. Wrote (Between gives s halted.mid) ls a b) (sym whole.images)
     (SentAnswers-wrote gives s halted.mid halted.before a b halted.sent)) in
     record {
@@ -109,7 +111,7 @@ module _ {S : Type 0} (gives : Giving S) (cut : IsCut gives) (s : S) (p : Progre
   whole : (t : S) (b : Known) (seen : List ℕ) → SentAnswers (Between gives s t) (kept_lines p.line seen) (settled a) (settled b)
       → Wrote (Between gives s t) (whole_lines [] seen) a b
   whole t b seen sent =
-      Wrote-whole gives s t (whole_lines [] seen) a b cut
+      Answered-whole gives s t (whole_lines [] seen) cut
       (subst (λ ls. Wrote (Between gives s t) ls a b) (kept_whole p.line seen line)
       (SentAnswers-wrote gives s t (kept_lines p.line seen) a b sent))
 
@@ -152,7 +154,7 @@ module _ {S : Type 0} (gives : Giving S) (cut : IsCut gives) (s : S) (p : Progre
       bytes_within = few_bytes within.seen within.within;
       wrote = inl (
         few_lines within.seen within.within,
-        WrotePart-whole gives s t (whole_lines [] within.seen) a b cut
+        Answered-whole gives s t (whole_lines [] within.seen) cut
             (subst (λ ls. WrotePart (Between gives s t) ls a b) (kept_whole p.line within.seen line)
             (SentPart-wrote gives s t (kept_lines p.line within.seen) a b within.stop)),
       );
@@ -234,8 +236,8 @@ module _ {S : Type 0} (gives : Giving S) (cut : IsCut gives) (s : S) (p : Progre
           input = took.input;
           read = took.read;
           at_end = took.at_end;
-          wrote = Wrote-whole gives s u (lines_of took.input) a c cut (subst (λ ls. Wrote (Between gives s u) ls a c) all_lines
-              (Wrote-trans gives s t u (kept_lines p.line took.input) (last_line q.line) a b c taken_wrote wrote));
+          wrote = Answered-whole gives s u (lines_of took.input) cut (subst (λ ls. Wrote (Between gives s u) ls a c) all_lines
+              (Answered-trans gives s t u (kept_lines p.line took.input) (last_line q.line) (Appends-trans a b c) taken_wrote wrote));
           count = omega (arith, count, took.took.count, answered, all_number);
           lines_within = few;
           bytes_within = omega (arith, within.taken_within, took.took.total, taken);
@@ -261,9 +263,9 @@ module _ {S : Type 0} (gives : Giving S) (cut : IsCut gives) (s : S) (p : Progre
         refl,
         took.at_end,
         omega (arith, last_within within, took.took.count, answered, all_number),
-        WrotePart-whole gives s u (lines_of took.input) a c cut
+        Answered-whole gives s u (lines_of took.input) cut
             (subst (λ ls. WrotePart (Between gives s u) ls a c) all_lines
-            (Wrote-part gives s t u (kept_lines p.line took.input) (last_line q.line) a b c taken_wrote
+            (Answered-trans gives s t u (kept_lines p.line took.input) (last_line q.line) (part_behind a b c) taken_wrote
             (SentPart-wrote gives t u (last_line q.line) b c part))),
       );
     }

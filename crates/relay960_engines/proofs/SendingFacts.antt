@@ -10,7 +10,7 @@ use Rattle.relay960_engines.specs.Runs.{Known, Wrote, WrotePart}
 use Rattle.relay960_engines.specs.Writing.{AppendsPart}
 use Rattle.relay960_engines.specs.Inner.Sending.{Output, output_of, settled, Sends, SentAnswers, SentPart}
 use Rattle.relay960_engines.specs.Inner.Taking.{Halted, Unwritten}
-use Rattle.relay960_engines.proofs.AnsweredFacts.{Answers-append, Answers-one}
+use Rattle.relay960_engines.proofs.AnsweredFacts.{Answered-nil, Answered-then, Answered-trans, Answers-append, Answers-one}
 use Rattle.relay960_engines.proofs.Prefixes.{part_before, part_behind}
 
 -- ---- A text.
@@ -80,13 +80,11 @@ Sends-unsettled a b c text first part =
 -- ---- The answers to lines.
 
 pub SentAnswers-nil : {S : Type 0} (gives : Giving S) (s : S) (a : Output) → SentAnswers (Between gives s s) [] a a
-unfolding Answers
-SentAnswers-nil gives s a = record { answers = []; given = (refl, refl); sends = Sends-nil a }
+SentAnswers-nil gives s a = Answered-nil gives s (Sends-nil a)
 
 -- no line is answered, and what was due is written or due, or a part of it written
 pub SentAnswers-none : {S : Type 0} (gives : Giving S) (s : S) (a b : Output) → Sends a b [] → SentAnswers (Between gives s s) [] a b
-unfolding Answers
-SentAnswers-none gives s a b sends = record { answers = []; given = (refl, refl); sends = sends }
+SentAnswers-none gives s a b sends = Answered-nil gives s sends
 
 pub SentAnswers-none_part : {S : Type 0} (gives : Giving S) (s : S) (a b : Output) → AppendsPart a.held b.held a.due
     → SentPart (Between gives s s) [] a b
@@ -96,47 +94,36 @@ SentAnswers-none_part gives s a b part =
 
 pub SentAnswers-kept : {S : Type 0} (gives : Giving S) (s t : S) (ls : List (List ℕ)) (a b c : Output)
     → SentAnswers (Between gives s t) ls a b → Sends b c [] → SentAnswers (Between gives s t) ls a c
-SentAnswers-kept gives s t ls a b c first kept = record {
-  answers = first.answers;
-  given = first.given;
-  sends = subst (Sends a c) (append-nil first.answers) (Sends-trans a b c first.answers [] first.sends kept);
-}
+SentAnswers-kept gives s t ls a b c first kept =
+    Answered-then (λ xs sends. subst (Sends a c) (append-nil xs) (Sends-trans a b c xs [] sends kept)) first
 
 pub SentAnswers-trans : {S : Type 0} (gives : Giving S) (s t u : S) (ls ms : List (List ℕ)) (a b c : Output)
     → SentAnswers (Between gives s t) ls a b → SentAnswers (Between gives t u) ms b c → SentAnswers (Between gives s u) (ls ++ ms) a c
-SentAnswers-trans gives s t u ls ms a b c first second = record {
-  answers = first.answers ++ second.answers;
-  given = Answers-append gives s t u ls ms first.answers second.answers first.given second.given;
-  sends = Sends-trans a b c first.answers second.answers first.sends second.sends;
-}
+SentAnswers-trans gives s t u ls ms a b c first second = Answered-trans gives s t u ls ms (Sends-trans a b c) first second
 
 pub SentAnswers-part : {S : Type 0} (gives : Giving S) (s t u : S) (ls ms : List (List ℕ)) (a b c : Output)
     → SentAnswers (Between gives s t) ls a b → SentPart (Between gives t u) ms b c → SentPart (Between gives s u) (ls ++ ms) a c
 SentAnswers-part gives s t u ls ms a b c first second = record {
   answers = first.answers ++ second.answers;
   given = Answers-append gives s t u ls ms first.answers second.answers first.given second.given;
-  written = Sends-part a b c first.answers second.answers first.sends second.written;
+  written = Sends-part a b c first.answers second.answers first.written second.written;
 }
 
 -- what is due of them is written, or a part of it
 pub SentAnswers-settled : {S : Type 0} (gives : Giving S) (s t : S) (ls : List (List ℕ)) (a b : Output) (c : Known)
     → SentAnswers (Between gives s t) ls a b → Appends b.held c b.due → SentAnswers (Between gives s t) ls a (settled c)
-SentAnswers-settled gives s t ls a b c first whole =
-    record { answers = first.answers; given = first.given; sends = Sends-settled a b c first.answers first.sends whole }
+SentAnswers-settled gives s t ls a b c first whole = Answered-then (λ xs sends. Sends-settled a b c xs sends whole) first
 
 pub SentAnswers-unsettled : {S : Type 0} (gives : Giving S) (s t : S) (ls : List (List ℕ)) (a b : Output) (c : Known)
     → SentAnswers (Between gives s t) ls a b → AppendsPart b.held c b.due → SentPart (Between gives s t) ls a (settled c)
 SentAnswers-unsettled gives s t ls a b c first part =
-    record { answers = first.answers; given = first.given; written = Sends-unsettled a b c first.answers first.sends part }
+    record { answers = first.answers; given = first.given; written = Sends-unsettled a b c first.answers first.written part }
 
 -- nothing was due before, and nothing is
 pub SentAnswers-wrote : {S : Type 0} (gives : Giving S) (s t : S) (ls : List (List ℕ)) (a b : Known)
     → SentAnswers (Between gives s t) ls (settled a) (settled b) → Wrote (Between gives s t) ls a b
-SentAnswers-wrote gives s t ls a b sent = record {
-  answers = sent.answers;
-  given = sent.given;
-  written = subst (Appends a b) (sym (sent.sends.split ∙ append-nil sent.sends.front)) sent.sends.written;
-}
+SentAnswers-wrote gives s t ls a b sent =
+    Answered-then (λ xs (sends : Sends (settled a) (settled b) xs). subst (Appends a b) (sym (sends.split ∙ append-nil sends.front)) sends.written) sent
 
 pub SentPart-wrote : {S : Type 0} (gives : Giving S) (s t : S) (ls : List (List ℕ)) (a b : Known)
     → SentPart (Between gives s t) ls (settled a) (settled b) → WrotePart (Between gives s t) ls a b
@@ -147,7 +134,7 @@ SentPart-wrote gives s t ls a b sent = record { answers = sent.answers; given = 
 pub sent_answer : {S T : Type 0} (gives : Giving S) (s t : S) (l xs : List ℕ) (a b : Output) (ran : Result T RunFault)
     → gives s l (Some xs) t → OnOk ran (Sends a b xs) → OnOk ran (SentAnswers (Between gives s t) (l ∷ []) a b)
 sent_answer gives s t l xs a b (Ok done) one sends =
-    record { answers = xs; given = Answers-one gives s t l xs one; sends = sends }
+    record { answers = xs; given = Answers-one gives s t l xs one; written = sends }
 sent_answer gives s t l xs a b (Err fault) one sends = tt
 
 -- a part of what was due and the answer after it

@@ -4,7 +4,7 @@ use Rattle.std.proofs.Common.{sym, ap, ◌∙◌, subst, inl, inr, append-nil}
 use Rattle.std.proofs.KnownBytes.{Keeps-refl}
 use Rattle.relay960_engines.specs.declared.bounds.Bounds.{Bounds}
 use Rattle.relay960_engines.specs.Lines.{lines_of, whole_lines}
-use Rattle.relay960_engines.specs.Runs.{Answering, Halting, Known, Wrote, WrotePart, Done, StoppedReading, StoppedWriting, StoppedPast}
+use Rattle.relay960_engines.specs.Runs.{Answered, Answering, Halting, Known, WrotePart, Done, StoppedReading, StoppedWriting, StoppedPast}
 use Rattle.relay960_engines.specs.Runs.{StoppedWithoutMemory, StoppedWithin}
 use Rattle.relay960_engines.proofs.LineFacts.{lines_before}
 use Rattle.relay960_engines.proofs.Prefixes.{part_before}
@@ -22,20 +22,15 @@ abbrev pub Extends : Answering → Type 0
 Extends A = (ls ms : List (List ℕ)) (text : List ℕ) → A ls text → (rest : List ℕ) × A (ls ++ ms) (text ++ rest)
 
 module _ (A B : Answering) (implies : Implies A B) (bounds : Bounds) (old_input new_input a b : Known) where
-  all_said : (ls : List (List ℕ)) → Wrote A ls a b → Wrote B ls a b
-  all_said ls wrote =
-      record { answers = wrote.answers; given = implies ls wrote.answers wrote.given; written = wrote.written }
-
-  part_said : (ls : List (List ℕ)) → WrotePart A ls a b → WrotePart B ls a b
-  part_said ls wrote =
-      record { answers = wrote.answers; given = implies ls wrote.answers wrote.given; written = wrote.written }
+  said : {W : List ℕ → Type 0} (ls : List (List ℕ)) → Answered W A ls → Answered W B ls
+  said ls some = record { answers = some.answers; given = implies ls some.answers some.given; written = some.written }
 
   pub done_said : (n : ℕ) → Done A bounds old_input new_input a b n → Done B bounds old_input new_input a b n
   done_said n done = record {
     input = done.input;
     read = done.read;
     at_end = done.at_end;
-    wrote = all_said (lines_of done.input) done.wrote;
+    wrote = said (lines_of done.input) done.wrote;
     count = done.count;
     lines_within = done.lines_within;
     bytes_within = done.bytes_within;
@@ -47,7 +42,7 @@ module _ (A B : Answering) (implies : Implies A B) (bounds : Bounds) (old_input 
     read = stopped.read;
     lines_within = stopped.lines_within;
     bytes_within = stopped.bytes_within;
-    wrote = all_said (whole_lines [] stopped.input) stopped.wrote;
+    wrote = said (whole_lines [] stopped.input) stopped.wrote;
   }
 
   pub past_said : StoppedPast A bounds old_input new_input a b → StoppedPast B bounds old_input new_input a b
@@ -60,7 +55,7 @@ module _ (A B : Answering) (implies : Implies A B) (bounds : Bounds) (old_input 
     lines_within = stopped.lines_within;
     bytes_within = stopped.bytes_within;
     past = stopped.past;
-    wrote = all_said (whole_lines [] stopped.seen) stopped.wrote;
+    wrote = said (whole_lines [] stopped.seen) stopped.wrote;
   }
 
   pub memory_said : (H K : Halting) → ImpliesBefore H K → StoppedWithoutMemory A H bounds old_input new_input a b
@@ -91,8 +86,8 @@ module _ (A B : Answering) (implies : Implies A B) (bounds : Bounds) (old_input 
     read = stopped.read;
     bytes_within = stopped.bytes_within;
     wrote = elim stopped.wrote [
-      | inl part ↦ inl (part.0, part_said (whole_lines [] stopped.seen) part.1)
-      | inr last ↦ inr (last.0, last.1, last.2, part_said (lines_of stopped.seen) last.3)
+      | inl part ↦ inl (part.0, said (whole_lines [] stopped.seen) part.1)
+      | inr last ↦ inr (last.0, last.1, last.2, said (lines_of stopped.seen) last.3)
     ];
   }
 
@@ -121,7 +116,7 @@ module _ (A B : Answering) (implies : Implies A B) (bounds : Bounds) (old_input 
   pub writing_within : Extends B → StoppedWriting A bounds old_input new_input a b
       → StoppedWithin B bounds old_input new_input a b
   writing_within extends stopped =
-      let said = writing_said stopped in record { stopped = said; prefix = prefix_of extends said }
+      let writing = writing_said stopped in record { stopped = writing; prefix = prefix_of extends writing }
 
 -- nothing was read yet
 pub not_begun : (A : Answering) (H : Halting) (bounds : Bounds) (input output : Known) → A [] []

@@ -20,17 +20,19 @@ Answering = List (List ℕ) → List ℕ → Type 0
 abbrev pub Halting : Type 1
 Halting = List (List ℕ) → List ℕ → List ℕ → Type 0
 
--- the lines' answers were written
-pub record Wrote (answering : Answering) (lines : List (List ℕ)) (old new : Known) : Type 0 where
+-- the lines have answers, of which W is true
+pub record Answered (W : List ℕ → Type 0) (answering : Answering) (lines : List (List ℕ)) : Type 0 where
   pub answers : List ℕ
   pub given : answering lines answers
-  pub written : Appends old new answers
+  pub written : W answers
+
+-- the lines' answers were written
+abbrev pub Wrote : Answering → List (List ℕ) → Known → Known → Type 0
+Wrote answering lines old new = Answered (Appends old new) answering lines
 
 -- a prefix of the lines' answers was written
-pub record WrotePart (answering : Answering) (lines : List (List ℕ)) (old new : Known) : Type 0 where
-  pub answers : List ℕ
-  pub given : answering lines answers
-  pub written : AppendsPart old new answers
+abbrev pub WrotePart : Answering → List (List ℕ) → Known → Known → Type 0
+WrotePart answering lines old new = Answered (AppendsPart old new) answering lines
 
 -- the input was read to its end, its lines were answered, and there are n of them, within both bounds
 pub record Done (answering : Answering) (bounds : Bounds) (old_input new_input old_output new_output : Known) (n : ℕ) : Type 0 where

@@ -1,7 +1,7 @@
 -- What happens to texts that are due to a writer before they are written.
 use Rattle.std.specs.Prelude.{ℕ, ◌≡◌, List, [], ◌++◌}
 use Rattle.std.specs.Io.KnownBytes.{Appends}
-use Rattle.relay960_engines.specs.Runs.{Answering, Known}
+use Rattle.relay960_engines.specs.Runs.{Answered, Answering, Known}
 use Rattle.relay960_engines.specs.Writing.{AppendsPart}
 
 -- what a writer holds, and what is due to it
@@ -23,10 +23,8 @@ pub record Sends (a b : Output) (text : List ℕ) : Type 0 where
   pub split : a.due ++ text ≡ front ++ b.due
 
 -- the lines' answers are written or due
-pub record SentAnswers (answering : Answering) (lines : List (List ℕ)) (a b : Output) : Type 0 where
-  pub answers : List ℕ
-  pub given : answering lines answers
-  pub sends : Sends a b answers
+abbrev pub SentAnswers : Answering → List (List ℕ) → Output → Output → Type 0
+SentAnswers answering lines a b = Answered (Sends a b) answering lines
 
 -- of what was due, followed by the lines' answers, a prefix was written
 pub record SentPart (answering : Answering) (lines : List (List ℕ)) (a b : Output) : Type 0 where

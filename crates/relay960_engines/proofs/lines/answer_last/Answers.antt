@@ -1,13 +1,14 @@
 use Rattle.std.proofs.Common.{rules}
+use Rattle.std.proofs.KnownBytes.{Appends-nil}
 use Rattle.relay960_engines.proofs.AnswerFacts.{passed_on}
 use Rattle.relay960_engines.proofs.LineFacts.{last_line-none, last_line-whole}
 use Rattle.relay960_engines.proofs.SendingFacts.{unsettled_answers}
-use Rattle.relay960_engines.proofs.AnsweredFacts.{Wrote-nil}
+use Rattle.relay960_engines.proofs.AnsweredFacts.{Answered-nil}
 use Rattle.relay960_engines.proofs.lines.answer_last.Goals as goal
 
 pub returns-then-is_empty-clause-wrote : goal.returns-then-is_empty-clause-wrote
 returns-then-is_empty-clause-wrote g c =
-    rw (last_line-none c.args.progress.now.line (search rules)) (Wrote-nil _ _ _)
+    rw (last_line-none c.args.progress.now.line (search rules)) (Answered-nil _ _ (Appends-nil _))
 
 pub returns-in_err-send-clause-failed : goal.returns-in_err-send-clause-failed
 returns-in_err-send-clause-failed g c =
