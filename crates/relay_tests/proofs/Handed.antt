@@ -10,13 +10,9 @@ use Rattle.relay_core.specs.History.{History, start_of, log, end_of}
 use Rattle.relay_core.specs.Name.{same_name}
 use Rattle.relay_core.specs.Stands.{game_of as history_game}
 use Rattle.relay_core.specs.State.{RelayRecord}
-use Rattle.live_board.specs.Board.{game_of}
 use Rattle.live_board.specs.Seats.{BoardSeat}
+use Rattle.relay_live.specs.Live.{game}
 use Rattle.relay_tests.specs.Handing.{HandedOut}
-
--- the game that a board shows
-abbrev pub game : BoardSeat → GameRecord
-game b = game_of b.knows
 
 -- depending on whether the name was opened
 by_start : (limits : LimitNumbers) (h : History) (name : List ℕ) (found : Option BoardSeat) (start : Option ℕ) → start_of h name ≡ start
