@@ -9,36 +9,29 @@ use Rattle.c960_board.specs.Fen.Placement.{empties, SpellsSquares, SpellsRank}
 use Rattle.c960_board.specs.Fen.Reading.{IsRunOf, IsNoSymbol}
 use Rattle.c960_board.proofs.Reading.Letters.{letter_injective, letter-least}
 
--- squares that are spelled after a piece's letter
-pub record BehindMan (p : Piece) (bs : List ℕ) (cells : List Cell) : Type 0 where
+-- the squares that are left of a text
+pub record Left (front : List Cell) (after : Bool) (rest : List ℕ) (all : List Cell) : Type 0 where
   pub more : List Cell
-  pub whole : cells ≡ Some p ∷ more
-  pub rest : SpellsSquares false bs more
-
--- squares that are spelled after a run's digit
-pub record BehindRun (after : Bool) (n : ℕ) (bs : List ℕ) (cells : List Cell) : Type 0 where
-  pub more : List Cell
-  pub first : IsFalse after
-  pub whole : cells ≡ empties n ++ more
-  pub rest : SpellsSquares true bs more
+  pub whole : all ≡ front ++ more
+  pub spelt : SpellsSquares after rest more
 
 -- after a piece's letter the text continues with the squares after that piece
 pub spelt_man : (after : Bool) (b : ℕ) (bs : List ℕ) (cells : List Cell) (p : Piece) → b ≡ letter p →
-    SpellsSquares after (b ∷ bs) cells → BehindMan p bs cells
+    SpellsSquares after (b ∷ bs) cells → Left (Some p ∷ []) false bs cells
 spelt_man after b bs cells p e (inl x) =
     let same : x.0 ≡ p = letter_injective x.0 p (sym x.2 ∙ e) in
-    record { more = x.1; whole = x.3 ∙ ap (λ (q : Piece). Some q ∷ x.1) same; rest = x.4 }
+    record { more = x.1; whole = x.3 ∙ ap (λ (q : Piece). Some q ∷ x.1) same; spelt = x.4 }
 spelt_man after b bs cells p e (inr x) =
     let high = letter-least p in let bound = x.4 in let digit = x.5 in absurd (omega arith)
 
--- after a run's digit the text continues with the squares after that run
+-- after a run's digit, which follows no other, the text continues with the squares after that run
 pub spelt_run : (after : Bool) (b : ℕ) (bs : List ℕ) (cells : List Cell) (n : ℕ) → IsRunOf n b →
-    SpellsSquares after (b ∷ bs) cells → BehindRun after n bs cells
+    SpellsSquares after (b ∷ bs) cells → IsFalse after × Left (empties n) true bs cells
 spelt_run after b bs cells n e (inl x) = let high = letter-least x.0 in let at = x.2 in absurd (omega arith)
 spelt_run after b bs cells n e (inr x) =
     let digit = x.5 in
     let same : x.0 ≡ n = omega arith in
-    record { more = x.1; first = x.2; whole = x.6 ∙ ap (λ (m : ℕ). empties m ++ x.1) same; rest = x.7 }
+    (x.2, record { more = x.1; whole = x.6 ∙ ap (λ (m : ℕ). empties m ++ x.1) same; spelt = x.7 })
 
 -- no text of squares begins with another byte
 pub spelt_other : (after : Bool) (b : ℕ) (bs : List ℕ) (cells : List Cell) → IsNoSymbol b →
@@ -52,16 +45,10 @@ pub same_squares : (after : Bool) (text : List ℕ) (x y : List Cell) → Spells
 same_squares after [] x y a b = a ∙ sym b
 same_squares after (b ∷ bs) x y (inl a) d =
     let e = spelt_man after b bs y a.0 a.2 d in
-    a.3 ∙ ap (λ (z : List Cell). Some a.0 ∷ z) (same_squares false bs a.1 e.more a.4 e.rest) ∙ sym e.whole
+    a.3 ∙ ap (λ (z : List Cell). Some a.0 ∷ z) (same_squares false bs a.1 e.more a.4 e.spelt) ∙ sym e.whole
 same_squares after (b ∷ bs) x y (inr a) d =
-    let e = spelt_run after b bs y a.0 (record { some = a.3; bound = a.4; digit = a.5 }) d in
-    a.6 ∙ ap (λ (z : List Cell). empties a.0 ++ z) (same_squares true bs a.1 e.more a.7 e.rest) ∙ sym e.whole
-
--- the squares that are left of a text
-pub record Left (front : List Cell) (after : Bool) (rest : List ℕ) (all : List Cell) : Type 0 where
-  pub more : List Cell
-  pub whole : all ≡ front ++ more
-  pub spelt : SpellsSquares after rest more
+    let e = (spelt_run after b bs y a.0 (record { some = a.3; bound = a.4; digit = a.5 }) d).1 in
+    a.6 ∙ ap (λ (z : List Cell). empties a.0 ++ z) (same_squares true bs a.1 e.more a.7 e.spelt) ∙ sym e.whole
 
 -- The text spells these squares at its front, and then those of its rest, and no others.
 pub record Fronts (front : List Cell) (after : Bool) (rest text : List ℕ) : Type 0 where
@@ -81,75 +68,75 @@ next_byte : (front : List Cell) (after : Bool) (text : List ℕ) (i : ℕ) → R
     Fronts front after (get_or text i 0 ∷ drop (i + 1) text) text
 next_byte front after text i r l = subst (λ (t : List ℕ). Fronts front after t text) (front_is text i l) r.so_far
 
+-- squares more, if the text behind the front begins with them and with no others
+fronts_more : (front squares : List Cell) (after behind : Bool) (text bs all : List ℕ) →
+    ((more : List Cell) → SpellsSquares behind bs more → SpellsSquares after text (squares ++ more)) →
+    ((cells : List Cell) → SpellsSquares after text cells → Left squares behind bs cells) →
+    Fronts front after text all → Fronts (front ++ squares) behind bs all
+fronts_more front squares after behind text bs all forth back f =
+    record {
+      forth = λ more s.
+          subst (SpellsSquares false all) (sym (append_assoc front squares more)) (f.forth (squares ++ more) (forth more s));
+      back = λ cells s.
+          let given = f.back cells s in
+          let left = back given.more given.spelt in
+          record {
+            more = left.more;
+            whole = given.whole ∙ ap (λ (z : List Cell). front ++ z) left.whole ∙ sym (append_assoc front squares left.more);
+            spelt = left.spelt;
+          };
+    }
+
 -- a piece's letter more
 pub fronts_man : (front : List Cell) (after : Bool) (b : ℕ) (bs text : List ℕ) (p : Piece) → b ≡ letter p →
     Fronts front after (b ∷ bs) text → Fronts (front ++ Some p ∷ []) false bs text
 fronts_man front after b bs text p e f =
-    record {
-      forth = λ more s.
-          subst (SpellsSquares false text) (sym (append_assoc front (Some p ∷ []) more))
-          (f.forth (Some p ∷ more) (inl (p, more, e, refl, s)));
-      back = λ all s.
-          let given = f.back all s in
-          let behind = spelt_man after b bs given.more p e given.spelt in
-          record {
-            more = behind.more;
-            whole = given.whole ∙ ap (λ (z : List Cell). front ++ z) behind.whole
-                ∙ sym (append_assoc front (Some p ∷ []) behind.more);
-            spelt = behind.rest;
-          };
-    }
+    fronts_more front (Some p ∷ []) after false (b ∷ bs) bs text (λ more s. inl (p, more, e, refl, s))
+    (λ cells s. spelt_man after b bs cells p e s) f
 
 -- one more run's digit, not after another
 pub fronts_run : (front : List Cell) (b : ℕ) (bs text : List ℕ) (n : ℕ) → IsRunOf n b →
     Fronts front false (b ∷ bs) text → Fronts (front ++ empties n) true bs text
 fronts_run front b bs text n e f =
-    record {
-      forth = λ more s.
-          subst (SpellsSquares false text) (sym (append_assoc front (empties n) more))
-          (f.forth (empties n ++ more) (inr (n, more, refl, e.some, e.bound, e.digit, refl, s)));
-      back = λ all s.
-          let given = f.back all s in
-          let behind = spelt_run false b bs given.more n e given.spelt in
-          record {
-            more = behind.more;
-            whole = given.whole ∙ ap (λ (z : List Cell). front ++ z) behind.whole
-                ∙ sym (append_assoc front (empties n) behind.more);
-            spelt = behind.rest;
-          };
-    }
+    fronts_more front (empties n) false true (b ∷ bs) bs text
+    (λ more s. inr (n, more, refl, e.some, e.bound, e.digit, refl, s)) (λ cells s. (spelt_run false b bs cells n e s).1) f
 
 -- a run of n empty squares is n squares long
 pub length-empties : (n : ℕ) → length (empties n) ≡ n
 length-empties zero = refl
 length-empties (suc n) = ap suc (length-empties n)
 
+-- squares more that do not fit into eight
+too_long : (front squares : List Cell) (after behind : Bool) (text : List ℕ) (i : ℕ) → Reads front after text i →
+    i < length text →
+    ((cells : List Cell) → SpellsSquares after (get_or text i 0 ∷ drop (i + 1) text) cells →
+    Left squares behind (drop (i + 1) text) cells) →
+    8 < length front + length squares → (all : List Cell) → SpellsRank text all → ⊥
+too_long front squares after behind text i r l back long all rank =
+    let given = (next_byte front after text i r l).back all rank.spelt in
+    let left = back given.more given.spelt in
+    let whole : length all ≡ length front + length given.more =
+    ap length given.whole ∙ length-append front given.more in
+    let more : length given.more ≡ length squares + length left.more =
+    ap length left.whole ∙ length-append squares left.more in
+    let full = rank.full in
+    omega arith
+
 -- a piece after eight squares
 pub man_too_long : (front : List Cell) (after : Bool) (text : List ℕ) (i : ℕ) (p : Piece) → Reads front after text i →
     i < length text → get_or text i 0 ≡ letter p →
     8 ≤ length front → (all : List Cell) → SpellsRank text all → ⊥
-man_too_long front after text i p r l e long all rank =
-    let given = (next_byte front after text i r l).back all rank.spelt in
-    let behind = spelt_man after (get_or text i 0) (drop (i + 1) text) given.more p e given.spelt in
-    let whole : length all ≡ length front + length given.more =
-    ap length given.whole ∙ length-append front given.more in
-    let more : length given.more ≡ suc (length behind.more) = ap length behind.whole in
-    let full = rank.full in
-    omega arith
+man_too_long front after text i p r l e long =
+    too_long front (Some p ∷ []) after false text i r l
+    (λ cells s. spelt_man after (get_or text i 0) (drop (i + 1) text) cells p e s) (omega arith)
 
 -- a run that does not fit into eight squares
 pub run_too_long : (front : List Cell) (after : Bool) (text : List ℕ) (i n : ℕ) → Reads front after text i →
     i < length text → IsRunOf n (get_or text i 0) →
     8 < length front + n → (all : List Cell) → SpellsRank text all → ⊥
-run_too_long front after text i n r l e long all rank =
-    let given = (next_byte front after text i r l).back all rank.spelt in
-    let behind = spelt_run after (get_or text i 0) (drop (i + 1) text) given.more n e given.spelt in
-    let whole : length all ≡ length front + length given.more =
-    ap length given.whole ∙ length-append front given.more in
-    let more : length given.more ≡ length (empties n) + length behind.more =
-    ap length behind.whole ∙ length-append (empties n) behind.more in
-    let full = rank.full in
-    omega (arith, length-empties n)
+run_too_long front after text i n r l e long =
+    too_long front (empties n) after true text i r l
+    (λ cells s. (spelt_run after (get_or text i 0) (drop (i + 1) text) cells n e s).1) (omega (arith, length-empties n))
 
 -- a digit after a digit
 pub run_twice : (front : List Cell) (after : Bool) (text : List ℕ) (i n : ℕ) → Reads front after text i →
@@ -157,8 +144,7 @@ pub run_twice : (front : List Cell) (after : Bool) (text : List ℕ) (i n : ℕ)
     (all : List Cell) → SpellsRank text all → ⊥
 run_twice front after text i n r l e on all rank =
     let given = (next_byte front after text i r l).back all rank.spelt in
-    let behind = spelt_run after (get_or text i 0) (drop (i + 1) text) given.more n e given.spelt in
-    let off : after ≡ false = behind.first in
+    let off : after ≡ false = (spelt_run after (get_or text i 0) (drop (i + 1) text) given.more n e given.spelt).0 in
     cc
 
 -- a byte that means nothing

@@ -74,12 +74,17 @@ pub set_fits : (test : Cell → Bool) (cells : List Cell) → length cells ≡ 6
 unfolding set_of
 set_fits test cells full = let bound = mask_l-lt (map test cells) in let same = length-map cells test ∙ full in rw same at bound
 
+-- a set by its bits
+pub set_is : (test : Cell → Bool) (cells : List Cell) (set : ℕ) → length cells ≡ 64 → set < 2 ^ 64
+    → ((i : ℕ) → i < 64 → bit_at set i ≡ cond (test (cell_at cells i)) 1 0) → set ≡ set_of test cells
+set_is test cells set full fits h =
+    same_from_bits_below 64 set (set_of test cells) fits (set_fits test cells full)
+    (λ i l. h i l ∙ sym (set_bit test cells i (omega arith)))
+
 -- all cells
 pub set_all : (test : Cell → Bool) (cells : List Cell) (n set : ℕ) → n ≡ 64 → length cells ≡ 64 → IsSetTo test cells n set
     → set ≡ set_of test cells
-set_all test cells n set e full s =
-    same_from_bits_below 64 set (set_of test cells) (rw e at s.below) (set_fits test cells full)
-    (λ i l. s.bits i (omega arith) ∙ sym (set_bit test cells i (omega arith)))
+set_all test cells n set e full s = set_is test cells set full (rw e at s.below) (λ i l. s.bits i (omega arith))
 
 -- ---- Two sets.
 
@@ -105,28 +110,24 @@ bits_of t cells a i full e l = ap (λ (x : ℕ). bit_at x i) e ∙ set_bit t cel
 pub set_or : (t u v : Cell → Bool) (cells : List Cell) (a b : ℕ) → length cells ≡ 64 → ((x : Cell) → v x ≡ (t x || u x))
     → a ≡ set_of t cells → b ≡ set_of u cells → bit_or a b ≡ set_of v cells
 set_or t u v cells a b full is ea eb =
-    same_from_bits_below 64 (bit_or a b) (set_of v cells)
-    (or_lt 64 a b (rw ea (set_fits t cells full)) (rw eb (set_fits u cells full))) (set_fits v cells full)
+    set_is v cells (bit_or a b) full (or_lt 64 a b (rw ea (set_fits t cells full)) (rw eb (set_fits u cells full)))
     (λ i l.
     let p = bits_of t cells a i full ea l in
     let q = bits_of u cells b i full eb l in
     let r = is (cell_at cells i) in
-    let s = set_bit v cells i (omega arith) in
-    bit_at_or a b i ∙ rw (p, q, s, r) (or_bits (t (cell_at cells i)) (u (cell_at cells i))))
+    bit_at_or a b i ∙ rw (p, q, r) (or_bits (t (cell_at cells i)) (u (cell_at cells i))))
 
 -- and the intersection
 pub set_and : (t u v : Cell → Bool) (cells : List Cell) (a b : ℕ) → length cells ≡ 64 → ((x : Cell) → v x ≡ (t x && u x))
     → a ≡ set_of t cells → b ≡ set_of u cells → bit_and a b ≡ set_of v cells
 set_and t u v cells a b full is ea eb =
-    same_from_bits_below 64 (bit_and a b) (set_of v cells)
+    set_is v cells (bit_and a b) full
     (let below = and_le_l a b in let fits : a < 2 ^ 64 = rw ea (set_fits t cells full) in omega arith)
-    (set_fits v cells full)
     (λ i l.
     let p = bits_of t cells a i full ea l in
     let q = bits_of u cells b i full eb l in
     let r = is (cell_at cells i) in
-    let s = set_bit v cells i (omega arith) in
-    bit_at_and a b i ∙ rw (p, q, s, r) (and_bits (t (cell_at cells i)) (u (cell_at cells i))))
+    bit_at_and a b i ∙ rw (p, q, r) (and_bits (t (cell_at cells i)) (u (cell_at cells i))))
 
 -- ---- What the sets of positions say.
 
