@@ -1,5 +1,5 @@
 -- The numbers and the lawful ranks correspond one to one.
-use Rattle.std.proofs.Common.{◌≡◌, ℕ, suc, ◌+◌, ◌%◌, ◌<◌, Bool, true, false, ◌&&◌, List, [], ◌∷◌, Option, Some, None, length, cond, refl, sym, ap, subst, ◌∙◌, arith}
+use Rattle.std.proofs.Common.{◌≡◌, ℕ, suc, ◌+◌, ◌%◌, ◌<◌, ◌≤◌, Bool, true, ◌&&◌, List, [], ◌∷◌, Option, Some, None, length, cond, refl, sym, ap, subst, ◌∙◌, arith}
 use Rattle.std.specs.Prelude.{◌==◌, nat_lt, slice_get}
 use Rattle.std.specs.List.{list_any, range_with_len}
 use Rattle.std.proofs.Math.Numerals.{one-add}
@@ -12,7 +12,8 @@ use Rattle.c960_board.specs.declared.piece.Kind.TheVariants.{Pawn, Knight, Bisho
 use Rattle.c960_board.specs.Pieces.{same_kind}
 use Rattle.c960_board.specs.Array.{array}
 use Rattle.c960_board.specs.LawfulRank.{pieces_of, Stands, IsBetweenRooks, IsLawfulRank}
-use Rattle.c960_board.proofs.lemmas.Ranges.{each_below, some_range, passes_from, Passes}
+use Rattle.c960_board.proofs.lemmas.Ranges.{each_below, some_range, passes_from}
+use Rattle.c960_board.proofs.lemmas.Tests.{implied_tells, so_parts, then_so}
 use Rattle.c960_board.proofs.KindFacts.{same_kind_is, same_kind_self}
 use Rattle.c960_board.proofs.NumberTable.{same_kinds, tally, is_some_kind, is_on, is_beside_rooks, is_king_between, is_between, is_bishop_of, has_bishop_of, is_lawful, number_from, is_found, found_if_lawful, every, if_left, all_found, is_back, all_back, is_full, is_lawful_array, all_lawful}
 
@@ -47,16 +48,6 @@ total (Rook ∷ xs) = omega (arith, total xs)
 total (Queen ∷ xs) = omega (arith, total xs)
 total (King ∷ xs) = omega (arith, total xs)
 
--- both parts of a test that stops at the first that fails
-both : (p q : Bool) → p ≡ true → q ≡ true → elim p [ true ↦ q | false ↦ false ] ≡ true
-both true q e f = f
-both false q e f = e
-
--- and the converse
-both_parts : (p q : Bool) → elim p [ true ↦ q | false ↦ false ] ≡ true → (p ≡ true) × (q ≡ true)
-both_parts true q e = (refl, e)
-both_parts false q e = absurd cc
-
 -- what passes the test of a square
 kind_in : (k : Kind) (o : Option Kind) → is_some_kind k o ≡ true → o ≡ Some k
 kind_in k None e = absurd cc
@@ -72,6 +63,12 @@ stands_from : (k : Kind) (rank : List Kind) (f : ℕ) → is_on k rank f ≡ tru
 unfolding is_on
 stands_from k rank f h = kind_in k (slice_get rank f) h
 
+-- what is there is found in a range
+found_on : (k : Kind) (rank : List Kind) (a n f : ℕ) → a ≤ f → f < a + n → Stands k rank f
+    → list_any (is_on k rank) (range_with_len a n) ≡ true
+found_on k rank a n f from below h =
+    some_range (is_on k rank) a n (record { number = f; from = from; below = below; passes = on_from k rank f h })
+
 -- the king between the rooks passes the test
 between_passes : (rank : List Kind) → length rank ≡ 8 → IsBetweenRooks rank → is_between rank ≡ true
 unfolding is_between is_king_between is_beside_rooks
@@ -80,28 +77,14 @@ between_passes rank full h =
     let right_on = slice_get_within rank h.right Rook h.right_rook in
     let beyond_left = h.beyond_left in
     let beyond_right = h.beyond_right in
-    let left : Passes (is_on Rook rank) 0 h.king =
-    record {
-      number = h.left;
-      from = omega arith;
-      below = omega arith;
-      passes = on_from Rook rank h.left h.left_rook;
-    } in
-    let right : Passes (is_on Rook rank) (h.king + 1) 8 =
-    record {
-      number = h.right;
-      from = omega arith;
-      below = omega arith;
-      passes = on_from Rook rank h.right h.right_rook;
-    } in
-    let beside =
-    and_from _ _ (some_range (is_on Rook rank) 0 h.king left) (some_range (is_on Rook rank) (h.king + 1) 8 right) in
+    let left = found_on Rook rank 0 h.king h.left (omega arith) (omega arith) h.left_rook in
+    let right = found_on Rook rank (h.king + 1) 8 h.right (omega arith) (omega arith) h.right_rook in
     some_range (is_king_between rank) 0 8
     (record {
       number = h.king;
       from = omega arith;
       below = omega arith;
-      passes = both (is_on King rank h.king) (is_beside_rooks rank h.king) (on_from King rank h.king h.between) beside;
+      passes = then_so (is_on King rank h.king) (is_beside_rooks rank h.king) (on_from King rank h.king h.between) (and_from _ _ left right);
     })
 
 -- what passes the test has its king between the rooks
@@ -110,7 +93,7 @@ unfolding is_between is_king_between is_beside_rooks
 between_from rank e =
     let king = passes_from (is_king_between rank) 0 8 e in
     let k = king.number in
-    let parts = both_parts (is_on King rank k) (is_beside_rooks rank k) king.passes in
+    let parts = so_parts (is_on King rank k) (is_beside_rooks rank k) king.passes in
     let before = list_any (is_on Rook rank) (range_with_len 0 k) in
     let after = list_any (is_on Rook rank) (range_with_len (k + 1) 8) in
     let sides = and_parts before after parts.1 in
@@ -164,7 +147,7 @@ lawful_passes rank h =
     let b = h.bishops in
     let light = bishop_passes 1 rank b.light h.full b.is_light b.light_bishop in
     let dark = bishop_passes 0 rank b.dark h.full b.is_dark b.dark_bishop in
-    both (is_between rank) (has_bishop_of 1 rank && has_bishop_of 0 rank) (between_passes rank h.full h.king)
+    then_so (is_between rank) (has_bishop_of 1 rank && has_bishop_of 0 rank) (between_passes rank h.full h.king)
     (and_from _ _ light dark)
 
 -- what a test of every list says, by the first element of the list
@@ -228,7 +211,7 @@ covers (Bishop ∷ xs) test p e =
 -- a rank that passes has its number
 found_is : (rank : List Kind) → is_lawful rank ≡ true → found_if_lawful rank ≡ true → is_found rank ≡ true
 unfolding found_if_lawful
-found_is rank l e = sym (ap (λ (b : Bool). elim b [ true ↦ is_found rank | false ↦ true ]) l) ∙ e
+found_is rank l e = implied_tells (is_lawful rank) (is_found rank) e l
 
 -- a lawful rank has a number
 pub number_is : (rank : List Kind) → IsLawfulRank rank → (number_from rank < STARTS) × (array (number_from rank) ≡ rank)
@@ -268,7 +251,7 @@ lawful_from rank e =
     let c = and_parts _ _ b.1 in
     let d = and_parts _ _ c.1 in
     let f = and_parts _ _ d.1 in
-    let g = both_parts (is_between rank) (has_bishop_of 1 rank && has_bishop_of 0 rank) parts.1 in
+    let g = so_parts (is_between rank) (has_bishop_of 1 rank && has_bishop_of 0 rank) parts.1 in
     let h = and_parts (has_bishop_of 1 rank) (has_bishop_of 0 rank) g.1 in
     let light = bishop_from 1 rank h.0 in
     let dark = bishop_from 0 rank h.1 in

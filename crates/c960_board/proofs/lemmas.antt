@@ -5,3 +5,4 @@ pub mod Ranges
 pub mod SetCells
 pub mod SetFacts
 pub mod StartFacts
+pub mod Tests

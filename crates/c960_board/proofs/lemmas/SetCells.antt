@@ -1,5 +1,5 @@
 -- The sets of cells describe those cells.
-use Rattle.std.proofs.Common.{◌≡◌, ℕ, ◌+◌, ◌<◌, Bool, true, false, cond, List, Some, None, length, get_or, refl, ap, sym, ◌∙◌, inl, inr, zero-add, arith}
+use Rattle.std.proofs.Common.{◌≡◌, ℕ, ◌+◌, ◌<◌, Bool, List, Some, None, length, get_or, refl, ap, sym, ◌∙◌, inl, inr, zero-add, arith}
 use Rattle.std.specs.Prelude.{◌==◌, slice_set}
 use Rattle.std.proofs.lemmas.Bool.{cases_eq}
 use Rattle.std.proofs.lemmas.List.{get_or-set_same, get_or-set_other}
@@ -14,10 +14,7 @@ use Rattle.c960_board.specs.Pieces.{Cell, man, is_of}
 use Rattle.c960_board.specs.Cells.{cell_at}
 use Rattle.c960_board.specs.Sets.{is_kind, set_of, sets_of, is_in, kind_by, cell_by, cell_in, cells_of, parts_of}
 use Rattle.c960_board.proofs.lemmas.SetFacts.{set_bit}
-
-one_in : (b : Bool) → (cond b 1 0 == 1) ≡ b
-one_in true = refl
-one_in false = refl
+use Rattle.c960_board.proofs.lemmas.Tests.{one_in}
 
 in_set : (test : Cell → Bool) (cells : List Cell) (i : ℕ) → i < length cells → is_in (set_of test cells) i ≡ test (cell_at cells i)
 in_set test cells i h = ap (λ (x : ℕ). x == 1) (set_bit test cells i h) ∙ one_in (test (cell_at cells i))
