@@ -3,6 +3,7 @@ pub mod AfterFacts
 pub mod AttackTests
 pub mod Contained
 pub mod CounterLaws
+pub mod CounterSteps
 pub mod Listed
 pub mod MoveTests
 pub mod PieceFacts

@@ -1,5 +1,5 @@
 -- What a legal move leaves is a lawful position.
-use Rattle.std.proofs.Common.{◌≡◌, ◌≢◌, ℕ, ◌+◌, ◌<◌, ◌≤◌, List, Bool, true, false, ◌||◌, refl, sym, ◌∙◌, zero-add, arith, subst, Some, None, inl, inr, length}
+use Rattle.std.proofs.Common.{◌≡◌, ◌≢◌, ℕ, ◌+◌, ◌<◌, ◌≤◌, List, false, refl, sym, ◌∙◌, zero-add, arith, subst, Some, None, inl, inr, length}
 use Rattle.std.specs.Prelude.{count_by}
 use Rattle.std.proofs.lemmas.List.FromFn.{get_or-map-range_with_len, length-map-range_with_len}
 use Rattle.c960_board.specs.declared.piece.Colour.{Colour}
@@ -9,13 +9,14 @@ use Rattle.c960_board.specs.declared.piece.Kind.TheVariants.{Pawn, King}
 use Rattle.c960_board.specs.declared.rights.CastlingRights.{CastlingRights}
 use Rattle.c960_board.specs.declared.parts.Parts.{Parts}
 use Rattle.c960_board.specs.Squares.{rank_of, IsEndRank}
-use Rattle.c960_board.specs.Pieces.{Cell, man, other, holds, is_of}
+use Rattle.c960_board.specs.Pieces.{Cell, man, other, holds}
 use Rattle.c960_board.specs.Position.{IsPlacement, AreRights, IsTarget, AreCounters, IsPosition}
 use Rattle.c960_board.specs.Cells.{cell_at, rights_of, has_right}
 use Rattle.c960_board.specs.Moves.{Triple}
 use Rattle.c960_rules.specs.Check.{InCheck, IsLawful}
 use Rattle.c960_rules.specs.After.{cell_after, placement_after, keeps_right, rights_after, target_after, half_moves_after, number_after, after}
 use Rattle.c960_rules.specs.Legal.{Legal}
+use Rattle.c960_rules.proofs.lemmas.CounterSteps.{half_moves_step, number_step}
 use Rattle.c960_rules.proofs.lemmas.PieceFacts.{piece_on, holds_is, is_holds, one_kind, other_other}
 use Rattle.c960_rules.proofs.CountFacts.{only_one, one_count}
 use Rattle.c960_rules.proofs.Change.{HasKing, IsChange, king_kept, king_no_pawn}
@@ -148,35 +149,19 @@ placement_position p m valid lawful legal =
       target = λ t is. target_here p m t legal (double p m t is);
     }
 
--- the half-move counter rises by at most one
-half_bound : (b : Bool) (n : ℕ) → n < 65535 → elim b as (λ _. ℕ) [ true ↦ 0 | false ↦ n + 1 ] ≤ 65535
-half_bound true n h = omega arith
-half_bound false n h = omega arith
-
--- the half-move counter after a move
-half_moves_bound : (p : Parts) (m : Triple) → p.half_moves < 65535 → half_moves_after p m ≤ 65535
-unfolding half_moves_after
-half_moves_bound p m h =
-    half_bound (holds p.turn Pawn (piece_on p m.from) || is_of (other p.turn) (piece_on p m.to)) p.half_moves h
-
 -- the move number stays 1 or more
 number_low : (c : Colour) (n : ℕ) → 1 ≤ n → 1 ≤ number_after c n
 number_low White n h = h
 number_low Black n h = omega arith
 
--- the move number rises by at most one
-number_high : (c : Colour) (n : ℕ) → n < 65535 → number_after c n ≤ 65535
-number_high White n h = omega arith
-number_high Black n h = omega arith
-
 -- the counters after a move, if neither was at its end
 pub counters_after : (p : Parts) (m : Triple) → 1 ≤ p.number → p.half_moves < 65535 → p.number < 65535
     → AreCounters (half_moves_after p m) (number_after p.turn p.number)
-counters_after p m low half number = record {
-  half_moves = half_moves_bound p m half;
-  numbered = number_low p.turn p.number low;
-  bounded = number_high p.turn p.number number;
-}
+unfolding after
+counters_after p m low half number =
+    let more : half_moves_after p m ≤ p.half_moves + 1 = half_moves_step p m in
+    let next : number_after p.turn p.number ≤ p.number + 1 = number_step p m in
+    record { half_moves = omega arith; numbered = number_low p.turn p.number low; bounded = omega arith }
 
 -- the position after a legal move is a position
 pub after_position : (p : Parts) (m : Triple) → IsPosition p → IsLawful p → Legal p m → p.half_moves < 65535
