@@ -13,17 +13,14 @@ use Rattle.c960_rules.specs.After.{landed, cell_after}
 use Rattle.c960_rules.specs.Effects.{CarriesOne}
 use Rattle.c960_rules.proofs.lemmas.PieceFacts.{piece_on, goes_to_own, no_man, is_own}
 use Rattle.c960_rules.proofs.CellFacts.{IsPassed, moved_cases, landing}
-use Rattle.c960_rules.proofs.Ordinary.{IsOrdinary}
+use Rattle.c960_rules.proofs.Ordinary.{IsOrdinary, landed_plain}
 use Rattle.c960_rules.proofs.lemmas.Reached.{ordinary}
+use Rattle.c960_rules.proofs.TargetKept.{from_empty}
 use Rattle.c960_rules.proofs.MoveLaws.{stands_after, not_both}
 
 -- a piece of the colour becomes that piece
 lands_as : (o : Cell) (q : Option Kind) (c : Colour) (j k : Kind) → o ≡ man c j → q ≡ Some k → landed o q ≡ man c k
 lands_as o q c j k e f = rw (e, f) refl
-
--- a piece that is not promoted lands as it is
-lands_same : (o : Cell) (q : Option Kind) → q ≡ None → landed o q ≡ o
-lands_same o q e = rw e refl
 
 -- no piece of the mover's is on the goal
 pub goal_free : (p : Parts) (m : Triple) (u : ℕ) (k : Kind) → IsOrdinary p m → piece_on p u ≡ man p.turn k → u ≢ m.to
@@ -39,12 +36,7 @@ passed_other p m u k r is w =
 
 -- the square that the piece leaves is empty
 from_left : (p : Parts) (m : Triple) → IsOrdinary p m → cell_after p m m.from ≡ None
-from_left p m r =
-    elim (moved_cases p m m.from r.free) [
-      | inl w ↦ absurd (goal_free p m m.from r.kind r r.mover w.square)
-      | inr (inl w) ↦ w.holds
-      | inr (inr w) ↦ absurd (w.off_from refl)
-    ]
+from_left p m r = from_empty p m r.free (goal_free p m m.from r.kind r r.mover)
 
 -- another piece of the mover's stays
 own_stays : (p : Parts) (m : Triple) (u : ℕ) (k : Kind) → IsOrdinary p m → u ≢ m.from → piece_on p u ≡ man p.turn k
@@ -72,7 +64,7 @@ carries_one p m valid lawful move w =
     let r = ordinary p m valid lawful move w in
     let lands = stands_after p m m.to move.to ∙ landing p m r.free in
     record {
-      arrives = λ e. lands ∙ lands_same (piece_on p m.from) m.promotion e;
+      arrives = λ e. lands ∙ landed_plain (piece_on p m.from) m.promotion e;
       becomes = λ k e. lands ∙ lands_as (piece_on p m.from) m.promotion p.turn r.kind k r.mover e;
       left = stands_after p m m.from move.from ∙ from_left p m r;
       stay = λ u k l off is. stands_after p m u l ∙ own_stays p m u k r off is;

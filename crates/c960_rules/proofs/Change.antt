@@ -38,6 +38,16 @@ pub record IsChange (p : Parts) (m : Triple) (cell : ℕ → Cell) : Type 0 wher
 pub king_no_pawn : King ≢ Pawn
 king_no_pawn e = cc
 
+-- a king on neither square of the move stays, if the move puts none of its colour anywhere
+king_stays : (p : Parts) (m : Triple) (cell : ℕ → Cell) (c : Colour) → IsChange p m cell → (h : HasKing (piece_on p) c)
+    → h.square ≢ m.from → h.square ≢ m.to → ((u : ℕ) → Came p m u c King → ⊥) → HasKing cell c
+king_stays p m cell c w h off_from off_to none = record {
+  square = h.square;
+  on_board = h.on_board;
+  stands = w.stays h.square c King h.on_board king_no_pawn off_from off_to h.stands;
+  only = λ u l q. elim (w.came u c King l q) [ inl old ↦ h.only u l old | inr new ↦ absurd (none u new) ];
+}
+
 -- the king of the side that did not move stays
 other_king : (p : Parts) (m : Triple) (cell : ℕ → Cell) (c : Colour) → IsChange p m cell → c ≡ other p.turn
     → HasKing (piece_on p) c
@@ -49,15 +59,7 @@ other_king p m cell c w e h =
     let off_from : h.square ≢ m.from =
     λ f. apart (let g : man p.turn w.kind ≡ man c King = cc in one_colour p.turn c w.kind King g) in
     let off_to : h.square ≢ m.to = λ f. w.spares_other (cc) in
-    record {
-      square = h.square;
-      on_board = h.on_board;
-      stands = w.stays h.square c King h.on_board king_no_pawn off_from off_to h.stands;
-      only = λ u l q. elim (w.came u c King l q) [
-        | inl old ↦ h.only u l old
-        | inr new ↦ absurd (apart (sym new.own))
-      ];
-    }
+    king_stays p m cell c w h off_from off_to (λ u new. apart (sym new.own))
 
 -- the mover's king stays if another piece moves
 own_king : (p : Parts) (m : Triple) (cell : ℕ → Cell) (c : Colour) (w : IsChange p m cell) → c ≡ p.turn → w.kind ≢ King
@@ -68,18 +70,8 @@ own_king p m cell c w e officer h =
     let off_from : h.square ≢ m.from =
     λ f. officer (let g : man p.turn w.kind ≡ man c King = cc in one_kind p.turn c w.kind King g) in
     let off_to : h.square ≢ m.to = λ f. w.spares_own officer (cc) in
-    record {
-      square = h.square;
-      on_board = h.on_board;
-      stands = w.stays h.square c King h.on_board king_no_pawn off_from off_to h.stands;
-      only = λ u l q. elim (w.came u c King l q) [
-        | inl old ↦ h.only u l old
-        | inr new ↦
-            let k = new.king refl in
-            let g : man p.turn w.kind ≡ man p.turn King = cc in
-            absurd (officer (one_kind p.turn p.turn w.kind King g))
-      ];
-    }
+    king_stays p m cell c w h off_from off_to
+    (λ u new. officer (one_kind p.turn p.turn w.kind King (sym mover ∙ new.king refl)))
 
 -- the mover's king if it moves
 moved_king : (p : Parts) (m : Triple) (cell : ℕ → Cell) (c : Colour) (w : IsChange p m cell) → c ≡ p.turn

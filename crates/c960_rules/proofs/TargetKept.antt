@@ -17,7 +17,7 @@ use Rattle.c960_rules.specs.After.{cell_after, target_after}
 use Rattle.c960_rules.proofs.lemmas.PieceFacts.{piece_on, goes_to_own, other_other, holds_is}
 use Rattle.c960_rules.proofs.CellFacts.{moved_cases, landing}
 use Rattle.c960_rules.proofs.PawnFacts.{forward_is_one, double_stops}
-use Rattle.c960_rules.proofs.AttackWays.{pawn_forward}
+use Rattle.c960_rules.proofs.AttackWays.{pawn_way}
 
 -- a double step, and the square that it passes over
 pub record IsDouble (p : Parts) (m : Triple) (t : ℕ) : Type 0 where
@@ -51,11 +51,9 @@ not_two n h e = omega arith
 -- a pawn that goes two ranks away steps twice
 stepped_twice : (p : Parts) (m : Triple) (t : ℕ) → IsDouble p m t → GoesAsPawn p m → StepsTwice p m
 stepped_twice p m t d r =
-    elim r.way [
-      | inl w ↦ absurd (not_two (rank_distance m.from m.to) (forward_is_one p.turn m.from m.to w.forward) d.ranks)
-      | inr (inl w) ↦ w
-      | inr (inr w) ↦ absurd (not_two (rank_distance m.from m.to)
-          (forward_is_one p.turn m.from m.to (pawn_forward p.placement p.turn m.from m.to r.mover w.attack)) d.ranks)
+    elim (pawn_way p m r) [
+      | inl forward ↦ absurd (not_two (rank_distance m.from m.to) (forward_is_one p.turn m.from m.to forward) d.ranks)
+      | inr w ↦ w
     ]
 
 -- the squares of a double step, one rank after the other
@@ -90,7 +88,7 @@ stays_empty p m u free off is =
     elim (moved_cases p m u free) [ inl w ↦ absurd (off w.square) | inr (inl w) ↦ w.holds | inr (inr w) ↦ w.holds ∙ is ]
 
 -- the square that the piece leaves is empty
-from_empty : (p : Parts) (m : Triple) → goes_to_own p m ≡ false → m.from ≢ m.to → cell_after p m m.from ≡ None
+pub from_empty : (p : Parts) (m : Triple) → goes_to_own p m ≡ false → m.from ≢ m.to → cell_after p m m.from ≡ None
 from_empty p m free apart =
     elim (moved_cases p m m.from free) [
       | inl w ↦ absurd (apart w.square)

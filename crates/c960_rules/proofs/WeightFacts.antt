@@ -15,7 +15,7 @@ use Rattle.c960_rules.specs.Reaches.{GoesAsPawn, pawn_rank}
 use Rattle.c960_rules.specs.After.{landed}
 use Rattle.c960_rules.specs.Progress.{ranks_behind, piece_weight, weight}
 use Rattle.c960_rules.proofs.lemmas.PieceFacts.{piece_on}
-use Rattle.c960_rules.proofs.AttackWays.{pawn_forward}
+use Rattle.c960_rules.proofs.AttackWays.{pawn_way}
 use Rattle.c960_rules.proofs.lemmas.Reached.{officer_only}
 
 -- ---- Bounds.
@@ -78,12 +78,9 @@ below_last Black s l h = let ne : rank_of s ≢ 0 = λ e. h (inl e) in omega ari
 pawn_goes_on : (p : Parts) (m : Triple) → IsMove m → GoesAsPawn p m
     → ranks_behind p.turn m.from < ranks_behind p.turn m.to
 pawn_goes_on p m move r =
-    elim r.way [
-      | inl w ↦ forward_adds p.turn m.from m.to move.from w.forward
-      | inr (inl w) ↦ twice_adds p.turn m.from m.to w.first w.goal
-      | inr (inr w) ↦
-          let forward = pawn_forward p.placement p.turn m.from m.to r.mover w.attack in
-          forward_adds p.turn m.from m.to move.from forward
+    elim (pawn_way p m r) [
+      | inl forward ↦ forward_adds p.turn m.from m.to move.from forward
+      | inr w ↦ twice_adds p.turn m.from m.to w.first w.goal
     ]
 
 -- what a pawn becomes weighs more than the pawn

@@ -17,7 +17,7 @@ use Rattle.c960_rules.specs.Check.{IsLawful}
 use Rattle.c960_rules.specs.Reaches.{last_rank, is_target, GoesAsOfficer, GoesAsPawn, Reaches}
 use Rattle.c960_rules.specs.After.{landed, is_en_passant}
 use Rattle.c960_rules.proofs.lemmas.PieceFacts.{piece_on, goes_to_own, other_other, one_colour, one_kind, holds_is}
-use Rattle.c960_rules.proofs.AttackWays.{attacked_from, pawn_forward}
+use Rattle.c960_rules.proofs.AttackWays.{attacked_from, pawn_way}
 use Rattle.c960_rules.proofs.PawnFacts.{forward_leaves, double_leaves}
 use Rattle.c960_rules.proofs.Change.{Came}
 use Rattle.c960_rules.proofs.Ordinary.{IsOrdinary}
@@ -52,12 +52,9 @@ pawn_spares p m lawful move r =
 -- a pawn does not go to its home rank
 pawn_leaves : (p : Parts) (m : Triple) → IsMove m → GoesAsPawn p m → rank_of m.to ≢ home_rank p.turn
 pawn_leaves p m move r =
-    elim r.way [
-      | inl w ↦ forward_leaves p.turn m.from m.to move.from w.forward
-      | inr (inl w) ↦ double_leaves p.turn m.from m.to w.first w.goal
-      | inr (inr w) ↦
-          let forward = pawn_forward p.placement p.turn m.from m.to r.mover w.attack in
-          forward_leaves p.turn m.from m.to move.from forward
+    elim (pawn_way p m r) [
+      | inl forward ↦ forward_leaves p.turn m.from m.to move.from forward
+      | inr w ↦ double_leaves p.turn m.from m.to w.first w.goal
     ]
 
 -- an end rank is the home rank or the last rank
