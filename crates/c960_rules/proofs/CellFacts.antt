@@ -1,5 +1,5 @@
 -- What is on one square after a move, case by case.
-use Rattle.std.proofs.Common.{◌≡◌, ◌≢◌, ℕ, Bool, true, false, ◌&&◌, ◌||◌, refl, ◌∙◌, None, ◌⊎◌, inl, inr}
+use Rattle.std.proofs.Common.{◌≡◌, ◌≢◌, ℕ, Bool, true, false, ◌||◌, refl, ◌∙◌, None, ◌⊎◌, inl, inr}
 use Rattle.std.specs.Prelude.{◌==◌}
 use Rattle.std.proofs.lemmas.Bool.{and_parts, and_from, both_ways, or_cases, or_parts, eqb-true, eqb-false, eq-eqb}
 use Rattle.c960_board.specs.declared.parts.Parts.{Parts}
@@ -8,6 +8,7 @@ use Rattle.c960_board.specs.Pieces.{Cell, other}
 use Rattle.c960_board.specs.Moves.{Triple}
 use Rattle.c960_rules.specs.Castles.{king_goal, rook_goal}
 use Rattle.c960_rules.specs.After.{landed, is_en_passant, cell_moved, cell_castled, cell_after}
+use Rattle.c960_rules.specs.Inner.Safety.{is_passed_on}
 use Rattle.c960_rules.proofs.lemmas.PieceFacts.{piece_on, goes_to_own}
 
 -- ---- The form of both definitions.
@@ -50,19 +51,15 @@ pub record IsUntouched (p : Parts) (m : Triple) (u : ℕ) : Type 0 where
   pub not_passed : IsPassed p m u → ⊥
   pub holds : cell_after p m u ≡ piece_on p u
 
--- whether u is the square of the pawn that is taken en passant
-abbrev is_passed : Parts → Triple → ℕ → Bool
-is_passed p m u = is_en_passant p m && (u == ahead (other p.turn) m.to)
-
 -- a move to no piece of the mover's is ordinary
 after_moved : (p : Parts) (m : Triple) (u : ℕ) → goes_to_own p m ≡ false → cell_after p m u ≡ cell_moved p m u
 unfolding cell_after
 after_moved p m u free = rw (free, cell_after) refl
 
 -- what the test of a vacated square says
-vacated : (p : Parts) (m : Triple) (u : ℕ) → ((u == m.from) || is_passed p m u) ≡ true → (u ≡ m.from) ⊎ IsPassed p m u
+vacated : (p : Parts) (m : Triple) (u : ℕ) → ((u == m.from) || is_passed_on p m u) ≡ true → (u ≡ m.from) ⊎ IsPassed p m u
 vacated p m u h =
-    elim (or_cases (u == m.from) (is_passed p m u) h) [
+    elim (or_cases (u == m.from) (is_passed_on p m u) h) [
       | inl e ↦ inl (eqb-true u m.from e)
       | inr e ↦
           let w = and_parts (is_en_passant p m) (u == ahead (other p.turn) m.to) e in
@@ -70,7 +67,7 @@ vacated p m u h =
     ]
 
 -- the square of the pawn taken en passant passes its test
-passed : (p : Parts) (m : Triple) (u : ℕ) → IsPassed p m u → is_passed p m u ≡ true
+passed : (p : Parts) (m : Triple) (u : ℕ) → IsPassed p m u → is_passed_on p m u ≡ true
 passed p m u h =
     let same = eq-eqb u (ahead (other p.turn) m.to) h.square in
     and_from (is_en_passant p m) (u == ahead (other p.turn) m.to) h.en_passant same
@@ -82,16 +79,16 @@ unfolding cell_moved
 moved_cases p m u free =
     let e = after_moved p m u free in
     let goal : Cell = landed (piece_on p m.from) m.promotion in
-    elim (three (u == m.to) ((u == m.from) || is_passed p m u) goal None (piece_on p u)) [
+    elim (three (u == m.to) ((u == m.from) || is_passed_on p m u) goal None (piece_on p u)) [
       | inl w ↦ inl (record { square = eqb-true u m.to w.0; holds = e ∙ w.1 })
       | inr (inl w) ↦
           inr (inl (record { off_to = eqb-false u m.to w.0; square = vacated p m u w.1; holds = e ∙ w.2 }))
       | inr (inr w) ↦
-          let off = or_parts (u == m.from) (is_passed p m u) w.1 in
+          let off = or_parts (u == m.from) (is_passed_on p m u) w.1 in
           inr (inr (record {
             off_from = eqb-false u m.from off.0;
             off_to = eqb-false u m.to w.0;
-            not_passed = λ h. both_ways (is_passed p m u) off.1 (passed p m u h);
+            not_passed = λ h. both_ways (is_passed_on p m u) off.1 (passed p m u h);
             holds = e ∙ w.2;
           }))
     ]
