@@ -1,10 +1,10 @@
 -- The sets after an ordinary move.
-use Rattle.std.proofs.Common.{◌≡◌, ◌≢◌, ℕ, ◌*◌, ◌%◌, ◌^◌, ◌<◌, Bool, true, false, not, ◌&&◌, ◌||◌, Option, Some, None, length, refl, ap, sym, ◌∙◌, ◌⊎◌, inl, inr, arith, zero-add, w64, IsTrue}
+use Rattle.std.proofs.Common.{◌≡◌, ◌≢◌, ℕ, ◌*◌, ◌%◌, ◌^◌, ◌<◌, Bool, true, false, not, ◌&&◌, ◌||◌, Option, Some, None, length, refl, ap, sym, ◌∙◌, ◌⊎◌, inl, inr, arith, w64, IsTrue}
 use Rattle.std.specs.Prelude.{◌==◌, bit_and, bit_or, ◌↔◌}
 use Rattle.std.specs.Int.{bit_not}
 use mir.Val.{bool_byte}
+use Rattle.std.proofs.Math.Bool.{and-false, and-true, or-false, or-true}
 use Rattle.std.proofs.lemmas.Bool.{cases_eq, ne_eqb, eqb-true, eqb-false, both_ways, not-true, not_from_false}
-use Rattle.std.proofs.lemmas.List.FromFn.{get_or-map-range_with_len, length-map-range_with_len}
 use Rattle.c960_board.specs.declared.piece.Colour.{Colour}
 use Rattle.c960_board.specs.declared.piece.Colour.TheVariants.{White, Black}
 use Rattle.c960_board.specs.declared.piece.Kind.{Kind}
@@ -25,15 +25,10 @@ use Rattle.c960_rules.specs.Check.{InCheck}
 use Rattle.c960_rules.specs.Inner.Safety.{is_passed_on, is_occupied_after, is_gone}
 use Rattle.c960_rules.specs.Inner.Wheres.{where_set, is_attacker_on, attacks_over}
 use Rattle.c960_rules.proofs.lemmas.PieceFacts.{piece_on, goes_to_own, no_man, one_colour, one_kind, is_holds, is_own, not_other}
-use Rattle.c960_rules.proofs.CountFacts.{only_one}
+use Rattle.c960_rules.proofs.lemmas.AfterFacts.{has_king, cells_after, full_after}
 use Rattle.c960_rules.proofs.CellFacts.{moved_cases, landing}
 use Rattle.c960_rules.proofs.WhereFacts.{where_none, where_nothing, where_only, where_or, where_and, where_not, where_agree, set_where}
-use Rattle.c960_rules.proofs.AttackerFacts.{and-false, and-true, or-false}
 use Rattle.c960_rules.proofs.AttackAgree.{some_attacked, none_attacked}
-
-pub or-true : (a : Bool) → (a || true) ≡ true
-or-true true = refl
-or-true false = refl
 
 -- ---- One cell.
 
@@ -84,13 +79,8 @@ module _ (p : Parts) (m : Triple) (own : is_of p.turn (piece_on p m.from) ≡ tr
   pub cell_is : (u : ℕ) → u < 64
       → cell_at (placement_after p m) u
       ≡ after_by (u == m.to) (u == m.from) (is_passed_on p m u) (landed (piece_on p m.from) m.promotion) (piece_on p u)
-  unfolding placement_after cell_after cell_moved
-  cell_is u l = get_or-map-range_with_len (cell_after p m) 0 64 u u None l (zero-add u) ∙ rw (free, cell_after) refl
-
-  -- the squares
-  pub length_after : length (placement_after p m) ≡ 64
-  unfolding placement_after
-  length_after = length-map-range_with_len (cell_after p m) 0 64
+  unfolding cell_after cell_moved
+  cell_is u l = cells_after p m u l ∙ rw (free, cell_after) refl
 
   -- which are occupied
   pub occupied_is : (set : ℕ) → set ≡ where_set (λ s. is_occupied_after p m s) → set ≡ set_of is_occupied (placement_after p m)
@@ -101,7 +91,7 @@ module _ (p : Parts) (m : Triple) (own : is_of p.turn (piece_on p m.from) ≡ tr
       let lands = own_occupied p.turn (landed (piece_on p m.from) m.promotion) (landed_own p.turn (piece_on p m.from) m.promotion own) in
       sym (ap is_occupied cell
       ∙ occupied_by (u == m.to) (u == m.from) (is_passed_on p m u) (landed (piece_on p m.from) m.promotion) (piece_on p u) lands))
-      ∙ sym (set_where is_occupied (placement_after p m) length_after)
+      ∙ sym (set_where is_occupied (placement_after p m) (full_after p m))
 
   -- the attackers that are not gone
   pub hits_are : (occupied k hits gone rest : ℕ) → hits ≡ where_set (λ s. is_attacker_on p.placement occupied (other p.turn) s k)
@@ -126,25 +116,20 @@ module _ (p : Parts) (m : Triple) (own : is_of p.turn (piece_on p m.from) ≡ tr
 -- a king of the side is in the set of its kings
 pub king_in : (p : Parts) (c : Colour) (set : ℕ) → IsPosition p → set ≡ set_of (holds c King) p.placement → 0 < set
 king_in p c set valid e =
-    let full = valid.placement.full in
-    let only = only_one (holds c King) p.placement None (valid.placement.one_king c) in
-    let inside : only.0 < 64 = let i = only.1.inside in omega arith in
+    let king = has_king p.placement c valid.placement in
     elim (cases_eq set 0) [
       | inl z ↦
-          let none =
-          where_none (λ s. holds c King (cell_at p.placement s)) only.0 (sym (set_where (holds c King) p.placement full) ∙ sym e ∙ z) inside in
-          absurd (both_ways (holds c King (cell_at p.placement only.0)) none only.1.passes)
+          let empty = sym (set_where (holds c King) p.placement valid.placement.full) ∙ sym e ∙ z in
+          let none = where_none (λ s. holds c King (cell_at p.placement s)) king.square empty king.on_board in
+          absurd (both_ways (holds c King (cell_at p.placement king.square)) none (is_holds c King (piece_on p king.square) king.stands))
       | inr ne ↦ omega arith
     ]
 
 -- there is no other king of the side
 pub one_place : (p : Parts) (c : Colour) (u v : ℕ) → IsPosition p → u < 64 → v < 64 → piece_on p u ≡ man c King → piece_on p v ≡ man c King → u ≡ v
 one_place p c u v valid lu lv eu ev =
-    let full = valid.placement.full in
-    let only = only_one (holds c King) p.placement None (valid.placement.one_king c) in
-    let a = only.1.only u (omega arith) (is_holds c King (piece_on p u) eu) in
-    let b = only.1.only v (omega arith) (is_holds c King (piece_on p v) ev) in
-    a ∙ sym b
+    let king = has_king p.placement c valid.placement in
+    king.only u lu eu ∙ sym (king.only v lv ev)
 
 -- so check is an attack on the king's square
 pub king_attacked : (p : Parts) (c : Colour) (k : ℕ) → IsPosition p → k < 64 → piece_on p k ≡ man c King
@@ -153,11 +138,6 @@ king_attacked p c k valid on_board stands = (
   λ w. let at = one_place p c w.square k valid w.on_board on_board w.king stands in rw at at w.attack,
   λ a. record { square = k; on_board = on_board; king = stands; attack = a },
 )
-
--- what a square holds after the move, as a place of the placement
-cell_in : (p : Parts) (m : Triple) (u : ℕ) → goes_to_own p m ≡ false → u < 64 → cell_at (placement_after p m) u ≡ cell_after p m u
-unfolding placement_after
-cell_in p m u free l = get_or-map-range_with_len (cell_after p m) 0 64 u u None l (zero-add u)
 
 -- a king that the move does not touch stays: no king is taken en passant
 stays_king : (p : Parts) (m : Triple) (u : ℕ) → IsPosition p → Reaches p m → piece_on p u ≡ man p.turn King → u ≢ m.from → u ≢ m.to
@@ -213,16 +193,16 @@ king_after p m king square valid move w in_board stands (inl e) =
     let from_king : piece_on p m.from ≡ man p.turn King = let f = e.0 in rw f stands in
     let plain = king_plain p m w from_king in
     let at = e.1 in
-    let cell = cell_in p m m.to w.goal to_in in
+    let cell = cells_after p m m.to to_in in
     record {
       on_board = omega arith;
       stands = rw at (cell ∙ landing p m w.goal ∙ rw plain from_king);
       only = λ u l is.
           elim (moved_cases p m u w.goal) [
             | inl v ↦ v.square ∙ sym at
-            | inr (inl v) ↦ absurd (no_man p.turn King (sym v.holds ∙ sym (cell_in p m u w.goal l) ∙ is))
+            | inr (inl v) ↦ absurd (no_man p.turn King (sym v.holds ∙ sym (cells_after p m u l) ∙ is))
             | inr (inr v) ↦
-                absurd (v.off_from (one_place p p.turn u m.from valid l move.from (sym v.holds ∙ sym (cell_in p m u w.goal l) ∙ is) from_king))
+                absurd (v.off_from (one_place p p.turn u m.from valid l move.from (sym v.holds ∙ sym (cells_after p m u l) ∙ is) from_king))
           ];
     }
 king_after p m king square valid move w in_board stands (inr e) =
@@ -233,15 +213,15 @@ king_after p m king square valid move w in_board stands (inr e) =
     both_ways (goes_to_own p m) w.goal (rw f at own) in
     record {
       on_board = omega arith;
-      stands = rw at (cell_in p m king w.goal in_board ∙ stays_king p m king valid w stands (λ f. e.0 (sym f)) off_to);
+      stands = rw at (cells_after p m king in_board ∙ stays_king p m king valid w stands (λ f. e.0 (sym f)) off_to);
       only = λ u l is.
           elim (moved_cases p m u w.goal) [
             | inl v ↦
-                let lands = sym v.holds ∙ sym (cell_in p m u w.goal l) ∙ is in
+                let lands = sym v.holds ∙ sym (cells_after p m u l) ∙ is in
                 let was = landed_king p.turn (piece_on p m.from) m.promotion move.promotion lands in
                 absurd (e.0 (one_place p p.turn m.from king valid move.from in_board was stands))
-            | inr (inl v) ↦ absurd (no_man p.turn King (sym v.holds ∙ sym (cell_in p m u w.goal l) ∙ is))
-            | inr (inr v) ↦ one_place p p.turn u king valid l in_board (sym v.holds ∙ sym (cell_in p m u w.goal l) ∙ is) stands ∙ sym at
+            | inr (inl v) ↦ absurd (no_man p.turn King (sym v.holds ∙ sym (cells_after p m u l) ∙ is))
+            | inr (inr v) ↦ one_place p p.turn u king valid l in_board (sym v.holds ∙ sym (cells_after p m u l) ∙ is) stands ∙ sym at
           ];
     }
 
@@ -295,7 +275,7 @@ set_after_is test p m set changed byte none own free full l es ec eb =
     ∙ where_agree (λ u. (test (piece_on p u) && not ((u == m.from) || is_gone p m u)) || (test land && (u == m.to)))
     (λ u. test (cell_at (placement_after p m) u))
     (λ u h. sym (ap test (cell_is p m own free u h) ∙ placed_by test (u == m.to) (u == m.from) (is_passed_on p m u) land (piece_on p u) none))
-    ∙ sym (set_where test (placement_after p m) (length_after p m own free))
+    ∙ sym (set_where test (placement_after p m) (full_after p m))
 
 -- all sets after an ordinary move
 pub moved_sets : (p : Parts) (m : Triple) (changed : ℕ) → is_of p.turn (piece_on p m.from) ≡ true → goes_to_own p m ≡ false

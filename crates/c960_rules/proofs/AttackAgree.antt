@@ -3,6 +3,7 @@ use Rattle.std.proofs.Common.{◌≡◌, ◌≢◌, ℕ, ◌<◌, Bool, true, fa
 use Rattle.std.specs.Prelude.{◌==◌, is_none, bit_and, ◌↔◌}
 use Rattle.std.specs.Int.{bit_at}
 use Rattle.std.specs.List.{list_all, list_any}
+use Rattle.std.proofs.lemmas.Bool.Decides.{same_from_decides}
 use Rattle.std.proofs.lemmas.Bool.{eq-eqb, eqb-true, and_parts, and_from, both_ways, false_from_ne_true}
 use Rattle.c960_board.specs.declared.piece.Colour.{Colour}
 use Rattle.c960_board.specs.declared.piece.Kind.{Kind}
@@ -17,12 +18,6 @@ use Rattle.c960_rules.specs.Inner.Wheres.{where_set, is_free, is_attacker_on, at
 use Rattle.c960_rules.proofs.AllSquares.{every_square, every_square_from, found_square, some_square}
 use Rattle.c960_rules.proofs.lemmas.AttackTests.{attacks_tells, attacks_from, attacked_by_tells, attacked_by_from}
 use Rattle.c960_rules.proofs.WhereFacts.{where_and, where_agree, where_none, where_nothing, set_where, in_where}
-
--- two tests are equal if each one passes whenever the other does
-pub same_tests : (a b : Bool) → (a ≡ true → b ≡ true) → (b ≡ true → a ≡ true) → a ≡ b
-same_tests true b f g = sym (f refl)
-same_tests false true f g = g refl
-same_tests false false f g = refl
 
 -- a square between that is not occupied is open
 open_bits : (b : Bool) (o : Cell) → (b && is_occupied o) ≡ false → elim b as (λ _. Bool) [ true ↦ is_none o | false ↦ true ] ≡ true
@@ -43,15 +38,18 @@ free_open cells occupied s t e =
     let b = λ (u : ℕ). between s u t in
     let o = λ (u : ℕ). is_occupied (cell_at cells u) in
     let both : bit_and (where_set b) occupied ≡ where_set (λ u. b u && o u) = where_and b o (where_set b) occupied refl e in
-    same_tests (bit_and (where_set b) occupied == 0) (list_all (is_open_at cells s t) squares)
-    (λ h.
-    let none = sym both ∙ eqb-true (bit_and (where_set b) occupied) 0 h in
-    every_square_from (is_open_at cells s t)
-    (λ u l. open_bits (between s u t) (cell_at cells u) (where_none (λ v. b v && o v) u none l)))
-    (λ h.
-    eq-eqb (bit_and (where_set b) occupied) 0
-    (both ∙ where_nothing (λ u. b u && o u)
-    (λ u l. closed_bits (between s u t) (cell_at cells u) (every_square (is_open_at cells s t) h u l))))
+    let free : Bool = bit_and (where_set b) occupied == 0 in
+    let each : Bool = list_all (is_open_at cells s t) squares in
+    same_from_decides {P = each ≡ true} free each (
+      λ h.
+          let none = sym both ∙ eqb-true (bit_and (where_set b) occupied) 0 h in
+          every_square_from (is_open_at cells s t)
+          (λ u l. open_bits (between s u t) (cell_at cells u) (where_none (λ v. b v && o v) u none l)),
+      λ h.
+          eq-eqb (bit_and (where_set b) occupied) 0
+          (both ∙ where_nothing (λ u. b u && o u)
+          (λ u l. closed_bits (between s u t) (cell_at cells u) (every_square (is_open_at cells s t) h u l))),
+    ) (λ e. e, λ e. e)
 
 -- along a line, if the way is free
 line_bits : (d n f a : Bool) → f ≡ a → elim d as (λ _. Bool) [ true ↦ n && a | false ↦ false ] ≡ ((n && d) && f)

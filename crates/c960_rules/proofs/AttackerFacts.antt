@@ -1,6 +1,7 @@
 -- The sets of attackers.
 use Rattle.std.proofs.Common.{◌≡◌, ◌≢◌, ℕ, Bool, true, false, ◌&&◌, ◌||◌, List, Some, None, length, refl, ap, sym, ◌∙◌, inl, inr, nat_lt, arith}
 use Rattle.std.specs.Prelude.{◌==◌, bit_and, bit_or}
+use Rattle.std.proofs.Math.Bool.{and-false, and-true, or-false, and_assoc, or_comm}
 use Rattle.std.proofs.lemmas.Bool.{cases_eq, eq-eqb, ne_eqb}
 use Rattle.c960_board.specs.declared.piece.Colour.{Colour}
 use Rattle.c960_board.specs.declared.piece.Colour.TheVariants.{White, Black}
@@ -30,22 +31,6 @@ pub kind_where : (p : Parts) (sets : Sets) → IsPosition p → sets ≡ sets_of
 kind_where p sets valid e k =
     ap (kind_set k) e ∙ kind_is k p.placement ∙ set_where (is_kind k) p.placement valid.placement.full
 
-pub and-false : (a : Bool) → (a && false) ≡ false
-and-false true = refl
-and-false false = refl
-
-pub and-true : (a : Bool) → (a && true) ≡ a
-and-true true = refl
-and-true false = refl
-
-pub or-false : (a : Bool) → (a || false) ≡ a
-or-false true = refl
-or-false false = refl
-
-pub and-and : (a b c : Bool) → ((a && b) && c) ≡ (a && (b && c))
-and-and true b c = refl
-and-and false b c = refl
-
 -- a pawn of that colour hits as its own colour does
 pawn_same : (c by : Colour) (s t : ℕ) → (same_colour c by && is_pawn_hit by s t) ≡ (same_colour c by && is_pawn_hit c s t)
 pawn_same White White s t = refl
@@ -65,9 +50,9 @@ kind_attacker : (c by : Colour) (k : Kind) (occupied s t : ℕ)
     ≡ (same_colour c by && attacks_over_as occupied c k s t)
 kind_attacker c by Pawn occupied s t = simp (and-false, and-true, or-false) (pawn_same c by s t)
 kind_attacker c by Knight occupied s t = simp (and-false, and-true, or-false)
-kind_attacker c by Bishop occupied s t = simp (and-false, and-true, or-false, and-and)
-kind_attacker c by Rook occupied s t = simp (and-false, and-true, or-false, and-and)
-kind_attacker c by Queen occupied s t = simp (and-false, and-true, or-false, and-and)
+kind_attacker c by Bishop occupied s t = simp (and-false, and-true, or-false, and_assoc)
+kind_attacker c by Rook occupied s t = simp (and-false, and-true, or-false, and_assoc)
+kind_attacker c by Queen occupied s t = simp (and-false, and-true, or-false, and_assoc)
 kind_attacker c by King occupied s t = simp (and-false, and-true, or-false)
 
 -- of one cell
@@ -82,13 +67,7 @@ attackers_of None occupied by s t = refl
 attackers_of (Some p) occupied by s t = kind_attacker p.colour by p.kind occupied s t
 
 -- what lies between two squares lies between them the other way round
-or-or : (a b : Bool) → (a || b) ≡ (b || a)
-or-or true true = refl
-or-or true false = refl
-or-or false true = refl
-or-or false false = refl
-
-same_back : (a b : ℕ) → (a == b) ≡ (b == a)
+pub same_back : (a b : ℕ) → (a == b) ≡ (b == a)
 same_back a b =
     elim (cases_eq a b) [
       | inl e ↦ rw e refl
@@ -101,7 +80,7 @@ way_back true false c d w v e f g = rw (← e, ← f) refl
 way_back false b c d w v e f g = rw (← e) (sym (and-false d))
 
 within_back : (a b c : ℕ) → within a b c ≡ within c b a
-within_back a b c = or-or (nat_lt a b && nat_lt b c) (nat_lt c b && nat_lt b a)
+within_back a b c = or_comm (nat_lt a b && nat_lt b c) (nat_lt c b && nat_lt b a)
 
 distance_back : (a b : ℕ) → distance a b ≡ distance b a
 distance_back a b = omega arith

@@ -1,10 +1,10 @@
 -- The sets after castling.
-use Rattle.std.proofs.Common.{◌≡◌, ◌≢◌, ℕ, ◌*◌, ◌%◌, ◌^◌, ◌<◌, Bool, true, false, not, ◌&&◌, ◌||◌, None, length, refl, ap, sym, ◌∙◌, ◌⊎◌, inl, inr, zero-add, IsTrue, arith, w64}
+use Rattle.std.proofs.Common.{◌≡◌, ◌≢◌, ℕ, ◌*◌, ◌%◌, ◌^◌, ◌<◌, Bool, true, false, not, ◌&&◌, ◌||◌, None, length, refl, ap, sym, ◌∙◌, ◌⊎◌, inl, inr, IsTrue, arith, w64}
 use Rattle.std.specs.Prelude.{◌==◌, ◌↔◌, bit_and, bit_or}
 use Rattle.std.specs.Int.{bit_not}
 use mir.Val.{bool_byte}
-use Rattle.std.proofs.lemmas.Bool.{cases_eq, eq-eqb, ne_eqb, eqb-false, not-true, not_from_false}
-use Rattle.std.proofs.lemmas.List.FromFn.{get_or-map-range_with_len, length-map-range_with_len}
+use Rattle.std.proofs.Math.Bool.{and-false, and-true, or-false, or-true}
+use Rattle.std.proofs.lemmas.Bool.{cases_eq, eq-eqb, ne_eqb, eqb-false, or_right, not-true, not_from_false}
 use Rattle.c960_board.specs.declared.piece.Colour.{Colour}
 use Rattle.c960_board.specs.declared.piece.Colour.TheVariants.{White, Black}
 use Rattle.c960_board.specs.declared.piece.Kind.TheVariants.{Pawn, Knight, Bishop, Rook, Queen, King}
@@ -21,15 +21,13 @@ use Rattle.c960_rules.specs.Castles.{is_g_side, king_file, rook_file, king_goal,
 use Rattle.c960_rules.specs.Check.{InCheck}
 use Rattle.c960_rules.specs.Inner.Safety.{is_occupied_castled}
 use Rattle.c960_rules.specs.Inner.Wheres.{where_set, is_attacker_on, attacks_over}
-use Rattle.c960_rules.proofs.lemmas.PieceFacts.{piece_on, is_own, is_holds, holds_is}
-use Rattle.c960_rules.proofs.CountFacts.{only_one}
+use Rattle.c960_rules.proofs.lemmas.PieceFacts.{piece_on, is_own}
+use Rattle.c960_rules.proofs.lemmas.AfterFacts.{has_king, cells_after, full_after}
 use Rattle.c960_rules.proofs.CellFacts.{castled_cases, king_goes}
 use Rattle.c960_rules.proofs.CastlingFacts.{IsCastling, own_rook, king_castled, king_goal_vacant, rook_goal_vacant, king_goal_in, rook_goal_in}
-use Rattle.c960_rules.proofs.Change.{HasKing}
 use Rattle.c960_rules.proofs.WhereFacts.{where_or, where_and, where_not, where_agree, set_where}
-use Rattle.c960_rules.proofs.AttackerFacts.{and-false, and-true, or-false}
 use Rattle.c960_rules.proofs.AttackAgree.{attackers_are, some_attacked, none_attacked}
-use Rattle.c960_rules.proofs.AfterSets.{own_not_other, own_occupied, or-true, landing_set}
+use Rattle.c960_rules.proofs.AfterSets.{own_not_other, own_occupied, landing_set}
 
 -- the goals of king and rook differ
 files_apart : (c : Colour) (side : Bool) → home_square c (king_file side) ≡ home_square c (rook_file side) → ⊥
@@ -41,15 +39,15 @@ files_apart Black false e = omega arith
 goals_apart : (c : Colour) (m : Triple) → king_goal c m ≡ rook_goal c m → ⊥
 goals_apart c m e = files_apart c (is_g_side m) e
 
+-- one of the two squares of the move, or neither
+two_squares : (m : Triple) (u : ℕ) → ((u ≡ m.from) ⊎ (u ≡ m.to)) ⊎ ((u ≢ m.from) × (u ≢ m.to))
+two_squares m u =
+    elim (cases_eq u m.from) [
+      | inl e ↦ inl (inl e)
+      | inr ne ↦ elim (cases_eq u m.to) [ inl e ↦ inl (inr e) | inr ne_too ↦ inr (ne, ne_too) ]
+    ]
+
 module _ (p : Parts) (m : Triple) (r : IsCastling p m) where
-  castled_cell : (u : ℕ) → u < 64 → cell_at (placement_after p m) u ≡ cell_after p m u
-  unfolding placement_after
-  castled_cell u l = get_or-map-range_with_len (cell_after p m) 0 64 u u None l (zero-add u)
-
-  castled_length : length (placement_after p m) ≡ 64
-  unfolding placement_after
-  castled_length = length-map-range_with_len (cell_after p m) 0 64
-
   king_own : is_of p.turn (piece_on p m.from) ≡ true
   king_own = is_own p.turn King (piece_on p m.from) r.castles.king
 
@@ -94,25 +92,11 @@ module _ (p : Parts) (m : Triple) (r : IsCastling p m) where
   test_at g own none u =
       let fails : (u ≡ m.from) ⊎ (u ≡ m.to) → g (piece_on p u) ≡ false =
       λ e. elim e [ inl f ↦ rw f (own (piece_on p m.from) king_own) | inr f ↦ rw f (own (piece_on p m.to) rook_own) ] in
+      let vacant_fails : (u ≢ m.from → u ≢ m.to → piece_on p u ≡ None) → g (piece_on p u) ≡ false =
+      λ vacant. elim (two_squares m u) [ inl e ↦ fails e | inr ne ↦ ap g (vacant ne.0 ne.1) ∙ none ] in
       elim (castled_cases p m u (own_rook p m r)) [
-        | inl w ↦
-            ap g w.holds ∙ own (piece_on p m.from) king_own
-            ∙ sym (elim (cases_eq u m.from) [
-              | inl e ↦ fails (inl e)
-              | inr ne ↦ elim (cases_eq u m.to) [
-                | inl e ↦ fails (inr e)
-                | inr ne_too ↦ ap g (king_goal_vacant p m r u w.square ne ne_too) ∙ none
-              ]
-            ])
-        | inr (inl w) ↦
-            ap g w.holds ∙ own (piece_on p m.to) rook_own
-            ∙ sym (elim (cases_eq u m.from) [
-              | inl e ↦ fails (inl e)
-              | inr ne ↦ elim (cases_eq u m.to) [
-                | inl e ↦ fails (inr e)
-                | inr ne_too ↦ ap g (rook_goal_vacant p m r u w.square ne ne_too) ∙ none
-              ]
-            ])
+        | inl w ↦ ap g w.holds ∙ own (piece_on p m.from) king_own ∙ sym (vacant_fails (king_goal_vacant p m r u w.square))
+        | inr (inl w) ↦ ap g w.holds ∙ own (piece_on p m.to) rook_own ∙ sym (vacant_fails (rook_goal_vacant p m r u w.square))
         | inr (inr (inl w)) ↦ ap g w.holds ∙ none ∙ sym (fails w.square)
         | inr (inr (inr w)) ↦ ap g w.holds
       ]
@@ -126,25 +110,15 @@ module _ (p : Parts) (m : Triple) (r : IsCastling p m) where
       let k = king_goal p.turn m in
       let full_set =
       eo ∙ where_agree (λ s. is_occupied_castled p m s) (λ s. is_occupied (cell_at cells s))
-      (λ u l. sym (ap is_occupied (castled_cell u l) ∙ occupied_at u)) ∙ sym (set_where is_occupied cells castled_length) in
+      (λ u l. sym (ap is_occupied (cells_after p m u l) ∙ occupied_at u)) ∙ sym (set_where is_occupied cells (full_after p m)) in
       let hits =
       es ∙ where_agree (λ s. is_attacker_on p.placement occupied by s k) (λ s. is_attacker_on cells occupied by s k)
       (λ u l.
       let g = λ (o : Cell). is_of by o && attacks_over occupied o u k in
-      sym (ap g (castled_cell u l)
+      sym (ap g (cells_after p m u l)
       ∙ test_at g (λ o h. let no_piece = own_not_other p.turn o h in rw no_piece) refl u)) in
-      let all = attackers_are cells occupied by k set castled_length full_set hits in
-      let only = only_one (holds p.turn King) p.placement None (valid.placement.one_king p.turn) in
-      let full = valid.placement.full in
-      let in_board : only.0 < 64 = let i = only.1.inside in omega arith in
-      let there : HasKing (piece_on p) p.turn =
-      record {
-        square = only.0;
-        on_board = in_board;
-        stands = holds_is p.turn King (piece_on p only.0) only.1.passes;
-        only = λ u l e. only.1.only u (omega arith) (is_holds p.turn King (piece_on p u) e);
-      } in
-      let after = king_castled p m r there from_in in
+      let all = attackers_are cells occupied by k set (full_after p m) full_set hits in
+      let after = king_castled p m r (has_king p.placement p.turn valid.placement) from_in in
       let on_board = king_goal_in p.turn m in
       let stands = king_goes p m (own_rook p m r) ∙ r.castles.king in
       let goal = after.only k on_board stands in (
@@ -152,11 +126,11 @@ module _ (p : Parts) (m : Triple) (r : IsCastling p m) where
             record {
               square = k;
               on_board = on_board;
-              king = castled_cell k on_board ∙ stands;
+              king = cells_after p m k on_board ∙ stands;
               attack = some_attacked cells by k set all (eqb-false set 0 (not-true (set == 0) h));
             },
         λ w.
-            let at = after.only w.square w.on_board (sym (castled_cell w.square w.on_board) ∙ w.king) ∙ sym goal in
+            let at = after.only w.square w.on_board (sym (cells_after p m w.square w.on_board) ∙ w.king) ∙ sym goal in
             not_from_false (set == 0) (ne_eqb set 0 (λ z. none_attacked cells by k set all z (rw at at w.attack))),
       )
 
@@ -166,15 +140,10 @@ module _ (p : Parts) (m : Triple) (r : IsCastling p m) where
   first_off : (test : Cell → Bool) → test None ≡ false → (u : ℕ) → (u ≢ m.from → u ≢ m.to → piece_on p u ≡ None)
       → (test (piece_on p u) && not ((u == m.from) || (u == m.to))) ≡ false
   first_off test none u vacant =
-      elim (cases_eq u m.from) [
-        | inl e ↦ let at = eq-eqb u m.from e in rw at (and-false (test (piece_on p u)))
-        | inr ne ↦ elim (cases_eq u m.to) [
-          | inl e ↦
-              let off = ne_eqb u m.from ne in
-              let at = eq-eqb u m.to e in
-              rw (off, at) (and-false (test (piece_on p u)))
-          | inr ne_too ↦ let is = vacant ne ne_too in rw (is, none) refl
-        ]
+      elim (two_squares m u) [
+        | inl (inl e) ↦ let at = eq-eqb u m.from e in rw at (and-false (test (piece_on p u)))
+        | inl (inr e) ↦ let at = or_right (u == m.from) (u == m.to) (eq-eqb u m.to e) in rw at (and-false (test (piece_on p u)))
+        | inr ne ↦ let is = vacant ne.0 ne.1 in rw (is, none) refl
       ]
 
   castled_at : (test : Cell → Bool) → test None ≡ false → (u : ℕ)
@@ -225,8 +194,8 @@ module _ (p : Parts) (m : Triple) (r : IsCastling p m) where
       let three = landing_set (test (piece_on p m.to)) _ (rook_goal p.turn m) (rook_goal_in p.turn m) refl in
       where_or (λ u. left u || kings u) rooks _ _ (where_or left kings _ _ one two) three
       ∙ where_agree (λ u. (left u || kings u) || rooks u) (λ u. test (cell_at (placement_after p m) u))
-      (λ u l. castled_at test none u ∙ ap test (sym (castled_cell u l)))
-      ∙ sym (set_where test (placement_after p m) castled_length)
+      (λ u l. castled_at test none u ∙ ap test (sym (cells_after p m u l)))
+      ∙ sym (set_where test (placement_after p m) (full_after p m))
 
   -- all sets after castling
   pub castled_sets : (gone : ℕ) → length p.placement ≡ 64 → gone ≡ where_set (λ u. (u == m.from) || (u == m.to))

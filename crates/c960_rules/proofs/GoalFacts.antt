@@ -1,8 +1,10 @@
 -- Where pieces go, as tests of the goal.
-use Rattle.std.proofs.Common.{◌≡◌, ◌≢◌, ℕ, ◌+◌, ◌<◌, Bool, true, false, not, ◌&&◌, ◌||◌, Option, Some, None, refl, ap, sym, ◌∙◌, inl, inr, arith, w64}
-use Rattle.std.specs.Prelude.{◌==◌, is_none, is_some, bit_and}
+use Rattle.std.proofs.Common.{◌≡◌, ◌≢◌, ℕ, ◌+◌, ◌^◌, ◌<◌, Bool, true, false, not, ◌&&◌, ◌||◌, Option, Some, None, refl, ap, sym, ◌∙◌, inl, inr, arith, w64}
+use Rattle.std.specs.Prelude.{◌==◌, is_none, is_some, bit_and, bit_or}
 use Rattle.std.specs.Int.{bit_not}
-use Rattle.std.proofs.lemmas.Bool.{and_parts, and_from, both_ways, eqb-true, eq-eqb, or_parts, false_from_ne_true}
+use Rattle.std.proofs.Math.Bool.{and-false, and-true, and_assoc}
+use Rattle.std.proofs.lemmas.Bool.Decides.{same_from_decides, Decides-and, Decides-eqb, Decides-like}
+use Rattle.std.proofs.lemmas.Bool.{and_parts, both_ways, eqb-true, or_parts, false_from_ne_true}
 use Rattle.c960_board.specs.declared.piece.Colour.{Colour}
 use Rattle.c960_board.specs.declared.piece.Colour.TheVariants.{White, Black}
 use Rattle.c960_board.specs.declared.piece.Kind.{Kind}
@@ -22,14 +24,13 @@ use Rattle.c960_rules.specs.Castles.{Castles}
 use Rattle.c960_rules.specs.Tests.Legal.{is_legal}
 use Rattle.c960_rules.specs.Inner.Listing.{promotes, triple, legal_one, legal_between, pawn_goes, goes_to, NoneGoes}
 use Rattle.c960_rules.specs.Inner.Wheres.{where_set, is_way, is_slider, is_pawn_hit, is_free, attacks_over, attacks_over_as}
-use Rattle.c960_rules.proofs.AttackAgree.{same_tests, attacks_agree}
+use Rattle.c960_rules.proofs.AttackAgree.{attacks_agree}
 use Rattle.c960_rules.proofs.InnerRanks.{IsInner, pawn_inner}
 use Rattle.c960_rules.proofs.lemmas.MoveTests.{reaches_tells, reaches_from}
 use Rattle.c960_rules.proofs.ListFacts.{none_or_some, goes_by_test, between_one, plain_on_last, promoted_elsewhere}
 use Rattle.c960_rules.proofs.lemmas.PieceFacts.{piece_on, is_holds, is_own}
 use Rattle.c960_rules.proofs.WayCandidates.{castle_rook}
-use Rattle.c960_rules.proofs.WhereFacts.{in_where, where_agree, where_and, where_not, only_at, occupied_where}
-use Rattle.c960_rules.proofs.AttackerFacts.{and-false, and-true}
+use Rattle.c960_rules.proofs.WhereFacts.{in_where, where_agree, where_or, where_and, where_not, where_itself, only_at, occupied_where}
 
 -- ---- Pawns.
 
@@ -37,49 +38,36 @@ use Rattle.c960_rules.proofs.AttackerFacts.{and-false, and-true}
 pub pawn_in : (p : Parts) (s : ℕ) → IsPosition p → s < 64 → piece_on p s ≡ man p.turn Pawn → IsInner s
 pawn_in p s valid l e = pawn_inner p s valid l (is_holds p.turn Pawn (piece_on p s) e)
 
+-- two equations that hold exactly if a third does
+two_equations : (a b c d t u : ℕ) → (a ≡ b → c ≡ d → t ≡ u) → (t ≡ u → (a ≡ b) × (c ≡ d)) → ((a == b) && (c == d)) ≡ (t == u)
+two_equations a b c d t u there back =
+    same_from_decides {P = t ≡ u} ((a == b) && (c == d)) (t == u)
+    (Decides-like ((a == b) && (c == d)) (λ e. there e.0 e.1) back (Decides-and (a == b) (c == d) (Decides-eqb a b) (Decides-eqb c d)))
+    (Decides-eqb t u)
+
 -- one square forward is the square ahead
 forward_one : (c : Colour) (s t : ℕ) → IsInner s → t < 64 → (same_file s t && is_forward c s t) ≡ (t == ahead c s)
 forward_one White s t inner l =
     let low = inner.low in
     let high = inner.high in
-    same_tests (same_file s t && is_forward White s t) (t == ahead White s)
-    (λ h.
-    let both = and_parts (same_file s t) (is_forward White s t) h in
-    let file = eqb-true (file_of s) (file_of t) both.0 in
-    let rank = eqb-true (rank_of t) (rank_of s + 1) both.1 in
-    eq-eqb t (ahead White s) (omega arith))
-    (λ h.
-    let e = eqb-true t (ahead White s) h in
-    and_from (same_file s t) (is_forward White s t) (eq-eqb (file_of s) (file_of t) (omega arith))
-    (eq-eqb (rank_of t) (rank_of s + 1) (omega arith)))
+    two_equations (file_of s) (file_of t) (rank_of t) (rank_of s + 1) t (ahead White s) (λ file rank. omega arith)
+    (λ e. (omega arith, omega arith))
 forward_one Black s t inner l =
     let low = inner.low in
     let high = inner.high in
-    same_tests (same_file s t && is_forward Black s t) (t == ahead Black s)
-    (λ h.
-    let both = and_parts (same_file s t) (is_forward Black s t) h in
-    let file = eqb-true (file_of s) (file_of t) both.0 in
-    let rank = eqb-true (rank_of s) (rank_of t + 1) both.1 in
-    eq-eqb t (ahead Black s) (omega arith))
-    (λ h.
-    let e = eqb-true t (ahead Black s) h in
-    and_from (same_file s t) (is_forward Black s t) (eq-eqb (file_of s) (file_of t) (omega arith))
-    (eq-eqb (rank_of s) (rank_of t + 1) (omega arith)))
+    two_equations (file_of s) (file_of t) (rank_of s) (rank_of t + 1) t (ahead Black s) (λ file rank. omega arith)
+    (λ e. (omega arith, omega arith))
 
 empty_free : (o : Cell) → is_none o ≡ not (is_occupied o)
 empty_free None = refl
 empty_free (Some q) = refl
-
-and_three : (a b c : Bool) → (a && (b && c)) ≡ ((a && b) && c)
-and_three true b c = refl
-and_three false b c = refl
 
 -- one step, by the square ahead
 pub step_is : (p : Parts) (s t : ℕ) → IsInner s → t < 64
     → steps p.placement p.turn s t ≡ ((t == ahead p.turn s) && not (is_occupied (piece_on p t)))
 unfolding steps
 step_is p s t inner l =
-    and_three (same_file s t) (is_forward p.turn s t) (is_empty p.placement t)
+    sym (and_assoc (same_file s t) (is_forward p.turn s t) (is_empty p.placement t))
     ∙ ap (λ (b : Bool). b && is_empty p.placement t) (forward_one p.turn s t inner l)
     ∙ ap (λ (b : Bool). (t == ahead p.turn s) && b) (empty_free (piece_on p t))
 
@@ -338,6 +326,11 @@ reaches_only p m goals e l w = (
 pub off_goals : (p : Parts) (s t : ℕ) (k : Option Kind) → goes_to p s t ≡ false → Reaches p (triple s t k) → ⊥
 off_goals p s t k h w = both_ways (goes_to p s t) h (goes_from p s t k w)
 
+-- whether the piece goes to a square, from an answer that tells whether the square is among the goals
+pub goal_tells : {goals : ℕ} {answer test : Bool} (p : Parts) (s t : ℕ) → goals ≡ where_set (λ u. goes_to p s u) → t < 64
+    → answer ≡ is_in goals t → answer ≡ test → goes_to p s t ≡ test
+goal_tells p s t e l told is = sym (in_where (λ u. goes_to p s u) _ t e l) ∙ sym told ∙ is
+
 -- ---- The squares to which nothing goes.
 
 pub no_castle : (p : Parts) (s t set : ℕ) (k : Option Kind) → IsPosition p
@@ -352,14 +345,16 @@ pub no_kings_castle : (p : Parts) (s t : ℕ) (k : Option Kind) → holds p.turn
 no_kings_castle p s t k h w = both_ways (holds p.turn King (piece_on p s)) h (is_holds p.turn King (piece_on p s) w.king)
 
 -- off the goals and the rooks
-pub none_goes : (p : Parts) (s t goals rooks set : ℕ) → goals ≡ where_set (λ u. goes_to p s u) → set ≡ where_set (λ u. is_in goals u || is_in rooks u)
-    → ((k : Option Kind) → is_in rooks t ≡ false → Castles p (triple s t k) → ⊥) → t < 64 → is_in set t ≡ false → NoneGoes p s t
-none_goes p s t goals rooks set eg es castle l out =
-    let either = or_parts (is_in goals t) (is_in rooks t) (sym (in_where (λ u. is_in goals u || is_in rooks u) set t es l) ∙ out) in
-    let off = sym (in_where (λ u. goes_to p s u) goals t eg l) ∙ either.0 in
+pub none_goes : (p : Parts) (s t goals rooks : ℕ) → goals ≡ where_set (λ u. goes_to p s u) → rooks < 2 ^ 64
+    → ((k : Option Kind) → is_in rooks t ≡ false → Castles p (triple s t k) → ⊥) → t < 64 → is_in (bit_or goals rooks) t ≡ false
+    → NoneGoes p s t
+none_goes p s t goals rooks eg fits castle l out =
+    let set = where_or (λ u. goes_to p s u) (is_in rooks) goals rooks eg (where_itself rooks fits) in
+    let off = or_parts (goes_to p s t) (is_in rooks t)
+    (sym (in_where (λ u. goes_to p s u || is_in rooks u) (bit_or goals rooks) t set l) ∙ out) in
     record {
-      reaches = λ k w. both_ways (goes_to p s t) off (goes_from p s t k w);
-      castles = λ k w. castle k either.1 w;
+      reaches = λ k w. off_goals p s t k off.0 w;
+      castles = λ k w. castle k off.1 w;
     }
 
 -- if the piece does not go there, only castling is left
@@ -369,6 +364,6 @@ between_off p s t h =
     let m = triple s t (Some k) in
     false_from_ne_true (is_legal p m) (λ e.
     elim (goes_by_test p m e) [
-      | inl w ↦ both_ways (goes_to p s t) h (goes_from p s t (Some k) w)
+      | inl w ↦ off_goals p s t (Some k) h w
       | inr w ↦ none_or_some (Some k) w.no_promotion refl
     ]))

@@ -1,6 +1,5 @@
 pub mod lemmas
 mod AllSquares
-mod BoolFacts
 mod LeapTables
 mod BetweenTable
 mod WhereFacts

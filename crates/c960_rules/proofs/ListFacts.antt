@@ -19,7 +19,7 @@ use Rattle.c960_rules.specs.Tests.Castles.{castles}
 use Rattle.c960_rules.specs.Legal.{Legal}
 use Rattle.c960_rules.specs.Tests.Legal.{is_legal, all_moves, promotions}
 use Rattle.c960_rules.specs.Inner.Listing.{promotes, triple, moves_between, moves_to_below, moves_from, moves_from_below, legal_one, legal_promotions, legal_between, legal_to_below, legal_on}
-use Rattle.c960_rules.proofs.BoolFacts.{so_parts}
+use Rattle.c960_board.proofs.lemmas.Tests.{so_parts}
 use Rattle.c960_rules.proofs.lemmas.PieceFacts.{piece_on, is_own, is_holds, holds_is, one_kind}
 use Rattle.c960_rules.proofs.lemmas.MoveTests.{leaves_check, reaches_tells, castles_tells, legal_tells, legal_from}
 

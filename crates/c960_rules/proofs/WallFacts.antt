@@ -16,7 +16,7 @@ use Rattle.c960_rules.specs.Attacks.{Clear, IsForward, AttacksAs, AttackedBy}
 use Rattle.c960_rules.specs.Check.{InCheck}
 use Rattle.c960_rules.specs.Reaches.{pawn_rank, last_rank}
 use Rattle.c960_rules.proofs.AllSquares.{every_square, found_square}
-use Rattle.c960_rules.proofs.BoolFacts.{implied_tells}
+use Rattle.c960_board.proofs.lemmas.Tests.{implied_tells}
 use Rattle.c960_rules.proofs.lemmas.PieceFacts.{other_other}
 
 -- ---- A line from the home rank to the far rank crosses the pawns' rank: checked by computation over all squares.

@@ -17,7 +17,7 @@ use Rattle.c960_rules.specs.Check.{InCheck}
 use Rattle.c960_rules.specs.Tests.Check.{in_check}
 use Rattle.c960_rules.proofs.AllSquares.{every_square, every_square_from, found_square, some_square}
 use Rattle.c960_rules.proofs.lemmas.PieceFacts.{own_is, is_own, holds_is, is_holds}
-use Rattle.c960_rules.proofs.BoolFacts.{none_is, is_none_of, implied_tells, implied_from, so_parts, then_so}
+use Rattle.c960_board.proofs.lemmas.Tests.{none_is, is_none_of, implied_tells, implied_from, so_parts, then_so}
 use Rattle.c960_rules.proofs.AttackWays.{attacked_from}
 
 -- an open square, from its test

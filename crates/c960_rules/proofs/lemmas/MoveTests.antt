@@ -22,7 +22,7 @@ use Rattle.c960_rules.specs.After.{placement_after}
 use Rattle.c960_rules.specs.Legal.{Legal}
 use Rattle.c960_rules.specs.Tests.Legal.{is_legal}
 use Rattle.c960_rules.proofs.AllSquares.{every_square, every_square_from}
-use Rattle.c960_rules.proofs.BoolFacts.{none_is, is_none_of, so_parts, then_so}
+use Rattle.c960_board.proofs.lemmas.Tests.{none_is, is_none_of, implied_tells, implied_from, so_parts, then_so}
 use Rattle.c960_rules.proofs.lemmas.PieceFacts.{piece_on, goes_to_own, one_kind, own_is, is_own, holds_is, is_holds}
 use Rattle.c960_rules.proofs.lemmas.Reached.{is_target_is}
 use Rattle.c960_rules.proofs.lemmas.AttackTests.{forward_tells, forward_from, attacks_tells, attacks_from, attacked_by_tells, attacked_by_from, check_tells, check_from}
@@ -352,24 +352,12 @@ pub vacant_from : (p : Parts) (m : Triple) (u : ℕ)
 unfolding is_vacant
 vacant_from p m u h = vacant_whole (on_way p.turn m u) u m.from m.to (piece_on p u) h
 
--- the form of the test of a safe square
-safe_parts : (way attacked : Bool) → elim way as (λ _. Bool) [ true ↦ not attacked | false ↦ true ] ≡ true → way ≡ true
-    → attacked ≡ false
-safe_parts true attacked h e = not-true attacked h
-safe_parts false attacked h e = cc
-
--- and the converse
-safe_whole : (way attacked : Bool) → (way ≡ true → attacked ≡ false)
-    → elim way as (λ _. Bool) [ true ↦ not attacked | false ↦ true ] ≡ true
-safe_whole true attacked h = not_from_false attacked (h refl)
-safe_whole false attacked h = refl
-
 -- a square of the king's way, from its test
 pub safe_tells : (p : Parts) (m : Triple) (u : ℕ) → is_safe p m u ≡ true → on_kings_way p m u ≡ true
     → AttackedBy p.placement (other p.turn) u → ⊥
 unfolding is_safe
 safe_tells p m u h on w =
-    both_ways (is_hit p u) (safe_parts (on_kings_way p m u) (is_hit p u) h on)
+    both_ways (is_hit p u) (not-true (is_hit p u) (implied_tells (on_kings_way p m u) (not (is_hit p u)) h on))
     (attacked_by_from p.placement (other p.turn) u w)
 
 -- and to its test
@@ -377,8 +365,8 @@ pub safe_from : (p : Parts) (m : Triple) (u : ℕ)
     → (on_kings_way p m u ≡ true → AttackedBy p.placement (other p.turn) u → ⊥) → is_safe p m u ≡ true
 unfolding is_safe
 safe_from p m u h =
-    safe_whole (on_kings_way p m u) (is_hit p u)
-    (λ on. false_from_ne_true (is_hit p u) (λ e. h on (attacked_by_tells p.placement (other p.turn) u e)))
+    implied_from (on_kings_way p m u) (not (is_hit p u)) (λ on.
+    not_from_false (is_hit p u) (false_from_ne_true (is_hit p u) (λ e. h on (attacked_by_tells p.placement (other p.turn) u e))))
 
 -- three tests, each made only if those before pass
 abbrev in_turn : Bool → Bool → Bool → Bool

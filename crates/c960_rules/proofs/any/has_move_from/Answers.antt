@@ -1,8 +1,6 @@
 use Rattle.std.proofs.Common.{arith}
 use Rattle.std.proofs.lemmas.Bool.{both_ways}
-use Rattle.c960_board.specs.Sets.{is_in}
 use Rattle.c960_rules.specs.Inner.Listing.{HasMoveBetween}
-use Rattle.c960_rules.proofs.WhereFacts.{where_or, where_itself}
 use Rattle.c960_rules.proofs.GoalFacts.{none_goes}
 use Rattle.c960_rules.proofs.AnyFacts.{no_move_from}
 use Rattle.c960_rules.proofs.SetLoops.{searched_more, searched_all}
@@ -12,11 +10,8 @@ use Rattle.c960_rules.proofs.any.has_move_from.Goals as goal
 pub loop-left-init : goal.loop-left-init
 loop-left-init c =
     let p = c.args.position.now in
-    let set =
-    where_or (is_in c.goals-goals.result) (is_in c.rooks_to_castle.result) c.goals-goals.result c.rooks_to_castle.result
-    (where_itself c.goals-goals.result (omega arith)) (where_itself c.rooks_to_castle.result (omega arith)) in
     λ t l e. no_between p c.args.from t
-    (none_goes p c.args.from t c.goals-goals.result c.rooks_to_castle.result _ c.goals-goals.ensures set (λ k. c.rooks_to_castle.ensures t k l) l e)
+    (none_goes p c.args.from t c.goals-goals.result c.rooks_to_castle.result c.goals-goals.ensures (omega arith) (λ k. c.rooks_to_castle.ensures t k l) l e)
 
 pub loop-left-preserved : goal.loop-left-preserved
 loop-left-preserved c =

@@ -1,9 +1,7 @@
 use Rattle.std.proofs.Common.{◌++◌, ◌∙◌, List, ap, sym, arith}
 use Rattle.std.proofs.lemmas.List.{append-nil}
 use Rattle.c960_board.specs.Moves.{Triple}
-use Rattle.c960_board.specs.Sets.{is_in}
 use Rattle.c960_rules.specs.Inner.Listing.{legal_between}
-use Rattle.c960_rules.proofs.WhereFacts.{where_or, where_itself}
 use Rattle.c960_rules.proofs.GoalFacts.{none_goes}
 use Rattle.c960_rules.proofs.WayCandidates.{none_between}
 use Rattle.c960_rules.proofs.SetLoops.{stretches_step, stretches_none, stretches_all, legal_on_is}
@@ -12,13 +10,10 @@ use Rattle.c960_rules.proofs.listing.push_from.Goals as goal
 pub loop-left-init : goal.loop-left-init
 loop-left-init c =
     let p = c.args.position.now in
-    let set =
-    where_or (is_in c.goals-goals.result) (is_in c.rooks_to_castle.result) c.goals-goals.result c.rooks_to_castle.result
-    (where_itself c.goals-goals.result (omega arith)) (where_itself c.rooks_to_castle.result (omega arith)) in
     let all =
     stretches_all (legal_between p c.args.from) _ 0 64
     (λ t l e. none_between p c.args.from t
-    (none_goes p c.args.from t c.goals-goals.result c.rooks_to_castle.result _ c.goals-goals.ensures set (λ k. c.rooks_to_castle.ensures t k l) l e)) in
+    (none_goes p c.args.from t c.goals-goals.result c.rooks_to_castle.result c.goals-goals.ensures (omega arith) (λ k. c.rooks_to_castle.ensures t k l) l e)) in
     ap (λ (l : List Triple). c.args.moves.now.items ++ l) (all ∙ legal_on_is p c.args.from)
 
 pub loop-left-preserved : goal.loop-left-preserved

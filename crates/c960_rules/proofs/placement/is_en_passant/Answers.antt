@@ -1,11 +1,11 @@
 use Rattle.std.proofs.Common.{◌≡◌, ℕ, Option, false, ap, sym, ◌∙◌}
+use Rattle.std.proofs.Math.Bool.{and-false}
 use Rattle.c960_board.specs.declared.piece.Kind.TheVariants.{Pawn}
 use Rattle.c960_board.specs.Moves.{Triple}
 use Rattle.c960_board.specs.Pieces.{holds}
 use Rattle.c960_board.specs.Cells.{cell_at}
 use Rattle.c960_rules.specs.After.{is_en_passant}
 use Rattle.c960_rules.specs.Reaches.{is_target}
-use Rattle.c960_rules.proofs.AttackerFacts.{and-false}
 use Rattle.c960_rules.proofs.placement.is_en_passant.Goals as goal
 
 pub returns-then-not-is_on_target : goal.returns-then-not-is_on_target

@@ -1,12 +1,12 @@
 use Rattle.std.proofs.Common.{◌≡◌, true, false, ap, sym, ◌∙◌}
 use Rattle.std.specs.Prelude.{◌==◌}
+use Rattle.std.proofs.Math.Bool.{and-false, and-true}
 use Rattle.c960_board.specs.declared.piece.Colour.{Colour}
 use Rattle.c960_board.specs.declared.piece.Kind.TheVariants.{Pawn}
 use Rattle.c960_board.specs.Pieces.{holds}
 use Rattle.c960_board.specs.Cells.{cell_at}
 use Rattle.c960_board.specs.Squares.{rank_of}
 use Rattle.c960_rules.specs.Reaches.{last_rank}
-use Rattle.c960_rules.proofs.AttackerFacts.{and-false, and-true}
 use Rattle.c960_rules.proofs.GoalFacts.{holds_test}
 use Rattle.c960_rules.proofs.promotion.promotes.Goals as goal
 
