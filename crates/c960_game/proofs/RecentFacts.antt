@@ -13,7 +13,8 @@ use Rattle.c960_game.specs.Game960.{Game960}
 use Rattle.c960_game.specs.Positions.{last_position, positions}
 use Rattle.c960_game.specs.Tests.Same.{same}
 use Rattle.c960_game.specs.Times.{times, uncounted, recent_positions, recent_times}
-use Rattle.c960_game.proofs.Bounds.{counted, half_moves_bound}
+use Rattle.c960_rules.proofs.lemmas.CounterSteps.{counted}
+use Rattle.c960_game.proofs.Bounds.{half_moves_bound}
 use Rattle.c960_game.proofs.CounterFacts.{times_recent}
 use Rattle.c960_game.proofs.lemmas.LogFacts.{game_positions_more, last_more, start_alone}
 use Rattle.c960_game.proofs.PositionFacts.{length_positions}

@@ -15,7 +15,8 @@ use Rattle.c960_game.specs.Ends.{own_outcome}
 use Rattle.c960_game.specs.Game960.{Game960}
 use Rattle.c960_game.specs.Positions.{position_after, last_position}
 use Rattle.c960_game.specs.Inner.Replay.{AllLegal}
-use Rattle.c960_game.proofs.Bounds.{half_moves_step, number_step, start_half_moves, start_number}
+use Rattle.c960_rules.proofs.lemmas.CounterSteps.{half_moves_step, number_step}
+use Rattle.c960_game.proofs.Bounds.{start_half_moves, start_number}
 use Rattle.c960_game.proofs.lemmas.DrawFacts.{going}
 use Rattle.c960_game.proofs.lemmas.LogFacts.{legal_from, position_after_none}
 use Rattle.c960_game.proofs.PositionFacts.{times_bound}
