@@ -1,20 +1,16 @@
 -- Facts of perft: its sum step by step, its bound, and the counters on the way.
-use Rattle.std.proofs.Common.{ℕ, zero, suc, List, Bool, true, false, None, length, take, get_or, ap, refl, subst, Fits, w64, ◌≡◌, ◌||◌, ◌∙◌, ◌+◌, ◌*◌, ◌^◌, ◌<◌, ◌≤◌}
+use Rattle.std.proofs.Common.{ℕ, zero, suc, List, true, None, length, take, get_or, ap, refl, subst, Fits, w64, ◌≡◌, ◌∙◌, ◌+◌, ◌*◌, ◌^◌, ◌<◌, ◌≤◌}
 use Rattle.std.specs.List.{sum_by, All}
 use Rattle.std.proofs.lemmas.List.Sums.{sum_by-le, length-filter, count_by-le-length, sum_by_more_le}
 use Rattle.std.proofs.lemmas.List.Elements.{filter_passes, All-get_or, All-from_get_or}
 use Rattle.std.proofs.Math.Nat.{pow-succ', pow-zero, mul-le-mul_right, pow-le-pow_right}
 use native.Mathlib.Omega.{arith}
-use Rattle.c960_board.specs.declared.piece.Colour.{Colour}
-use Rattle.c960_board.specs.declared.piece.Colour.TheVariants.{White, Black}
 use Rattle.c960_board.specs.declared.parts.Parts.{Parts}
-use Rattle.c960_board.specs.declared.piece.Kind.TheVariants.{Pawn}
-use Rattle.c960_board.specs.Pieces.{other, is_of, holds}
-use Rattle.c960_board.specs.Cells.{cell_at}
 use Rattle.c960_board.specs.Moves.{Triple, IsMove}
-use Rattle.c960_rules.specs.After.{after, half_moves_after, number_after}
+use Rattle.c960_rules.specs.After.{after}
 use Rattle.c960_rules.specs.Legal.{Legal}
 use Rattle.c960_rules.specs.Tests.Legal.{legal_list, all_moves, is_legal}
+use Rattle.c960_rules.proofs.lemmas.CounterSteps.{half_moves_step, number_step}
 use Rattle.c960_rules.proofs.lemmas.MoveTests.{legal_tells}
 use Rattle.c960_tests.specs.Perft.{perft}
 
@@ -83,26 +79,7 @@ sum_fits n p q i m items sum next small listed below item reached so_far more =
     more ∙ ap (perft n) (reached ∙ ap (after p) item_is) in
     omega (arith, next_fits n p i m small inside, sum_is, next_is)
 
--- what is set to 0 or raised by one rises by at most one
-at_most_one_more : (b : Bool) (n : ℕ) → elim b [ true ↦ 0 | false ↦ n + 1 ] ≤ n + 1
-at_most_one_more true n = omega arith
-at_most_one_more false n = omega arith
-
--- the half-move counter rises by at most one
-pub half_moves_bound : (p : Parts) (m : Triple) → half_moves_after p m ≤ p.half_moves + 1
-unfolding half_moves_after
-half_moves_bound p m =
-    at_most_one_more
-    (holds p.turn Pawn (cell_at p.placement m.from) || is_of (other p.turn) (cell_at p.placement m.to))
-    p.half_moves
-
--- the move number rises by at most one
-pub number_bound : (c : Colour) (n : ℕ) → number_after c n ≤ n + 1
-number_bound White n = omega arith
-number_bound Black n = omega arith
-
 -- both counters of the next position
 pub after_counters : (p : Parts) (m : Triple)
     → ((after p m).half_moves ≤ p.half_moves + 1) × ((after p m).number ≤ p.number + 1)
-unfolding after
-after_counters p m = (half_moves_bound p m, number_bound p.turn p.number)
+after_counters p m = (half_moves_step p m, number_step p m)
