@@ -3,27 +3,19 @@
 use crate::tests::live_boards::games::limits_of;
 use crate::tests::values::{account, move_of};
 use c960_game::{Ending, Outcome, Refusal};
-use live_board::{Board, Follower, meet};
+use live_board::{Board, meet};
 use relay_core::Taken;
-use std::alloc::Global;
-use std::process::Abort;
 use std::test::Fail;
 use std::thread;
 
-/// A new board whose queues have this capacity, and the one follower that it may have.
-fn followed(rt: &impl Abort, alloc: Global, capacity: u16) -> (Board, Follower) {
-    let Ok(mut board) = Board::open(alloc, 518, limits_of(rt, 1, capacity, 1024)) else {
-        panic!(rt; "no board");
-    };
-    let Ok(follower) = board.follow(None) else {
-        panic!(rt; "nobody follows");
-    };
-    (board, follower)
-}
-
 #[test]
 fn a_follower_goes_to_another_thread(rt: HostRuntime) -> Result<(), Fail> {
-    let (mut board, mut follower) = followed(&rt, rt.alloc(), 64);
+    let Ok(mut board) = Board::open(rt.alloc(), 518, limits_of(&rt, 1, 64, 1024)) else {
+        panic!(rt; "no board");
+    };
+    let Ok(mut follower) = board.follow(None) else {
+        panic!(rt; "nobody follows");
+    };
     let played = board.submit(move_of(&rt, "e2e4"));
     assert!(rt; played == Ok((0, None)));
     assert!(rt; meet(&mut board, &mut follower) == account(0, 0, 1, false));
@@ -48,7 +40,12 @@ fn a_follower_goes_to_another_thread(rt: HostRuntime) -> Result<(), Fail> {
 
 #[test]
 fn after_a_meeting_it_knows_what_the_board_knows(rt: HostRuntime) -> Result<(), Fail> {
-    let (mut board, mut slow) = followed(&rt, rt.alloc(), 2);
+    let Ok(mut board) = Board::open(rt.alloc(), 518, limits_of(&rt, 1, 2, 1024)) else {
+        panic!(rt; "no board");
+    };
+    let Ok(mut slow) = board.follow(None) else {
+        panic!(rt; "nobody follows");
+    };
     assert!(rt; board.submit(move_of(&rt, "e2e4")) == Ok((0, None)));
     assert!(rt; board.submit(move_of(&rt, "e7e5")) == Ok((1, None)));
     assert!(rt; meet(&mut board, &mut slow) == account(0, 0, 2, false));
