@@ -1,15 +1,19 @@
 """Runs all tests of this folder side by side, since most of them wait: python3 -m relay_client.tests"""
 
-import concurrent.futures
+import functools
+import multiprocessing
 import os
 import pathlib
 import signal
 import sys
 import unittest
+from concurrent.futures import ProcessPoolExecutor, ThreadPoolExecutor
 
 HERE = pathlib.Path(__file__).resolve().parent
 # At most this many tests are tried again. They depend on time, and a machine may be too busy with the others.
 MOST_AGAIN = 20
+# The threads of a process wait for its interpreter. In a single one, tests that send thousands of pieces would hold up all others.
+PROCESSES = 4
 
 
 def cases(suite):
@@ -28,10 +32,10 @@ def run(case):
     return case.id(), faults, [why for _, why in result.skipped]
 
 
-def told(cases, run_all):
-    """Runs the tests and prints what comes of each; answers those that failed, and how many were skipped."""
+def told(ended):
+    """Prints what came of each test; answers those that failed, and how many were skipped."""
     failed, skipped = [], 0
-    for case, (name, faults, reasons) in run_all(cases):
+    for case, (name, faults, reasons) in ended:
         for words in faults:
             print(f"failed: {name}\n{words}", flush=True)
         for words in reasons:
@@ -41,15 +45,31 @@ def told(cases, run_all):
     return failed, skipped
 
 
-def side_by_side(found):
-    with concurrent.futures.ThreadPoolExecutor(len(found)) as pool:
-        running = {pool.submit(run, case): case for case in found}
-        for ended in concurrent.futures.as_completed(running):
-            yield running[ended], ended.result()
+@functools.cache
+def found():
+    """All tests of this folder."""
+    return list(cases(unittest.defaultTestLoader.discover(str(HERE), top_level_dir=str(HERE.parents[1]))))
 
 
-def one_after_another(found):
-    for case in found:
+def share(at):
+    """The tests of a process. Those of a file are much alike, so they are dealt like cards."""
+    return found()[at::PROCESSES]
+
+
+def run_share(at):
+    """Runs the tests of a process, each in a thread; answers what came of each."""
+    with ThreadPoolExecutor(len(share(at))) as pool:
+        return list(pool.map(run, share(at)))
+
+
+def side_by_side():
+    with ProcessPoolExecutor(PROCESSES, mp_context=multiprocessing.get_context("fork")) as pool:
+        for at, ended in enumerate(pool.map(run_share, range(PROCESSES))):
+            yield from zip(share(at), ended)
+
+
+def one_after_another(tests):
+    for case in tests:
         yield case, run(case)
 
 
@@ -60,17 +80,16 @@ def main():
     signal.signal(signal.SIGTERM, lambda *_: os.killpg(0, signal.SIGKILL))
     # A shell starts what is to run in its background with INT ignored, and then no script that this starts hears it either.
     signal.signal(signal.SIGINT, signal.default_int_handler)
-    found = list(cases(unittest.defaultTestLoader.discover(str(HERE), top_level_dir=str(HERE.parents[1]))))
-    failed, skipped = told(found, side_by_side)
+    failed, skipped = told(side_by_side())
     again = len(failed)
     if 0 < again <= MOST_AGAIN:
-        print(f"{again} of {len(found)} checks of sessions failed beside the others: once more, each by itself", flush=True)
-        failed, _ = told(failed, one_after_another)
+        print(f"{again} of {len(found())} checks of sessions failed beside the others: once more, each by itself", flush=True)
+        failed, _ = told(one_after_another(failed))
     if failed:
-        print(f"{len(failed)} of {len(found)} checks of sessions failed")
+        print(f"{len(failed)} of {len(found())} checks of sessions failed")
         return 1
-    transcripts = sum(".test_transcripts." in case.id() for case in found)
-    print(f"{len(found) - transcripts - skipped} more checks of sessions" + (f", {again} of them in a second try" if again else ""))
+    transcripts = sum(".test_transcripts." in case.id() for case in found())
+    print(f"{len(found()) - transcripts - skipped} more checks of sessions" + (f", {again} of them in a second try" if again else ""))
     return 0
 
 
