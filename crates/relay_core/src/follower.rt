@@ -1,14 +1,18 @@
 //! One follower of a board: where it joined, how many moves it took, where it was closed, and the moves that wait for it.
 
 ghost use Rattle.std.specs.Prelude.{◌≡◌, ◌+◌, ◌-◌, ◌≤◌, ◌<◌, ◌^◌, [], length, drop, IfOk};
+ghost use Rattle.std.specs.Map.{lookup};
+ghost use Rattle.relay_core.specs.BoardAnswers.{outcome_at};
 ghost use Rattle.relay_core.specs.Held.Followers.{HasPlaces, account_of, joining, offered, popped};
+ghost use Rattle.relay_core.specs.Name.{same_name};
 ghost use Rattle.relay_core.specs.Replies.{taken_of};
 
+use crate::boards::Boards;
 use crate::name::BoardName;
 use crate::reply::{Account, Taken};
 use crate::take::without_move;
 use c960_board::Move;
-use c960_game::{Game, Outcome};
+use c960_game::Game;
 use circular_buffer::HeapCircularBuffer;
 use std::alloc::{AllocError, Global};
 use std::marker::Model;
@@ -97,12 +101,18 @@ impl QueueFollower {
         }
     }
 
-    /// Takes the first move that waits, or tells why none does, where its board's game has this outcome.
-    pub(crate) fn take(&mut self, outcome: Option<Outcome>) -> Taken
+    /// Takes the first move that waits, or tells why none does. Only then its board is looked for among these boards.
+    pub(crate) fn take(&mut self, boards: &Boards) -> Taken
         requires { HasPlaces self.old }
-        ensures answer { result ≡ taken_of (self.old.joined + self.old.taken) outcome self.old.cut self.old.queue }
+        ensures answer { result ≡ taken_of (self.old.joined + self.old.taken) (outcome_at (lookup (same_name self.old.board) boards.now.entries))
+            self.old.cut self.old.queue }
         ensures after { self.new ≡ popped self.old }
     {
+        let outcome = if self.queue.is_empty() {
+            boards.outcome_of(self.board)
+        } else {
+            None
+        };
         let next = self.joined + self.taken;
         let end = next + self.queue.len() as u16;
         let closing = self.cut.map(u64::from);

@@ -2,16 +2,18 @@
 
 ghost use Rattle.std.specs.Prelude.{◌≡◌, ◌+◌, ◌-◌, ◌≤◌, ◌<◌, ◌^◌, ℕ, nat_eq, is_some, length, cond, option_map, count_by, IfNone, IfSome, OnOk, OnErr, None, [], ◌∷◌, ◌++◌};
 ghost use Rattle.std.specs.Map.{lookup, remove_entry};
+ghost use Rattle.relay_core.specs.BoardAnswers.{outcome_at};
 ghost use Rattle.relay_core.specs.Held.Followers.{HasPlaces, boards_of, joining, popped, published};
 ghost use Rattle.relay_core.specs.Name.{same_name};
 ghost use Rattle.relay_core.specs.Replies.{taken_of};
 
+use crate::boards::Boards;
 use crate::follower::QueueFollower;
 use crate::name::BoardName;
 use crate::reply::Taken;
 use crate::step::Spectator;
 use c960_board::Move;
-use c960_game::{Game, Outcome};
+use c960_game::Game;
 use indexmap::IndexMap;
 use std::alloc::{AllocError, Global};
 use std::marker::Model;
@@ -72,18 +74,12 @@ impl Followers {
         }
     }
 
-    /// The board that a spectator follows.
-    pub(crate) fn board_of(&self, who: Spectator) -> Option<BoardName>
-        ensures { result ≡ option_map (λ f. f.board) (lookup (nat_eq who) self.now.entries) }
-    {
-        Some(self.seats.get(&who)?.board())
-    }
-
-    /// Makes a take for a spectator, if it follows a board; the outcome is that of the game there. It allocates nothing.
+    /// Makes a take for a spectator, if it follows one of these boards. It allocates nothing.
     #[tactic(auto, using(crate::proofs::BoardKept::boards_kept))]
-    pub(crate) fn take(&mut self, who: Spectator, outcome: Option<Outcome>) -> Option<Taken>
+    pub(crate) fn take(&mut self, who: Spectator, boards: &Boards) -> Option<Taken>
         requires { IfSome (lookup (nat_eq who) self.old.entries) HasPlaces }
-        ensures answer { result ≡ option_map (λ f. taken_of (f.joined + f.taken) outcome f.cut f.queue) (lookup (nat_eq who) self.old.entries) }
+        ensures answer { result ≡ option_map (λ f. taken_of (f.joined + f.taken) (outcome_at (lookup (same_name f.board) boards.now.entries)) f.cut f.queue)
+            (lookup (nat_eq who) self.old.entries) }
         ensures updates { (q : ℕ) → lookup (nat_eq q) self.new.entries
             ≡ cond (nat_eq who q) (option_map popped (lookup (nat_eq who) self.old.entries))
             (lookup (nat_eq q) self.old.entries) }
@@ -92,7 +88,7 @@ impl Followers {
         ensures room { self.new.room ≡ self.old.room }
     {
         let follower = self.seats.get_mut(&who)?;
-        Some(follower.take(outcome))
+        Some(follower.take(boards))
     }
 
     /// Makes a spectator that follows no board a follower of this one, from a place of its game's log on.

@@ -140,12 +140,8 @@ impl Holdings {
     {
         // Hence the places of a log fit in 16 bits.
         prove!(self.limits.plies() <= MOST_PLIES);
-        let Some(board) = self.followers.board_of(who) else {
+        let Some(taken) = self.followers.take(who, &self.boards) else {
             return Reply::Refused(Refusal::NoSuchFollower);
-        };
-        let outcome = self.boards.outcome_of(board);
-        let Some(taken) = self.followers.take(who, outcome) else {
-            unreachable!();
         };
         Reply::Took(taken)
     }

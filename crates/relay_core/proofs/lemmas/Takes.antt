@@ -1,5 +1,5 @@
 -- A take, by what the follower finds.
-use Rattle.std.proofs.Common.{◌≡◌, ℕ, ◌+◌, ◌<◌, ◌≤◌, nat_eq, Bool, true, false, cond, List, [], ◌∷◌, ◌++◌, length, length-append, drop, take, unwrap_or, Option, Some, None, option_map, refl, sym, ap, subst, ◌∙◌, arith, inl}
+use Rattle.std.proofs.Common.{◌≡◌, ℕ, ◌+◌, ◌≤◌, nat_eq, Bool, true, false, cond, List, [], ◌∷◌, ◌++◌, length, length-append, drop, take, unwrap_or, Option, Some, None, option_map, refl, sym, ap, subst, ◌∙◌, arith, inl}
 use Rattle.std.specs.Map.{lookup}
 use Rattle.std.specs.Option.{IfSome}
 use Rattle.std.proofs.lemmas.Bool.{eqb-true}
@@ -153,7 +153,7 @@ module _ (limits : LimitNumbers) (r : Held) (fs : List (ℕ × HeldFollower)) (h
               ∙ ap (λ x. lookup (nat_eq x) r.followers) (same refl)
 
 -- what a take answers to the follower
-abbrev answer_to : List (List ℕ × GameRecord) → HeldFollower → Taken
+abbrev pub answer_to : List (List ℕ × GameRecord) → HeldFollower → Taken
 answer_to boards f = taken_of (f.joined + f.taken) (outcome_at (lookup (same_name f.board) boards)) f.cut f.queue
 
 pub take_goes : (r : Held) (fs : List (ℕ × HeldFollower)) (who : ℕ) (f : HeldFollower) → lookup (nat_eq who) r.followers ≡ Some f
