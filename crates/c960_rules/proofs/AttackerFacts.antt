@@ -108,7 +108,7 @@ between_back s u t =
     rw (on_rank, on_file, on_diagonal) refl
 
 -- so a way is free both ways
-free_back : (occupied s t : ℕ) → is_free occupied s t ≡ is_free occupied t s
+pub free_back : (occupied s t : ℕ) → is_free occupied s t ≡ is_free occupied t s
 unfolding is_free
 free_back occupied s t =
     ap (λ (set : ℕ). bit_and set occupied == 0)

@@ -36,3 +36,4 @@ mod ListFacts
 mod SetLoops
 mod WayCandidates
 mod AnyFacts
+mod PinFacts

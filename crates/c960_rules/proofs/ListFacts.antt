@@ -99,7 +99,7 @@ promoted_elsewhere p s t k h (inr w) = none_or_some (Some k) w.no_promotion refl
 -- ---- The move alone.
 
 -- a legal move is listed
-one_legal : (p : Parts) (m : Triple) → Legal p m → legal_one p m ≡ m ∷ []
+pub one_legal : (p : Parts) (m : Triple) → Legal p m → legal_one p m ≡ m ∷ []
 unfolding legal_one
 one_legal p m h = let e = legal_from p m h in rw e
 

@@ -81,6 +81,18 @@ stretches_all f set start (suc n) h =
       | false ↦ λ e. let none = h start (omega arith) e in rw none
     ] refl)
 
+-- stretches that agree on the squares of the set
+pub stretches_alike : (f g : ℕ → List Triple) (set start n : ℕ) → ((t : ℕ) → t < start + n → is_in set t ≡ true → f t ≡ g t)
+    → stretches_in f set (range_with_len start n) ≡ stretches_in g set (range_with_len start n)
+unfolding stretches_in
+stretches_alike f g set start zero h = refl
+stretches_alike f g set start (suc n) h =
+    let rest = stretches_alike f g set (start + 1) n (λ t l e. h t (omega arith) e) in
+    rw rest (elim (is_in set start) as (λ b. is_in set start ≡ b → cond b (f start) [] ++ stretches_in g set (range_with_len (start + 1) n) ≡ cond b (g start) [] ++ stretches_in g set (range_with_len (start + 1) n)) [
+      | true ↦ λ e. let here = h start (omega arith) e in rw here refl
+      | false ↦ λ e. refl
+    ] refl)
+
 -- a filter of stretches is the stretches filtered
 pub filter_stretches : (test : Triple → Bool) (f : ℕ → List Triple) (xs : List ℕ)
     → filter test (flat_map f xs) ≡ flat_map (λ t. filter test (f t)) xs

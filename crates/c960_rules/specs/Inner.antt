@@ -3,3 +3,4 @@ pub mod Wheres
 pub mod Listing
 pub mod Safety
 pub mod Carried
+pub mod Pins

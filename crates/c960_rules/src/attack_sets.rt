@@ -18,7 +18,7 @@ use c960_board::{Colour, Position, Square};
 
 /// The pawns, knights and kings of the colour that attack the square.
 #[inline(always)]
-fn leapers(position: &Position, by: Colour, square: Square) -> u64
+pub(crate) fn leapers(position: &Position, by: Colour, square: Square) -> u64
     ensures { result ≡ where_set (λ s. is_leaper_on position.now.placement by s square) }
 {
     let sets = position.sets();
@@ -31,7 +31,7 @@ fn leapers(position: &Position, by: Colour, square: Square) -> u64
 
 /// The bishops, rooks and queens of the colour that move along a line with the square.
 #[inline(always)]
-fn sliders(position: &Position, by: Colour, square: Square) -> u64
+pub(crate) fn sliders(position: &Position, by: Colour, square: Square) -> u64
     ensures { result ≡ where_set (λ s. is_slider_on position.now.placement by s square) }
 {
     let sets = position.sets();

@@ -17,6 +17,7 @@ mod legal;
 mod listing;
 mod lookups;
 mod mate;
+mod pins;
 mod placement;
 mod promotion;
 mod reaches;

@@ -1,19 +1,26 @@
 //! The list of all legal moves.
 
-ghost use Rattle.std.specs.Prelude.{◌≡◌, ◌++◌, IfOk, IsTrue, IsFalse};
+ghost use Rattle.std.specs.Prelude.{◌≡◌, ◌++◌, ◌&&◌, not, IfOk, IsTrue, IsFalse};
+ghost use Rattle.c960_board.specs.declared.piece.Kind.TheVariants.{Pawn};
+ghost use Rattle.c960_board.specs.Cells.{cell_at};
 ghost use Rattle.c960_board.specs.Moves.{is_promotion};
+ghost use Rattle.c960_board.specs.Pieces.{holds};
+ghost use Rattle.c960_board.specs.Sets.{is_in};
+ghost use Rattle.c960_rules.specs.Lines.{squares};
 ghost use Rattle.c960_rules.specs.Tests.Legal.{legal_list};
 ghost use Rattle.c960_rules.specs.Inner.Wheres.{where_set};
 ghost use Rattle.c960_rules.specs.Reaches.{Reaches};
-ghost use Rattle.c960_rules.specs.Inner.Listing.{triple, promotes, legal_one, legal_promotions, legal_between, legal_on, goes_to};
+ghost use Rattle.c960_rules.specs.Inner.Listing.{triple, promotes, legal_one, legal_promotions, legal_between, legal_on, goes_to, one_plain, stretches_in};
+ghost use Rattle.c960_rules.specs.Inner.Pins.{IsUnpinned};
 
 use crate::bitset::{lowest, without};
 use crate::goals::{goals, rooks_to_castle};
 use crate::lawful::Lawful;
-use crate::legal::{is_legal_castling, is_legal_ordinary};
+use crate::legal::is_legal_castling;
+use crate::pins::{is_legal_unless_pinned, unpinned};
 use crate::promotion::promotes;
 use crate::sides::squares_of;
-use c960_board::{Kind, Move, Position, Sets, Square};
+use c960_board::{Kind, Move, Position, Sets, Square, holds};
 use std::alloc::{AllocError, Global};
 
 /// Adds the move of a piece that goes there, if it does not expose its own king.
@@ -21,12 +28,14 @@ use std::alloc::{AllocError, Global};
 fn push_safe(
     moves: &mut Vec<Move>,
     position: &Position,
+    unpinned: u64,
     from: Square,
     to: Square,
     promotion: Option<Kind>,
 ) -> Result<(), AllocError>
     requires promotion { IsTrue (is_promotion promotion) }
     requires reaches { Reaches position.now (triple from to promotion) }
+    requires unpinned { IsUnpinned position.now unpinned }
     ensures { IfOk result (λ _.
         moves.new.items ≡ moves.old.items ++ legal_one position.now (triple from to promotion)) }
 {
@@ -37,7 +46,7 @@ fn push_safe(
     };
     // This gives the proof what is true of every move: `code` ensures it.
     prove!(m.code() < 20480);
-    if is_legal_ordinary(position, &m) {
+    if is_legal_unless_pinned(position, &m, unpinned) {
         moves.push(m)?;
     }
     Ok(())
@@ -47,17 +56,19 @@ fn push_safe(
 fn push_promoted(
     moves: &mut Vec<Move>,
     position: &Position,
+    unpinned: u64,
     from: Square,
     to: Square,
 ) -> Result<(), AllocError>
     requires goes { IsTrue (goes_to position.now from to) }
     requires promotes { IsTrue (promotes position.now from to) }
+    requires unpinned { IsUnpinned position.now unpinned }
     ensures { IfOk result (λ _. moves.new.items ≡ moves.old.items ++ legal_promotions position.now from to) }
 {
-    push_safe(moves, position, from, to, Some(Kind::Knight))?;
-    push_safe(moves, position, from, to, Some(Kind::Bishop))?;
-    push_safe(moves, position, from, to, Some(Kind::Rook))?;
-    push_safe(moves, position, from, to, Some(Kind::Queen))?;
+    push_safe(moves, position, unpinned, from, to, Some(Kind::Knight))?;
+    push_safe(moves, position, unpinned, from, to, Some(Kind::Bishop))?;
+    push_safe(moves, position, unpinned, from, to, Some(Kind::Rook))?;
+    push_safe(moves, position, unpinned, from, to, Some(Kind::Queen))?;
     Ok(())
 }
 
@@ -67,16 +78,18 @@ fn push_promoted(
 fn push_reached(
     moves: &mut Vec<Move>,
     position: &Position,
+    unpinned: u64,
     from: Square,
     to: Square,
 ) -> Result<(), AllocError>
-    requires { IsTrue (goes_to position.now from to) }
+    requires goes { IsTrue (goes_to position.now from to) }
+    requires unpinned { IsUnpinned position.now unpinned }
     ensures { IfOk result (λ _. moves.new.items ≡ moves.old.items ++ legal_between position.now from to) }
 {
     if promotes(position, from, to) {
-        push_promoted(moves, position, from, to)
+        push_promoted(moves, position, unpinned, from, to)
     } else {
-        push_safe(moves, position, from, to, None)
+        push_safe(moves, position, unpinned, from, to, None)
     }
 }
 
@@ -108,32 +121,94 @@ fn push_castling(
 fn push_at(
     moves: &mut Vec<Move>,
     position: &Position,
+    unpinned: u64,
     goals: u64,
     from: Square,
     to: Square,
 ) -> Result<(), AllocError>
-    requires { goals ≡ where_set (λ t. goes_to position.now from t) }
+    requires goals { goals ≡ where_set (λ t. goes_to position.now from t) }
+    requires unpinned { IsUnpinned position.now unpinned }
     ensures { IfOk result (λ _. moves.new.items ≡ moves.old.items ++ legal_between position.now from to) }
 {
     if Sets::is_in(goals, to) {
-        push_reached(moves, position, from, to)
+        push_reached(moves, position, unpinned, from, to)
     } else {
         push_castling(moves, position, from, to)
     }
 }
 
-/// Adds the legal moves from a square.
-fn push_from(moves: &mut Vec<Move>, position: &Position, from: Square) -> Result<(), AllocError>
+/// Adds a move without a promotion.
+#[inline(always)]
+fn push_plain(moves: &mut Vec<Move>, from: Square, to: Square) -> Result<(), AllocError>
+    ensures { IfOk result (λ _. moves.new.items ≡ moves.old.items ++ one_plain from to) }
+{
+    let m = Move {
+        from,
+        to,
+        promotion: None,
+    };
+    moves.push(m)?;
+    Ok(())
+}
+
+/// Adds a move without a promotion for each of the goals.
+#[inline(always)]
+fn push_all(moves: &mut Vec<Move>, from: Square, goals: u64) -> Result<(), AllocError>
+    ensures { IfOk result (λ _. moves.new.items ≡ moves.old.items ++ stretches_in (one_plain from) goals squares) }
+{
+    let mut left = goals;
+    while left != 0 {
+        let to = lowest(left);
+        left = without(left, to);
+        push_plain(moves, from, to)?;
+    }
+    Ok(())
+}
+
+/// Adds the legal moves from a square, each goal tested.
+fn push_tested(
+    moves: &mut Vec<Move>,
+    position: &Position,
+    unpinned: u64,
+    goals: u64,
+    from: Square,
+) -> Result<(), AllocError>
+    requires goals { goals ≡ where_set (λ t. goes_to position.now from t) }
+    requires unpinned { IsUnpinned position.now unpinned }
     ensures { IfOk result (λ _. moves.new.items ≡ moves.old.items ++ legal_on position.now from) }
 {
-    let goals = goals(position, from);
     let mut left = goals | rooks_to_castle(position, from);
     while left != 0 {
         let to = lowest(left);
         left = without(left, to);
-        push_at(moves, position, goals, from, to)?;
+        push_at(moves, position, unpinned, goals, from, to)?;
     }
     Ok(())
+}
+
+/// Whether a piece that is not a pawn can leave the square: then each of its goals is one legal move.
+#[inline(always)]
+fn is_unpinned_officer(position: &Position, unpinned: u64, from: Square) -> bool
+    ensures { result ≡ (is_in unpinned from && not (holds position.now.turn Pawn (cell_at position.now.placement from))) }
+{
+    Sets::is_in(unpinned, from) && !holds(position.piece_at(from), position.turn(), Kind::Pawn)
+}
+
+/// Adds the legal moves from a square.
+fn push_from(
+    moves: &mut Vec<Move>,
+    position: &Position,
+    unpinned: u64,
+    from: Square,
+) -> Result<(), AllocError>
+    requires { IsUnpinned position.now unpinned }
+    ensures { IfOk result (λ _. moves.new.items ≡ moves.old.items ++ legal_on position.now from) }
+{
+    let goals = goals(position, from);
+    if is_unpinned_officer(position, unpinned, from) {
+        return push_all(moves, from, goals);
+    }
+    push_tested(moves, position, unpinned, goals, from)
 }
 
 /// All legal moves, ascending by the square that is left, then by the goal, then by the promotion: none, knight,
@@ -149,11 +224,12 @@ pub fn legal_moves(alloc: Global, lawful: &Lawful) -> Result<Vec<Move>, AllocErr
     let turn = position.turn();
     // Room for 64, since few positions have more legal moves: so the list seldom grows while it is being filled.
     let mut moves = Vec::with_capacity(alloc, 64)?;
+    let unpinned = unpinned(&position);
     let mut left = squares_of(&position, turn);
     while left != 0 {
         let from = lowest(left);
         left = without(left, from);
-        push_from(&mut moves, &position, from)?;
+        push_from(&mut moves, &position, unpinned, from)?;
     }
     Ok(moves)
 }

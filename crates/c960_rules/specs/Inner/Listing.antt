@@ -1,6 +1,6 @@
 -- The stretches of the list of all legal moves, and the legal moves from a square. Only the contracts of inner functions
 -- cite these definitions; the rules do not depend on them.
-use Rattle.std.specs.Prelude.{ℕ, ◌<◌, ◌==◌, ◌&&◌, ◌||◌, not, Bool, true, false, cond, List, [], ◌∷◌, Option, Some, map, filter}
+use Rattle.std.specs.Prelude.{ℕ, ◌<◌, ◌==◌, ◌&&◌, ◌||◌, not, Bool, true, false, cond, List, [], ◌∷◌, Option, Some, None, map, filter}
 use Rattle.std.specs.List.{range_with_len, flat_map}
 use Rattle.c960_board.specs.declared.piece.Kind.{Kind}
 use Rattle.c960_board.specs.declared.piece.Kind.TheVariants.{Pawn, Knight, Bishop, Rook, Queen}
@@ -94,3 +94,7 @@ pub record NoneGoes (p : Parts) (s t : ℕ) : Type 0 where
 -- the stretches of the squares of a set
 unfoldable pub stretches_in : (ℕ → List Triple) → ℕ → List ℕ → List Triple
 stretches_in f set squares = flat_map (λ t. cond (is_in set t) (f t) []) squares
+
+-- the one move between two squares that names no promotion
+abbrev pub one_plain : ℕ → ℕ → List Triple
+one_plain s t = triple s t None ∷ []

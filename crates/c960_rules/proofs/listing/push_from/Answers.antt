@@ -1,31 +1,19 @@
-use Rattle.std.proofs.Common.{◌++◌, ◌∙◌, List, ap, sym, arith}
-use Rattle.std.proofs.lemmas.List.{append-nil}
+use Rattle.std.proofs.Common.{◌≡◌, ◌++◌, ◌∙◌, IfOk, List, not, sym, subst, arith}
+use Rattle.std.proofs.lemmas.Bool.{and_parts, not-true}
+use Rattle.c960_board.specs.declared.piece.Kind.TheVariants.{Pawn}
 use Rattle.c960_board.specs.Moves.{Triple}
-use Rattle.c960_rules.specs.Inner.Listing.{legal_between}
-use Rattle.c960_rules.proofs.GoalFacts.{none_goes}
-use Rattle.c960_rules.proofs.WayCandidates.{none_between}
-use Rattle.c960_rules.proofs.SetLoops.{stretches_step, stretches_none, stretches_all, legal_on_is}
+use Rattle.c960_board.specs.Pieces.{holds}
+use Rattle.c960_board.specs.Cells.{cell_at}
+use Rattle.c960_board.specs.Sets.{is_in}
+use Rattle.c960_rules.proofs.PinFacts.{officer_moves}
 use Rattle.c960_rules.proofs.listing.push_from.Goals as goal
 
-pub loop-left-init : goal.loop-left-init
-loop-left-init c =
+pub returns-then-is_unpinned_officer : goal.returns-then-is_unpinned_officer
+returns-then-is_unpinned_officer c =
     let p = c.args.position.now in
-    let all =
-    stretches_all (legal_between p c.args.from) _ 0 64
-    (λ t l e. none_between p c.args.from t
-    (none_goes p c.args.from t c.goals-goals.result c.rooks_to_castle.result c.goals-goals.ensures (omega arith) (λ k. c.rooks_to_castle.ensures t k l) l e)) in
-    ap (λ (l : List Triple). c.args.moves.now.items ++ l) (all ∙ legal_on_is p c.args.from)
-
-pub loop-left-preserved : goal.loop-left-preserved
-loop-left-preserved c =
-    let p = c.args.position.now in
-    let k = c.lowest-to.result in
-    stretches_step (legal_between p c.args.from) _ _ _ c.loop-left.left k c.without-left.result c.without-left.ensures.taken_out c.lowest-to.ensures.least
-    c.loop-left.invariant c.in_ok-push_at.ensures
-
-pub returns : goal.returns
-returns c =
-    let f = legal_between c.args.position.now c.args.from in
-    let none = stretches_none f c.loop-left.left c.loop-left-test.false in
-    sym (append-nil c.loop-left.moves.items) ∙ ap (λ (l : List Triple). c.loop-left.moves.items ++ l) (sym none)
-    ∙ c.loop-left.invariant
+    let pawn = holds p.turn Pawn (cell_at p.placement c.args.from) in
+    let both = and_parts (is_in c.args.unpinned c.args.from) (not pawn)
+    (sym c.is_unpinned_officer.ensures ∙ c.if-is_unpinned_officer.true) in
+    let all = officer_moves p c.args.from c.goals-goals.result c.args.unpinned c.requires (omega arith) both.0 (not-true pawn both.1)
+    c.goals-goals.ensures in
+    subst (λ (l : List Triple). IfOk c.push_all.result (λ _. c.push_all.new.moves.items ≡ c.args.moves.now.items ++ l)) all c.push_all.ensures

@@ -4,4 +4,4 @@ use Rattle.c960_rules.proofs.listing.push_reached.Goals as goal
 
 pub push_safe-requires-clause-reaches : goal.push_safe-requires-clause-reaches
 push_safe-requires-clause-reaches c =
-    reaches_plain c.args.position.now c.args.from c.args.to c.requires (sym c.promotes.ensures ∙ c.if-promotes.false)
+    reaches_plain c.args.position.now c.args.from c.args.to c.requires.goes (sym c.promotes.ensures ∙ c.if-promotes.false)
