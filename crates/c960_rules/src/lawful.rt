@@ -50,6 +50,17 @@ impl Lawful {
         Lawful { position }
     }
 
+    /// The position, to be looked at where it stands: a copy takes about a hundred bytes.
+    #[inline(always)]
+    pub fn as_position(&self) -> &Position
+        ensures value { result.now ≡ self.now }
+        ensures lawful { IsLawful result.now }
+        ensures valid { IsPosition result.now }
+    {
+        let _sets = self.position.sets();
+        &self.position
+    }
+
     /// The position.
     pub fn position(&self) -> Position
         ensures value { result ≡ self.now }
