@@ -1,4 +1,5 @@
 pub mod Maps
+pub mod Orders
 pub mod Swaps
 pub mod Closings
 pub mod Offers

@@ -67,7 +67,7 @@ held_of a = held_by a.limits a.boards.entries a.followers.entries
 abbrev pub holding_of : Inside → Holding
 holding_of a = record {
   shown = plain (held_of a);
-  room = record { boards = spare a.boards; followers = spare a.followers };
+  room = record { boards = spare a.boards; followers = a.followers.room };
 }
 
 -- ---- What is kept.

@@ -14,7 +14,8 @@ ghost use Rattle.live_board.specs.Board.{game_of, setup_of};
 ghost use Rattle.relay_live.specs.Live.{SlotsLeft};
 
 use crate::boards::{end, join, leave_for, play, take_for};
-use crate::seated::{Seated, count_take};
+use crate::seated::Seated;
+use crate::seats::Seats;
 use c960_board::Move;
 use c960_game::{Ending, Limits, MOST_PLIES, Refusal};
 use indexmap::IndexMap;
@@ -31,7 +32,7 @@ pub(crate) struct Holdings {
     /// The boards that were opened.
     boards: IndexMap<BoardName, Board>,
     /// Which spectators follow, and where.
-    followers: IndexMap<Spectator, Seated>,
+    followers: Seats,
 }
 
 impl Model for Holdings {
@@ -53,7 +54,7 @@ impl Holdings {
         Ok(Holdings {
             limits,
             boards: IndexMap::with_capacity(alloc, usize::from(limits.boards()))?,
-            followers: IndexMap::new(alloc),
+            followers: Seats::new(alloc),
         })
     }
 
@@ -109,7 +110,7 @@ impl Holdings {
         let Some(live) = self.boards.get(&board) else {
             return Reply::Refused(Refusal::NoSuchBoard);
         };
-        let follows = self.followers.contains_key(&who);
+        let follows = self.followers.contains(who);
         let len = live.len();
         let joined = from.unwrap_or(len);
         let vacant = live.vacant_slot();
@@ -144,12 +145,12 @@ impl Holdings {
     {
         // Hence the places of a log fit in 16 bits.
         prove!(self.limits.plies() <= MOST_PLIES);
-        let Some(&seated) = self.followers.get(&who) else {
+        let Some(seated) = self.followers.get(who) else {
             return Reply::Refused(Refusal::NoSuchFollower);
         };
         let taken = take_for(&mut self.boards, seated);
         if let Taken::Move(_, _) = taken {
-            count_take(&mut self.followers, who);
+            self.followers.count_take(who);
         }
         Reply::Took(taken)
     }
@@ -161,7 +162,7 @@ impl Holdings {
         ensures room { self.new.room.boards ≡ self.old.room.boards }
         ensures followers_room { self.old.room.followers ≤ self.new.room.followers }
     {
-        let Some(seated) = self.followers.shift_remove(&who) else {
+        let Some(seated) = self.followers.remove(who) else {
             return Reply::Refused(Refusal::NoSuchFollower);
         };
         Reply::Left(leave_for(&mut self.boards, seated))

@@ -4,8 +4,10 @@
 
 mod boards;
 mod holdings;
+mod order;
 mod relay;
 mod seated;
+mod seats;
 
 pub use live_board::{Board, Follower, Gone, meet};
 pub use relay::LiveRelay;

@@ -1,12 +1,8 @@
 //! Where a spectator follows.
 
-ghost use Rattle.std.specs.Prelude.{◌≡◌, ℕ, ◌+◌, ◌<◌, Some, None, IfSome, is_some, nat_eq, unwrap_or};
-ghost use Rattle.std.specs.HashMap.{spare};
-ghost use Rattle.std.specs.Map.{lookup, set_value};
-ghost use Rattle.relay_live.specs.Live.{with_one_more};
+ghost use Rattle.std.specs.Prelude.{◌≡◌, ℕ, ◌<◌, Some, is_some, unwrap_or};
 
-use indexmap::IndexMap;
-use relay_core::{Account, BoardName, Spectator};
+use relay_core::{Account, BoardName};
 
 /// Where a spectator follows, and how far it has got. Everything else about it is in what the board knows.
 #[derive(Clone, Copy, PartialEq, Eq, Debug)]
@@ -19,19 +15,6 @@ pub(crate) struct Seated {
     pub(crate) joined: u16,
     /// How many moves it has taken.
     pub(crate) taken: u16,
-}
-
-/// Counts one more move for a spectator.
-pub(crate) fn count_take(seats: &mut IndexMap<Spectator, Seated>, who: Spectator)
-    requires { IfSome (lookup (nat_eq who) seats.old.entries) (λ f. f.taken < 65535) }
-    ensures counted { IfSome (lookup (nat_eq who) seats.old.entries) (λ f. seats.new.entries ≡ set_value (nat_eq who) seats.old.entries (with_one_more f)) }
-    ensures nobody { lookup (nat_eq who) seats.old.entries ≡ None → seats.new.entries ≡ seats.old.entries }
-    ensures room { spare seats.new ≡ spare seats.old }
-{
-    let Some(seated) = seats.get_mut(&who) else {
-        return;
-    };
-    seated.taken += 1;
 }
 
 /// What a spectator has had. Its board's log has the length `present`, and it was closed at `closing`, if it was.

@@ -1,10 +1,8 @@
-use Rattle.std.proofs.Common.{◌≡◌, ◌-◌, ◌≤◌, ℕ, sym, refl, ap, subst, ◌∙◌, List, length, nat_eq, is_some, unwrap_or, None, Some, Ok, arith}
+use Rattle.std.proofs.Common.{◌≡◌, ◌-◌, ◌≤◌, sym, refl, ap, ◌∙◌, length, nat_eq, is_some, unwrap_or, None, Some, Ok, arith}
 use Rattle.std.specs.Map.{lookup}
 use Rattle.std.specs.Option.{option_copied}
 use Rattle.std.proofs.lemmas.Option.{none-some}
-use Rattle.indexmap.proofs.CallerLemmas.{insert_entry-new}
 use Rattle.c960_game.proofs.lemmas.LogFacts.{position_made}
-use Rattle.c960_game.specs.declared.refusal.Refusal.TheVariants.{OutOfMemory}
 use Rattle.live_board.specs.declared.setup.BoardSetup.{BoardSetup}
 use Rattle.relay_core.specs.declared.reply.Reply.TheVariants.{Following}
 use Rattle.relay_core.specs.declared.step.Step.TheVariants.{Follow}
@@ -37,7 +35,7 @@ place c = c.unwrap_or-joined.ensures ∙ ap (unwrap_or c.args.from) c.len-len.en
 kept_grounds : (c : After-may_follow) → c.may_follow.result
     ≡ first_refusal (follow_grounds (is_some (lookup (nat_eq c.args.who) c.self.inside.followers.entries)) c.len-len.result c.unwrap_or-joined.result c.capacity-capacity.result c.is_none.result)
 kept_grounds c =
-    c.may_follow.ensures ∙ ap (λ t. first_refusal (follow_grounds t c.len-len.result c.unwrap_or-joined.result c.capacity-capacity.result c.is_none.result)) c.contains_key-follows.ensures
+    c.may_follow.ensures ∙ ap (λ t. first_refusal (follow_grounds t c.len-len.result c.unwrap_or-joined.result c.capacity-capacity.result c.is_none.result)) c.contains-follows.ensures
 
 held_grounds : (c : After-may_follow) → c.may_follow.result ≡ first_refusal (grounds (held_of c.self.inside) c.args.who c.args.board c.args.from (game c.in-Some.live.now) (found c))
 held_grounds c =
@@ -71,7 +69,7 @@ joined c =
     let vacant = (found_vacant b.knows c.vacant_slot-vacant.result c.in-Some-vacant.slot c.in-Some-vacant.is c.vacant_slot-vacant.ensures.slot).1 in
     let s : Seated = record { board = c.args.board; slot = c.in-Some-vacant.slot; joined = c.unwrap_or-joined.result; taken = 0 } in
     let t = joins c.args.board a.boards.entries c.join.new.boards.entries c.in-Some-vacant.slot c.unwrap_or-joined.result b (there m) c.join.ensures.swapped in
-    let new = c.in-Ok.ensures.entries ∙ insert_entry-new nat_eq a.followers c.args.who s w.0 in
+    let new = c.in-Ok.ensures.entries in
     let stood = sym c.in-Some-position_at.is ∙ c.position_at.ensures.value in (
       goes a.limits a.boards.entries c.join.new.boards.entries a.followers.entries c.insert.new.self.entries c.args.who c.args.board c.in-Some-vacant.slot c.unwrap_or-joined.result c.self.invariant.0 w.0
           b t.0 (there m) vacant w.1 t.1 t.2 t.3 s refl refl refl refl new c.args.from c.in-Some-position_at.position u fine (place m) stood,
@@ -98,6 +96,9 @@ unreachable-requires-in_default-position_at c =
     let w = granted (goal.at.unreachable-requires-in_default-position_at c).After-may_follow c.in_default-may_follow.field-0 c.in_default-may_follow.is in
     none-some _ (sym c.in_default-position_at.is ∙ c.position_at.ensures.value
     ∙ position_made c.in-Some.live.now.knows.setup.start c.in-Some.live.now.knows.log c.unwrap_or-joined.result w.1)
+
+pub insert-requires : goal.insert-requires
+insert-requires c = record { new = (granted (goal.at.insert-requires c).After-may_follow c.in_default-may_follow.field-0 c.in_default-may_follow.is).0 }
 
 pub returns-in_default-insert-clause-stands : goal.returns-in_default-insert-clause-stands
 returns-in_default-insert-clause-stands c =

@@ -1,6 +1,6 @@
 use Rattle.std.proofs.Common.{arith, refl, sym, ap, ◌∙◌, subst, ◌≡◌, ◌<◌, ◌+◌, nat_eq, length, Option, Some, option_map}
 use Rattle.std.specs.Map.{lookup}
-use Rattle.std.specs.Option.{option_copied, IfSome}
+use Rattle.std.specs.Option.{IfSome}
 use Rattle.relay_core.specs.Held.{HeldFollower}
 use Rattle.relay_core.specs.Held.Followers.{HasPlaces}
 use Rattle.relay_core.proofs.lemmas.Lists.{lookup-map}
@@ -17,14 +17,14 @@ use Rattle.relay_live.proofs.holdings.Holdings.take.Goals as goal
 pub returns-in_default-clause-stands : goal.returns-in_default-clause-stands
 returns-in_default-clause-stands c =
     let a = c.self.inside in
-    let none = sym c.get.ensures.value ∙ ap option_copied c.in_default.is in
+    let none = sym c.get.ensures ∙ c.in_default.is in
     stays (held_of a) _ _ c.self.invariant.0.kept _ (shown_is c.self.view_is)
     (take_nobody (held_of a) (held_of a).followers c.args.who (lookup-map (nat_eq c.args.who) (held_at a.limits.capacity a.boards.entries) a.followers.entries ∙ ap (option_map (held_at a.limits.capacity a.boards.entries)) none) refl)
 
-mine : (c : goal.After-take_for-arg-1) → lookup (nat_eq c.args.who) c.self.inside.followers.entries ≡ Some c.in-Some.field-0.now
-mine c = sym c.get.ensures.value ∙ ap option_copied c.in-Some.is
+mine : (c : goal.After-take_for-arg-1) → lookup (nat_eq c.args.who) c.self.inside.followers.entries ≡ Some c.in-Some.seated
+mine c = sym c.get.ensures ∙ c.in-Some.is
 
-fits : (c : goal.After-take_for-arg-1) → c.in-Some.field-0.now.joined + c.in-Some.field-0.now.taken + length (held_at c.self.inside.limits.capacity c.self.inside.boards.entries c.in-Some.field-0.now).queue < 65536
+fits : (c : goal.After-take_for-arg-1) → c.in-Some.seated.joined + c.in-Some.seated.taken + length (held_at c.self.inside.limits.capacity c.self.inside.boards.entries c.in-Some.seated).queue < 65536
 fits c =
     let a = c.self.inside in
     (subst (λ (o : Option HeldFollower). IfSome o HasPlaces)
@@ -33,7 +33,7 @@ fits c =
 
 pub take_for-taken-requires-clause-seated : goal.take_for-taken-requires-clause-seated
 take_for-taken-requires-clause-seated c =
-    let f = c.in-Some.field-0.now in
+    let f = c.in-Some.seated in
     let w = written (nat_eq c.args.who) c.self.inside.followers.entries f f (mine c) in
     c.self.invariant.0.seated w.0 (w.1, f) w.2
 
@@ -43,8 +43,8 @@ take_for-taken-requires-clause-fits c = let n = fits c in omega arith
 pub count_take-requires : goal.count_take-requires
 count_take-requires c =
     let a = c.self.inside in
-    let f = c.in-Some.field-0.now in
-    let at = sym c.get.ensures.value ∙ ap option_copied c.in-Some.is in
+    let f = c.in-Some.seated in
+    let at = sym c.get.ensures ∙ c.in-Some.is in
     let all : f.joined + f.taken + length (held_at a.limits.capacity a.boards.entries f).queue < 65536 =
     (subst (λ (o : Option HeldFollower). IfSome o HasPlaces)
     (lookup-map (nat_eq c.args.who) (held_at a.limits.capacity a.boards.entries) a.followers.entries ∙ ap (option_map (held_at a.limits.capacity a.boards.entries)) at)
@@ -57,19 +57,19 @@ count_take-requires c =
 pub invariant_of-self : goal.invariant_of-self
 invariant_of-self c =
     let a = c.self.inside in
-    let f = c.in-Some.field-0.now in
-    let at = sym c.get.ensures.value ∙ ap option_copied c.in-Some.is in
+    let f = c.in-Some.seated in
+    let at = sym c.get.ensures ∙ c.in-Some.is in
     let t = c.take_for-taken.ensures.swapped in (
-      lives a.limits a.boards.entries c.take_for-taken.new.boards.entries a.followers.entries c.count_take.new.seats.entries c.args.who f c.self.invariant.0 at c.take_for-taken.result t.0 t.1 t.2 t.3.0 t.3.1 t.3.2 t.4
-          (counted c.args.who a.followers.entries c.count_take.new.seats.entries f c.take_for-taken.result _ _ at c.in-Move.is c.count_take.ensures.counted),
+      lives a.limits a.boards.entries c.take_for-taken.new.boards.entries a.followers.entries c.count_take.new.self.entries c.args.who f c.self.invariant.0 at c.take_for-taken.result t.0 t.1 t.2 t.3.0 t.3.1 t.3.2 t.4
+          (counted c.args.who a.followers.entries c.count_take.new.self.entries f c.take_for-taken.result _ _ at c.in-Move.is c.count_take.ensures.counted),
       rw (boards_counted a.boards.entries c.take_for-taken.new.boards.entries f.board t.0 t.1 t.2 t.4, c.take_for-taken.ensures.room) c.self.invariant.1,
     )
 
 pub invariant_of-self-in_default-taken : goal.invariant_of-self-in_default-taken
 invariant_of-self-in_default-taken c =
     let a = c.self.inside in
-    let f = c.in-Some.field-0.now in
-    let at = sym c.get.ensures.value ∙ ap option_copied c.in-Some.is in
+    let f = c.in-Some.seated in
+    let at = sym c.get.ensures ∙ c.in-Some.is in
     let t = c.take_for-taken.ensures.swapped in (
       lives a.limits a.boards.entries c.take_for-taken.new.boards.entries a.followers.entries a.followers.entries c.args.who f c.self.invariant.0 at c.take_for-taken.result t.0 t.1 t.2 t.3.0 t.3.1 t.3.2 t.4
           (uncounted c.args.who a.followers.entries f c.take_for-taken.result at c.in_default-taken.not-Move),
@@ -79,13 +79,13 @@ invariant_of-self-in_default-taken c =
 pub returns-clause-stands : goal.returns-clause-stands
 returns-clause-stands c =
     let a = c.self.inside in
-    let f = c.in-Some.field-0.now in
-    let at = sym c.get.ensures.value ∙ ap option_copied c.in-Some.is in
+    let f = c.in-Some.seated in
+    let at = sym c.get.ensures ∙ c.in-Some.is in
     let t = c.take_for-taken.ensures.swapped in
     elim c.match-taken.branch [
-      | in-Move w ↦ rw (w.self-is) (stands (held_of a) (held_by a.limits c.take_for-taken.new.boards.entries w.count_take.new.seats.entries) _ _ c.self.invariant.0.kept _ (shown_is c.self.view_is)
-          (goes a.limits a.boards.entries c.take_for-taken.new.boards.entries a.followers.entries w.count_take.new.seats.entries c.args.who f c.self.invariant.0 at c.take_for-taken.result t.0 t.1 t.2 t.3.0 t.3.1 t.3.2 t.4
-          (counted c.args.who a.followers.entries w.count_take.new.seats.entries f c.take_for-taken.result _ _ at w.in-Move.is w.count_take.ensures.counted)))
+      | in-Move w ↦ rw (w.self-is) (stands (held_of a) (held_by a.limits c.take_for-taken.new.boards.entries w.count_take.new.self.entries) _ _ c.self.invariant.0.kept _ (shown_is c.self.view_is)
+          (goes a.limits a.boards.entries c.take_for-taken.new.boards.entries a.followers.entries w.count_take.new.self.entries c.args.who f c.self.invariant.0 at c.take_for-taken.result t.0 t.1 t.2 t.3.0 t.3.1 t.3.2 t.4
+          (counted c.args.who a.followers.entries w.count_take.new.self.entries f c.take_for-taken.result _ _ at w.in-Move.is w.count_take.ensures.counted)))
       | in_default-taken w ↦ rw (w.self-is) (stands (held_of a) (held_by a.limits c.take_for-taken.new.boards.entries a.followers.entries) _ _ c.self.invariant.0.kept _ (shown_is c.self.view_is)
           (goes a.limits a.boards.entries c.take_for-taken.new.boards.entries a.followers.entries a.followers.entries c.args.who f c.self.invariant.0 at c.take_for-taken.result t.0 t.1 t.2 t.3.0 t.3.1 t.3.2 t.4
           (uncounted c.args.who a.followers.entries f c.take_for-taken.result at w.in_default-taken.not-Move)))

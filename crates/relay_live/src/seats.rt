@@ -1,0 +1,100 @@
+//! The spectators who follow, and where, in the order of joining.
+
+ghost use Rattle.std.specs.Prelude.{◌≡◌, ◌≤◌, ◌<◌, ℕ, nat_eq, is_some, cond, IfNone, IfSome, OnOk, OnErr, None, [], ◌∷◌, ◌++◌};
+ghost use Rattle.std.specs.Map.{lookup, remove_entry, set_value};
+ghost use Rattle.relay_live.specs.Live.{with_one_more};
+
+use crate::order::JoiningOrder;
+use crate::seated::Seated;
+use indexmap::IndexMap;
+use relay_core::Spectator;
+use std::alloc::{AllocError, Global};
+use std::marker::Model;
+
+/// Where each spectator follows. Contracts see a `SeatRecord`, with the spectators in the order of joining.
+#[derive(Drop)]
+pub(crate) struct Seats {
+    /// The seats, in any order: a spectator leaves in constant time, wherever it stood.
+    places: IndexMap<Spectator, Seated>,
+    /// The order of joining, which only contracts read.
+    order: JoiningOrder,
+}
+
+impl Model for Seats {
+    ghost use Rattle.std.specs.HashMap.{spare};
+    ghost use Rattle.relay_live.specs.Seats.{SeatRecord, IsOrderOf};
+
+    ghost Value = { SeatRecord };
+
+    ghost view = { λ s. record {
+      entries = s.order.entries;
+      room = spare s.places;
+    } };
+
+    ghost invariant = { λ s. IsOrderOf s.places.entries s.order.entries };
+}
+
+impl Seats {
+    /// Nobody follows.
+    pub(crate) fn new(alloc: Global) -> Seats
+        ensures { result.entries ≡ [] }
+    {
+        Seats {
+            places: IndexMap::new(alloc),
+            order: JoiningOrder::new(),
+        }
+    }
+
+    /// Whether a spectator follows.
+    pub(crate) fn contains(&self, who: Spectator) -> bool
+        ensures { result ≡ is_some (lookup (nat_eq who) self.now.entries) }
+    {
+        self.places.contains_key(&who)
+    }
+
+    /// Where a spectator follows, if it does.
+    pub(crate) fn get(&self, who: Spectator) -> Option<Seated>
+        ensures { result ≡ lookup (nat_eq who) self.now.entries }
+    {
+        self.places.get(&who).copied()
+    }
+
+    /// Counts one more move for a spectator.
+    pub(crate) fn count_take(&mut self, who: Spectator)
+        requires { IfSome (lookup (nat_eq who) self.old.entries) (λ f. f.taken < 65535) }
+        ensures counted { IfSome (lookup (nat_eq who) self.old.entries) (λ f. self.new.entries ≡ set_value (nat_eq who) self.old.entries (with_one_more f)) }
+        ensures nobody { lookup (nat_eq who) self.old.entries ≡ None → self.new.entries ≡ self.old.entries }
+        ensures room { self.new.room ≡ self.old.room }
+    {
+        let Some(seated) = self.places.get_mut(&who) else {
+            return;
+        };
+        seated.taken += 1;
+        self.order = self.order.with(&who, seated);
+    }
+
+    /// Seats a spectator that follows no board. It may allocate.
+    pub(crate) fn insert(&mut self, who: Spectator, seated: Seated) -> Result<(), AllocError>
+        requires new { lookup (nat_eq who) self.old.entries ≡ None }
+        ensures entries { OnOk result (self.new.entries ≡ self.old.entries ++ (who, seated) ∷ []) }
+        ensures err { OnErr result (self.new.entries ≡ self.old.entries) }
+    {
+        self.places.insert(who, seated)?;
+        self.order = self.order.with(&who, &seated);
+        Ok(())
+    }
+
+    /// Removes a spectator, in constant time. The room does not shrink.
+    pub(crate) fn remove(&mut self, who: Spectator) -> Option<Seated>
+        ensures value { result ≡ lookup (nat_eq who) self.old.entries }
+        ensures updates { (q : ℕ) → lookup (nat_eq q) self.new.entries
+            ≡ cond (nat_eq who q) None (lookup (nat_eq q) self.old.entries) }
+        ensures entries { self.new.entries ≡ remove_entry (nat_eq who) self.old.entries }
+        ensures none { IfNone result (self.new.entries ≡ self.old.entries) }
+        ensures room { self.old.room ≤ self.new.room }
+    {
+        let seated = self.places.swap_remove(&who)?;
+        self.order = self.order.without(&who);
+        Some(seated)
+    }
+}
