@@ -51,6 +51,7 @@ fn made_line(alloc: Global, answer: &Answer) -> Result<Vec<u8>, AllocError>
     ensures { IfOk result (λ text. text.items ≡ line (answer_text answer.now)) }
 {
     let mut text = encode(alloc, answer)?;
+    // `encode` leaves room for it.
     text.push('\n')?;
     Ok(text.into_bytes())
 }

@@ -14,6 +14,7 @@ pub mod laws;
 mod member;
 mod object;
 mod passing;
+mod pieces;
 mod plain;
 mod reading;
 mod unread;
