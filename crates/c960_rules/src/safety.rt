@@ -70,7 +70,9 @@ fn occupied_after(position: &Position, m: &Move, behind: u64) -> u64
     (position.occupied() & !only(m.from) & !behind) | only(m.to)
 }
 
-/// Whether an ordinary move leaves its own king attacked.
+/// Whether an ordinary move leaves its own king attacked. Compiled into the loops of its callers: what does not depend on the
+/// move is then worked out once a loop.
+#[inline(always)]
 pub(crate) fn exposes_king(position: &Position, m: &Move) -> bool
     requires { Reaches position.now m.now }
     ensures { IsTrue result ↔ InCheck (placement_after position.now m.now) position.now.turn }
