@@ -7,4 +7,5 @@ pub mod Rights
 pub mod Fields
 pub mod Laws
 pub mod RankCells
+pub mod Gaps
 pub mod Told

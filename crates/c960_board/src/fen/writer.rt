@@ -1,12 +1,13 @@
 //! Writing the text of a position, field by field. Each function appends to a text that has room for it.
 
-ghost use Rattle.std.specs.Prelude.{◌≡◌, ◌≤◌, ◌<◌, ◌+◌, ◌++◌, [], length, decimal};
+ghost use Rattle.std.specs.Prelude.{◌≡◌, ◌≤◌, ◌<◌, ◌+◌, ◌*◌, ◌++◌, [], ℕ, None, Some, bit_or, length, decimal};
+ghost use Rattle.std.specs.Int.{bit_at};
 ghost use Rattle.arrayvec.specs.ArrayVec.{array_vec_len};
 ghost use Rattle.c960_board.specs.Fen.Canonical.{canonical, ranks_text, rights_text, run_text, side_text, squares_text};
 ghost use Rattle.c960_board.specs.Fen.Letters.{letter, right_base, turn_text};
 ghost use Rattle.c960_board.specs.Fen.RankCells.{rank_cells};
 ghost use Rattle.c960_board.specs.Fen.Target.{target_text};
-ghost use Rattle.c960_board.specs.Sets.{cells_of, parts_of};
+ghost use Rattle.c960_board.specs.Sets.{cell_in, cells_of, parts_of};
 
 use crate::fen::bytes::{FenBytes, TextBytes};
 use crate::piece::{Colour, Kind, Piece};
@@ -47,25 +48,54 @@ fn write_run(text: &mut TextBytes, empty: u8)
     }
 }
 
+/// How many squares from this one on are empty, up to the end of the rank. They are the zeros below the lowest occupied square, so no
+/// square is looked at by itself.
+fn empty_from(sets: &Sets, rank: u8, file: u8) -> u8
+    requires on_board { rank < 8 }
+    requires on_rank { file < 8 }
+    ensures bound { file + result ≤ 8 }
+    ensures empty { (i : ℕ) → i < result → cell_in sets.now (8 * rank + (file + i)) ≡ None }
+    ensures next { file + result < 8 → bit_at (bit_or sets.now.white sets.now.black) (8 * rank + (file + result)) ≡ 1 }
+{
+    let occupied = (sets.white | sets.black) >> (8 * rank + file);
+    (occupied.trailing_zeros() as u8).min(8 - file)
+}
+
+/// The piece on an occupied square: it is Black's if it is not White's.
+fn piece_on(sets: &Sets, square: Square) -> Piece
+    requires { bit_at (bit_or sets.now.white sets.now.black) square ≡ 1 }
+    ensures { cell_in sets.now square ≡ Some result }
+{
+    let kind = sets.kind_on(square);
+    if Sets::is_in(sets.white, square) {
+        Piece {
+            colour: Colour::White,
+            kind,
+        }
+    } else {
+        Piece {
+            colour: Colour::Black,
+            kind,
+        }
+    }
+}
+
 /// Appends the squares of a rank, from file a to file h. Rank 0 is the first.
-#[tactic(auto, using(crate::proofs::Written::RankCells::rank_text_end))]
 fn write_rank(text: &mut TextBytes, sets: &Sets, rank: u8)
     requires on_board { rank < 8 }
     requires room { array_vec_len text.old + length (squares_text (rank_cells sets.now rank) 0) ≤ 93 }
     ensures { text.new.items ≡ text.old.items ++ squares_text (rank_cells sets.now rank) 0 }
 {
-    let mut empty: u8 = 0;
-    for file in 0..8 {
-        match sets.cell(Square::known(8 * rank + file)) {
-            None => empty += 1,
-            Some(piece) => {
-                write_run(text, empty);
-                text.push(letter_of(piece));
-                empty = 0;
-            }
+    let mut file: u8 = 0;
+    while file < 8 {
+        let empty = empty_from(sets, rank, file);
+        write_run(text, empty);
+        file += empty;
+        if file < 8 {
+            text.push(letter_of(piece_on(sets, Square::known(8 * rank + file))));
+            file += 1;
         }
     }
-    write_run(text, empty);
 }
 
 /// Appends the ranks from the eighth to the first, separated by slashes.
