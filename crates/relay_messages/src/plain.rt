@@ -2,7 +2,7 @@
 //! object is read directly from the tokens of its text, whose bytes it borrows: no tree is built, and nothing is copied except texts with
 //! escapes.
 
-ghost use Rattle.std.specs.Prelude.{◌≡◌, ◌==◌, ◌<◌, IfOk, IfSome, OnOk, Some, length, option_map, slice_index};
+ghost use Rattle.std.specs.Prelude.{◌≡◌, ◌==◌, ◌<◌, IfOk, IfSome, OnOk, Some, length, option_map, slice_index, true};
 ghost use Rattle.json.specs.Json.{members, value};
 ghost use Rattle.serde_json.specs.Data.{no_members, object as an_object, put, unsigned};
 ghost use Rattle.serde_json.specs.Events.{members_len};
@@ -29,7 +29,7 @@ pub struct PlainObject<'a> {
 
 impl<'a> PlainObject<'a> {
     /// An object without members.
-    fn new() -> PlainObject<'a>
+    pub fn new() -> PlainObject<'a>
         ensures { members_in result.members.items ≡ no_members }
     {
         PlainObject {
@@ -115,35 +115,36 @@ fn read_field<'a>(reader: &mut Reader<'a>) -> Result<Field<'a>, Invalid>
     }
 }
 
-/// The members after an opening brace, up to and including the brace that closes them.
-fn read_members<'a>(reader: &mut Reader<'a>) -> Result<PlainObject<'a>, Invalid>
-    ensures { IfOk result (λ object. converted (λ ms. of_members ms no_members)
-        (members (value 126) (length reader.old) reader.old) ≡ Some (members_in object.members.items, reader.new)) }
+/// Adds the members after an opening brace, up to and including the brace that closes them.
+fn read_members<'a>(reader: &mut Reader<'a>, object: &mut PlainObject<'a>) -> Result<(), Invalid>
+    ensures { OnOk result (converted (λ ms. of_members ms (members_in object.old.members.items))
+        (members (value 126) (length reader.old) reader.old) ≡ Some (members_in object.new.members.items, reader.new)) }
 {
-    let mut object = PlainObject::new();
     'members: while let Some(key) = reader.next_key()? {
         let field = read_field(reader)?;
         object.add(key, field)?;
     }
-    Ok(object)
+    Ok(())
 }
 
-/// The plain object that the tokens are.
-fn read_object<'a>(reader: &mut Reader<'a>) -> Result<PlainObject<'a>, Invalid>
-    ensures { IfOk result (λ object. read_tokens reader.old ≡ Some (an_object (members_in object.members.items))) }
+/// Reads the plain object that the tokens are into an object without members.
+fn read_object<'a>(reader: &mut Reader<'a>, object: &mut PlainObject<'a>) -> Result<(), Invalid>
+    requires { members_in object.old.members.items ≡ no_members }
+    ensures { OnOk result (read_tokens reader.old ≡ Some (an_object (members_in object.new.members.items))) }
 {
     let Some(Token::BeginObject) = reader.next() else {
         return Err(Invalid);
     };
-    let object = read_members(reader)?;
+    read_members(reader, object)?;
     match reader.next() {
-        None => Ok(object),
+        None => Ok(()),
         Some(_) => Err(Invalid),
     }
 }
 
-/// The plain object that a text is, or none if it is something else. The scratch grows to the length of the text, and is lent to the
-/// object.
+/// Reads the plain object that a text is into an object without members, where it stays, since each move would copy room for four members.
+/// Returns whether the text is a plain object. If it is not, the object is of no use. The scratch grows to the length of the text, and is
+/// lent to the object.
 ///
 /// # Errors
 ///
@@ -151,10 +152,12 @@ fn read_object<'a>(reader: &mut Reader<'a>) -> Result<PlainObject<'a>, Invalid>
 pub fn read_plain<'a>(
     text: &'a str,
     scratch: &'a mut Scratch,
-) -> Result<Option<PlainObject<'a>>, AllocError>
-    ensures { IfOk result (λ found. IfSome found (λ object.
-        read_text text.now ≡ Some (an_object (members_in object.members.items)))) }
+    object: &mut PlainObject<'a>,
+) -> Result<bool, AllocError>
+    requires { members_in object.old.members.items ≡ no_members }
+    ensures { IfOk result (λ plain. plain ≡ true →
+        read_text text.now ≡ Some (an_object (members_in object.new.members.items))) }
 {
     let mut reader = Reader::new(text, scratch)?;
-    Ok(read_object(&mut reader).ok())
+    Ok(read_object(&mut reader, object).is_ok())
 }

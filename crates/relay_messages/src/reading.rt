@@ -11,7 +11,7 @@ use crate::any::{AnyObject, KeptMembers, read_members};
 use crate::asking::Asked;
 use crate::fault::MessageFault;
 use crate::passing::{Beginning, Nest, pass_rest, take_beginning};
-use crate::plain::read_plain;
+use crate::plain::{PlainObject, read_plain};
 use crate::unread::Unread;
 use crate::watch_command::WatchCommand;
 use json::{Reader, Scratch};
@@ -97,9 +97,10 @@ fn read_any<A: Asked>(alloc: Global, scratch: &mut Scratch, text: &str) -> Resul
 fn read_text<A: Asked>(alloc: Global, scratch: &mut Scratch, text: &str) -> Result<A, MessageFault>
     ensures { IsReading A.says text.now result }
 {
-    match read_plain(text, scratch) {
-        Ok(Some(object)) => return A::of(&object),
-        Ok(None) => {}
+    let mut object = PlainObject::new();
+    match read_plain(text, scratch, &mut object) {
+        Ok(true) => return A::of(&object),
+        Ok(false) => {}
         Err(_) => return Err(MessageFault::OutOfMemory),
     }
     read_any(alloc, scratch, text)

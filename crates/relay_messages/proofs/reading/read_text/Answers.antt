@@ -2,7 +2,7 @@ use Rattle.std.proofs.Common.{sym, ap, ◌∙◌, inl}
 use Rattle.relay_messages.specs.Decoding.{value_says}
 use Rattle.relay_messages.proofs.reading.read_text.Goals as goal
 
-pub returns-in-Ok-Some : goal.returns-in-Ok-Some
-returns-in-Ok-Some g c =
-    let read = rw c.in-Ok-Some.field-0-is at c.in-Ok-Some.ensures in
+pub returns-in-Ok-true : goal.returns-in-Ok-true
+returns-in-Ok-true g c =
+    let read = c.in-Ok-true.ensures c.in-Ok-true.field-0-test in
     inl (c.of.ensures ∙ sym (ap (value_says g.A.Asked.says) read))
