@@ -6,7 +6,7 @@ ghost use Rattle.c960_game.specs.Inner.Replay.{AllLegal};
 
 use crate::kept_positions::MILE;
 use c960_board::{Move, Position, Square};
-use c960_rules::{Lawful, play};
+use c960_rules::{Lawful, play_legal};
 use std::marker::Model;
 
 /// A position of a game that has yet to be worked out: one that the game keeps, and the moves after it. It needs neither memory nor the
@@ -85,10 +85,7 @@ pub fn replay(first: &Lawful, moves: &[Move]) -> Lawful
 {
     let mut position = *first;
     for m in moves {
-        let Some(next) = play(&position, *m) else {
-            unreachable!();
-        };
-        position = next;
+        position = play_legal(&position, *m);
     }
     position
 }

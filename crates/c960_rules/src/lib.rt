@@ -33,7 +33,7 @@ pub use attacks::attacked;
 pub use check::in_check;
 pub use en_passant::ep_legal;
 pub use lawful::Lawful;
-pub use legal::{is_legal, play};
+pub use legal::{is_legal, play, play_legal};
 pub use listing::legal_moves;
 pub use mate::state;
 pub use side_to_move::State;

@@ -8,34 +8,33 @@ pub loop-m-init : goal.loop-m-init
 loop-m-init c = sym (position_after_none c.args.first.now)
 
 -- the counters have room for the moves that are left
-pub play-requires-clause-half_moves : goal.play-requires-clause-half_moves
-play-requires-clause-half_moves c =
+pub play_legal-position-requires-clause-half_moves : goal.play_legal-position-requires-clause-half_moves
+play_legal-position-requires-clause-half_moves c =
     let i = c.loop-m.m-index in
     let inside = c.loop-m-test.true in
     let bound = half_moves_at c.args.first.now c.args.moves.now i (omega arith) in
     rw c.loop-m.invariant (omega (arith, bound, c.requires.half_moves))
 
-pub play-requires-clause-number : goal.play-requires-clause-number
-play-requires-clause-number c =
+pub play_legal-position-requires-clause-number : goal.play_legal-position-requires-clause-number
+play_legal-position-requires-clause-number c =
     let i = c.loop-m.m-index in
     let inside = c.loop-m-test.true in
     let bound = number_at c.args.first.now c.args.moves.now i (omega arith) in
     rw c.loop-m.invariant (omega (arith, bound, c.requires.number))
 
 -- the move is legal
-pub unreachable-requires : goal.unreachable-requires
-unreachable-requires c =
+pub play_legal-position-requires-clause-legal : goal.play_legal-position-requires-clause-legal
+play_legal-position-requires-clause-legal c =
     let i = c.loop-m.m-index in
     let legal = legal_at c.args.first.now c.args.moves.now i c.m-item.result c.requires.legal c.loop-m-test.true in
-    let never = c.in_default.ensures.legal.1 (rw (← c.m-item.is, ← c.loop-m.invariant) at legal) in
-    cc
+    rw (← c.m-item.is, ← c.loop-m.invariant) at legal
 
 -- the position after one move more
 pub loop-m-preserved : goal.loop-m-preserved
 loop-m-preserved c =
     let i = c.loop-m.m-index in
     let step = position_at_next c.args.first.now c.args.moves.now i c.m-item.result c.loop-m-test.true in
-    c.in-Some.ensures.after ∙ sym (rw (← c.m-item.is, ← c.loop-m.invariant) at step)
+    c.play_legal-position.ensures ∙ sym (rw (← c.m-item.is, ← c.loop-m.invariant) at step)
 
 -- the position after all moves
 pub returns : goal.returns
