@@ -3,6 +3,7 @@
 mod boards;
 mod callers;
 mod closing;
+mod crowds;
 mod endings;
 mod kinds;
 mod live;

@@ -1,0 +1,105 @@
+//! Crowds of followers, who leave in several orders.
+
+use crate::tests::relays::table::limits_of;
+use crate::tests::values::{board_of, move_of};
+use relay_core::{BoardName, Relay, Reply, Spectator, Step};
+use relay_live::LiveRelay;
+use std::alloc::AllocError;
+use std::process::Abort;
+
+/// How many follow at a time.
+const CROWD: u32 = 40;
+
+/// A move is made before each quarter of them joins.
+const LINE: [&str; 4] = ["e2e4", "e7e5", "g1f3", "b8c6"];
+
+/// The order in which a crowd leaves.
+#[derive(Clone, Copy)]
+enum Order {
+    FirstComeFirst,
+    LastComeFirst,
+    Scattered,
+}
+
+/// The spectator that leaves after so many others.
+fn leaver(order: Order, others: u32) -> Spectator {
+    match order {
+        Order::FirstComeFirst => others,
+        Order::LastComeFirst => (CROWD - 1).saturating_sub(others),
+        Order::Scattered => others % CROWD * 7 % CROWD,
+    }
+}
+
+/// The two kinds of relay, given the same steps.
+#[derive(Drop)]
+struct Both {
+    plain: Relay,
+    live: LiveRelay,
+}
+
+/// Asserts that both answer a step alike. Returns whether they accept it.
+fn ask(rt: &impl Abort, both: &mut Both, step: &Step) -> bool {
+    let plain = both.plain.step(*step);
+    let live = both.live.step(*step);
+    assert!(rt; live == plain);
+    !matches!(plain, Reply::Refused(_))
+}
+
+/// A crowd joins, ten at each place of the log.
+fn gather(rt: &impl Abort, both: &mut Both, board: BoardName) {
+    for who in 0..CROWD {
+        if who % 10 == 0 {
+            let m = move_of(rt, LINE[(who / 10) as usize]);
+            assert!(rt; ask(rt, both, &Step::Submit(board, m)));
+        }
+        assert!(rt; ask(rt, both, &Step::Follow(who, board, None)));
+    }
+}
+
+/// Half of a crowd leaves, while the others take.
+fn halve(rt: &impl Abort, both: &mut Both, order: Order) {
+    for others in 0..CROWD / 2 {
+        assert!(rt; ask(rt, both, &Step::Leave(leaver(order, others))));
+        assert!(rt; ask(rt, both, &Step::Take(leaver(order, CROWD / 2 + others))));
+    }
+}
+
+/// Each spectator follows, if it doesn't, and takes.
+fn join_again(rt: &impl Abort, both: &mut Both, board: BoardName) {
+    for who in 0..CROWD {
+        let _ = ask(rt, both, &Step::Follow(who, board, Some(2)));
+        assert!(rt; ask(rt, both, &Step::Take(who)));
+    }
+}
+
+/// All leave.
+fn disperse(rt: &impl Abort, both: &mut Both, order: Order) {
+    for others in 0..CROWD {
+        assert!(rt; ask(rt, both, &Step::Leave(leaver(order, others))));
+    }
+}
+
+#[test]
+fn a_crowd_that_leaves_in_any_order_is_answered_as_by_the_plain_relay(
+    rt: HostRuntime,
+) -> Result<(), AllocError> {
+    let alloc = rt.alloc();
+    let limits = limits_of(&rt, (1, 40, 64, 64));
+    let board = board_of(&rt, "crowded");
+    for order in [
+        Order::FirstComeFirst,
+        Order::LastComeFirst,
+        Order::Scattered,
+    ] {
+        let mut both = Both {
+            plain: Relay::new(alloc, limits)?,
+            live: LiveRelay::new(alloc, limits)?,
+        };
+        assert!(rt; ask(&rt, &mut both, &Step::Open(board, 518)));
+        gather(&rt, &mut both, board);
+        halve(&rt, &mut both, order);
+        join_again(&rt, &mut both, board);
+        disperse(&rt, &mut both, order);
+    }
+    Ok(())
+}
