@@ -91,7 +91,7 @@ diagonal_back s t =
     let ranks = distance_back (rank_of s) (rank_of t) in
     rw (files, ranks) refl
 
-between_back : (s u t : ℕ) → between s u t ≡ between t u s
+pub between_back : (s u t : ℕ) → between s u t ≡ between t u s
 between_back s u t =
     let files = within_back (file_of s) (file_of u) (file_of t) in
     let ranks = within_back (rank_of s) (rank_of u) (rank_of t) in

@@ -37,3 +37,4 @@ mod SetLoops
 mod WayCandidates
 mod AnyFacts
 mod PinFacts
+mod EvasionFacts

@@ -32,7 +32,7 @@ fn pawn_rank(colour: Colour) -> u8
 
 /// The en passant target, as a set.
 #[inline(always)]
-fn target_set(target: Option<Square>) -> u64
+pub(crate) fn target_set(target: Option<Square>) -> u64
     ensures { result ≡ where_set (λ t. is_target target t) }
 {
     match target {

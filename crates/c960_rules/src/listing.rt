@@ -1,6 +1,6 @@
 //! The list of all legal moves.
 
-ghost use Rattle.std.specs.Prelude.{◌≡◌, ◌++◌, ◌&&◌, not, IfOk, IsTrue, IsFalse};
+ghost use Rattle.std.specs.Prelude.{◌≡◌, ◌<◌, ◌++◌, ◌&&◌, ℕ, [], false, not, IfOk, IsTrue, IsFalse};
 ghost use Rattle.c960_board.specs.declared.piece.Kind.TheVariants.{Pawn};
 ghost use Rattle.c960_board.specs.Cells.{cell_at};
 ghost use Rattle.c960_board.specs.Moves.{is_promotion};
@@ -11,13 +11,13 @@ ghost use Rattle.c960_rules.specs.Tests.Legal.{legal_list};
 ghost use Rattle.c960_rules.specs.Inner.Wheres.{where_set};
 ghost use Rattle.c960_rules.specs.Reaches.{Reaches};
 ghost use Rattle.c960_rules.specs.Inner.Listing.{triple, promotes, legal_one, legal_promotions, legal_between, legal_on, goes_to, one_plain, stretches_in};
-ghost use Rattle.c960_rules.specs.Inner.Pins.{IsUnpinned};
+ghost use Rattle.c960_rules.specs.Inner.Pins.{AreEvasions, IsUnpinned};
 
 use crate::bitset::{lowest, without};
-use crate::goals::{goals, rooks_to_castle};
+use crate::goals::{goals, rooks_to_castle, target_set};
 use crate::lawful::Lawful;
 use crate::legal::is_legal_castling;
-use crate::pins::{is_legal_unless_pinned, unpinned};
+use crate::pins::{evasions, is_legal_unless_pinned, unpinned};
 use crate::promotion::promotes;
 use crate::sides::squares_of;
 use c960_board::{Kind, Move, Position, Sets, Square, holds};
@@ -165,19 +165,34 @@ fn push_all(moves: &mut Vec<Move>, from: Square, goals: u64) -> Result<(), Alloc
     Ok(())
 }
 
-/// Adds the legal moves from a square, each goal tested.
+/// The squares to which a move from a square may be legal: off these none is.
+#[inline(always)]
+fn candidates(position: &Position, evasions: u64, goals: u64, from: Square) -> u64
+    requires goals { goals ≡ where_set (λ t. goes_to position.now from t) }
+    requires evasions { AreEvasions position.now evasions }
+    ensures { (t : ℕ) → t < 64 → is_in result t ≡ false → legal_between position.now from t ≡ [] }
+{
+    if holds(position.piece_at(from), position.turn(), Kind::King) {
+        return goals | rooks_to_castle(position, from);
+    }
+    goals & (evasions | target_set(position.target()))
+}
+
+/// Adds the legal moves from a square, each candidate tested.
 fn push_tested(
     moves: &mut Vec<Move>,
     position: &Position,
     unpinned: u64,
+    evasions: u64,
     goals: u64,
     from: Square,
 ) -> Result<(), AllocError>
     requires goals { goals ≡ where_set (λ t. goes_to position.now from t) }
     requires unpinned { IsUnpinned position.now unpinned }
+    requires evasions { AreEvasions position.now evasions }
     ensures { IfOk result (λ _. moves.new.items ≡ moves.old.items ++ legal_on position.now from) }
 {
-    let mut left = goals | rooks_to_castle(position, from);
+    let mut left = candidates(position, evasions, goals, from);
     while left != 0 {
         let to = lowest(left);
         left = without(left, to);
@@ -199,16 +214,18 @@ fn push_from(
     moves: &mut Vec<Move>,
     position: &Position,
     unpinned: u64,
+    evasions: u64,
     from: Square,
 ) -> Result<(), AllocError>
-    requires { IsUnpinned position.now unpinned }
+    requires unpinned { IsUnpinned position.now unpinned }
+    requires evasions { AreEvasions position.now evasions }
     ensures { IfOk result (λ _. moves.new.items ≡ moves.old.items ++ legal_on position.now from) }
 {
     let goals = goals(position, from);
     if is_unpinned_officer(position, unpinned, from) {
         return push_all(moves, from, goals);
     }
-    push_tested(moves, position, unpinned, goals, from)
+    push_tested(moves, position, unpinned, evasions, goals, from)
 }
 
 /// All legal moves, ascending by the square that is left, then by the goal, then by the promotion: none, knight,
@@ -225,11 +242,12 @@ pub fn legal_moves(alloc: Global, lawful: &Lawful) -> Result<Vec<Move>, AllocErr
     // Room for 64, since few positions have more legal moves: so the list seldom grows while it is being filled.
     let mut moves = Vec::with_capacity(alloc, 64)?;
     let unpinned = unpinned(&position);
+    let evasions = evasions(&position, unpinned);
     let mut left = squares_of(&position, turn);
     while left != 0 {
         let from = lowest(left);
         left = without(left, from);
-        push_from(&mut moves, &position, unpinned, from)?;
+        push_from(&mut moves, &position, unpinned, evasions, from)?;
     }
     Ok(moves)
 }

@@ -1,12 +1,13 @@
-//! Pins: the squares that a piece can leave without exposing its own king, found once a position.
+//! Pins and evasions: the squares that a piece can leave without exposing its own king, and those where it can help the king out of
+//! check, found once a position.
 
 ghost use Rattle.std.specs.Prelude.{◌≡◌, ◌↔◌, ◌<◌, ℕ, true, IsTrue, IfSome};
 ghost use Rattle.c960_board.specs.Sets.{is_in};
 ghost use Rattle.c960_rules.specs.Legal.{Legal};
 ghost use Rattle.c960_rules.specs.Reaches.{Reaches};
-ghost use Rattle.c960_rules.specs.Inner.Pins.{HasOthers, IsUnpinned, blockers};
+ghost use Rattle.c960_rules.specs.Inner.Pins.{AreEvasions, HasOthers, IsUnpinned, blockers};
 
-use crate::attack_sets::{leapers, sliders};
+use crate::attack_sets::{attackers_over, leapers, sliders};
 use crate::bitset::{lowest, only, without};
 use crate::legal::is_legal_ordinary;
 use crate::lookups::squares_between;
@@ -61,6 +62,28 @@ pub(crate) fn unpinned(position: &Position) -> u64
         Some(pinned) => !(pinned | only(king)),
         None => 0,
     }
+}
+
+/// The squares to which a move can go without leaving the king in check: all, but in check only the square of one attacker and those
+/// between it and the king. The king's own moves and captures en passant are left out.
+///
+/// An attacker that is not taken, and whose way stays free, still attacks the king after the move. So in check few moves are tested.
+/// `unpinned` is empty only in check, and so saves a second look at the attackers elsewhere.
+pub(crate) fn evasions(position: &Position, unpinned: u64) -> u64
+    ensures { AreEvasions position.now result }
+{
+    if unpinned != 0 {
+        return u64::MAX;
+    }
+    let _sets = position.sets();
+    let turn = position.turn();
+    let king = king_of(position, turn);
+    let checkers = attackers_over(position, turn.other(), king, position.occupied());
+    if checkers == 0 {
+        return u64::MAX;
+    }
+    let checker = lowest(checkers);
+    only(checker) | squares_between(king, checker)
 }
 
 /// Whether a move that goes by its piece's rules is legal, given the squares that a piece can leave.

@@ -32,3 +32,8 @@ pub record IsUnpinned (p : Parts) (set : ℕ) : Type 0 where
   pub no_king : (s : ℕ) → s < 64 → is_in set s ≡ true → IsFalse (holds p.turn King (cell_at p.placement s))
   pub safe : (m : Triple) → IsMove m → is_in set m.from ≡ true → Reaches p m → IsFalse (is_en_passant p m)
       → InCheck (placement_after p m) p.turn → ⊥
+
+-- a move that goes elsewhere leaves the king in check, but perhaps the king's own and a capture en passant
+pub record AreEvasions (p : Parts) (set : ℕ) : Type 0 where
+  pub exposed : (m : Triple) → IsMove m → IsFalse (holds p.turn King (cell_at p.placement m.from)) → is_in set m.to ≡ false
+      → Reaches p m → IsFalse (is_en_passant p m) → InCheck (placement_after p m) p.turn

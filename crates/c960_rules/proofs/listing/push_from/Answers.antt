@@ -14,6 +14,6 @@ returns-then-is_unpinned_officer c =
     let pawn = holds p.turn Pawn (cell_at p.placement c.args.from) in
     let both = and_parts (is_in c.args.unpinned c.args.from) (not pawn)
     (sym c.is_unpinned_officer.ensures ∙ c.if-is_unpinned_officer.true) in
-    let all = officer_moves p c.args.from c.goals-goals.result c.args.unpinned c.requires (omega arith) both.0 (not-true pawn both.1)
+    let all = officer_moves p c.args.from c.goals-goals.result c.args.unpinned c.requires.unpinned (omega arith) both.0 (not-true pawn both.1)
     c.goals-goals.ensures in
     subst (λ (l : List Triple). IfOk c.push_all.result (λ _. c.push_all.new.moves.items ≡ c.args.moves.now.items ++ l)) all c.push_all.ensures

@@ -1,19 +1,14 @@
-use Rattle.std.proofs.Common.{◌++◌, ◌∙◌, List, ap, sym, arith}
+use Rattle.std.proofs.Common.{◌++◌, ◌∙◌, List, ap, sym}
 use Rattle.std.proofs.lemmas.List.{append-nil}
 use Rattle.c960_board.specs.Moves.{Triple}
 use Rattle.c960_rules.specs.Inner.Listing.{legal_between}
-use Rattle.c960_rules.proofs.GoalFacts.{none_goes}
-use Rattle.c960_rules.proofs.WayCandidates.{none_between}
 use Rattle.c960_rules.proofs.SetLoops.{stretches_step, stretches_none, stretches_all, legal_on_is}
 use Rattle.c960_rules.proofs.listing.push_tested.Goals as goal
 
 pub loop-left-init : goal.loop-left-init
 loop-left-init c =
     let p = c.args.position.now in
-    let all =
-    stretches_all (legal_between p c.args.from) _ 0 64
-    (λ t l e. none_between p c.args.from t
-    (none_goes p c.args.from t c.args.goals c.rooks_to_castle.result c.requires.goals (omega arith) (λ k. c.rooks_to_castle.ensures t k l) l e)) in
+    let all = stretches_all (legal_between p c.args.from) _ 0 64 c.candidates-left.ensures in
     ap (λ (l : List Triple). c.args.moves.now.items ++ l) (all ∙ legal_on_is p c.args.from)
 
 pub loop-left-preserved : goal.loop-left-preserved
