@@ -1,11 +1,12 @@
 //! The position after a move (FIDE Laws, Articles 3.1, 3.7 and 3.8.2; Guidelines II.3).
 
-ghost use Rattle.std.specs.Prelude.{◌≡◌, ◌<◌, ◌*◌, ◌^◌, ◌%◌, IsFalse, bit_or};
+ghost use Rattle.std.specs.Prelude.{ℕ, false, ◌≡◌, ◌<◌, ◌*◌, ◌^◌, ◌%◌, ◌&&◌, ◌==◌, not, length, get_or, IsFalse, bit_or};
 ghost use mir.Val.{bool_byte};
 ghost use Rattle.c960_board.specs.Pieces.{is_of};
-ghost use Rattle.c960_board.specs.Cells.{cell_at};
+ghost use Rattle.c960_board.specs.Cells.{cell_at, rights_of};
+ghost use Rattle.c960_board.specs.Squares.{home_square};
 ghost use Rattle.c960_board.specs.Sets.{sets_of};
-ghost use Rattle.c960_rules.specs.After.{placement_after, keeps_right, rights_after, target_after, half_moves_after, number_after, after};
+ghost use Rattle.c960_rules.specs.After.{placement_after, rights_after, target_after, half_moves_after, number_after, after};
 ghost use Rattle.c960_rules.specs.Inner.Carried.{taken_off, put_on};
 ghost use Rattle.c960_rules.specs.Castles.{Castles};
 ghost use Rattle.c960_rules.specs.Check.{IsLawful};
@@ -15,32 +16,49 @@ use crate::bitset::only;
 use crate::castling::{king_goal, rook_goal};
 use crate::placement::landed;
 use crate::safety::captured_pawn;
-use crate::sides::{ahead, home_square};
+use crate::sides::{ahead, home_rank};
 use c960_board::{CastlingRights, Colour, Kind, Move, Piece, Position, Sets, Square, holds};
 
-/// Whether the right of that file survives the move.
-#[tactic(auto, unfolding(crate::specs::After::keeps_right))]
-fn keeps_right(position: &Position, m: &Move, colour: Colour, file: u8) -> bool
-    requires { file < 8 }
-    ensures { result ≡ keeps_right position.now m.now colour file }
+/// The rights of a side, by the file of the rook.
+#[inline(always)]
+fn rights_of(position: &Position, colour: Colour) -> [bool; 8]
+    ensures { result ≡ rights_of position.now.rights colour }
 {
-    let rook = home_square(colour, file);
-    position.has_right(colour, file)
-        && !holds(position.piece_at(m.from), colour, Kind::King)
-        && m.from != rook
-        && m.to != rook
+    let rights = position.rights();
+    match colour {
+        Colour::White => rights.white,
+        Colour::Black => rights.black,
+    }
 }
 
-/// The rights of a side after a move.
-#[tactic(auto, using(crate::proofs::TableFacts::are_rights_after))]
+/// A side's rights but that of the rook on a square: a square off the home rank has none, one on it that of its file.
+#[inline(always)]
+fn without(rights: [bool; 8], colour: Colour, square: Square) -> [bool; 8]
+    requires { length rights ≡ 8 }
+    ensures full { length result ≡ 8 }
+    ensures files { (f : ℕ) → f < 8 → get_or result f false ≡ get_or rights f false && not (square == home_square colour f) }
+{
+    let mut left = rights;
+    if square.number() / 8 == home_rank(colour) {
+        left[(square.number() % 8) as usize] = false;
+    }
+    left
+}
+
+/// The rights of a side after a move: without any, as after most openings, the board is not looked at; the king's move ends
+/// all, and of the others only those of the two squares of the move can end.
+#[tactic(auto, using(crate::proofs::TableFacts::none_before, crate::proofs::TableFacts::none_of_king))]
 fn rights_after(position: &Position, m: &Move, colour: Colour) -> [bool; 8]
     ensures { result ≡ rights_after position.now m.now colour }
 {
-    let mut kept = [false; 8];
-    for file in 0..8 {
-        kept[file as usize] = keeps_right(position, m, colour, file);
+    let rights = rights_of(position, colour);
+    if rights == [false; 8] {
+        return rights;
     }
-    kept
+    if holds(position.piece_at(m.from), colour, Kind::King) {
+        return [false; 8];
+    }
+    without(without(rights, colour, m.from), colour, m.to)
 }
 
 /// The square passed over by a double step.
