@@ -10,7 +10,7 @@ use crate::walk::{start, step};
 use c960_board::Move;
 use c960_game::Limits;
 use relay_frames::{Event, Peer, outgoing};
-use relay_pushing::{Conn, LastText, push_some};
+use relay_pushing::{Conn, LastText, PushEnd, Turn, push_some};
 use relay_watching::{Tape, Watcher};
 use std::alloc::{AllocError, Global};
 
@@ -93,10 +93,21 @@ fn gather(alloc: Global, operator: &mut Operator) -> Result<Crowd, AllocError> {
     Ok(crowd)
 }
 
+/// A number for how a turn ended.
+fn number_of(turn: Turn) -> u64 {
+    match turn {
+        Turn::Waits => 1,
+        Turn::IsFull => 2,
+        Turn::Ended(PushEnd::Over(outcome)) => 4 + 8 * (outcome.code() % 256),
+        Turn::Ended(PushEnd::Cut) => 3,
+        Turn::Ended(PushEnd::Failed(fault)) => 5 + 8 * (fault.code() % 256),
+    }
+}
+
 /// Pushes to each follower, and adds what it was sent.
 fn push(digest: &mut Digest, crowd: &mut Crowd) {
     for seat in &mut crowd.seats {
-        push_some(&mut crowd.last, &mut crowd.wire, seat);
+        digest.add(number_of(push_some(&mut crowd.last, &mut crowd.wire, seat)));
     }
     digest.add_bytes(crowd.wire.bytes.as_slice());
     crowd.wire.bytes.clear();
@@ -127,7 +138,7 @@ fn write(digest: &mut Digest, tape: &Tape, watchers: &mut Vec<Watcher>, most: us
             if size == 0 {
                 break;
             }
-            digest.add(size as u64);
+            digest.add_bytes(piece.get(..size).unwrap_or(&[]));
             watcher.wrote(tape, size);
         }
         digest.add(u64::from(watcher.is_between_frames(tape)));

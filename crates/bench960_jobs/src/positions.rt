@@ -4,18 +4,21 @@
 use crate::chance::Chance;
 use crate::digest::Digest;
 use crate::walk::{after, start};
-use c960_board::{CastlingRights, Colour, Kind, Move, Parts, Piece, Position, read_fen, write_fen};
+use c960_board::{
+    CastlingRights, Colour, FenBytes, Kind, Move, Parts, Piece, Position, read_fen, write_fen,
+};
 use c960_rules::{Lawful, legal_moves, state};
 use std::alloc::{AllocError, Global};
 
 /// How many plies of each game are played.
 const PLIES: u16 = 40;
 
-/// A position with its legal moves.
+/// A position with its legal moves and its text.
 #[derive(Drop)]
 struct Ahead {
     lawful: Lawful,
     moves: Vec<Move>,
+    text: FenBytes,
 }
 
 /// Looks at a position: its legal moves, its state and its text.
@@ -25,8 +28,13 @@ fn look(alloc: Global, digest: &mut Digest, lawful: Lawful) -> Result<Ahead, All
         digest.add(m.code());
     }
     digest.add(state(&lawful) as u64);
-    digest.add_bytes(write_fen(&lawful.position()).as_slice());
-    Ok(Ahead { lawful, moves })
+    let text = write_fen(&lawful.position());
+    digest.add_bytes(text.as_slice());
+    Ok(Ahead {
+        lawful,
+        moves,
+        text,
+    })
 }
 
 /// Looks at the position after each legal move, and returns the one after the move with this number.
@@ -49,9 +57,8 @@ fn look_ahead(
 }
 
 /// Reads the text of a position again.
-fn read_again(digest: &mut Digest, lawful: &Lawful) {
-    let position = lawful.position();
-    let is_same = read_fen(write_fen(&position).as_slice()) == Ok(position);
+fn read_again(digest: &mut Digest, here: &Ahead) {
+    let is_same = read_fen(here.text.as_slice()) == Ok(here.lawful.position());
     digest.add(u64::from(is_same));
 }
 
@@ -64,7 +71,7 @@ fn walk(
 ) -> Result<(), AllocError> {
     let mut here = look(alloc, digest, first)?;
     for _ in 0..PLIES {
-        read_again(digest, &here.lawful);
+        read_again(digest, &here);
         let chosen = chance.below(here.moves.len());
         match look_ahead(alloc, digest, &here, chosen)? {
             Some(next) => here = next,
@@ -125,7 +132,7 @@ fn crowded(
     for _ in 0..tries {
         if let Some(lawful) = with_queens(chance) {
             let here = look(alloc, digest, lawful)?;
-            read_again(digest, &here.lawful);
+            read_again(digest, &here);
             look_ahead(alloc, digest, &here, 0)?;
         }
     }

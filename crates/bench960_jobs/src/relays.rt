@@ -4,7 +4,8 @@
 use crate::chance::Chance;
 use crate::digest::Digest;
 use crate::walk::{start, step};
-use c960_game::Limits;
+use c960_board::write_fen;
+use c960_game::{Limits, Outcome};
 use c960_rules::Lawful;
 use relay_core::{BoardName, Relay, Reply, Spectator, Step, Taken};
 use relay_live::LiveRelay;
@@ -111,23 +112,38 @@ fn evening(alloc: Global, chance: &mut Chance) -> Result<Vec<Step>, AllocError> 
     Ok(steps)
 }
 
-/// A number for a reply.
-fn number_of(reply: &Reply) -> u64 {
+/// Adds the outcome of a game, if it has one.
+fn add_outcome(digest: &mut Digest, outcome: Option<Outcome>) {
+    digest.add(match outcome {
+        Some(outcome) => outcome.code(),
+        None => 0,
+    });
+}
+
+/// Adds a reply.
+fn add_reply(digest: &mut Digest, reply: &Reply) {
     match reply {
-        Reply::Opened => 1,
-        Reply::Played { place, outcome } => 2
-            + 8 * u64::from(*place)
-            + u64::from(outcome.is_some()),
-        Reply::Ended(_) => 4,
-        Reply::Following { joined, position } => {
-            position.occupied().wrapping_add(u64::from(*joined))
+        Reply::Opened => digest.add(1),
+        Reply::Played { place, outcome } => {
+            digest.add(2 + 16 * u64::from(*place));
+            add_outcome(digest, *outcome);
         }
-        Reply::Took(Taken::Move(place, m)) => 5 + 8 * (u64::from(*place) + 65536 * m.code()),
-        Reply::Took(Taken::Nothing) => 6,
-        Reply::Took(Taken::Over(_)) => 7,
-        Reply::Took(Taken::Cut) => 8,
-        Reply::Left(account) => 9 + 16 * (u64::from(account.taken) + u64::from(account.limit)),
-        Reply::Refused(refusal) => 10 + 16 * (refusal.code() % 256),
+        Reply::Ended(outcome) => digest.add(3 + 16 * (outcome.code() % 256)),
+        Reply::Following { joined, position } => {
+            digest.add(4 + 16 * u64::from(*joined));
+            digest.add_bytes(write_fen(position).as_slice());
+        }
+        Reply::Took(Taken::Move(place, m)) => {
+            digest.add(5 + 16 * (u64::from(*place) + 65536 * m.code()));
+        }
+        Reply::Took(Taken::Nothing) => digest.add(6),
+        Reply::Took(Taken::Over(outcome)) => digest.add(7 + 16 * (outcome.code() % 256)),
+        Reply::Took(Taken::Cut) => digest.add(8),
+        Reply::Left(account) => {
+            digest.add(9 + 16 * (u64::from(account.joined) + 65536 * u64::from(account.taken)));
+            digest.add(u64::from(account.cut) + 2 * u64::from(account.limit));
+        }
+        Reply::Refused(refusal) => digest.add(10 + 16 * (refusal.code() % 256)),
     }
 }
 
@@ -140,11 +156,11 @@ fn run_steps(
 ) -> Result<(), AllocError> {
     let mut live = LiveRelay::new(alloc, limits)?;
     for reply in live.run(steps)?.iter() {
-        digest.add(number_of(reply));
+        add_reply(digest, reply);
     }
     let mut plain = Relay::new(alloc, limits)?;
     for reply in plain.run(steps)?.iter() {
-        digest.add(number_of(reply));
+        add_reply(digest, reply);
     }
     Ok(())
 }
