@@ -29,8 +29,16 @@ impl Digest {
     }
 }
 
-/// The bytes as one number.
+/// The bytes as one number: up to eight, which are mostly read at once.
 fn word_of(bytes: &[u8]) -> u64 {
+    match bytes.first_chunk::<8>() {
+        Some(word) => u64::from_le_bytes(*word),
+        None => word_of_few(bytes),
+    }
+}
+
+/// Fewer than eight bytes as one number.
+fn word_of_few(bytes: &[u8]) -> u64 {
     let mut word: u64 = 0;
     for byte in bytes {
         word = (word << 8) | u64::from(*byte);
