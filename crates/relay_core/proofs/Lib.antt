@@ -2,6 +2,7 @@ pub mod lemmas
 mod NameFacts
 mod NameText
 mod BoardKept
+mod Orders
 mod Facts
 mod Lawful
 mod Queue

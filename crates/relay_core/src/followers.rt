@@ -10,6 +10,7 @@ ghost use Rattle.relay_core.specs.Replies.{taken_of};
 use crate::boards::Boards;
 use crate::follower::QueueFollower;
 use crate::name::BoardName;
+use crate::order::JoiningOrder;
 use crate::reply::Taken;
 use crate::step::Spectator;
 use c960_board::Move;
@@ -21,19 +22,25 @@ use std::marker::Model;
 /// The spectators who follow a board, in the order of joining. Contracts see a `HeldFollowers`.
 #[derive(Drop)]
 pub(crate) struct Followers {
+    /// The followers, in any order: a spectator leaves in constant time, wherever it stood.
     seats: IndexMap<Spectator, QueueFollower>,
+    /// The order of joining, which only contracts read.
+    order: JoiningOrder,
 }
 
 impl Model for Followers {
     ghost use Rattle.std.specs.HashMap.{spare};
     ghost use Rattle.relay_core.specs.Inner.Maps.{HeldFollowers};
+    ghost use Rattle.relay_core.specs.Inner.Order.{IsOrderOf, in_order};
 
     ghost Value = { HeldFollowers };
 
     ghost view = { λ f. record {
-      entries = f.seats.entries;
+      entries = in_order f.order.spectators f.seats.entries;
       room = spare f.seats;
     } };
+
+    ghost invariant = { λ f. IsOrderOf f.order.spectators f.seats.entries };
 }
 
 impl Followers {
@@ -43,6 +50,7 @@ impl Followers {
     {
         Followers {
             seats: IndexMap::new(alloc),
+            order: JoiningOrder::new(),
         }
     }
 
@@ -108,10 +116,11 @@ impl Followers {
     {
         let follower = QueueFollower::new(alloc, board, place, game, capacity)?;
         self.seats.insert(who, follower)?;
+        self.order = self.order.joined(&who);
         Ok(())
     }
 
-    /// Removes a spectator. The room does not shrink: the map's contract says no more about a removal.
+    /// Removes a spectator, in constant time. The room does not shrink: the map's contract says no more about a removal.
     pub(crate) fn remove(&mut self, who: Spectator) -> Option<QueueFollower>
         ensures value { result ≡ lookup (nat_eq who) self.old.entries }
         ensures updates { (q : ℕ) → lookup (nat_eq q) self.new.entries
@@ -120,6 +129,8 @@ impl Followers {
         ensures none { IfNone result (self.new.entries ≡ self.old.entries) }
         ensures room { self.old.room ≤ self.new.room }
     {
-        self.seats.shift_remove(&who)
+        let follower = self.seats.swap_remove(&who)?;
+        self.order = self.order.left(&who);
+        Some(follower)
     }
 }

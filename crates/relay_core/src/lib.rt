@@ -10,6 +10,7 @@ mod grounds;
 mod holdings;
 pub mod laws;
 mod name;
+mod order;
 mod relay;
 mod reply;
 mod step;

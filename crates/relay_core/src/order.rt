@@ -1,0 +1,45 @@
+//! The order in which spectators joined, as clauses see it.
+
+ghost use Rattle.std.specs.Prelude.{◌≡◌, ℕ, List, nat_eq, [], ◌∷◌, ◌++◌};
+ghost use Rattle.std.specs.Borrow.{ftrue};
+ghost use Rattle.std.specs.Set.{remove_key};
+
+use crate::step::Spectator;
+use std::marker::Model;
+
+/// Spectators in the order of joining. Only clauses read it: it takes no memory, and nothing is done with it at run time.
+#[derive(Drop)]
+pub(crate) struct JoiningOrder {
+    ghost spectators: { List ℕ },
+}
+
+impl Model for JoiningOrder {
+    // There is no memory that it could own.
+    ghost also_owns = { λ _. ftrue };
+}
+
+// It owns nothing, so another thread may have it: a relay may go to another thread.
+unsafe impl Send for JoiningOrder {}
+
+impl JoiningOrder {
+    /// Nobody has joined.
+    pub(crate) fn new() -> JoiningOrder
+        ensures { result.spectators ≡ [] }
+    {
+        JoiningOrder {}
+    }
+
+    /// A spectator has joined: it comes last.
+    pub(crate) fn joined(&self, _who: &Spectator) -> JoiningOrder
+        ensures { result.spectators ≡ self.now.spectators ++ _who.now ∷ [] }
+    {
+        JoiningOrder {}
+    }
+
+    /// A spectator has left: those behind it follow those before it.
+    pub(crate) fn left(&self, _who: &Spectator) -> JoiningOrder
+        ensures { result.spectators ≡ remove_key (nat_eq _who.now) self.now.spectators }
+    {
+        JoiningOrder {}
+    }
+}
