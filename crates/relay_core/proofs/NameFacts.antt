@@ -1,8 +1,9 @@
 -- Which fields a name has, and that its test decides.
-use Rattle.std.proofs.Common.{◌≡◌, ◌↔◌, ◌-◌, ◌≤◌, ℕ, List, ◌++◌, length, take, drop, replicate, true, ap, refl}
+use Rattle.std.proofs.Common.{◌≡◌, ◌↔◌, ◌-◌, ◌≤◌, ℕ, List, ◌++◌, length, take, drop, replicate, Bool, true, false, nat_eq, eqb-true, ap, sym, ◌∙◌, refl}
 use Rattle.std.proofs.Math.Seq.{take-append_seam}
 use Rattle.std.proofs.lemmas.List.{drop-replicate}
 use Rattle.relay_core.specs.Inner.NameFields.{is_short}
+use Rattle.relay_core.specs.Inner.Tag.{tag_of}
 use Rattle.relay_core.specs.Name.{IsName, filled, same_name}
 use Rattle.relay_core.proofs.lemmas.Names.{is_same_name, same_name_is}
 
@@ -18,3 +19,12 @@ zeros_behind text = ap (λ zeros. text ++ zeros) (drop-replicate (length text) 3
 pub fields_of_name : (text : List ℕ) → IsName text
     → (length text ≤ 32) × IsName (take (length text) (filled text)) × (filled text ≡ filled (take (length text) (filled text)))
 fields_of_name text name = rw (take-append_seam text (replicate {A = ℕ} (32 - length text) 0)) (is_short text name, name, refl)
+
+-- names of different tags differ
+pub told_apart : (a b : List ℕ) (x y : ℕ) → x ≡ tag_of a → y ≡ tag_of b → (x ≡ y → ⊥) → nat_eq x y ≡ same_name a b
+told_apart a b x y p q differ = by (nat_eq x y) refl (same_name a b) refl
+  where
+    by : (s : Bool) → nat_eq x y ≡ s → (t : Bool) → same_name a b ≡ t → s ≡ t
+    by true e t h = absurd (differ (eqb-true x y e))
+    by false e false h = refl
+    by false e true h = absurd (differ (p ∙ ap tag_of (same_name_is a b h) ∙ sym q))

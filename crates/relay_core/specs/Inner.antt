@@ -3,3 +3,4 @@ pub mod NameFields
 pub mod Order
 pub mod Maps
 pub mod HoldingsFields
+pub mod Tag

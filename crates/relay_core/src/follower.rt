@@ -10,6 +10,7 @@ ghost use Rattle.relay_core.specs.Replies.{taken_of};
 use crate::boards::Boards;
 use crate::name::BoardName;
 use crate::reply::{Account, Taken};
+use crate::tagged::TaggedName;
 use crate::take::without_move;
 use c960_board::Move;
 use c960_game::Game;
@@ -20,7 +21,7 @@ use std::marker::Model;
 /// A follower. Contracts see a `HeldFollower`.
 #[derive(Drop)]
 pub(crate) struct QueueFollower {
-    board: BoardName,
+    board: TaggedName,
     joined: u16,
     taken: u16,
     cut: Option<u16>,
@@ -72,7 +73,7 @@ impl QueueFollower {
         let mut queue = HeapCircularBuffer::with_capacity(alloc, usize::from(capacity))?;
         fill(&mut queue, game, place);
         Ok(QueueFollower {
-            board,
+            board: TaggedName::new(board),
             joined: place,
             taken: 0,
             cut: None,
@@ -84,14 +85,23 @@ impl QueueFollower {
     pub(crate) fn board(&self) -> BoardName
         ensures { result ≡ self.now.board }
     {
-        self.board
+        self.board.name()
+    }
+
+    /// Whether it follows this board.
+    #[inline(always)]
+    pub(crate) fn follows(&self, board: &TaggedName) -> bool
+        ensures { result ≡ same_name board.now self.now.board }
+    {
+        board.is_same(&self.board)
     }
 
     /// Queues a move made on its board at a place, or closes the follower if its queue is full.
-    pub(crate) fn offer(&mut self, board: BoardName, place: u16, m: Move)
-        ensures { self.new ≡ offered board place m self.old }
+    #[inline(always)]
+    pub(crate) fn offer(&mut self, board: &TaggedName, place: u16, m: Move)
+        ensures { self.new ≡ offered board.now place m self.old }
     {
-        if board != self.board || self.cut.is_some() {
+        if !self.follows(board) || self.cut.is_some() {
             return;
         }
         if self.queue.len() == self.queue.capacity() {
@@ -109,7 +119,7 @@ impl QueueFollower {
         ensures after { self.new ≡ popped self.old }
     {
         let outcome = if self.queue.is_empty() {
-            boards.outcome_of(self.board)
+            boards.outcome_of(self.board.name())
         } else {
             None
         };

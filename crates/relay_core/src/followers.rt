@@ -13,6 +13,7 @@ use crate::name::BoardName;
 use crate::order::JoiningOrder;
 use crate::reply::Taken;
 use crate::step::Spectator;
+use crate::tagged::TaggedName;
 use c960_board::Move;
 use c960_game::Game;
 use indexmap::IndexMap;
@@ -65,9 +66,10 @@ impl Followers {
     pub(crate) fn count(&self, board: BoardName) -> usize
         ensures { result ≡ count_by (λ e. same_name board e.1.board) self.now.entries }
     {
+        let tagged = TaggedName::new(board);
         self.seats
             .iter()
-            .filter(|(_, follower)| board == follower.board())
+            .filter(|(_, follower)| follower.follows(&tagged))
             .count()
     }
 
@@ -76,9 +78,10 @@ impl Followers {
         ensures entries { self.new.entries ≡ published board place m self.old.entries }
         ensures room { self.new.room ≡ self.old.room }
     {
+        let tagged = TaggedName::new(board);
         for i in 0..self.seats.len() {
             let (_, follower) = self.seats.pair_mut(i);
-            follower.offer(board, place, m);
+            follower.offer(&tagged, place, m);
         }
     }
 

@@ -15,6 +15,7 @@ mod relay;
 mod reply;
 mod step;
 mod stepper;
+mod tagged;
 mod take;
 
 pub use grounds::{may_follow, may_join_at, may_open};

@@ -8,7 +8,7 @@ use Rattle.relay_core.proofs.followers.Followers.publish.Goals as goal
 
 pub loop-i-preserved : goal.loop-i-preserved
 loop-i-preserved c = record {
-  done = rw (c.offer.ensures, c.loop-i.invariant.done, add-one)
+  done = rw (c.offer.ensures, c.new-tagged.ensures, c.loop-i.invariant.done, add-one)
       (done_one_more (offered c.args.board c.args.place c.args.m) c.self.inside.seats.entries c.loop-i.i _ _
       (rw c.loop-i.invariant.done at c.pair_mut-follower.ensures.value));
   same = length-set_value_at c.loop-i.self-inside.seats.entries c.loop-i.i c.offer.new.self ∙ c.loop-i.invariant.same;

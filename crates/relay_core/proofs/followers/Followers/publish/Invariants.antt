@@ -6,7 +6,7 @@ use Rattle.relay_core.proofs.followers.Followers.publish.Given as goal
 abbrev pub invariant-loop-i : goal.invariant-loop-i
 invariant-loop-i l = record {
   done : l.self-inside.seats.entries
-      ≡ published l.board l.place l.m (take l.i l.initial.self-inside.seats.entries) ++ drop l.i l.initial.self-inside.seats.entries;
+      ≡ published l.fn.board l.place l.m (take l.i l.initial.self-inside.seats.entries) ++ drop l.i l.initial.self-inside.seats.entries;
   same : length l.self-inside.seats.entries ≡ length l.initial.self-inside.seats.entries;
   order : l.self-inside.order.spectators ≡ l.initial.self-inside.order.spectators;
   room : spare l.self-inside.seats ≡ spare l.initial.self-inside.seats;
