@@ -3,6 +3,8 @@ mod Ascii
 mod Names
 mod PlainFacts
 mod PlainReading
+mod CompactBytes
+mod CompactReading
 mod Converted
 mod FirstValues
 mod Turns

@@ -7,6 +7,7 @@ pub mod Plain
 pub mod Beginnings
 pub mod Any
 pub mod Tokens
+pub mod Compact
 pub mod Commands
 pub mod Others
 pub mod Decoding

@@ -7,6 +7,7 @@ mod any;
 mod asking;
 mod board_summary;
 mod commands;
+mod compact;
 mod encoding;
 mod fault;
 mod fields;

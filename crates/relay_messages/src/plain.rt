@@ -56,7 +56,7 @@ impl<'a> PlainObject<'a> {
     /// # Errors
     ///
     /// There is already a member with that key, or there is no room.
-    fn add(&mut self, key: &'a str, field: Field<'a>) -> Result<(), Invalid>
+    pub fn add(&mut self, key: &'a str, field: Field<'a>) -> Result<(), Invalid>
         ensures { OnOk result (members_in self.new.members.items
             ≡ put key.now (field_data field.entry) (members_in self.old.members.items)) }
     {

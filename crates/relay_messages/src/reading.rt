@@ -1,14 +1,15 @@
 //! Reading a text as its command.
 
-ghost use Rattle.std.specs.Prelude.{◌≡◌, ◌∷◌, Err, IfOk, None};
+ghost use Rattle.std.specs.Prelude.{◌≡◌, ◌∷◌, Err, IfOk, IfSome, None};
 ghost use Rattle.json.specs.Json.{value};
 ghost use Rattle.serde_json.specs.Read.{converted, of_json, read};
 ghost use Rattle.relay_messages.specs.Any.{IsFound, IsNext};
 ghost use Rattle.relay_messages.specs.Beginnings.{opening};
-ghost use Rattle.relay_messages.specs.Decoding.{IsDecoding, IsReading, IsSaid, IsWatchDecoding, text_says};
+ghost use Rattle.relay_messages.specs.Decoding.{IsDecoding, IsReading, IsSaid, IsWatchDecoding, text_says, value_says};
 
 use crate::any::{AnyObject, KeptMembers, read_members};
 use crate::asking::Asked;
+use crate::compact::read_compact;
 use crate::fault::MessageFault;
 use crate::passing::{Beginning, Nest, pass_rest, take_beginning};
 use crate::plain::{PlainObject, read_plain};
@@ -93,10 +94,22 @@ fn read_any<A: Asked>(alloc: Global, scratch: &mut Scratch, text: &str) -> Resul
     }
 }
 
+/// What a compact object asks for, or none for another text.
+fn read_if_compact<A: Asked>(text: &str) -> Option<Result<A, MessageFault>>
+    ensures { IfSome result (λ answer. answer ≡ value_says A.says (read text.now)) }
+{
+    let mut object = PlainObject::new();
+    read_compact(text, &mut object)?;
+    Some(A::of(&object))
+}
+
 /// What a text in UTF-8 asks for.
 fn read_text<A: Asked>(alloc: Global, scratch: &mut Scratch, text: &str) -> Result<A, MessageFault>
     ensures { IsReading A.says text.now result }
 {
+    if let Some(answer) = read_if_compact(text) {
+        return answer;
+    }
     let mut object = PlainObject::new();
     match read_plain(text, scratch, &mut object) {
         Ok(true) => return A::of(&object),

@@ -4,6 +4,7 @@ mod answers;
 mod boards;
 mod bounds;
 mod commands;
+mod compact;
 mod decoders;
 mod faults;
 mod round_trip;

@@ -1,0 +1,110 @@
+-- A compact object is the print of its tokens, which are read back, and so it represents its members.
+use Rattle.std.proofs.Common.{◌≡◌, ℕ, ◌-◌, ◌≤◌, true, false, List, [], ◌∷◌, ◌++◌, length, Some, lit<, refl, sym, ap, ◌∙◌, arith, decimal}
+use Rattle.json.specs.Token.{Token}
+use Rattle.json.specs.Json.{members, parse_map, value}
+use Rattle.json.specs.Lex.{tokens}
+use Rattle.json.specs.Print.{ArePrintable, IsPrintable, ends, print, print_from, separator, token_text}
+use Rattle.json.proofs.Grammar.{value-begin_object, value_is}
+use Rattle.json.proofs.Printed.Decimals.{IsNumber-decimal}
+use Rattle.json.proofs.Printed.Tokens.{tokens-print}
+use Rattle.serde_json.proofs.Numbers.{number_of-decimal}
+use Rattle.serde_json.specs.Data.{Members, no_members, object, put}
+use Rattle.serde_json.specs.Read.{converted, of_json, of_members, read}
+use Rattle.relay_messages.proofs.Converted.{whole}
+use Rattle.relay_messages.proofs.PlainReading.{member_read, members_over, object_read, whole_read}
+use Rattle.relay_messages.specs.Compact.{AreWithin64Bits, IsMember, IsWithin64Bits, field_token, member_tokens}
+use Rattle.relay_messages.specs.Members.{field_data, members_in, with_all}
+use Rattle.relay_messages.specs.declared.member.Field.{Field}
+use Rattle.relay_messages.specs.declared.member.Field.TheVariants.{Text, Number, Other}
+use Rattle.relay_messages.specs.declared.member.Member.{Member}
+
+-- ---- One more member.
+
+pub member_tokens-push : (ms : List Member) (m : Member) (ts : List Token)
+    → member_tokens (ms ++ m ∷ []) ts ≡ member_tokens ms (Token.key m.key.now ∷ field_token m.field ∷ ts)
+member_tokens-push [] m ts = refl
+member_tokens-push (n ∷ ms) m ts = ap (λ us. Token.key n.key.now ∷ field_token n.field ∷ us) (member_tokens-push ms m ts)
+
+pub AreWithin64Bits-push : (ms : List Member) (m : Member) → AreWithin64Bits ms → IsWithin64Bits m.field → AreWithin64Bits (ms ++ m ∷ [])
+AreWithin64Bits-push [] m all more = (more, tt)
+AreWithin64Bits-push (n ∷ ms) m all more = (all.0, AreWithin64Bits-push ms m all.1 more)
+
+-- ---- What is written.
+
+field_ends : (field : Field) → ends (field_token field) ≡ true
+field_ends (Text text) = refl
+field_ends (Number n) = refl
+field_ends Other = refl
+
+-- no separator stands before the value of a member
+no_separator : (field : Field) → separator false (field_token field) ≡ []
+no_separator field = refl
+
+-- behind a member follow the tokens that the rest is
+member_then : (m : Member) (bytes rest : List ℕ) (ts : List Token) → IsMember m bytes rest → rest ≡ print_from true ts
+    → bytes ≡ print_from false (Token.key m.key.now ∷ field_token m.field ∷ ts)
+unfolding print_from
+member_then m bytes rest ts is more =
+    is.written ∙ ap (λ bs. token_text (Token.key m.key.now) ++ (token_text (field_token m.field) ++ bs))
+    (more ∙ ap (λ after_value. print_from after_value ts) (sym (field_ends m.field)))
+
+-- the first member stands behind the brace
+pub first_written : (m : Member) (text bytes rest : List ℕ) (ts : List Token) → text ≡ 123 ∷ bytes → IsMember m bytes rest → rest ≡ print_from true ts
+    → text ≡ print (Token.begin_object ∷ member_tokens (m ∷ []) ts)
+unfolding print_from
+first_written m text bytes rest ts opened is more = opened ∙ ap (λ bs. 123 ∷ bs) (member_then m bytes rest ts is more)
+
+-- each of the others stands behind a comma
+pub next_written : (m : Member) (before bytes rest : List ℕ) (ts : List Token) → before ≡ 44 ∷ bytes → IsMember m bytes rest → rest ≡ print_from true ts
+    → before ≡ print_from true (Token.key m.key.now ∷ field_token m.field ∷ ts)
+unfolding print_from
+next_written m before bytes rest ts divided is more = divided ∙ ap (λ bs. 44 ∷ bs) (member_then m bytes rest ts is more)
+
+-- at the end stands the other brace
+pub closed : (before rest : List ℕ) → before ≡ 125 ∷ rest → rest ≡ [] → before ≡ print_from true (Token.end_object ∷ [])
+unfolding print_from
+closed before rest e none = e ∙ ap (λ bs. 125 ∷ bs) none
+
+-- ---- All tokens can be printed.
+
+field_printable : (field : Field) → IsWithin64Bits field → IsPrintable (field_token field)
+field_printable (Text text) within = tt
+field_printable (Number n) within = IsNumber-decimal n within
+field_printable Other within = tt
+
+members_printable : (ms : List Member) (ts : List Token) → AreWithin64Bits ms → ArePrintable ts → ArePrintable (member_tokens ms ts)
+unfolding ArePrintable
+members_printable [] ts all last = last
+members_printable (m ∷ ms) ts all last = (tt, (field_printable m.field all.0, members_printable ms ts all.1 last))
+
+all_printable : (ms : List Member) → AreWithin64Bits ms → ArePrintable (Token.begin_object ∷ member_tokens ms (Token.end_object ∷ []))
+unfolding ArePrintable
+all_printable ms all = (tt, members_printable ms (Token.end_object ∷ []) all (tt, tt))
+
+-- ---- What is read.
+
+field_read : (field : Field) (ts : List Token) → IsWithin64Bits field → converted of_json (value 126 (field_token field ∷ ts)) ≡ Some (field_data field, ts)
+field_read (Text text) ts within = ap (converted of_json) (value_is 126 (Token.string text.now ∷ ts))
+field_read (Number n) ts within = ap (converted of_json) (value_is 126 (Token.number (decimal n) ∷ ts)) ∙ rw (number_of-decimal n within) refl
+field_read Other ts within = ap (converted of_json) (value_is 126 (Token.null ∷ ts))
+
+members_read : (ms : List Member) (found : Members) (n : ℕ) → AreWithin64Bits ms → length (member_tokens ms (Token.end_object ∷ [])) ≤ n
+    → converted (λ all. of_members all found) (members (value 126) n (member_tokens ms (Token.end_object ∷ []))) ≡ Some (with_all found ms, [])
+members_read [] found n all enough = members_over (value 126) found n (Token.end_object ∷ []) [] enough refl
+members_read (m ∷ ms) found n all enough =
+    let left = member_tokens ms (Token.end_object ∷ []) in
+    let d = field_data m.field in
+    member_read (value 126) found n m.key.now (Token.key m.key.now ∷ field_token m.field ∷ left) (field_token m.field ∷ left) left d (omega (arith, enough)) refl
+    (field_read m.field left all.0)
+    ∙ members_read ms (put m.key.now d found) (n - 1) all.1 (omega (arith, enough))
+
+pub text_read : (text : List ℕ) (ms : List Member) → AreWithin64Bits ms → text ≡ print (Token.begin_object ∷ member_tokens ms (Token.end_object ∷ []))
+    → read text ≡ Some (object (members_in ms))
+text_read text ms all is =
+    let rest = member_tokens ms (Token.end_object ∷ []) in
+    let ts = Token.begin_object ∷ rest in
+    let lexed : tokens text ≡ ts = ap tokens is ∙ tokens-print ts (all_printable ms all) in
+    ap (λ us. whole (value 127 us)) lexed
+    ∙ whole_read (value 127 ts) (object (members_in ms))
+    (ap (converted of_json) (value-begin_object 127 rest (lit< tt)) ∙ object_read (members (value 126) (length rest) rest)
+    ∙ ap (parse_map object) (members_read ms no_members (length rest) all (omega arith)))

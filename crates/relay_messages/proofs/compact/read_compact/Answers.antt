@@ -1,0 +1,43 @@
+use Rattle.std.proofs.Common.{◌≡◌, ◌∷◌, ◌++◌, [], Some, ap, ◌∙◌, arith, rules, sym}
+use Rattle.std.proofs.lemmas.Grind.{common_steps}
+use Rattle.serde_json.specs.Data.{object, put}
+use Rattle.json.specs.Print.{print}
+use Rattle.json.specs.Token.{Token}
+use Rattle.relay_messages.proofs.CompactReading.{AreWithin64Bits-push, closed, first_written, member_tokens-push, next_written, text_read}
+use Rattle.relay_messages.proofs.PlainFacts.{members_in-push}
+use Rattle.relay_messages.specs.Members.{field_data}
+use Rattle.relay_messages.proofs.compact.read_compact.Goals as goal
+
+pub members-init : goal.members-init
+members-init c =
+    let added = c.in_ok-rest.ensures in
+    let m = added.0 in
+    record {
+      utf8 = search rules;
+      found = m ∷ [];
+      within = (added.1.within, tt);
+      added = added.2 ∙ ap (put m.key.now (field_data m.field)) c.requires;
+      written = λ ts more. first_written m c.args.text.now c.in_ok-first.first.now c.in_ok-rest.rest.now ts c.in_ok-first.ensures added.1 more;
+    }
+
+pub members-preserved : goal.members-preserved
+members-preserved c =
+    let before = c.members.invariant in
+    let added = c.in_ok-rest-2.ensures in
+    let m = added.0 in
+    record {
+      utf8 = search rules;
+      found = before.found ++ m ∷ [];
+      within = AreWithin64Bits-push before.found m before.within added.1.within;
+      added = added.2 ∙ ap (put m.key.now (field_data m.field)) before.added ∙ sym (members_in-push before.found m);
+      written = λ ts more.
+          before.written _ (next_written m c.members.rest.now c.in-Some.next.now c.in_ok-rest-2.rest.now ts c.in-Some.ensures added.1 more)
+          ∙ ap (λ us. print (Token.begin_object ∷ us)) (sym (member_tokens-push before.found m ts));
+    }
+
+pub returns-then-is_empty : goal.returns-then-is_empty
+returns-then-is_empty c =
+    let read = c.members.invariant in
+    let none : c.in_ok-after.field-0.now ≡ [] = grind (arith, common_steps) in
+    text_read c.args.text.now read.found read.within (read.written _ (closed c.members.rest.now c.in_ok-after.field-0.now c.in_ok-after.ensures none))
+    ∙ ap (λ ms. Some (object ms)) (sym read.added)
