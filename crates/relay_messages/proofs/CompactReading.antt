@@ -1,18 +1,19 @@
--- A compact object is the print of its tokens, which are read back, and so it represents its members.
-use Rattle.std.proofs.Common.{◌≡◌, ℕ, ◌-◌, ◌≤◌, true, false, List, [], ◌∷◌, ◌++◌, length, Some, lit<, refl, sym, ap, ◌∙◌, arith, decimal}
+-- A compact object is the print of its tokens, with gaps before them, which are read back, and so it represents its members.
+use Rattle.std.proofs.Common.{◌≡◌, ℕ, ◌-◌, ◌≤◌, Bool, true, false, List, [], ◌∷◌, ◌++◌, length, Some, lit<, refl, sym, ap, ◌∙◌, subst, arith, decimal}
 use Rattle.json.specs.Token.{Token}
 use Rattle.json.specs.Json.{members, parse_map, value}
 use Rattle.json.specs.Lex.{tokens}
-use Rattle.json.specs.Print.{ArePrintable, IsPrintable, ends, print, print_from, separator, token_text}
+use Rattle.json.specs.Print.{ArePrintable, IsPrintable, ends, separator, token_text}
+use Rattle.json.specs.Spaced.{print_spaced}
 use Rattle.json.proofs.Grammar.{value-begin_object, value_is}
 use Rattle.json.proofs.Printed.Decimals.{IsNumber-decimal}
-use Rattle.json.proofs.Printed.Tokens.{tokens-print}
+use Rattle.json.proofs.Printed.Tokens.{tokens-print_spaced}
 use Rattle.serde_json.proofs.Numbers.{number_of-decimal}
 use Rattle.serde_json.specs.Data.{Members, no_members, object, put}
 use Rattle.serde_json.specs.Read.{converted, of_json, of_members, read}
 use Rattle.relay_messages.proofs.Converted.{whole}
 use Rattle.relay_messages.proofs.PlainReading.{member_read, members_over, object_read, whole_read}
-use Rattle.relay_messages.specs.Compact.{AreWithin64Bits, IsMember, IsWithin64Bits, field_token, member_tokens}
+use Rattle.relay_messages.specs.Compact.{AreWithin64Bits, IsMember, IsSpaced, IsWithin64Bits, field_token, member_tokens}
 use Rattle.relay_messages.specs.Members.{field_data, members_in, with_all}
 use Rattle.relay_messages.specs.declared.member.Field.{Field}
 use Rattle.relay_messages.specs.declared.member.Field.TheVariants.{Text, Number, Other}
@@ -36,34 +37,52 @@ field_ends (Text text) = refl
 field_ends (Number n) = refl
 field_ends Other = refl
 
--- no separator stands before the value of a member
-no_separator : (field : Field) → separator false (field_token field) ≡ []
-no_separator field = refl
-
 -- behind a member follow the tokens that the rest is
-member_then : (m : Member) (bytes rest : List ℕ) (ts : List Token) → IsMember m bytes rest → rest ≡ print_from true ts
-    → bytes ≡ print_from false (Token.key m.key.now ∷ field_token m.field ∷ ts)
-unfolding print_from
-member_then m bytes rest ts is more =
-    is.written ∙ ap (λ bs. token_text (Token.key m.key.now) ++ (token_text (field_token m.field) ++ bs))
-    (more ∙ ap (λ after_value. print_from after_value ts) (sym (field_ends m.field)))
+member_then : (m : Member) (after_value : Bool) (text rest : List ℕ) (ts : List Token) → IsMember m text rest → IsSpaced true rest ts
+    → IsSpaced after_value (separator after_value (Token.key m.key.now) ++ text) (Token.key m.key.now ∷ field_token m.field ∷ ts)
+unfolding print_spaced
+member_then m after_value text rest ts is more =
+    let key = Token.key m.key.now in
+    let value = field_token m.field in
+    let behind : rest ≡ print_spaced (ends value) more.spaced =
+    more.written ∙ ap (λ after. print_spaced after more.spaced) (sym (field_ends m.field)) in
+    record {
+      spaced = (is.key_behind.gap, key) ∷ (is.value_behind.gap, value) ∷ more.spaced;
+      gaps = (is.key_behind.is_gap, (is.value_behind.is_gap, more.gaps));
+      tokens = ap (λ us. key ∷ value ∷ us) more.tokens;
+      written = ap (λ bs. separator after_value key ++ bs)
+          (is.key_behind.written ∙ ap (λ bs. is.key_behind.gap ++ (token_text key ++ bs))
+          (is.value_behind.written ∙ ap (λ bs. is.value_behind.gap ++ (token_text value ++ bs)) behind));
+    }
 
 -- the first member stands behind the brace
-pub first_written : (m : Member) (text bytes rest : List ℕ) (ts : List Token) → text ≡ 123 ∷ bytes → IsMember m bytes rest → rest ≡ print_from true ts
-    → text ≡ print (Token.begin_object ∷ member_tokens (m ∷ []) ts)
-unfolding print_from
-first_written m text bytes rest ts opened is more = opened ∙ ap (λ bs. 123 ∷ bs) (member_then m bytes rest ts is more)
+pub first_written : (m : Member) (text bytes rest : List ℕ) (ts : List Token) → text ≡ 123 ∷ bytes → IsMember m bytes rest → IsSpaced true rest ts
+    → IsSpaced false text (Token.begin_object ∷ member_tokens (m ∷ []) ts)
+unfolding print_spaced
+first_written m text bytes rest ts opened is more =
+    let first = member_then m false bytes rest ts is more in
+    record {
+      spaced = ([], Token.begin_object) ∷ first.spaced;
+      gaps = (tt, first.gaps);
+      tokens = ap (λ us. Token.begin_object ∷ us) first.tokens;
+      written = opened ∙ ap (λ bs. 123 ∷ bs) first.written;
+    }
 
 -- each of the others stands behind a comma
-pub next_written : (m : Member) (before bytes rest : List ℕ) (ts : List Token) → before ≡ 44 ∷ bytes → IsMember m bytes rest → rest ≡ print_from true ts
-    → before ≡ print_from true (Token.key m.key.now ∷ field_token m.field ∷ ts)
-unfolding print_from
-next_written m before bytes rest ts divided is more = divided ∙ ap (λ bs. 44 ∷ bs) (member_then m bytes rest ts is more)
+pub next_written : (m : Member) (before bytes rest : List ℕ) (ts : List Token) → before ≡ 44 ∷ bytes → IsMember m bytes rest → IsSpaced true rest ts
+    → IsSpaced true before (Token.key m.key.now ∷ field_token m.field ∷ ts)
+next_written m before bytes rest ts divided is more =
+    subst (λ bs. IsSpaced true bs (Token.key m.key.now ∷ field_token m.field ∷ ts)) (sym divided) (member_then m true bytes rest ts is more)
 
 -- at the end stands the other brace
-pub closed : (before rest : List ℕ) → before ≡ 125 ∷ rest → rest ≡ [] → before ≡ print_from true (Token.end_object ∷ [])
-unfolding print_from
-closed before rest e none = e ∙ ap (λ bs. 125 ∷ bs) none
+pub closed : (before rest : List ℕ) → before ≡ 125 ∷ rest → rest ≡ [] → IsSpaced true before (Token.end_object ∷ [])
+unfolding print_spaced
+closed before rest e none = record {
+  spaced = ([], Token.end_object) ∷ [];
+  gaps = (tt, tt);
+  tokens = refl;
+  written = e ∙ ap (λ bs. 125 ∷ bs) none;
+}
 
 -- ---- All tokens can be printed.
 
@@ -98,12 +117,13 @@ members_read (m ∷ ms) found n all enough =
     (field_read m.field left all.0)
     ∙ members_read ms (put m.key.now d found) (n - 1) all.1 (omega (arith, enough))
 
-pub text_read : (text : List ℕ) (ms : List Member) → AreWithin64Bits ms → text ≡ print (Token.begin_object ∷ member_tokens ms (Token.end_object ∷ []))
+pub text_read : (text : List ℕ) (ms : List Member) → AreWithin64Bits ms → IsSpaced false text (Token.begin_object ∷ member_tokens ms (Token.end_object ∷ []))
     → read text ≡ Some (object (members_in ms))
 text_read text ms all is =
     let rest = member_tokens ms (Token.end_object ∷ []) in
     let ts = Token.begin_object ∷ rest in
-    let lexed : tokens text ≡ ts = ap tokens is ∙ tokens-print ts (all_printable ms all) in
+    let lexed : tokens text ≡ ts =
+    ap tokens is.written ∙ tokens-print_spaced is.spaced is.gaps (subst ArePrintable (sym is.tokens) (all_printable ms all)) ∙ is.tokens in
     ap (λ us. whole (value 127 us)) lexed
     ∙ whole_read (value 127 ts) (object (members_in ms))
     (ap (converted of_json) (value-begin_object 127 rest (lit< tt)) ∙ object_read (members (value 126) (length rest) rest)

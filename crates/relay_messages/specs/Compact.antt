@@ -1,7 +1,8 @@
--- Compact objects: the tokens of their members, which are written without white space and without escapes.
-use Rattle.std.specs.Prelude.{ℕ, ◌≡◌, ◌≢◌, ◌≤◌, ◌<◌, ◌^◌, List, [], ◌∷◌, ◌++◌, decimal, ⊤}
+-- Compact objects: the tokens of their members, which are written without escapes, and without white space but for gaps before tokens.
+use Rattle.std.specs.Prelude.{ℕ, ◌≡◌, ◌≢◌, ◌≤◌, ◌<◌, ◌^◌, Bool, List, [], ◌∷◌, ◌++◌, decimal, map, ⊤}
 use Rattle.json.specs.Token.{Token}
 use Rattle.json.specs.Print.{token_text}
+use Rattle.json.specs.Spaced.{AreGaps, IsGap, print_spaced}
 use Rattle.relay_messages.specs.declared.member.Field.{Field}
 use Rattle.relay_messages.specs.declared.member.Field.TheVariants.{Text, Number, Other}
 use Rattle.relay_messages.specs.declared.member.Member.{Member}
@@ -28,10 +29,18 @@ pub record IsField (field : Field) (text rest : List ℕ) : Type 0 where
   pub within : IsWithin64Bits field
   pub written : text ≡ token_text (field_token field) ++ rest
 
--- the text is this member and then the rest
+-- the text is a gap and then the rest
+pub record IsBehindGap (text rest : List ℕ) : Type 0 where
+  pub gap : List ℕ
+  pub is_gap : IsGap gap
+  pub written : text ≡ gap ++ rest
+
+-- the text is this member, with a gap before its key and one before its value, and then the rest
 pub record IsMember (m : Member) (text rest : List ℕ) : Type 0 where
   pub within : IsWithin64Bits m.field
-  pub written : text ≡ token_text (Token.key m.key.now) ++ (token_text (field_token m.field) ++ rest)
+  pub value : List ℕ
+  pub key_behind : IsBehindGap text (token_text (Token.key m.key.now) ++ value)
+  pub value_behind : IsBehindGap value (token_text (field_token m.field) ++ rest)
 
 abbrev pub AreWithin64Bits : List Member → Type 0
 AreWithin64Bits [] = ⊤
@@ -41,3 +50,10 @@ AreWithin64Bits (m ∷ ms) = IsWithin64Bits m.field × AreWithin64Bits ms
 abbrev pub member_tokens : List Member → List Token → List Token
 member_tokens [] ts = ts
 member_tokens (m ∷ ms) ts = Token.key m.key.now ∷ field_token m.field ∷ member_tokens ms ts
+
+-- the text is these tokens with gaps before them
+pub record IsSpaced (after_value : Bool) (text : List ℕ) (ts : List Token) : Type 0 where
+  pub spaced : List (List ℕ × Token)
+  pub gaps : AreGaps spaced
+  pub tokens : map (λ p. p.1) spaced ≡ ts
+  pub written : text ≡ print_spaced after_value spaced

@@ -1,11 +1,12 @@
-//! Compact objects: plain objects without white space and escapes, whose numbers have no leading zero. Nearly all objects of commands are
-//! compact. Such an object is read in one pass over its bytes, without an index of them and without memory.
+//! Compact objects: plain objects without escapes, whose numbers have no leading zero, and without white space but for one space at most
+//! before a key or a value. Nearly all objects of commands are compact. Such an object is read in one pass over its bytes, without an index of
+//! them and without memory.
 
 ghost use Rattle.std.specs.Prelude.{◌≡◌, ◌≤◌, ◌<◌, ◌∷◌, ◌++◌, ℕ, ◌+◌, IfSome, OnSome, Some, decimal, false, get_or, length, true};
 ghost use Rattle.json.specs.Print.{quoted};
 ghost use Rattle.serde_json.specs.Data.{no_members, object as an_object, put};
 ghost use Rattle.serde_json.specs.Read.{read as read_text};
-ghost use Rattle.relay_messages.specs.Compact.{IsField, IsMember, IsPlainByte};
+ghost use Rattle.relay_messages.specs.Compact.{IsBehindGap, IsField, IsMember, IsPlainByte};
 ghost use Rattle.relay_messages.specs.Members.{field_data, members_in};
 ghost use Rattle.relay_messages.specs.declared.member.Member.{Member as AMember};
 
@@ -50,6 +51,16 @@ fn after(text: &str, first: u8) -> Option<&str>
         return None;
     }
     Some(&text[1..])
+}
+
+/// What follows a space, if the text begins with one, or else the text.
+fn skip_space(text: &str) -> &str
+    ensures { IsBehindGap text.now result.now }
+{
+    match after(text, b' ') {
+        Some(rest) => rest,
+        None => text,
+    }
 }
 
 /// The text in quotation marks that comes first, and what follows it.
@@ -116,9 +127,9 @@ fn take_field(text: &str) -> Option<(Field<'_>, &str)>
 fn take_member(text: &str) -> Option<(Member<'_>, &str)>
     ensures { IfSome result (λ taken. IsMember taken.0 text.now taken.1.now) }
 {
-    let (key, named) = take_text(text)?;
+    let (key, named) = take_text(skip_space(text))?;
     let value = after(named, b':')?;
-    let (field, rest) = take_field(value)?;
+    let (field, rest) = take_field(skip_space(value))?;
     Some((Member { key, field }, rest))
 }
 

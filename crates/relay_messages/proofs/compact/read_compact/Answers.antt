@@ -1,10 +1,10 @@
-use Rattle.std.proofs.Common.{◌≡◌, ◌∷◌, ◌++◌, [], Some, ap, ◌∙◌, arith, rules, sym}
+use Rattle.std.proofs.Common.{◌≡◌, ◌∷◌, ◌++◌, [], Some, false, ap, ◌∙◌, arith, rules, subst, sym}
 use Rattle.std.proofs.lemmas.Grind.{common_steps}
 use Rattle.serde_json.specs.Data.{object, put}
-use Rattle.json.specs.Print.{print}
 use Rattle.json.specs.Token.{Token}
 use Rattle.relay_messages.proofs.CompactReading.{AreWithin64Bits-push, closed, first_written, member_tokens-push, next_written, text_read}
 use Rattle.relay_messages.proofs.PlainFacts.{members_in-push}
+use Rattle.relay_messages.specs.Compact.{IsSpaced}
 use Rattle.relay_messages.specs.Members.{field_data}
 use Rattle.relay_messages.proofs.compact.read_compact.Goals as goal
 
@@ -31,8 +31,8 @@ members-preserved c =
       within = AreWithin64Bits-push before.found m before.within added.1.within;
       added = added.2 ∙ ap (put m.key.now (field_data m.field)) before.added ∙ sym (members_in-push before.found m);
       written = λ ts more.
-          before.written _ (next_written m c.members.rest.now c.in-Some.next.now c.in_ok-rest-2.rest.now ts c.in-Some.ensures added.1 more)
-          ∙ ap (λ us. print (Token.begin_object ∷ us)) (sym (member_tokens-push before.found m ts));
+          subst (λ us. IsSpaced false c.args.text.now (Token.begin_object ∷ us)) (sym (member_tokens-push before.found m ts))
+          (before.written _ (next_written m c.members.rest.now c.in-Some.next.now c.in_ok-rest-2.rest.now ts c.in-Some.ensures added.1 more));
     }
 
 pub returns-then-is_empty : goal.returns-then-is_empty

@@ -1,9 +1,8 @@
-use Rattle.std.proofs.Common.{◌≡◌, List, ◌∷◌, length, true}
+use Rattle.std.proofs.Common.{◌≡◌, List, ◌∷◌, length, true, false}
 use denote.Shadow.{shadow}
 use denote.Text.{Utf8}
-use Rattle.json.specs.Print.{print, print_from}
 use Rattle.json.specs.Token.{Token}
-use Rattle.relay_messages.specs.Compact.{AreWithin64Bits, member_tokens}
+use Rattle.relay_messages.specs.Compact.{AreWithin64Bits, IsSpaced, member_tokens}
 use Rattle.relay_messages.specs.Members.{members_in}
 use Rattle.relay_messages.specs.declared.member.Member.{Member}
 use Rattle.relay_messages.proofs.compact.read_compact.Given as goal
@@ -15,7 +14,7 @@ invariant-members l = record {
   found : List Member;
   within : AreWithin64Bits found;
   added : members_in l.object.members.items ≡ members_in found;
-  written : (ts : List Token) → l.rest ≡ print_from true ts → l.text ≡ print (Token.begin_object ∷ member_tokens found ts);
+  written : (ts : List Token) → IsSpaced true l.rest ts → IsSpaced false l.text (Token.begin_object ∷ member_tokens found ts);
 }
 
 abbrev pub decreases-members : goal.decreases-members

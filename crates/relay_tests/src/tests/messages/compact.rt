@@ -1,5 +1,5 @@
-//! Objects without white space and escapes, which are read apart from all other texts. Behind a space a text means the same, and is read in
-//! the general way: on texts on both sides of the form, the two ways agree.
+//! Compact objects, without escapes and with few spaces, which are read apart from all other texts. Behind a space a text means the same, and
+//! is read in the general way: on texts on both sides of the form, the two ways agree.
 
 use crate::tests::chance::Dice;
 use relay_messages::{Decoder, MessageFault};
@@ -7,7 +7,7 @@ use std::alloc::{AllocError, Global};
 use std::test::Fail;
 
 /// Commands, some of them not as a client writes them.
-const TEXTS: [&str; 14] = [
+const TEXTS: [&str; 16] = [
     r#"{"cmd":"submit","board":"b1","move":"e2e4"}"#,
     r#"{"cmd":"follow","board":"b1","spectator":4294967295,"from":65535}"#,
     r#"{"cmd":"end","board":"b1","how":"resign","side":"white"}"#,
@@ -19,6 +19,8 @@ const TEXTS: [&str; 14] = [
     r#"{"cmd":"leave","spectator":18446744073709551616}"#,
     r#"{"cmd":"leave","spectator":1000000000000000000000000000}"#,
     r#"{"cmd":"submit","board":"b\u0031","move":"e2e4"}"#,
+    r#"{"cmd": "submit", "board": "b1", "move": "e2e4"}"#,
+    r#"{"cmd": "take",  "spectator":  1}"#,
     r#"{ "cmd" : "submit", "board" : "b1", "move" : "e2e4" }"#,
     r#"{"cmd":"open","board":"é","start":1e2}"#,
     "{}",
