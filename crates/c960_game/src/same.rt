@@ -49,9 +49,9 @@ fn same_captures(one: &Lawful, two: &Lawful) -> bool
 fn test_same(one: &Lawful, two: &Lawful) -> bool
     ensures { result ≡ same one.now two.now }
 {
-    let (first, second) = (one.as_position(), two.as_position());
+    let (first, second) = (one.position(), two.position());
     same_colour(first.turn(), second.turn())
-        && same_placement(first, second)
+        && same_placement(&first, &second)
         && same_rights(&first.rights(), &second.rights())
         && same_captures(one, two)
 }
