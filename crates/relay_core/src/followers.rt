@@ -20,10 +20,10 @@ use indexmap::IndexMap;
 use std::alloc::{AllocError, Global};
 use std::marker::Model;
 
-/// The spectators who follow a board, in the order of joining. Contracts see a `HeldFollowers`.
+/// The spectators who follow a board. Contracts see a `HeldFollowers`, with the spectators in the order of joining.
 #[derive(Drop)]
 pub(crate) struct Followers {
-    /// The followers, in any order: a spectator leaves in constant time, wherever it stood.
+    /// The followers, in any order: when a spectator leaves, at most one other moves, wherever it stood.
     seats: IndexMap<Spectator, QueueFollower>,
     /// The order of joining, which only contracts read.
     order: JoiningOrder,
@@ -123,7 +123,8 @@ impl Followers {
         Ok(())
     }
 
-    /// Removes a spectator, in constant time. The room does not shrink: the map's contract says no more about a removal.
+    /// Removes a spectator: the last one of the map takes its place. The room does not shrink: the map's contract says no more about a
+    /// removal.
     pub(crate) fn remove(&mut self, who: Spectator) -> Option<QueueFollower>
         ensures value { result ≡ lookup (nat_eq who) self.old.entries }
         ensures updates { (q : ℕ) → lookup (nat_eq q) self.new.entries

@@ -1,4 +1,4 @@
-//! The spectators who follow, and where, in the order of joining.
+//! The spectators who follow, and where. Contracts see them in the order of joining.
 
 ghost use Rattle.std.specs.Prelude.{◌≡◌, ◌≤◌, ◌<◌, ℕ, nat_eq, is_some, cond, IfNone, IfSome, OnOk, OnErr, None, [], ◌∷◌, ◌++◌};
 ghost use Rattle.std.specs.Map.{lookup, remove_entry, set_value};
@@ -14,7 +14,7 @@ use std::marker::Model;
 /// Where each spectator follows. Contracts see a `SeatRecord`, with the spectators in the order of joining.
 #[derive(Drop)]
 pub(crate) struct Seats {
-    /// The seats, in any order: a spectator leaves in constant time, wherever it stood.
+    /// The seats, in any order: when a spectator leaves, at most one other moves, wherever it stood.
     places: IndexMap<Spectator, Seated>,
     /// The order of joining, which only contracts read.
     order: JoiningOrder,
@@ -84,7 +84,7 @@ impl Seats {
         Ok(())
     }
 
-    /// Removes a spectator, in constant time. The room does not shrink.
+    /// Removes a spectator: the last one of the map takes its place. The room does not shrink.
     pub(crate) fn remove(&mut self, who: Spectator) -> Option<Seated>
         ensures value { result ≡ lookup (nat_eq who) self.old.entries }
         ensures updates { (q : ℕ) → lookup (nat_eq q) self.new.entries

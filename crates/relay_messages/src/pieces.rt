@@ -1,12 +1,14 @@
 //! Texts that are made of pieces, in memory that is taken once.
 
-ghost use Rattle.std.specs.Prelude.{◌≡◌, string_bytes, IfOk};
+ghost use Rattle.std.specs.Prelude.{◌≡◌, ◌+◌, length, min, string_bytes, IfOk};
 ghost use Rattle.std.specs.List.{flat_map};
 
 use std::alloc::{AllocError, Global};
 
 /// How many bytes a text of these pieces has, with a line feed behind them.
-fn room_for(pieces: &[&str]) -> usize {
+fn room_for(pieces: &[&str]) -> usize
+    ensures { result ≡ min (length (flat_map (λ piece. piece.now) pieces.now) + 1) 18446744073709551615 }
+{
     let mut room: usize = 1;
     for piece in pieces {
         room = room.saturating_add(piece.len());
