@@ -3,5 +3,6 @@ mod KindFacts
 mod NumberFacts
 mod NumberTable
 mod Reading
+mod SetsBelow
 mod StartTable
 mod Written

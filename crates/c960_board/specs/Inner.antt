@@ -1,2 +1,3 @@
 -- What only the code and its proofs use. Readers of the promises need none of it.
 pub mod Conditions
+pub mod SetsWith

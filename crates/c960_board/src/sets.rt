@@ -28,7 +28,8 @@ pub struct Sets {
 }
 
 impl Sets {
-    ghost use Rattle.c960_board.specs.Sets.{is_kind, set_of, sets_of, colour_set, kind_set, is_in, kind_in, cell_in, cells_of};
+    ghost use Rattle.c960_board.specs.Sets.{is_kind, sets_of, colour_set, kind_set, is_in, kind_in, cell_in, cells_of};
+    ghost use Rattle.c960_board.specs.Inner.SetsWith.{empty_sets, sets_with};
 
     /// The squares that hold a piece of the colour.
     #[inline(always)]
@@ -78,42 +79,55 @@ impl Sets {
         }
     }
 
-    /// The squares that hold a piece of the colour.
-    fn of_colour(placement: &[Option<Piece>; 64], colour: Colour) -> u64
-        ensures { result ≡ set_of (is_of colour) placement.now }
+    /// The sets of a board without pieces.
+    #[inline(always)]
+    fn empty() -> Sets
+        ensures { result ≡ empty_sets }
     {
-        let mut set: u64 = 0;
-        for number in 0..64u8 {
-            set |= u64::from(Sets::is_of(placement[number as usize], colour)) << number;
+        Sets {
+            white: 0,
+            black: 0,
+            pawns: 0,
+            knights: 0,
+            bishops: 0,
+            rooks: 0,
+            queens: 0,
+            kings: 0,
         }
-        set
     }
 
-    /// The squares that hold a piece of the kind.
-    fn of_kind(placement: &[Option<Piece>; 64], kind: Kind) -> u64
-        ensures { result ≡ set_of (is_kind kind) placement.now }
+    /// Adds the square of a piece to the set of its colour and to that of its kind. The other six stay as they are.
+    #[inline(always)]
+    fn add(&mut self, piece: Piece, square: Square)
+        ensures { self.new ≡ sets_with piece square self.old }
     {
-        let mut set: u64 = 0;
-        for number in 0..64u8 {
-            set |= u64::from(Sets::is_kind(placement[number as usize], kind)) << number;
+        let bit = 1u64 << square.number();
+        match piece.colour {
+            Colour::White => self.white |= bit,
+            Colour::Black => self.black |= bit,
         }
-        set
+        match piece.kind {
+            Kind::Pawn => self.pawns |= bit,
+            Kind::Knight => self.knights |= bit,
+            Kind::Bishop => self.bishops |= bit,
+            Kind::Rook => self.rooks |= bit,
+            Kind::Queen => self.queens |= bit,
+            Kind::King => self.kings |= bit,
+        }
     }
 
-    /// The sets of a placement.
+    /// The sets of a placement. The square of a piece belongs to two of the eight sets, and a vacant one to none: one pass over
+    /// the squares makes all eight, where a pass for each set would test every square eight times.
     pub fn of(placement: &[Option<Piece>; 64]) -> Sets
         ensures { result ≡ sets_of placement.now }
     {
-        Sets {
-            white: Sets::of_colour(placement, Colour::White),
-            black: Sets::of_colour(placement, Colour::Black),
-            pawns: Sets::of_kind(placement, Kind::Pawn),
-            knights: Sets::of_kind(placement, Kind::Knight),
-            bishops: Sets::of_kind(placement, Kind::Bishop),
-            rooks: Sets::of_kind(placement, Kind::Rook),
-            queens: Sets::of_kind(placement, Kind::Queen),
-            kings: Sets::of_kind(placement, Kind::King),
+        let mut sets = Sets::empty();
+        for number in 0..64u8 {
+            if let Some(piece) = placement[number as usize] {
+                sets.add(piece, Square::known(number));
+            }
         }
+        sets
     }
 
     /// Whether the square is in the set.

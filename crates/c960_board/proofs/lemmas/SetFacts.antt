@@ -7,8 +7,6 @@ use Rattle.std.proofs.lemmas.Nat.Bits.{bit_at_and, bit_at_or, bit_at_above, bit_
 use Rattle.std.proofs.lemmas.Simd.{bit_mask_l, mask_l-lt}
 use Rattle.std.specs.Prelude.{bit_and, bit_or, ◌↔◌}
 use Rattle.std.specs.Int.{bit_at}
-use Rattle.std.specs.Int.Bits.{or_zero_r}
-use mir.Val.{bool_byte}
 use Rattle.c960_board.specs.declared.piece.Colour.{Colour}
 use Rattle.c960_board.specs.declared.piece.Colour.TheVariants.{White, Black}
 use Rattle.c960_board.specs.declared.piece.Kind.{Kind}
@@ -21,6 +19,7 @@ use Rattle.c960_board.specs.Cells.{cell_at}
 use Rattle.c960_board.proofs.lemmas.Colours.{same_colour_is, same_colour_self}
 use Rattle.c960_board.proofs.KindFacts.{same_kind_is, same_kind_self}
 use Rattle.c960_board.specs.Sets.{is_occupied, is_kind, set_of, sets_of, colour_set, kind_set}
+use Rattle.c960_board.specs.Inner.SetsWith.{set_with}
 
 -- the bits below n are those of the cells that pass the test, and there are no others
 pub record IsSetTo (test : Cell → Bool) (cells : List Cell) (n set : ℕ) : Type 0 where
@@ -33,18 +32,17 @@ set_none test cells = record { below = omega arith; bits = λ i h. absurd (omega
 
 -- one cell more, which passes
 pub set_more_in : (test : Cell → Bool) (cells : List Cell) (n set : ℕ) → n < 64 → IsSetTo test cells n set
-    → test (cell_at cells n) ≡ true → IsSetTo test cells (n + 1) (bit_or set (1 * 2 ^ n % 2 ^ 64))
+    → test (cell_at cells n) ≡ true → IsSetTo test cells (n + 1) (bit_or set (2 ^ n))
 set_more_in test cells n set within s h =
     let more : 2 ^ n < 2 ^ (n + 1) = pow_below n (n + 1) (omega arith) in
     let one : 1 * 2 ^ n % 2 ^ 64 ≡ 2 ^ n = one_shl n 64 within in
-    let fits : bit_or set (1 * 2 ^ n % 2 ^ 64) < 2 ^ (n + 1) =
-    or_lt (n + 1) set (1 * 2 ^ n % 2 ^ 64) (let below = s.below in omega arith) (omega arith) in
+    let fits : bit_or set (2 ^ n) < 2 ^ (n + 1) = or_lt (n + 1) set (2 ^ n) (let below = s.below in omega arith) more in
     record {
       below = fits;
       bits = λ i l.
           elim (cases_eq i n) [
-            | inl e ↦ rw (e, h) (bit_at_set_same w64 set n within)
-            | inr ne ↦ bit_at_set_other w64 set n within i ne ∙ s.bits i (omega arith)
+            | inl e ↦ rw (e, h) (rw one at (bit_at_set_same w64 set n within))
+            | inr ne ↦ rw one at (bit_at_set_other w64 set n within i ne) ∙ s.bits i (omega arith)
           ];
     }
 
@@ -191,10 +189,7 @@ man_says c k (Some p) = (
 )
 
 -- one cell more, whether it passes or not
-pub set_more : (test : Cell → Bool) (cells : List Cell) (n set : ℕ) (b : Bool) (byte : ℕ) → n < 64 → IsSetTo test cells n set
-    → byte ≡ bool_byte b → b ≡ test (cell_at cells n) → IsSetTo test cells (n + 1) (bit_or set (byte * 2 ^ n % 2 ^ 64))
-set_more test cells n set true byte within s e h = rw e (set_more_in test cells n set within s (sym h))
-set_more test cells n set false byte within s e h =
-    let none : byte * 2 ^ n % 2 ^ 64 ≡ 0 = rw e (let z : 0 * 2 ^ n ≡ 0 = omega arith in rw z) in
-    let same = or_zero_r set in
-    rw (none, same) (set_more_out test cells n set s (sym h))
+pub set_more : (test : Cell → Bool) (cells : List Cell) (n set : ℕ) (b : Bool) → n < 64 → IsSetTo test cells n set
+    → test (cell_at cells n) ≡ b → IsSetTo test cells (n + 1) (set_with b n set)
+set_more test cells n set true within s h = set_more_in test cells n set within s h
+set_more test cells n set false within s h = set_more_out test cells n set s h
