@@ -6,7 +6,7 @@ use Rattle.c960_board.specs.declared.rights.CastlingRights.{CastlingRights}
 use Rattle.c960_board.specs.declared.parts.Parts.{Parts}
 use Rattle.c960_board.specs.declared.sets.Sets.{Sets}
 use Rattle.c960_board.specs.Moves.{Triple}
-use Rattle.c960_board.specs.Pieces.{Cell, other, is_of}
+use Rattle.c960_board.specs.Pieces.{other, is_of}
 use Rattle.c960_board.specs.Sets.{sets_of, cells_of, parts_of}
 use Rattle.c960_board.proofs.lemmas.SetCells.{cells_back}
 use Rattle.c960_rules.specs.After.{placement_after, target_after, half_moves_after, number_after, after}
@@ -16,9 +16,9 @@ use Rattle.c960_rules.proofs.lemmas.PieceFacts.{piece_on, goes_to_own}
 use Rattle.c960_rules.proofs.lemmas.AfterFacts.{full_after, all_rights_after}
 
 -- whether the goal holds a piece of the side, by way of what the code has read
-pub to_own : (p : Parts) (m : Triple) (b : Bool) (c : Colour) (o : Cell) → b ≡ is_of c o → c ≡ p.turn → o ≡ piece_on p m.to
+pub to_own : (p : Parts) (m : Triple) (b : Bool) (c : Colour) (s : ℕ) → b ≡ is_of c (piece_on p s) → c ≡ p.turn → s ≡ m.to
     → b ≡ goes_to_own p m
-to_own p m b c o e same there = rw (← same, ← there) e
+to_own p m b c s e same there = rw (← same, ← there) e
 
 -- a legal move to a piece of the mover's is castling
 pub own_castles : (p : Parts) (m : Triple) → Legal p m → goes_to_own p m ≡ true → Castles p m

@@ -127,12 +127,12 @@ prey_is p s t valid e =
 
 -- ---- All pieces.
 
--- the tests of a cell, by way of what the code has read
-pub own_test : (b : Bool) (c d : Colour) (o q : Cell) → b ≡ is_of c o → c ≡ d → o ≡ q → b ≡ is_of d q
-own_test b c d o q e same there = rw (← same, ← there) e
+-- the tests of a cell, for the side that the code has read
+pub own_test : (b : Bool) (c d : Colour) (o : Cell) → b ≡ is_of c o → c ≡ d → b ≡ is_of d o
+own_test b c d o e same = rw (← same) e
 
-pub holds_test : (k : Kind) (b : Bool) (c d : Colour) (o q : Cell) → b ≡ holds c k o → c ≡ d → o ≡ q → b ≡ holds d k q
-holds_test k b c d o q e same there = rw (← same, ← there) e
+pub holds_test : (k : Kind) (b : Bool) (c d : Colour) (o : Cell) → b ≡ holds c k o → c ≡ d → b ≡ holds d k o
+holds_test k b c d o e same = rw (← same) e
 
 abbrev goes_by : Bool → Bool → Bool → Bool → Bool
 goes_by a h x y = elim a as (λ _. Bool) [ false ↦ false | true ↦ elim h as (λ _. Bool) [ true ↦ x | false ↦ y ] ]

@@ -16,8 +16,8 @@ use crate::bitset::only;
 use crate::castling::{king_goal, rook_goal};
 use crate::placement::landed;
 use crate::safety::captured_pawn;
-use crate::sides::{ahead, home_rank};
-use c960_board::{CastlingRights, Colour, Kind, Move, Piece, Position, Sets, Square, holds};
+use crate::sides::{ahead, home_rank, is_occupied_by, stands};
+use c960_board::{CastlingRights, Colour, Kind, Move, Piece, Position, Sets, Square};
 
 /// The rights of a side, by the file of the rook.
 #[inline(always)]
@@ -55,7 +55,7 @@ fn rights_after(position: &Position, m: &Move, colour: Colour) -> [bool; 8]
     if rights == [false; 8] {
         return rights;
     }
-    if holds(position.piece_at(m.from), colour, Kind::King) {
+    if stands(position, colour, Kind::King, m.from) {
         return [false; 8];
     }
     without(without(rights, colour, m.from), colour, m.to)
@@ -69,7 +69,7 @@ fn target_after(position: &Position, m: &Move) -> Option<Square>
     let ranks = (m.from.number() / 8).abs_diff(m.to.number() / 8);
     let _sets = position.sets();
     let turn = position.turn();
-    if holds(position.piece_at(m.from), turn, Kind::Pawn) && ranks == 2 {
+    if stands(position, turn, Kind::Pawn, m.from) && ranks == 2 {
         Some(ahead(turn, m.from))
     } else {
         None
@@ -83,8 +83,8 @@ fn half_moves_after(position: &Position, m: &Move) -> u16
     ensures { result ≡ half_moves_after position.now m.now }
 {
     let turn = position.turn();
-    let is_pawn = holds(position.piece_at(m.from), turn, Kind::Pawn);
-    if is_pawn || Sets::is_of(position.piece_at(m.to), turn.other()) {
+    let is_pawn = stands(position, turn, Kind::Pawn, m.from);
+    if is_pawn || is_occupied_by(position, turn.other(), m.to) {
         0
     } else {
         position.half_moves() + 1
@@ -179,7 +179,7 @@ fn sets_after(position: &Position, m: &Move) -> Sets
     requires { Legal position.now m.now }
     ensures { result ≡ sets_of (placement_after position.now m.now) }
 {
-    if Sets::is_of(position.piece_at(m.to), position.turn()) {
+    if is_occupied_by(position, position.turn(), m.to) {
         sets_castled(position, m)
     } else {
         sets_moved(position, m)

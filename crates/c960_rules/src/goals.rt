@@ -17,8 +17,8 @@ ghost use Rattle.c960_rules.specs.Inner.Wheres.{where_set, is_slider};
 use crate::attack_sets::free_from;
 use crate::bitset::only;
 use crate::lookups::{pawn_hits, reach_on_empty_board};
-use crate::sides::{ahead, squares_of};
-use c960_board::{Colour, Kind, Piece, Position, Sets, Square, holds};
+use crate::sides::{ahead, is_occupied_by, squares_of, stands};
+use c960_board::{Colour, Kind, Piece, Position, Sets, Square};
 
 /// The rank on which a side's pawns are at the start, from 0.
 fn pawn_rank(colour: Colour) -> u8
@@ -134,22 +134,22 @@ fn officer_goals(position: &Position, from: Square, piece: Piece) -> u64
     goals
 }
 
-/// The squares to which the piece on a square goes, if it is one of the side to move.
+/// The squares to which the piece on a square goes, if it is one of the side to move. Two sets tell a pawn, the piece that most often stands
+/// there; only for an officer its kind is looked up.
 #[inline(always)]
 pub(crate) fn goals(position: &Position, from: Square) -> u64
     ensures { result ≡ where_set (λ t. goes_to position.now from t) }
 {
-    let cell = position.piece_at(from);
     let turn = position.turn();
-    if !Sets::is_of(cell, turn) {
+    if !is_occupied_by(position, turn, from) {
         return 0;
     }
-    let Some(piece) = cell else {
-        return 0;
-    };
-    if holds(cell, turn, Kind::Pawn) {
+    if stands(position, turn, Kind::Pawn, from) {
         return pawn_goals(position, from) & !squares_of(position, turn);
     }
+    let Some(piece) = position.piece_at(from) else {
+        return 0;
+    };
     officer_goals(position, from, piece)
 }
 
@@ -160,7 +160,7 @@ pub(crate) fn rooks_to_castle(position: &Position, from: Square) -> u64
 {
     let sets = position.sets();
     let turn = position.turn();
-    if holds(position.piece_at(from), turn, Kind::King) {
+    if stands(position, turn, Kind::King, from) {
         squares_of(position, turn) & sets.rooks
     } else {
         0

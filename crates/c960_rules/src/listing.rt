@@ -19,8 +19,8 @@ use crate::lawful::Lawful;
 use crate::legal::is_legal_castling;
 use crate::pins::{evasions, is_legal_unless_pinned, unpinned};
 use crate::promotion::promotes;
-use crate::sides::squares_of;
-use c960_board::{Kind, Move, Position, Sets, Square, holds};
+use crate::sides::{squares_of, stands};
+use c960_board::{Kind, Move, Position, Sets, Square};
 use std::alloc::{AllocError, Global};
 
 /// Adds the move of a piece that goes there, if it does not expose its own king.
@@ -172,7 +172,7 @@ fn candidates(position: &Position, evasions: u64, goals: u64, from: Square) -> u
     requires evasions { AreEvasions position.now evasions }
     ensures { (t : ℕ) → t < 64 → is_in result t ≡ false → legal_between position.now from t ≡ [] }
 {
-    if holds(position.piece_at(from), position.turn(), Kind::King) {
+    if stands(position, position.turn(), Kind::King, from) {
         return goals | rooks_to_castle(position, from);
     }
     goals & (evasions | target_set(position.target()))
@@ -206,7 +206,7 @@ fn push_tested(
 fn is_unpinned_officer(position: &Position, unpinned: u64, from: Square) -> bool
     ensures { result ≡ (is_in unpinned from && not (holds position.now.turn Pawn (cell_at position.now.placement from))) }
 {
-    Sets::is_in(unpinned, from) && !holds(position.piece_at(from), position.turn(), Kind::Pawn)
+    Sets::is_in(unpinned, from) && !stands(position, position.turn(), Kind::Pawn, from)
 }
 
 /// Adds the legal moves from a square.

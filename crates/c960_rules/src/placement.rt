@@ -5,7 +5,8 @@ ghost use Rattle.c960_rules.specs.After.{landed, is_en_passant};
 ghost use Rattle.c960_rules.specs.Lines.{same_file};
 ghost use Rattle.c960_rules.specs.Reaches.{is_target};
 
-use c960_board::{Kind, Move, Piece, Position, Square, holds};
+use crate::sides::stands;
+use c960_board::{Kind, Move, Piece, Position, Square};
 
 /// The piece that arrives on the goal: the mover, or what a pawn is promoted to.
 pub(crate) fn landed(cell: Option<Piece>, promotion: Option<Kind>) -> Option<Piece>
@@ -44,5 +45,5 @@ pub(crate) fn is_en_passant(position: &Position, m: &Move) -> bool
     if !is_on_target {
         return false;
     }
-    holds(position.piece_at(m.from), position.turn(), Kind::Pawn) && !is_same_file(m.from, m.to)
+    stands(position, position.turn(), Kind::Pawn, m.from) && !is_same_file(m.from, m.to)
 }

@@ -5,8 +5,8 @@ ghost use Rattle.c960_board.specs.Squares.{rank_of};
 ghost use Rattle.c960_rules.specs.Inner.Listing.{promotes};
 ghost use Rattle.c960_rules.specs.Reaches.{last_rank};
 
-use crate::sides::home_rank;
-use c960_board::{Colour, Kind, Position, Square, holds};
+use crate::sides::{home_rank, stands};
+use c960_board::{Colour, Kind, Position, Square};
 
 /// Whether the square is on the rank where the side's pawns are promoted.
 #[inline(always)]
@@ -26,5 +26,5 @@ pub(crate) fn promotes(position: &Position, from: Square, to: Square) -> bool
     if !is_last {
         return false;
     }
-    holds(position.piece_at(from), turn, Kind::Pawn)
+    stands(position, turn, Kind::Pawn, from)
 }

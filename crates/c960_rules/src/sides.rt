@@ -1,13 +1,13 @@
 //! The two sides.
 
 ghost use Rattle.std.specs.Prelude.{◌≡◌, ◌<◌, ◌≤◌};
-ghost use Rattle.c960_board.specs.Pieces.{is_of};
+ghost use Rattle.c960_board.specs.Pieces.{is_of, holds};
 ghost use Rattle.c960_board.specs.Cells.{cell_at};
 ghost use Rattle.c960_board.specs.Squares.{home_rank, home_square, ahead};
 ghost use Rattle.c960_rules.specs.Inner.Wheres.{where_set};
 
 use crate::squares::square_of;
-use c960_board::{Colour, Position, Square};
+use c960_board::{Colour, Kind, Piece, Position, Sets, Square};
 
 /// The rank on which a side's pieces are at the start, from 0.
 pub(crate) fn home_rank(colour: Colour) -> u8
@@ -46,4 +46,23 @@ pub(crate) fn squares_of(position: &Position, colour: Colour) -> u64
     ensures { result ≡ where_set (λ s. is_of colour (cell_at position.now.placement s)) }
 {
     position.sets().colour(colour)
+}
+
+/// Whether a piece of the side stands on the square. The side's set alone tells it, where `piece_at` would first find out by up to eight
+/// tests which piece stands there.
+#[inline(always)]
+pub(crate) fn is_occupied_by(position: &Position, colour: Colour, square: Square) -> bool
+    ensures { result ≡ is_of colour (cell_at position.now.placement square) }
+{
+    Sets::is_in(squares_of(position, colour), square)
+}
+
+/// Whether a piece of this side and kind stands on the square. The sets of the side and of the kind tell it by one test, where `piece_at`
+/// would find out by up to eight which piece stands there.
+#[inline(always)]
+pub(crate) fn stands(position: &Position, colour: Colour, kind: Kind, square: Square) -> bool
+    ensures { result ≡ holds colour kind (cell_at position.now.placement square) }
+{
+    let _sets = position.sets();
+    Sets::is_in(position.pieces(Piece { colour, kind }), square)
 }

@@ -1,6 +1,4 @@
-use Rattle.std.proofs.Common.{◌≡◌, sym, ap, subst, ◌∙◌}
-use Rattle.c960_board.specs.declared.piece.Kind.TheVariants.{King}
-use Rattle.c960_board.specs.Pieces.{holds}
+use Rattle.std.proofs.Common.{◌≡◌, sym, subst, ◌∙◌}
 use Rattle.c960_board.specs.Moves.{Triple}
 use Rattle.c960_rules.specs.After.{rights_after}
 use Rattle.c960_rules.proofs.TableFacts.{two_squares}
@@ -11,5 +9,5 @@ returns c =
     let p = c.args.position.now in
     subst (λ (t : Triple). c.without-2.result ≡ rights_after p t c.args.colour) c.m.view_is
     (two_squares p _ c.args.colour c.rights_of-rights.result c.without.result c.without-2.result c.rights_of-rights.ensures
-    (ap (holds c.args.colour King) (sym c.piece_at.ensures) ∙ sym c.holds.ensures.test ∙ c.if-holds.false)
+    (sym c.stands.ensures ∙ c.if-stands.false)
     c.without-2.ensures.full c.without.ensures.files c.without-2.ensures.files)

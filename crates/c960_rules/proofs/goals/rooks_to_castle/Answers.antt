@@ -11,8 +11,8 @@ use Rattle.c960_rules.proofs.lemmas.PieceFacts.{piece_on}
 use Rattle.c960_rules.proofs.WhereFacts.{where_and}
 use Rattle.c960_rules.proofs.goals.rooks_to_castle.Goals as goal
 
-pub returns-then-holds : goal.returns-then-holds
-returns-then-holds c =
+pub returns-then-stands : goal.returns-then-stands
+returns-then-stands c =
     let p = c.args.position.now in
     let s = c.args.from in
     let valid = c.sets-sets.ensures.valid in
@@ -22,11 +22,10 @@ returns-then-holds c =
     (kind_where p c.sets-sets.result valid c.sets-sets.ensures.value Rook) in
     λ t k l e. no_castle p s t _ k valid rooks l e
 
-pub returns-else-holds : goal.returns-else-holds
-returns-else-holds c =
+pub returns-else-stands : goal.returns-else-stands
+returns-else-stands c =
     let p = c.args.position.now in
     let s = c.args.from in
     let no =
-    sym (holds_test King c.holds.result c.turn-turn.result p.turn c.piece_at.result (piece_on p s) c.holds.ensures.test c.turn-turn.ensures c.piece_at.ensures)
-    ∙ c.if-holds.false in
+    sym (holds_test King c.stands.result c.turn-turn.result p.turn (piece_on p s) c.stands.ensures c.turn-turn.ensures) ∙ c.if-stands.false in
     λ t k l e. no_kings_castle p s t k no

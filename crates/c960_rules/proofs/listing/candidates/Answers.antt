@@ -8,8 +8,8 @@ use Rattle.c960_rules.proofs.lemmas.PieceFacts.{piece_on}
 use Rattle.c960_rules.proofs.WayCandidates.{none_between}
 use Rattle.c960_rules.proofs.listing.candidates.Goals as goal
 
-pub returns-then-holds : goal.returns-then-holds
-returns-then-holds c =
+pub returns-then-stands : goal.returns-then-stands
+returns-then-stands c =
     let p = c.args.position.now in
     λ t l e. none_between p c.args.from t
     (none_goes p c.args.from t c.args.goals c.rooks_to_castle.result c.requires.goals (omega arith) (λ k. c.rooks_to_castle.ensures t k l) l e)
@@ -19,8 +19,7 @@ returns c =
     let p = c.args.position.now in
     let s = c.args.from in
     let no_king =
-    sym (holds_test King c.holds.result c.turn.result p.turn c.piece_at.result (piece_on p s) c.holds.ensures.test c.turn.ensures c.piece_at.ensures)
-    ∙ c.if-holds.false in
+    sym (holds_test King c.stands.result c.turn.result p.turn (piece_on p s) c.stands.ensures c.turn.ensures) ∙ c.if-stands.false in
     let target = c.target_set.ensures ∙ ap (λ (o : Option ℕ). where_set (λ t. is_target o t)) c.target.ensures in
     λ t l e. no_candidate p s t c.args.goals c.args.evasions c.target_set.result c.requires.evasions c.ranges.evasions.fits (omega arith) l
     no_king c.requires.goals target e

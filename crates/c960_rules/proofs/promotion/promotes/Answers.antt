@@ -25,6 +25,5 @@ returns c =
     ap (λ (d : Colour). rank_of c.args.to == last_rank d) (sym c.turn-turn.ensures) ∙ sym c.is_on_last_rank-is_last.ensures
     ∙ c.if-not-is_last.false in
     rw on
-    (holds_test Pawn c.holds.result c.turn-turn.result p.turn c.piece_at.result (cell_at p.placement c.args.from) c.holds.ensures.test
-    c.turn-turn.ensures c.piece_at.ensures
+    (holds_test Pawn c.stands.result c.turn-turn.result p.turn (cell_at p.placement c.args.from) c.stands.ensures c.turn-turn.ensures
     ∙ sym (and-true (holds p.turn Pawn (cell_at p.placement c.args.from))))
