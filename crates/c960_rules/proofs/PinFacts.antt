@@ -2,25 +2,29 @@
 use Rattle.std.proofs.Common.{◌≡◌, ◌≢◌, ℕ, ◌^◌, ◌<◌, Bool, true, false, not, ◌&&◌, ◌||◌, None, [], refl, ap, sym, subst, ◌∙◌, inl, inr, arith, w64}
 use Rattle.std.specs.Prelude.{◌==◌, bit_and, bit_or, IsFalse}
 use Rattle.std.specs.Int.{bit_at, bit_not, trailing_zeros}
-use Rattle.std.proofs.lemmas.Bool.{cases_eq, eq-eqb, eqb-false, ne_eqb, both_ways, or_parts, and_parts, and_from, not-true, false_from_ne_true}
+use Rattle.std.proofs.Math.Bool.{and-false}
+use Rattle.std.proofs.lemmas.Bool.{cases_eq, eq-eqb, eqb-true, eqb-false, ne_eqb, both_ways, or_cases, or_parts, and_parts, and_from, not-true, false_from_ne_true}
 use Rattle.std.proofs.lemmas.Nat.{and_le_l}
 use Rattle.std.proofs.lemmas.Nat.Bits.{bit_at-trailing_zeros}
+use Rattle.c960_board.specs.declared.piece.Colour.{Colour}
+use Rattle.c960_board.specs.declared.piece.Colour.TheVariants.{White, Black}
 use Rattle.c960_board.specs.declared.piece.Kind.TheVariants.{King, Pawn}
 use Rattle.c960_board.specs.declared.parts.Parts.{Parts}
 use Rattle.c960_board.specs.Moves.{Triple, IsMove}
 use Rattle.c960_board.specs.Pieces.{man, other, holds}
+use Rattle.c960_board.specs.Squares.{rank_of}
 use Rattle.c960_board.specs.Position.{IsPosition}
 use Rattle.c960_board.specs.Sets.{is_in, is_occupied}
 use Rattle.c960_rules.specs.After.{placement_after, is_en_passant}
 use Rattle.c960_rules.specs.Check.{InCheck}
 use Rattle.c960_rules.specs.Lines.{between, squares}
 use Rattle.c960_rules.specs.Legal.{Legal}
-use Rattle.c960_rules.specs.Inner.Listing.{promotes, triple, goes_to, legal_between, legal_on, stretches_in, one_plain}
+use Rattle.c960_rules.specs.Inner.Listing.{promotes, is_on_end_rank, is_special, are_plain, triple, goes_to, legal_between, legal_on, stretches_in, one_plain}
 use Rattle.c960_rules.proofs.lemmas.Reached.{at_target}
 use Rattle.c960_rules.proofs.GoalFacts.{reaches_plain, off_goals, no_kings_castle}
 use Rattle.c960_rules.proofs.ListFacts.{one_legal, between_plain}
 use Rattle.c960_rules.proofs.WayCandidates.{none_between}
-use Rattle.c960_rules.specs.Reaches.{Reaches}
+use Rattle.c960_rules.specs.Reaches.{Reaches, last_rank, is_target}
 use Rattle.c960_rules.specs.Inner.Pins.{HasOther, HasOthers, IsUnpinned, blockers}
 use Rattle.c960_rules.specs.Inner.Safety.{is_occupied_after, is_gone}
 use Rattle.c960_rules.specs.Inner.Wheres.{where_set, IsWithout, is_free, is_leaper_on, is_slider_on, is_attacker_on}
@@ -158,30 +162,66 @@ module _ (p : Parts) (king leapers sliders occupied pinned : ℕ) (valid : IsPos
             safe_from m move (eqb-false m.from king out.1) out.0 w plain;
       }
 
--- ---- The moves of an officer that is not pinned.
+-- ---- The moves that need no test.
 
-module _ (p : Parts) (s goals unpinned : ℕ) (u : IsUnpinned p unpinned) (on_board : s < 64) (can_leave : is_in unpinned s ≡ true) (officer : holds p.turn Pawn (piece_on p s) ≡ false) (eg : goals ≡ where_set (λ t. goes_to p s t)) where
-  -- its move is no capture en passant
-  no_en_passant : (t : ℕ) → is_en_passant p (triple s t None) ≡ false
-  no_en_passant t =
+-- a move from s to t promotes no pawn and takes nothing en passant
+record IsPlainMove (p : Parts) (s t : ℕ) : Type 0 where
+  pub no_promotion : promotes p s t ≡ false
+  pub no_en_passant : is_en_passant p (triple s t None) ≡ false
+
+-- an officer's
+officer_plain : (p : Parts) (s t : ℕ) → holds p.turn Pawn (piece_on p s) ≡ false → IsPlainMove p s t
+officer_plain p s t officer = record {
+  no_promotion = rw officer refl;
+  no_en_passant =
       false_from_ne_true (is_en_passant p (triple s t None))
       (λ e. both_ways (holds p.turn Pawn (piece_on p s)) officer
-      (is_holds p.turn Pawn (piece_on p s) (at_target p (triple s t None) e).pawn))
+      (is_holds p.turn Pawn (piece_on p s) (at_target p (triple s t None) e).pawn));
+}
 
-  -- and no promotion
-  no_promotion : (t : ℕ) → promotes p s t ≡ false
-  no_promotion t = rw officer refl
+-- what is on neither end rank is not on a side's last
+off_last : (c : Colour) (t : ℕ) → is_on_end_rank t ≡ false → (rank_of t == last_rank c) ≡ false
+off_last White t h = (or_parts (rank_of t == last_rank White) (rank_of t == last_rank Black) h).0
+off_last Black t h = (or_parts (rank_of t == last_rank White) (rank_of t == last_rank Black) h).1
 
+-- and any that is neither to an end rank nor to the en passant target
+elsewhere_plain : (p : Parts) (s t : ℕ) → is_special p t ≡ false → IsPlainMove p s t
+unfolding is_en_passant
+elsewhere_plain p s t h =
+    let off = or_parts (is_on_end_rank t) (is_target p.target t) h in
+    let rank = off_last p.turn t off.0 in
+    let target = off.1 in
+    record {
+      no_promotion = rw rank (and-false (holds p.turn Pawn (piece_on p s)));
+      no_en_passant = rw target (and-false (holds p.turn Pawn (piece_on p s)));
+    }
+
+-- so the moves to plain goals
+goal_plain : (p : Parts) (s t goals : ℕ) → goals ≡ where_set (λ u. goes_to p s u) → are_plain p s goals ≡ true → t < 64
+    → goes_to p s t ≡ true → IsPlainMove p s t
+goal_plain p s t goals eg plain l goes =
+    let pawn = holds p.turn Pawn (piece_on p s) in
+    let special = where_set (is_special p) in
+    elim (or_cases (not pawn) (bit_and goals special == 0) plain) [
+      | inl e ↦ officer_plain p s t (not-true pawn e)
+      | inr e ↦
+          let both = where_and (λ u. goes_to p s u) (is_special p) goals special eg refl in
+          let none = where_none (λ u. goes_to p s u && is_special p u) t (sym both ∙ eqb-true (bit_and goals special) 0 e) l in
+          elsewhere_plain p s t (rw goes at none)
+    ]
+
+module _ (p : Parts) (s goals unpinned : ℕ) (u : IsUnpinned p unpinned) (on_board : s < 64) (can_leave : is_in unpinned s ≡ true) (plain : are_plain p s goals ≡ true) (eg : goals ≡ where_set (λ t. goes_to p s t)) where
   -- each goal is one legal move
   one_move : (t : ℕ) → t < 64 → is_in goals t ≡ true → one_plain s t ≡ legal_between p s t
   one_move t l e =
       let m = triple s t None in
       let goes = sym (in_where (λ v. goes_to p s v) goals t eg l) ∙ e in
-      let reaches = reaches_plain p s t goes (no_promotion t) in
+      let is = goal_plain p s t goals eg plain l goes in
+      let reaches = reaches_plain p s t goes is.no_promotion in
       let move : IsMove m = record { from = on_board; to = l; promotion = refl } in
       let legal : Legal p m =
-      record { move = move; goes = inl reaches; safe = u.safe m move can_leave reaches (no_en_passant t) } in
-      sym (one_legal p m legal) ∙ sym (between_plain p s t (no_promotion t))
+      record { move = move; goes = inl reaches; safe = u.safe m move can_leave reaches is.no_en_passant } in
+      sym (one_legal p m legal) ∙ sym (between_plain p s t is.no_promotion)
 
   -- and there are no others
   no_more : (t : ℕ) → t < 64 → is_in goals t ≡ false → legal_between p s t ≡ []
@@ -193,7 +233,7 @@ module _ (p : Parts) (s goals unpinned : ℕ) (u : IsUnpinned p unpinned) (on_bo
         castles = λ k w. no_kings_castle p s t k (u.no_king s on_board can_leave) w;
       })
 
-  pub officer_moves : stretches_in (one_plain s) goals squares ≡ legal_on p s
-  officer_moves =
+  pub plain_moves : stretches_in (one_plain s) goals squares ≡ legal_on p s
+  plain_moves =
       stretches_alike (one_plain s) (legal_between p s) goals 0 64 one_move
       ∙ stretches_all (legal_between p s) goals 0 64 no_more ∙ legal_on_is p s

@@ -1,16 +1,13 @@
 //! The list of all legal moves.
 
-ghost use Rattle.std.specs.Prelude.{◌≡◌, ◌<◌, ◌++◌, ◌&&◌, ℕ, [], false, not, IfOk, IsTrue, IsFalse};
-ghost use Rattle.c960_board.specs.declared.piece.Kind.TheVariants.{Pawn};
-ghost use Rattle.c960_board.specs.Cells.{cell_at};
+ghost use Rattle.std.specs.Prelude.{◌≡◌, ◌<◌, ◌++◌, ◌&&◌, ℕ, [], false, IfOk, IsTrue, IsFalse};
 ghost use Rattle.c960_board.specs.Moves.{is_promotion};
-ghost use Rattle.c960_board.specs.Pieces.{holds};
 ghost use Rattle.c960_board.specs.Sets.{is_in};
 ghost use Rattle.c960_rules.specs.Lines.{squares};
 ghost use Rattle.c960_rules.specs.Tests.Legal.{legal_list};
 ghost use Rattle.c960_rules.specs.Inner.Wheres.{where_set};
 ghost use Rattle.c960_rules.specs.Reaches.{Reaches};
-ghost use Rattle.c960_rules.specs.Inner.Listing.{triple, promotes, legal_one, legal_promotions, legal_between, legal_on, goes_to, one_plain, stretches_in};
+ghost use Rattle.c960_rules.specs.Inner.Listing.{triple, promotes, legal_one, legal_promotions, legal_between, legal_on, goes_to, one_plain, stretches_in, is_special, are_plain};
 ghost use Rattle.c960_rules.specs.Inner.Pins.{AreEvasions, IsUnpinned};
 
 use crate::bitset::{lowest, without};
@@ -18,7 +15,7 @@ use crate::goals::{goals, rooks_to_castle, target_set};
 use crate::lawful::Lawful;
 use crate::legal::is_legal_castling;
 use crate::pins::{evasions, is_legal_unless_pinned, unpinned};
-use crate::promotion::promotes;
+use crate::promotion::{end_ranks, promotes};
 use crate::sides::{squares_of, stands};
 use c960_board::{Kind, Move, Position, Sets, Square};
 use std::alloc::{AllocError, Global};
@@ -201,12 +198,30 @@ fn push_tested(
     Ok(())
 }
 
-/// Whether a piece that is not a pawn can leave the square: then each of its goals is one legal move.
+/// The squares to which a pawn's move may be a promotion or a capture en passant.
 #[inline(always)]
-fn is_unpinned_officer(position: &Position, unpinned: u64, from: Square) -> bool
-    ensures { result ≡ (is_in unpinned from && not (holds position.now.turn Pawn (cell_at position.now.placement from))) }
+fn special_goals(position: &Position) -> u64
+    ensures { result ≡ where_set (is_special position.now) }
 {
-    Sets::is_in(unpinned, from) && !stands(position, position.turn(), Kind::Pawn, from)
+    end_ranks() | target_set(position.target())
+}
+
+/// Whether no move from the square to one of the goals is a promotion or a capture en passant: no pawn is there, or none of these goals is
+/// on an end rank or the en passant target.
+#[inline(always)]
+fn are_plain(position: &Position, goals: u64, from: Square) -> bool
+    ensures { result ≡ are_plain position.now from goals }
+{
+    !stands(position, position.turn(), Kind::Pawn, from) || goals & special_goals(position) == 0
+}
+
+/// Whether each of the goals is one legal move: the piece can leave the square, and none of these moves is a promotion, which is four moves,
+/// or a capture en passant, which may expose the king all the same. So it is with most pieces, and none of their moves is tested.
+#[inline(always)]
+fn is_plain(position: &Position, unpinned: u64, goals: u64, from: Square) -> bool
+    ensures { result ≡ (is_in unpinned from && are_plain position.now from goals) }
+{
+    Sets::is_in(unpinned, from) && are_plain(position, goals, from)
 }
 
 /// Adds the legal moves from a square.
@@ -222,7 +237,7 @@ fn push_from(
     ensures { IfOk result (λ _. moves.new.items ≡ moves.old.items ++ legal_on position.now from) }
 {
     let goals = goals(position, from);
-    if is_unpinned_officer(position, unpinned, from) {
+    if is_plain(position, unpinned, goals, from) {
         return push_all(moves, from, goals);
     }
     push_tested(moves, position, unpinned, evasions, goals, from)

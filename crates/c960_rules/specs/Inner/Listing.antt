@@ -1,7 +1,8 @@
 -- The stretches of the list of all legal moves, and the legal moves from a square. Only the contracts of inner functions
 -- cite these definitions; the rules do not depend on them.
-use Rattle.std.specs.Prelude.{ℕ, ◌<◌, ◌==◌, ◌&&◌, ◌||◌, not, Bool, true, false, cond, List, [], ◌∷◌, Option, Some, None, map, filter}
+use Rattle.std.specs.Prelude.{ℕ, ◌<◌, ◌==◌, ◌&&◌, ◌||◌, not, Bool, true, false, cond, List, [], ◌∷◌, Option, Some, None, map, filter, bit_and}
 use Rattle.std.specs.List.{range_with_len, flat_map}
+use Rattle.c960_board.specs.declared.piece.Colour.TheVariants.{White, Black}
 use Rattle.c960_board.specs.declared.piece.Kind.{Kind}
 use Rattle.c960_board.specs.declared.piece.Kind.TheVariants.{Pawn, Knight, Bishop, Rook, Queen}
 use Rattle.c960_board.specs.declared.parts.Parts.{Parts}
@@ -10,16 +11,29 @@ use Rattle.c960_board.specs.Pieces.{is_of, holds}
 use Rattle.c960_board.specs.Cells.{cell_at}
 use Rattle.c960_board.specs.Moves.{Triple}
 use Rattle.c960_rules.specs.Tests.Attacks.{attacks}
-use Rattle.c960_rules.specs.Reaches.{last_rank, Reaches}
+use Rattle.c960_rules.specs.Reaches.{last_rank, is_target, Reaches}
 use Rattle.c960_rules.specs.Tests.Reaches.{steps, steps_twice, takes}
 use Rattle.c960_rules.specs.Castles.{Castles}
 use Rattle.c960_rules.specs.Legal.{Legal}
 use Rattle.c960_rules.specs.Tests.Legal.{is_legal, promotions}
 use Rattle.c960_board.specs.Sets.{is_in}
+use Rattle.c960_rules.specs.Inner.Wheres.{where_set}
 
 -- a pawn of the side to move is on s, and t is on its last rank
 abbrev pub promotes : Parts → ℕ → ℕ → Bool
 promotes p s t = holds p.turn Pawn (cell_at p.placement s) && (rank_of t == last_rank p.turn)
+
+-- t is on the last rank of a side, and so on the first rank or the last
+abbrev pub is_on_end_rank : ℕ → Bool
+is_on_end_rank t = (rank_of t == last_rank White) || (rank_of t == last_rank Black)
+
+-- a pawn that goes to t may be promoted or take en passant
+abbrev pub is_special : Parts → ℕ → Bool
+is_special p t = is_on_end_rank t || is_target p.target t
+
+-- a move from s to one of the goals promotes no pawn and takes nothing en passant
+abbrev pub are_plain : Parts → ℕ → ℕ → Bool
+are_plain p s goals = not (holds p.turn Pawn (cell_at p.placement s)) || (bit_and goals (where_set (is_special p)) == 0)
 
 -- the triple with two squares and a promotion
 abbrev pub triple : ℕ → ℕ → Option Kind → Triple
