@@ -1,5 +1,5 @@
 -- Where pieces go, as tests of the goal.
-use Rattle.std.proofs.Common.{◌≡◌, ◌≢◌, ℕ, ◌+◌, ◌^◌, ◌<◌, Bool, true, false, not, ◌&&◌, ◌||◌, Option, Some, None, refl, ap, sym, ◌∙◌, inl, inr, arith, w64}
+use Rattle.std.proofs.Common.{◌≡◌, ℕ, ◌+◌, ◌^◌, ◌<◌, Bool, true, false, not, ◌&&◌, ◌||◌, Option, Some, None, refl, ap, sym, ◌∙◌, inl, inr, arith, w64}
 use Rattle.std.specs.Prelude.{◌==◌, is_none, is_some, bit_and, bit_or}
 use Rattle.std.specs.Int.{bit_not}
 use Rattle.std.proofs.Math.Bool.{and-false, and-true, and_assoc}
@@ -8,7 +8,7 @@ use Rattle.std.proofs.lemmas.Bool.{and_parts, both_ways, eqb-true, or_parts, fal
 use Rattle.c960_board.specs.declared.piece.Colour.{Colour}
 use Rattle.c960_board.specs.declared.piece.Colour.TheVariants.{White, Black}
 use Rattle.c960_board.specs.declared.piece.Kind.{Kind}
-use Rattle.c960_board.specs.declared.piece.Kind.TheVariants.{Pawn, Knight, Bishop, Rook, Queen, King}
+use Rattle.c960_board.specs.declared.piece.Kind.TheVariants.{Pawn, Rook, King}
 use Rattle.c960_board.specs.declared.piece.Piece.{Piece}
 use Rattle.c960_board.specs.declared.parts.Parts.{Parts}
 use Rattle.c960_board.specs.Squares.{file_of, rank_of, ahead}
@@ -23,7 +23,7 @@ use Rattle.c960_rules.specs.Tests.Reaches.{is_empty, promotes_rightly, steps, st
 use Rattle.c960_rules.specs.Castles.{Castles}
 use Rattle.c960_rules.specs.Tests.Legal.{is_legal}
 use Rattle.c960_rules.specs.Inner.Listing.{promotes, triple, legal_one, legal_between, pawn_goes, goes_to, NoneGoes}
-use Rattle.c960_rules.specs.Inner.Wheres.{where_set, is_way, is_slider, is_pawn_hit, is_free, attacks_over, attacks_over_as}
+use Rattle.c960_rules.specs.Inner.Wheres.{where_set, is_pawn_hit, attacks_over, attacks_over_as}
 use Rattle.c960_rules.proofs.AttackAgree.{attacks_agree}
 use Rattle.c960_rules.proofs.InnerRanks.{IsInner, pawn_inner}
 use Rattle.c960_rules.proofs.lemmas.MoveTests.{reaches_tells, reaches_from}
@@ -172,69 +172,21 @@ goes_officer p s t own officer =
     (attacks p.placement s t) own
     ∙ rw officer refl
 
-slider_over : (occupied : ℕ) (c : Colour) (k : Kind) (s t : ℕ) → is_slider k ≡ true
-    → attacks_over_as occupied c k s t ≡ (is_way c k s t && is_free occupied s t)
-slider_over occupied c Bishop s t h = refl
-slider_over occupied c Rook s t h = refl
-slider_over occupied c Queen s t h = refl
-slider_over occupied c Pawn s t h = cc
-slider_over occupied c Knight s t h = cc
-slider_over occupied c King s t h = cc
-
-leaper_over : (occupied : ℕ) (c : Colour) (k : Kind) (s t : ℕ) → is_slider k ≡ false → k ≢ Pawn
-    → attacks_over_as occupied c k s t ≡ is_way c k s t
-leaper_over occupied c Knight s t h ne = refl
-leaper_over occupied c King s t h ne = refl
-leaper_over occupied c Pawn s t h ne = absurd (ne refl)
-leaper_over occupied c Bishop s t h ne = cc
-leaper_over occupied c Rook s t h ne = cc
-leaper_over occupied c Queen s t h ne = cc
-
-and_swap : (a b c : Bool) → ((a && b) && c) ≡ ((a && c) && b)
-and_swap true true true = refl
-and_swap true true false = refl
-and_swap true false true = refl
-and_swap true false false = refl
-and_swap false b c = refl
-
 -- a piece of the side is its own
 own_of : (p : Parts) (s : ℕ) (q : Piece) → piece_on p s ≡ Some q → q.colour ≡ p.turn → is_of p.turn (piece_on p s) ≡ true
 own_of p s q e side = is_own p.turn q.kind (piece_on p s) (e ∙ rw (← side) refl)
 
--- a bishop, a rook or a queen
-pub sliders_go : (p : Parts) (s goals set occupied : ℕ) (q : Piece) → IsPosition p → piece_on p s ≡ Some q
-    → q.colour ≡ p.turn → holds p.turn Pawn (piece_on p s) ≡ false → is_slider q.kind ≡ true
-    → occupied ≡ set_of is_occupied p.placement
-    → goals ≡ where_set (λ u. is_way q.colour q.kind s u && not (is_of p.turn (piece_on p u)))
-    → set ≡ where_set (λ u. is_in goals u && is_free occupied s u) → set ≡ where_set (λ u. goes_to p s u)
-sliders_go p s goals set occupied q valid e side officer slider eo eg es =
+-- another piece, over the occupied squares
+pub officers_go : (p : Parts) (s set occupied : ℕ) (q : Piece) → IsPosition p → piece_on p s ≡ Some q
+    → q.colour ≡ p.turn → holds p.turn Pawn (piece_on p s) ≡ false → occupied ≡ set_of is_occupied p.placement
+    → set ≡ where_set (λ u. attacks_over_as occupied q.colour q.kind s u && not (is_of p.turn (piece_on p u)))
+    → set ≡ where_set (λ u. goes_to p s u)
+officers_go p s set occupied q valid e side officer eo es =
     let own = own_of p s q e side in
-    es ∙ where_agree (λ u. is_in goals u && is_free occupied s u) (λ u. goes_to p s u)
-    (λ u l.
-    let way = is_way q.colour q.kind s u in
-    let off = not (is_of p.turn (piece_on p u)) in
-    let attack =
-    attacks_agree p.placement occupied s u valid.placement.full eo ∙ ap (λ (o : Cell). attacks_over occupied o s u) e
-    ∙ slider_over occupied q.colour q.kind s u slider in
-    ap (λ (b : Bool). b && is_free occupied s u)
-    (in_where (λ v. is_way q.colour q.kind s v && not (is_of p.turn (piece_on p v))) goals u eg l)
-    ∙ and_swap way off (is_free occupied s u) ∙ ap (λ (b : Bool). b && off) (sym attack) ∙ sym (goes_officer p s u own officer))
-
--- a knight or a king
-pub leapers_go : (p : Parts) (s goals : ℕ) (q : Piece) → IsPosition p → piece_on p s ≡ Some q
-    → q.colour ≡ p.turn → holds p.turn Pawn (piece_on p s) ≡ false → is_slider q.kind ≡ false
-    → goals ≡ where_set (λ u. is_way q.colour q.kind s u && not (is_of p.turn (piece_on p u)))
-    → goals ≡ where_set (λ u. goes_to p s u)
-leapers_go p s goals q valid e side officer leaper eg =
-    let own = own_of p s q e side in
-    let occupied = set_of is_occupied p.placement in
-    let no_pawn : q.kind ≢ Pawn =
-    λ f. both_ways (holds p.turn Pawn (piece_on p s)) officer (is_holds p.turn Pawn (piece_on p s) (e ∙ rw (← side, ← f) refl)) in
-    eg ∙ where_agree (λ u. is_way q.colour q.kind s u && not (is_of p.turn (piece_on p u))) (λ u. goes_to p s u)
+    es ∙ where_agree (λ u. attacks_over_as occupied q.colour q.kind s u && not (is_of p.turn (piece_on p u))) (λ u. goes_to p s u)
     (λ u l.
     let attack =
-    attacks_agree p.placement occupied s u valid.placement.full refl ∙ ap (λ (o : Cell). attacks_over occupied o s u) e
-    ∙ leaper_over occupied q.colour q.kind s u leaper no_pawn in
+    attacks_agree p.placement occupied s u valid.placement.full eo ∙ ap (λ (o : Cell). attacks_over occupied o s u) e in
     ap (λ (b : Bool). b && not (is_of p.turn (piece_on p u))) (sym attack) ∙ sym (goes_officer p s u own officer))
 
 -- a pawn

@@ -2,7 +2,9 @@ pub mod lemmas
 mod AllSquares
 mod LeapTables
 mod BetweenTable
+mod RayTables
 mod WhereFacts
+mod RayFacts
 mod BitFacts
 mod AttackerFacts
 mod AttackAgree

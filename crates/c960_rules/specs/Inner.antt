@@ -4,3 +4,4 @@ pub mod Listing
 pub mod Safety
 pub mod Carried
 pub mod Pins
+pub mod Rays

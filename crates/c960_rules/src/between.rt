@@ -7,6 +7,8 @@ macro_rules! table {
     };
 }
 
+pub(crate) use table;
+
 /// The squares strictly between two squares of one rank, file or diagonal, or none if they share none: at the index 64 times the
 /// first square plus the second. Bit s is 1 if the square s is one of them.
 pub static BETWEEN: [u64; 4096] = table! {

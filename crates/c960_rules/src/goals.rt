@@ -12,11 +12,11 @@ ghost use Rattle.c960_rules.specs.Castles.{Castles};
 ghost use Rattle.c960_rules.specs.Reaches.{pawn_rank, is_target};
 ghost use Rattle.c960_rules.specs.Tests.Reaches.{steps, steps_twice, takes};
 ghost use Rattle.c960_rules.specs.Inner.Listing.{triple, pawn_goes, goes_to};
-ghost use Rattle.c960_rules.specs.Inner.Wheres.{where_set, is_slider};
+ghost use Rattle.c960_rules.specs.Inner.Wheres.{where_set};
 
-use crate::attack_sets::free_from;
 use crate::bitset::only;
-use crate::lookups::{pawn_hits, reach_on_empty_board};
+use crate::lookups::pawn_hits;
+use crate::rays::reach_over;
 use crate::sides::{ahead, is_occupied_by, squares_of, stands};
 use c960_board::{Colour, Kind, Piece, Position, Sets, Square};
 
@@ -105,17 +105,6 @@ fn pawn_goals(position: &Position, from: Square) -> u64
     single_step(position, from) | (double_step(position, from) | prey(position, from))
 }
 
-/// Whether the kind is a bishop, a rook or a queen.
-#[inline(always)]
-fn is_slider(kind: Kind) -> bool
-    ensures { result ≡ is_slider kind }
-{
-    match kind {
-        Kind::Bishop | Kind::Rook | Kind::Queen => true,
-        Kind::Pawn | Kind::Knight | Kind::King => false,
-    }
-}
-
 /// The squares to which a piece of the side to move goes that is not a pawn.
 #[inline(always)]
 fn officer_goals(position: &Position, from: Square, piece: Piece) -> u64
@@ -127,11 +116,8 @@ fn officer_goals(position: &Position, from: Square, piece: Piece) -> u64
     let _sets = position.sets();
     let turn = position.turn();
     let own = squares_of(position, turn);
-    let goals = reach_on_empty_board(piece, from) & !own;
-    if is_slider(piece.kind) {
-        return free_from(goals, from, position.occupied());
-    }
-    goals
+    let occupied = position.occupied();
+    reach_over(piece, from, occupied) & !own
 }
 
 /// The squares to which the piece on a square goes, if it is one of the side to move. Two sets tell a pawn, the piece that most often stands

@@ -20,6 +20,7 @@ mod mate;
 mod pins;
 mod placement;
 mod promotion;
+mod rays;
 mod reaches;
 mod safety;
 mod side_to_move;

@@ -1,12 +1,16 @@
 //! The squares related to a square, as sets from tables.
 
 ghost use Rattle.std.specs.Prelude.{◌≡◌, ◌↔◌, ◌<◌, ℕ, IsTrue};
+ghost use Rattle.c960_rules.specs.Inner.Rays.{is_north, is_east, is_south, is_west, is_north_east, is_north_west, is_south_east, is_south_west};
 ghost use Rattle.c960_rules.specs.Inner.Wheres.{where_set, is_knight_leap, is_king_step, is_rook_line, is_bishop_line, is_pawn_hit, is_way};
 ghost use Rattle.c960_board.specs.declared.piece.Colour.TheVariants.{White, Black};
 ghost use Rattle.c960_rules.specs.Lines.{between};
 
 use crate::between::BETWEEN;
-use crate::tables::{BISHOP_LINES, BLACK_PAWN, KING, KNIGHT, ROOK_LINES, WHITE_PAWN};
+use crate::tables::{
+    BISHOP_LINES, BLACK_PAWN, EAST, KING, KNIGHT, NORTH, NORTH_EAST, NORTH_WEST, ROOK_LINES, SOUTH,
+    SOUTH_EAST, SOUTH_WEST, WEST, WHITE_PAWN,
+};
 use c960_board::{Colour, Kind, Piece, Square};
 
 /// The squares that a knight attacks.
@@ -112,6 +116,70 @@ pub fn reach_on_empty_board(piece: Piece, square: Square) -> u64
         Kind::Queen => rook_lines(square) | bishop_lines(square),
         Kind::King => king_steps(square),
     }
+}
+
+/// The squares north of a square on its file.
+#[inline(always)]
+pub fn north(square: Square) -> u64
+    ensures { result ≡ where_set (is_north square) }
+{
+    NORTH[square.number() as usize]
+}
+
+/// The squares east of a square on its rank.
+#[inline(always)]
+pub fn east(square: Square) -> u64
+    ensures { result ≡ where_set (is_east square) }
+{
+    EAST[square.number() as usize]
+}
+
+/// The squares south of a square on its file.
+#[inline(always)]
+pub fn south(square: Square) -> u64
+    ensures { result ≡ where_set (is_south square) }
+{
+    SOUTH[square.number() as usize]
+}
+
+/// The squares west of a square on its rank.
+#[inline(always)]
+pub fn west(square: Square) -> u64
+    ensures { result ≡ where_set (is_west square) }
+{
+    WEST[square.number() as usize]
+}
+
+/// The squares north-east of a square on its diagonal.
+#[inline(always)]
+pub fn north_east(square: Square) -> u64
+    ensures { result ≡ where_set (is_north_east square) }
+{
+    NORTH_EAST[square.number() as usize]
+}
+
+/// The squares north-west of a square on its diagonal.
+#[inline(always)]
+pub fn north_west(square: Square) -> u64
+    ensures { result ≡ where_set (is_north_west square) }
+{
+    NORTH_WEST[square.number() as usize]
+}
+
+/// The squares south-east of a square on its diagonal.
+#[inline(always)]
+pub fn south_east(square: Square) -> u64
+    ensures { result ≡ where_set (is_south_east square) }
+{
+    SOUTH_EAST[square.number() as usize]
+}
+
+/// The squares south-west of a square on its diagonal.
+#[inline(always)]
+pub fn south_west(square: Square) -> u64
+    ensures { result ≡ where_set (is_south_west square) }
+{
+    SOUTH_WEST[square.number() as usize]
 }
 
 /// The squares strictly between two squares of one line, or none if they are not on one.

@@ -1,5 +1,5 @@
 -- Sets of squares as numbers, given by a test of each square: bit s is 1 if the square s passes.
-use Rattle.std.specs.Prelude.{ℕ, ◌≡◌, ◌≢◌, ◌<◌, ◌==◌, Bool, true, false, ◌&&◌, ◌||◌, not, List, Some, None, map, max, bit_and}
+use Rattle.std.specs.Prelude.{ℕ, ◌≡◌, ◌≢◌, ◌<◌, ◌==◌, Bool, false, ◌&&◌, ◌||◌, not, List, Some, None, map, max, bit_and}
 use Rattle.std.specs.Int.{bit_at}
 use Rattle.std.specs.Simd.Lanes.{mask_l}
 use Rattle.c960_board.specs.declared.piece.Colour.{Colour}
@@ -88,13 +88,6 @@ is_way c Bishop s t = is_bishop_line s t
 is_way c Rook s t = is_rook_line s t
 is_way c Queen s t = is_rook_line s t || is_bishop_line s t
 is_way c King s t = is_king_step s t
-
--- a bishop, rook or queen
-abbrev pub is_slider : Kind → Bool
-is_slider Bishop = true
-is_slider Rook = true
-is_slider Queen = true
-is_slider _ = false
 
 -- a pawn of the side to move on s attacks t
 abbrev pub is_taker : Parts → ℕ → ℕ → Bool
