@@ -8,4 +8,5 @@ pub mod Fields
 pub mod Laws
 pub mod RankCells
 pub mod Gaps
+pub mod PieceLetters
 pub mod Told

@@ -4,6 +4,8 @@ mod bytes;
 mod counters;
 mod fault;
 mod fields;
+mod files;
+mod letters;
 mod placement;
 mod rank;
 mod reader;

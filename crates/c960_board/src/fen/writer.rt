@@ -1,16 +1,18 @@
 //! Writing the text of a position, field by field. Each function appends to a text that has room for it.
 
-ghost use Rattle.std.specs.Prelude.{◌≡◌, ◌≤◌, ◌<◌, ◌+◌, ◌*◌, ◌++◌, [], ℕ, None, Some, bit_or, length, decimal};
-ghost use Rattle.std.specs.Int.{bit_at};
+ghost use Rattle.std.specs.Prelude.{◌≡◌, ◌≤◌, ◌<◌, ◌+◌, ◌++◌, length, decimal};
 ghost use Rattle.arrayvec.specs.ArrayVec.{array_vec_len};
 ghost use Rattle.c960_board.specs.Fen.Canonical.{canonical, ranks_text, rights_text, run_text, side_text, squares_text};
-ghost use Rattle.c960_board.specs.Fen.Letters.{letter, right_base, turn_text};
+ghost use Rattle.c960_board.specs.Fen.Letters.{right_base, turn_text};
 ghost use Rattle.c960_board.specs.Fen.RankCells.{rank_cells};
 ghost use Rattle.c960_board.specs.Fen.Target.{target_text};
-ghost use Rattle.c960_board.specs.Sets.{cell_in, cells_of, parts_of};
+ghost use Rattle.c960_board.specs.Sets.{cells_of, parts_of};
+ghost use Rattle.c960_board.specs.Inner.PieceLetters.{AreLettersOf};
 
 use crate::fen::bytes::{FenBytes, TextBytes};
-use crate::piece::{Colour, Kind, Piece};
+use crate::fen::files::{lowest_file, occupied_files, without_file};
+use crate::fen::letters::Letters;
+use crate::piece::Colour;
 use crate::position::Position;
 use crate::rights::CastlingRights;
 use crate::sets::Sets;
@@ -18,24 +20,6 @@ use crate::square::Square;
 use crate::square_text::square_bytes;
 use arrayvec::ArrayVec;
 use itoa::Buffer;
-
-/// The letter of a piece: a capital for White, a small letter for Black.
-fn letter_of(piece: Piece) -> u8
-    ensures { result ≡ letter piece }
-{
-    let small = match piece.kind {
-        Kind::Pawn => b'p',
-        Kind::Knight => b'n',
-        Kind::Bishop => b'b',
-        Kind::Rook => b'r',
-        Kind::Queen => b'q',
-        Kind::King => b'k',
-    };
-    match piece.colour {
-        Colour::White => small - 32,
-        Colour::Black => small,
-    }
-}
 
 /// Appends the digit of a run of empty squares, or nothing if there are none.
 fn write_run(text: &mut TextBytes, empty: u8)
@@ -48,54 +32,24 @@ fn write_run(text: &mut TextBytes, empty: u8)
     }
 }
 
-/// How many squares from this one on are empty, up to the end of the rank. They are the zeros below the lowest occupied square, so no
-/// square is looked at by itself.
-fn empty_from(sets: &Sets, rank: u8, file: u8) -> u8
+/// Appends the squares of a rank, from file a to file h. Rank 0 is the first. The occupied squares are met one after another, each at the
+/// lowest bit of those that are left, so no empty square is looked at and no step shifts the board.
+fn write_rank(text: &mut TextBytes, sets: &Sets, letters: &Letters, rank: u8)
     requires on_board { rank < 8 }
-    requires on_rank { file < 8 }
-    ensures bound { file + result ≤ 8 }
-    ensures empty { (i : ℕ) → i < result → cell_in sets.now (8 * rank + (file + i)) ≡ None }
-    ensures next { file + result < 8 → bit_at (bit_or sets.now.white sets.now.black) (8 * rank + (file + result)) ≡ 1 }
-{
-    let occupied = (sets.white | sets.black) >> (8 * rank + file);
-    (occupied.trailing_zeros() as u8).min(8 - file)
-}
-
-/// The piece on an occupied square: it is Black's if it is not White's.
-fn piece_on(sets: &Sets, square: Square) -> Piece
-    requires { bit_at (bit_or sets.now.white sets.now.black) square ≡ 1 }
-    ensures { cell_in sets.now square ≡ Some result }
-{
-    let kind = sets.kind_on(square);
-    if Sets::is_in(sets.white, square) {
-        Piece {
-            colour: Colour::White,
-            kind,
-        }
-    } else {
-        Piece {
-            colour: Colour::Black,
-            kind,
-        }
-    }
-}
-
-/// Appends the squares of a rank, from file a to file h. Rank 0 is the first.
-fn write_rank(text: &mut TextBytes, sets: &Sets, rank: u8)
-    requires on_board { rank < 8 }
+    requires letters { AreLettersOf sets.now letters.now }
     requires room { array_vec_len text.old + length (squares_text (rank_cells sets.now rank) 0) ≤ 93 }
     ensures { text.new.items ≡ text.old.items ++ squares_text (rank_cells sets.now rank) 0 }
 {
+    let mut left = occupied_files(sets, rank);
     let mut file: u8 = 0;
-    while file < 8 {
-        let empty = empty_from(sets, rank, file);
-        write_run(text, empty);
-        file += empty;
-        if file < 8 {
-            text.push(letter_of(piece_on(sets, Square::known(8 * rank + file))));
-            file += 1;
-        }
+    while left != 0 {
+        let next = lowest_file(left);
+        write_run(text, next - file);
+        text.push(letters.on(Square::known(8 * rank + next)));
+        left = without_file(left, next);
+        file = next + 1;
     }
+    write_run(text, 8 - file);
 }
 
 /// Appends the ranks from the eighth to the first, separated by slashes.
@@ -104,11 +58,12 @@ fn write_placement(text: &mut TextBytes, sets: &Sets)
     ensures text { text.new.items ≡ text.old.items ++ ranks_text 7 (cells_of sets.now) }
     ensures len { array_vec_len text.new ≡ array_vec_len text.old + length (ranks_text 7 (cells_of sets.now)) }
 {
+    let letters = Letters::of(sets);
     for rank in (1..8).rev() {
-        write_rank(text, sets, rank);
+        write_rank(text, sets, &letters, rank);
         text.push(b'/');
     }
-    write_rank(text, sets, 0);
+    write_rank(text, sets, &letters, 0);
 }
 
 /// Appends the letter of the side to move.

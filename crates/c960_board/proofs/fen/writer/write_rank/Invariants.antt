@@ -1,14 +1,16 @@
 use Rattle.std.proofs.Common.{◌≡◌, ◌≤◌, ◌++◌, ◌-◌, drop}
 use Rattle.c960_board.specs.Fen.Canonical.{squares_text}
 use Rattle.c960_board.specs.Fen.RankCells.{rank_cells}
+use Rattle.c960_board.proofs.Written.Gaps.{AreLeft}
 use Rattle.c960_board.proofs.fen.writer.write_rank.Given as goal
 
-abbrev pub invariant-loop-file : goal.invariant-loop-file
-invariant-loop-file l = record {
+abbrev pub invariant-loop-left : goal.invariant-loop-left
+invariant-loop-left l = record {
   text : l.initial.text.items ++ squares_text (rank_cells l.sets l.rank) 0
       ≡ l.text.items ++ squares_text (drop l.file (rank_cells l.sets l.rank)) 0;
   bound : l.file ≤ 8;
+  left : AreLeft l.sets l.rank l.file l.left;
 }
 
-abbrev pub decreases-loop-file : goal.decreases-loop-file
-decreases-loop-file l = 8 - l.file
+abbrev pub decreases-loop-left : goal.decreases-loop-left
+decreases-loop-left l = 8 - l.file
