@@ -45,8 +45,8 @@ fn without(rights: [bool; 8], colour: Colour, square: Square) -> [bool; 8]
     left
 }
 
-/// The rights of a side after a move: without any, as after most openings, the board is not looked at; the king's move ends
-/// all, and of the others only those of the two squares of the move can end.
+/// The rights of a side after a move. Its king's move ends all of them, another move at most those of the rooks on its two squares. Of a side
+/// that has none left, as after most openings, nothing is looked up.
 #[tactic(auto, using(crate::proofs::TableFacts::none_before, crate::proofs::TableFacts::none_of_king))]
 fn rights_after(position: &Position, m: &Move, colour: Colour) -> [bool; 8]
     ensures { result ≡ rights_after position.now m.now colour }
