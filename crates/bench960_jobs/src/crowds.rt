@@ -9,6 +9,9 @@ use crate::walk::{start, step};
 use c960_game::Limits;
 use std::alloc::{AllocError, Global};
 
+/// How many crowds come, each to a relay of its own.
+const CROWDS: u8 = 8;
+
 /// How many spectators a board has.
 const SPECTATORS: u16 = 1000;
 
@@ -110,7 +113,7 @@ fn script(alloc: Global, chance: &mut Chance, boards: u16) -> Result<Lines, Allo
 }
 
 /// Runs the script of a crowd at this many boards.
-pub fn run(
+fn run_crowd(
     alloc: Global,
     chance: &mut Chance,
     digest: &mut Digest,
@@ -119,6 +122,19 @@ pub fn run(
     let lines = script(alloc, chance, boards)?;
     if let Some(limits) = Limits::new(boards, 1024, 64, 1024) {
         run_script(alloc, digest, limits, &lines);
+    }
+    Ok(())
+}
+
+/// Runs the scripts of some crowds, one after the other, each at this many boards.
+pub fn run(
+    alloc: Global,
+    chance: &mut Chance,
+    digest: &mut Digest,
+    boards: u16,
+) -> Result<(), AllocError> {
+    for _ in 0..CROWDS {
+        run_crowd(alloc, chance, digest, boards)?;
     }
     Ok(())
 }
