@@ -19,18 +19,19 @@ ghost use Rattle.live_board.specs.Desk.{Submitted};
 ghost use Rattle.live_board.specs.Seats.{BoardSeat};
 ghost use Rattle.relay_live.specs.Live.{IsSeated, Swapped, held_in};
 
+use crate::board_key::BoardKey;
 use crate::seated::{Seated, account};
 use c960_board::Move;
 use c960_game::{Ending, Outcome, Refusal};
 use indexmap::IndexMap;
 use live_board::Board;
-use relay_core::{Account, BoardName, Taken};
+use relay_core::{Account, Taken};
 
 /// Makes a move on a board. Returns its place and the outcome that it brings about, if any.
 #[tactic(auto, using(std::proofs::lemmas::Map::Steps::set_value_same))]
 pub(crate) fn play(
-    boards: &mut IndexMap<BoardName, Board>,
-    board: BoardName,
+    boards: &mut IndexMap<BoardKey, Board>,
+    board: BoardKey,
     m: Move,
 ) -> Result<(u16, Option<Outcome>), Refusal>
     ensures answer { result ≡ play_answer_at m (option_map (λ b. game_of b.knows) (lookup (same_name board) boards.old.entries)) }
@@ -47,8 +48,8 @@ pub(crate) fn play(
 /// Ends the game of a board. Returns the outcome that the ending names.
 #[tactic(auto, using(std::proofs::lemmas::Map::Steps::set_value_same))]
 pub(crate) fn end(
-    boards: &mut IndexMap<BoardName, Board>,
-    board: BoardName,
+    boards: &mut IndexMap<BoardKey, Board>,
+    board: BoardKey,
     ending: Ending,
 ) -> Result<Outcome, Refusal>
     ensures answer { result ≡ end_answer_at ending (option_map (λ b. game_of b.knows) (lookup (same_name board) boards.old.entries)) }
@@ -63,7 +64,7 @@ pub(crate) fn end(
 }
 
 /// Makes a take for a spectator that is seated at a board.
-pub(crate) fn take_for(boards: &mut IndexMap<BoardName, Board>, seated: Seated) -> Taken
+pub(crate) fn take_for(boards: &mut IndexMap<BoardKey, Board>, seated: Seated) -> Taken
     requires seated { IsSeated boards.old.entries seated }
     requires fits { seated.joined + seated.taken < 65536 }
     ensures swapped { Swapped (λ b c. TookAt seated.slot result b.knows c.knows × IsSound c.knows
@@ -78,7 +79,7 @@ pub(crate) fn take_for(boards: &mut IndexMap<BoardName, Board>, seated: Seated) 
 }
 
 /// Lets a follower join in a vacant slot of a board. It takes from a place of its log on.
-pub(crate) fn join(boards: &mut IndexMap<BoardName, Board>, board: BoardName, slot: u64, from: u16)
+pub(crate) fn join(boards: &mut IndexMap<BoardKey, Board>, board: BoardKey, slot: u64, from: u16)
     requires { (b : BoardSeat) × (lookup (same_name board) boards.old.entries ≡ Some b)
         × (slot < b.knows.setup.limits.followers) × (get_elem? b.knows.notes slot ≡ some Vacant)
         × (from ≤ length b.knows.log) × (length b.knows.log ≤ from + b.knows.setup.limits.capacity) }
@@ -92,7 +93,7 @@ pub(crate) fn join(boards: &mut IndexMap<BoardName, Board>, board: BoardName, sl
 }
 
 /// Removes a spectator that is seated at a board, and returns what it has had.
-pub(crate) fn leave_for(boards: &mut IndexMap<BoardName, Board>, seated: Seated) -> Account
+pub(crate) fn leave_for(boards: &mut IndexMap<BoardKey, Board>, seated: Seated) -> Account
     requires seated { IsSeated boards.old.entries seated }
     requires sound { (b : BoardSeat) → lookup (same_name seated.board) boards.old.entries ≡ Some b → IsSound b.knows × (b.knows.owns ≡ true) }
     ensures swapped { Swapped (λ b c. ((status cursor : ℕ) × (c.knows ≡ left_at (seated.slot + 2) cursor (each_part (sees status) b.knows))) × IsSound c.knows

@@ -13,6 +13,7 @@ ghost use Rattle.relay_core.specs.Stands.{Stands};
 ghost use Rattle.live_board.specs.Board.{game_of, setup_of};
 ghost use Rattle.relay_live.specs.Live.{SlotsLeft};
 
+use crate::board_key::BoardKey;
 use crate::boards::{end, join, leave_for, play, take_for};
 use crate::seated::Seated;
 use crate::seats::Seats;
@@ -30,7 +31,7 @@ pub(crate) struct Holdings {
     /// How much the relay and each of its boards may hold.
     limits: Limits,
     /// The boards that were opened.
-    boards: IndexMap<BoardName, Board>,
+    boards: IndexMap<BoardKey, Board>,
     /// Which spectators follow, and where.
     followers: Seats,
 }
@@ -59,7 +60,7 @@ impl Holdings {
     }
 
     /// Opens a board with a game from a numbered start. Refused: `BoardExists`, `BadStart`, `TooManyBoards`, `OutOfMemory`.
-    fn open(&mut self, alloc: Global, board: BoardName, start: u16) -> Reply
+    fn open(&mut self, alloc: Global, board: BoardKey, start: u16) -> Reply
         ensures stands { Leads self.old.shown self.new.shown (Step.Open board start) result }
         ensures refused { is_accepted result ≡ false → self.new.shown ≡ self.old.shown }
     {
@@ -78,7 +79,7 @@ impl Holdings {
 
     /// Makes a move on a board, through the cursors of that board and no other. Refused: `NoSuchBoard`, `GameOver`, `LogFull`,
     /// `Illegal`.
-    fn submit(&mut self, board: BoardName, m: Move) -> Reply
+    fn submit(&mut self, board: BoardKey, m: Move) -> Reply
         ensures stands { Leads self.old.shown self.new.shown (Step.Submit board m) result }
         ensures refused { is_accepted result ≡ false → self.new.shown ≡ self.old.shown }
         ensures room { self.new.room ≡ self.old.room }
@@ -90,7 +91,7 @@ impl Holdings {
     }
 
     /// Ends the game of a board. Refused: `NoSuchBoard`, `GameOver`, `ClaimRefused`.
-    fn end(&mut self, board: BoardName, ending: Ending) -> Reply
+    fn end(&mut self, board: BoardKey, ending: Ending) -> Reply
         ensures stands { Leads self.old.shown self.new.shown (Step.End board ending) result }
         ensures refused { is_accepted result ≡ false → self.new.shown ≡ self.old.shown }
         ensures room { self.new.room ≡ self.old.room }
@@ -103,7 +104,7 @@ impl Holdings {
 
     /// Lets a spectator follow a board from a place of its log on, or from now on. Refused: `NoSuchBoard`, `FollowerExists`,
     /// `NotYet`, `TooFarBack`, `TooManyFollowers`, `OutOfMemory`.
-    fn follow(&mut self, who: Spectator, board: BoardName, from: Option<u16>) -> Reply
+    fn follow(&mut self, who: Spectator, board: BoardKey, from: Option<u16>) -> Reply
         ensures stands { Leads self.old.shown self.new.shown (Step.Follow who board from) result }
         ensures refused { is_accepted result ≡ false → self.new.shown ≡ self.old.shown }
     {
@@ -177,10 +178,10 @@ impl Holdings {
         ensures room { KeepsRoom step self.old.room self.new.room }
     {
         match step {
-            Step::Open(board, start) => self.open(alloc, board, start),
-            Step::Submit(board, m) => self.submit(board, m),
-            Step::End(board, ending) => self.end(board, ending),
-            Step::Follow(who, board, from) => self.follow(who, board, from),
+            Step::Open(board, start) => self.open(alloc, BoardKey::of(board), start),
+            Step::Submit(board, m) => self.submit(BoardKey::of(board), m),
+            Step::End(board, ending) => self.end(BoardKey::of(board), ending),
+            Step::Follow(who, board, from) => self.follow(who, BoardKey::of(board), from),
             Step::Take(who) => self.take(who),
             Step::Leave(who) => self.leave(who),
         }
@@ -197,6 +198,6 @@ impl Holdings {
             mut boards,
             followers: _,
         } = self;
-        boards.swap_remove(board)
+        boards.swap_remove(&BoardKey::of(*board))
     }
 }

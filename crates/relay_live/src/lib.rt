@@ -2,6 +2,7 @@
 //! that other threads can continue with it.
 #![tactic(auto)]
 
+mod board_key;
 mod boards;
 mod holdings;
 mod order;

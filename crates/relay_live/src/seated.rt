@@ -2,13 +2,14 @@
 
 ghost use Rattle.std.specs.Prelude.{◌≡◌, ℕ, ◌<◌, Some, is_some, unwrap_or};
 
-use relay_core::{Account, BoardName};
+use crate::board_key::BoardKey;
+use relay_core::Account;
 
 /// Where a spectator follows, and how far it has got. Everything else about it is in what the board knows.
 #[derive(Clone, Copy, PartialEq, Eq, Debug)]
 pub(crate) struct Seated {
     /// The board that it follows.
-    pub(crate) board: BoardName,
+    pub(crate) board: BoardKey,
     /// Its slot there.
     pub(crate) slot: u64,
     /// The place of the log at which it joined.

@@ -34,16 +34,18 @@ pub returns : goal.returns
 returns c =
     let name : List ℕ = c.args.board.now in
     let a = c.self.inside in
+    let found : c.swap_remove.result ≡ lookup (same_name name) a.boards.entries =
+    c.swap_remove.ensures.value ∙ ap (λ (key : List ℕ). lookup (same_name key) a.boards.entries) c.of.ensures in
     let count = plain_count name (holders a.limits.capacity a.boards.entries a.followers.entries)
     ∙ crowd_held name a.limits.capacity a.boards.entries a.followers.entries in
     record {
       game =
-          ap (option_map game) c.swap_remove.ensures.value
+          ap (option_map game) found
           ∙ sym (lookup-map (same_name name) game a.boards.entries)
           ∙ ap (λ (r : RelayRecord). lookup (same_name name) r.boards) (shown_is c.self.view_is);
       setup = subst (λ (r : RelayRecord). IfSome c.swap_remove.result (λ b. b.knows.setup ≡ setup_of b.knows.setup.start r.limits)) (shown_is c.self.view_is)
-          (where_found _ _ c.swap_remove.ensures.value (λ b at. c.self.invariant.0.setups name b at));
+          (where_found _ _ found (λ b at. c.self.invariant.0.setups name b at));
       slots = subst (λ (r : RelayRecord). IfSome c.swap_remove.result (λ b. SlotsLeft r name b)) (shown_is c.self.view_is)
-          (where_found _ _ c.swap_remove.ensures.value (λ b at.
+          (where_found _ _ found (λ b at.
           ap (λ (n : ℕ). n + total vacancy b.knows.notes) count ∙ c.self.invariant.0.counted name b at));
     }
