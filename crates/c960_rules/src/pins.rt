@@ -13,6 +13,7 @@ use crate::legal::is_legal_ordinary;
 use crate::lookups::squares_between;
 use crate::placement::is_en_passant;
 use crate::safety::king_of;
+use crate::sides::squares_of;
 use c960_board::{Move, Position, Sets, Square};
 
 /// The set if it has just one square, and the empty set if it has more.
@@ -68,7 +69,7 @@ pub(crate) fn unpinned(position: &Position) -> u64
 /// between it and the king. The king's own moves and captures en passant are left out.
 ///
 /// An attacker that is not taken, and whose way stays free, still attacks the king after the move. So in check few moves are tested.
-/// `unpinned` is empty only in check, and so saves a second look at the attackers elsewhere.
+/// `unpinned` is empty only in check, and so saves a second look at the attackers elsewhere. A king that is alone has no use for the set.
 pub(crate) fn evasions(position: &Position, unpinned: u64) -> u64
     ensures { AreEvasions position.now result }
 {
@@ -78,6 +79,10 @@ pub(crate) fn evasions(position: &Position, unpinned: u64) -> u64
     let _sets = position.sets();
     let turn = position.turn();
     let king = king_of(position, turn);
+    let alone = only(king);
+    if squares_of(position, turn) == alone {
+        return u64::MAX;
+    }
     let checkers = attackers_over(position, turn.other(), king, position.occupied());
     if checkers == 0 {
         return u64::MAX;

@@ -12,6 +12,9 @@ use Rattle.c960_rules.proofs.pins.evasions.Goals as goal
 pub returns-then-unpinned-ne0 : goal.returns-then-unpinned-ne0
 returns-then-unpinned-ne0 c = evasions_all c.args.position.now
 
+pub returns-then-squares_of-alone : goal.returns-then-squares_of-alone
+returns-then-squares_of-alone c = evasions_all c.args.position.now
+
 pub returns-then-checkers-eq0 : goal.returns-then-checkers-eq0
 returns-then-checkers-eq0 c = evasions_all c.args.position.now
 
