@@ -18,8 +18,11 @@ impl Model for JoiningOrder {
     ghost also_owns = { λ _. ftrue };
 }
 
-// It owns nothing, so another thread may have it: a relay may go to another thread.
+// It owns nothing, so other threads may have it and share it: a relay may go to another thread, and be read by several. A struct with
+// `also_owns` has neither by itself.
 unsafe impl Send for JoiningOrder {}
+
+unsafe impl Sync for JoiningOrder {}
 
 impl JoiningOrder {
     /// Nobody has joined.

@@ -14,3 +14,4 @@ mod plain;
 mod plies;
 mod random;
 mod table;
+mod threads;
