@@ -144,12 +144,13 @@ fn add_member<'a>(object: &mut PlainObject<'a>, text: &'a str) -> Option<&'a str
 }
 
 /// Reads the compact object that a text is into an object without members, where it stays. Returns `None` if the text is not a compact object
-/// with members, or longer than one may be. The object is of no use then.
+/// with members, or longer than one may be. The object is of no use then. The last byte is looked at first: many texts that are not compact
+/// have white space behind their object, as the lines of a file from Windows do.
 pub fn read_compact<'a>(text: &'a str, object: &mut PlainObject<'a>) -> Option<()>
     requires { members_in object.old.members.items ≡ no_members }
     ensures { OnSome result (read_text text.now ≡ Some (an_object (members_in object.new.members.items))) }
 {
-    if text.len() > LONGEST {
+    if text.len() > LONGEST || text.as_bytes().last() != Some(&b'}') {
         return None;
     }
     let first = after(text, b'{')?;

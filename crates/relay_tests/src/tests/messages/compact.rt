@@ -7,7 +7,7 @@ use std::alloc::{AllocError, Global};
 use std::test::Fail;
 
 /// Commands, some of them not as a client writes them.
-const TEXTS: [&str; 16] = [
+const TEXTS: [&str; 17] = [
     r#"{"cmd":"submit","board":"b1","move":"e2e4"}"#,
     r#"{"cmd":"follow","board":"b1","spectator":4294967295,"from":65535}"#,
     r#"{"cmd":"end","board":"b1","how":"resign","side":"white"}"#,
@@ -23,6 +23,7 @@ const TEXTS: [&str; 16] = [
     r#"{"cmd": "take",  "spectator":  1}"#,
     r#"{ "cmd" : "submit", "board" : "b1", "move" : "e2e4" }"#,
     r#"{"cmd":"open","board":"é","start":1e2}"#,
+    "{\"cmd\":\"take\",\"spectator\":7}\r",
     "{}",
 ];
 
