@@ -9,7 +9,7 @@ use Rattle.relay_frames.specs.Frames.{text_frame}
 use Rattle.relay_watching.specs.Inner.TapeFields.{Holds}
 use Rattle.relay_watching.specs.Between.{is_end}
 use Rattle.relay_watching.specs.Promised.{done_frame}
-use Rattle.relay_watching.specs.Taped.{tape_frames, offset}
+use Rattle.relay_watching.specs.Taped.{tape_frames, tape_bytes, offset}
 use Rattle.c960_board.specs.Moves.{Triple}
 use Rattle.c960_game.specs.declared.outcome.Outcome.{Outcome}
 use Rattle.relay_watching.specs.Texts.{move_answer, over_answer}
@@ -105,3 +105,9 @@ found_end c bytes ends at r held some found =
 -- where the first frame begins
 pub end_first : (c : Course) (at : ℕ) → at ≡ 0 → is_end c at ≡ true
 end_first c at is = (is_end_decides c at).1 (zero, omega arith, is)
+
+-- where the last frame ends
+pub end_last : (c : Course) (at : ℕ) → at ≡ length (tape_bytes c) → is_end c at ≡ true
+end_last c at is =
+    let all : take (length (tape_frames c)) (tape_frames c) ≡ tape_frames c = take_all (length (tape_frames c)) (tape_frames c) (omega arith) in
+    (is_end_decides c at).1 (length (tape_frames c), omega arith, is ∙ ap (λ frames. length (concat frames)) (sym all))
