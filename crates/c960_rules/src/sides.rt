@@ -48,7 +48,7 @@ pub(crate) fn squares_of(position: &Position, colour: Colour) -> u64
     position.sets().colour(colour)
 }
 
-/// Whether a piece of the side stands on the square. The side's set alone tells it, where `piece_at` would first find out by up to eight
+/// Whether a piece of the side stands on the square. The side's set alone tells it, where `piece_at` would first find out by up to seven
 /// tests which piece stands there.
 #[inline(always)]
 pub(crate) fn is_occupied_by(position: &Position, colour: Colour, square: Square) -> bool
@@ -58,7 +58,7 @@ pub(crate) fn is_occupied_by(position: &Position, colour: Colour, square: Square
 }
 
 /// Whether a piece of this side and kind stands on the square. The sets of the side and of the kind tell it by one test, where `piece_at`
-/// would find out by up to eight which piece stands there.
+/// would find out by up to seven which piece stands there.
 #[inline(always)]
 pub(crate) fn stands(position: &Position, colour: Colour, kind: Kind, square: Square) -> bool
     ensures { result ≡ holds colour kind (cell_at position.now.placement square) }
