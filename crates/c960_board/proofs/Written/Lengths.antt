@@ -2,11 +2,14 @@
 use Rattle.std.proofs.Common.{◌≡◌, ℕ, zero, suc, ◌+◌, ◌*◌, ◌≤◌, List, [], ◌∷◌, length, take, drop, Option, Some, None, refl, arith, decimal, length-append, length-drop}
 use Rattle.std.proofs.lemmas.Fmt.{length-decimal-le}
 use Rattle.std.proofs.lemmas.List.{length-take}
+use Rattle.std.proofs.lemmas.List.FromFn.{length-map-range_with_len}
 use Rattle.c960_board.specs.declared.piece.Colour.{Colour}
 use Rattle.c960_board.specs.declared.piece.Colour.TheVariants.{White, Black}
 use Rattle.c960_board.specs.declared.rights.CastlingRights.{CastlingRights}
 use Rattle.c960_board.specs.declared.parts.Parts.{Parts}
+use Rattle.c960_board.specs.declared.sets.Sets.{Sets}
 use Rattle.c960_board.specs.Pieces.{Cell}
+use Rattle.c960_board.specs.Sets.{cell_in, cells_of}
 use Rattle.c960_board.specs.Position.{IsPlacement, AreRights, IsPosition}
 use Rattle.c960_board.specs.Fen.Letters.{letter, turn_text}
 use Rattle.c960_board.specs.Fen.Fields.{Six, joined}
@@ -39,6 +42,11 @@ ranks_length (suc n) cells full =
     let b = length-take (8 * suc n) cells in
     let d = ranks_length n low (omega arith) in
     omega (arith, squares_length high 0, length-append (squares_text high 0) (47 ∷ ranks_text n low))
+
+-- the longest placement, of 64 pieces
+pub placement_short : (s : Sets) → length (ranks_text 7 (cells_of s)) ≤ 71
+unfolding cells_of
+placement_short s = ranks_length 7 (cells_of s) (length-map-range_with_len (cell_in s) 0 64)
 
 -- a dash has one byte
 dash_length : (text : List ℕ) (n : ℕ) → length text ≤ n → 1 ≤ n → length (or_dash text) ≤ n

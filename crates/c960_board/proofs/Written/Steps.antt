@@ -76,12 +76,6 @@ written all text more left first rest e f h = rw (e, append_assoc) (rw f at h)
 pub all_written : (all text left : List ℕ) → left ≡ [] → all ≡ text ++ left → text ≡ all
 all_written all text left e h = let f : all ≡ text ++ [] = rw e at h in sym (rw append-nil at f)
 
--- what is left has room if all of it had
-pub all_fits : (old whole text left : List ℕ) → length old + length whole ≤ 93 → old ++ whole ≡ text ++ left
-    → length text + length left ≤ 93
-all_fits old whole text left l e =
-    let both = ap length e in omega (arith, length-append old whole, length-append text left)
-
 -- the letters of both sides' rights
 abbrev pub both_sides : CastlingRights → List ℕ
 both_sides r = side_text r White 8 ++ side_text r Black 8

@@ -1,6 +1,6 @@
 //! Writing the text of a position, field by field. Each function appends to a text that has room for it.
 
-ghost use Rattle.std.specs.Prelude.{◌≡◌, ◌≤◌, ◌<◌, ◌+◌, ◌++◌, length, decimal};
+ghost use Rattle.std.specs.Prelude.{◌≡◌, ◌≤◌, ◌<◌, ◌+◌, ◌++◌, length, take, decimal};
 ghost use Rattle.arrayvec.specs.ArrayVec.{array_vec_len};
 ghost use Rattle.c960_board.specs.Fen.Canonical.{canonical, ranks_text, rights_text, run_text, side_text, squares_text};
 ghost use Rattle.c960_board.specs.Fen.Letters.{right_base, turn_text};
@@ -21,49 +21,79 @@ use crate::square_text::square_bytes;
 use arrayvec::ArrayVec;
 use itoa::Buffer;
 
-/// Appends the digit of a run of empty squares, or nothing if there are none.
-fn write_run(text: &mut TextBytes, empty: u8)
-    requires digit { empty ≤ 8 }
-    requires room { array_vec_len text.old + length (run_text empty) ≤ 93 }
-    ensures { text.new.items ≡ text.old.items ++ run_text empty }
+/// The room in which a placement is written: 64 squares and 7 slashes at most, and a byte behind them for the digit of a run that is empty.
+const PLACEMENT_ROOM: usize = 72;
+
+/// Appends bytes.
+fn append(text: &mut TextBytes, bytes: &[u8])
+    requires { array_vec_len text.old + length bytes.now ≤ 93 }
+    ensures text { text.new.items ≡ text.old.items ++ bytes.now }
+    ensures len { array_vec_len text.new ≡ array_vec_len text.old + length bytes.now }
 {
-    if empty > 0 {
-        text.push(b'0' + empty);
-    }
+    // It returns `Err` only if there is no room.
+    let _ = text.try_extend_from_slice(bytes);
 }
 
-/// Appends the squares of a rank, from file a to file h. Rank 0 is the first. The occupied squares are met one after another, each at the
-/// lowest bit of those that are left, so no empty square is looked at and no step shifts the board.
-fn write_rank(text: &mut TextBytes, sets: &Sets, letters: &Letters, rank: u8)
+/// Writes the digit of a run of empty squares, and returns the end of the text. If there are none, that is where it was, and what comes next
+/// is written over the digit: a branch on that is one that nothing foretells.
+#[inline(always)]
+fn write_run(bytes: &mut [u8; PLACEMENT_ROOM], at: usize, empty: u8) -> usize
+    requires digit { empty ≤ 8 }
+    requires room { at < 72 }
+    ensures end { result ≡ at + length (run_text empty) }
+    ensures text { take result bytes.new ≡ take at bytes.old ++ run_text empty }
+{
+    bytes[at] = b'0' + empty;
+    at + usize::from(empty > 0)
+}
+
+/// Writes the squares of a rank, from file a to file h, and returns the end of the text. Rank 0 is the first. The occupied squares are met one
+/// after another, each at the lowest bit of those that are left, so no empty square is looked at and no step shifts the board.
+#[inline(always)]
+fn write_rank(
+    bytes: &mut [u8; PLACEMENT_ROOM],
+    at: usize,
+    sets: &Sets,
+    letters: &Letters,
+    rank: u8,
+) -> usize
     requires on_board { rank < 8 }
     requires letters { AreLettersOf sets.now letters.now }
-    requires room { array_vec_len text.old + length (squares_text (rank_cells sets.now rank) 0) ≤ 93 }
-    ensures { text.new.items ≡ text.old.items ++ squares_text (rank_cells sets.now rank) 0 }
+    requires room { at + length (squares_text (rank_cells sets.now rank) 0) < 72 }
+    ensures end { result ≡ at + length (squares_text (rank_cells sets.now rank) 0) }
+    ensures text { take result bytes.new ≡ take at bytes.old ++ squares_text (rank_cells sets.now rank) 0 }
 {
+    let mut end = at;
     let mut left = occupied_files(sets, rank);
     let mut file: u8 = 0;
     while left != 0 {
         let next = lowest_file(left);
-        write_run(text, next - file);
-        text.push(letters.on(Square::known(8 * rank + next)));
+        end = write_run(bytes, end, next - file);
+        bytes[end] = letters.on(Square::known(8 * rank + next));
+        end += 1;
         left = without_file(left, next);
         file = next + 1;
     }
-    write_run(text, 8 - file);
+    write_run(bytes, end, 8 - file)
 }
 
-/// Appends the ranks from the eighth to the first, separated by slashes.
+/// Appends the ranks from the eighth to the first, separated by slashes. They are written into an array first, whose end is a local number:
+/// bytes appended to the text would each wait for the length that the one before stored.
 fn write_placement(text: &mut TextBytes, sets: &Sets)
     requires { array_vec_len text.old + length (ranks_text 7 (cells_of sets.now)) ≤ 93 }
     ensures text { text.new.items ≡ text.old.items ++ ranks_text 7 (cells_of sets.now) }
     ensures len { array_vec_len text.new ≡ array_vec_len text.old + length (ranks_text 7 (cells_of sets.now)) }
 {
     let letters = Letters::of(sets);
+    let mut bytes = [0; PLACEMENT_ROOM];
+    let mut end = 0;
     for rank in (1..8).rev() {
-        write_rank(text, sets, &letters, rank);
-        text.push(b'/');
+        end = write_rank(&mut bytes, end, sets, &letters, rank);
+        bytes[end] = b'/';
+        end += 1;
     }
-    write_rank(text, sets, &letters, 0);
+    end = write_rank(&mut bytes, end, sets, &letters, 0);
+    append(text, &bytes[..end]);
 }
 
 /// Appends the letter of the side to move.
@@ -140,8 +170,7 @@ fn write_number(text: &mut TextBytes, number: u16)
     ensures len { array_vec_len text.new ≡ array_vec_len text.old + length (decimal number) }
 {
     let mut buffer = Buffer::new();
-    // It returns `Err` only if there is no room.
-    let _ = text.try_extend_from_slice(buffer.format(number).as_bytes());
+    append(text, buffer.format(number).as_bytes());
 }
 
 /// The fields of a position's text, separated by spaces.
