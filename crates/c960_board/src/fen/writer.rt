@@ -163,12 +163,18 @@ fn write_target(text: &mut TextBytes, target: Option<Square>)
     }
 }
 
-/// Appends a number in decimal.
+/// Appends a number in decimal. One of a single digit, as most counters are, is written without the formatter, which clears a buffer that is
+/// long enough for the longest number.
+#[tactic(auto, using(std::proofs::lemmas::Fmt::decimal_digit))]
 fn write_number(text: &mut TextBytes, number: u16)
     requires { array_vec_len text.old + length (decimal number) ≤ 93 }
     ensures text { text.new.items ≡ text.old.items ++ decimal number }
     ensures len { array_vec_len text.new ≡ array_vec_len text.old + length (decimal number) }
 {
+    if number < 10 {
+        text.push(b'0' + number as u8);
+        return;
+    }
     let mut buffer = Buffer::new();
     append(text, buffer.format(number).as_bytes());
 }
