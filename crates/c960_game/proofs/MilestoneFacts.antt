@@ -1,4 +1,4 @@
--- Every sixty-fourth position: before the first move, and after one move more.
+-- Every thirty-second position: before the first move, and after one move more.
 use Rattle.std.proofs.Common.{◌≡◌, ◌≢◌, ℕ, ◌+◌, ◌*◌, ◌/◌, ◌%◌, ◌<◌, ◌≤◌, List, [], ◌∷◌, ◌++◌, length, take, Some, refl, sym, ap, subst, ◌⊎◌, inl, inr, ◌∙◌, arith, length-append, get_or}
 use Rattle.std.specs.Prelude.{slice_get}
 use Rattle.std.proofs.Math.Seq.{get_or-append_seam, take-length}
@@ -38,7 +38,7 @@ still n l m milestones later kept k within =
     ∙ ap (λ (q : Parts). Some q) (get_or-append milestones later p k within ∙ there)
     ∙ rw (take-append-le (k * MILE) l (m ∷ []) past) refl
 
--- the milestone at a sixty-fourth move
+-- the milestone at a thirty-second move
 here : (n : ℕ) (l : List Triple) (m : Triple) (milestones : List Parts) (k : ℕ) → k * MILE ≡ length l + 1 → k ≡ length milestones
     → slice_get (milestones ++ after (last_position n l) m ∷ []) k ≡ Some (last_position n (take (k * MILE) (l ++ m ∷ [])))
 here n l m milestones k full last =
@@ -58,7 +58,7 @@ no_milestone n l m milestones kept between = record {
       (still n l m milestones [] kept k within);
 }
 
--- a sixty-fourth move leads to the next
+-- a thirty-second move leads to the next
 pub next_milestone : (n : ℕ) (l : List Triple) (m : Triple) (milestones : List Parts) → AreMilestones n l milestones
     → (length l + 1) % MILE ≡ 0 → AreMilestones n (l ++ m ∷ []) (milestones ++ after (last_position n l) m ∷ [])
 next_milestone n l m milestones kept full = record {

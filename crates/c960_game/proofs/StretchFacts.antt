@@ -18,7 +18,7 @@ parts_of l a k =
     append_assoc (take a l) (take k (drop a l)) (drop k (drop a l))
     ∙ ap (λ rest. take a l ++ rest) (take-append-drop k (drop a l)) ∙ take-append-drop a l
 
--- a stretch from the last sixty-fourth place on has fewer moves than lie between two of them
+-- a stretch from the last thirty-second place on has fewer moves than lie between two of them
 pub few_in_stretch : (l : List Triple) (place : ℕ) → length (take (place - place / MILE * MILE) (drop (place / MILE * MILE) l)) ≤ MILE
 few_in_stretch l place = omega (arith, length-take (place - place / MILE * MILE) (drop (place / MILE * MILE) l))
 

@@ -27,7 +27,7 @@ use std::alloc::Global;
 use std::marker::Model;
 
 /// A game from a numbered start. It keeps its moves, the present position, the positions since the last capture or pawn
-/// move (earlier positions cannot come back), and every sixty-fourth position. All its memory is reserved when it is opened,
+/// move (earlier positions cannot come back), and every thirty-second position. All its memory is reserved when it is opened,
 /// and no vector ever grows. Contracts see a `GameRecord`.
 #[derive(Drop)]
 pub struct Game {

@@ -1,5 +1,5 @@
 //! What a game keeps besides its log, in memory that was reserved when it was opened: the positions since the last capture or
-//! pawn move, including the present one, and every sixty-fourth position, from which an earlier one is replayed.
+//! pawn move, including the present one, and every thirty-second position, from which an earlier one is replayed.
 
 ghost use Rattle.std.specs.Prelude.{◌≡◌, ◌+◌, ◌%◌, ◌==◌, ◌<◌, ◌++◌, ◌∷◌, [], count_by, IfOk, if◌then◌else◌};
 ghost use Rattle.std.specs.Vec.{vec_len, vec_capacity};
@@ -13,7 +13,7 @@ use std::alloc::{AllocError, Global};
 pub const RECENT: usize = 151;
 
 /// This many moves lie between two positions that are kept permanently.
-pub const MILE: usize = 64;
+pub const MILE: usize = 32;
 
 /// A vector with a first position, with room for `capacity` positions.
 pub fn row_of(alloc: Global, capacity: usize, first: Lawful) -> Result<Vec<Lawful>, AllocError>

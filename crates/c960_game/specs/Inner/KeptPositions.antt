@@ -1,5 +1,5 @@
 -- What a game keeps in memory besides its start, its ply limit and its outcome: its moves, the present position, the positions
--- since the half-move counter began to count, and every sixty-fourth position. Each vector was reserved at the opening, and none
+-- since the half-move counter began to count, and every thirty-second position. Each vector was reserved at the opening, and none
 -- has grown since.
 use Rattle.std.specs.Prelude.{ℕ, ◌≡◌, ◌+◌, ◌*◌, ◌/◌, ◌<◌, List, length, take, slice_get, Some}
 use Rattle.std.specs.Vec.{vec_capacity}
@@ -15,7 +15,7 @@ use Rattle.c960_game.specs.GameRecord.{GameRecord}
 abbrev pub record_of : Inside → GameRecord
 record_of a = record { start = a.start; plies = a.plies; log = a.moves.items; outcome = a.outcome }
 
--- the start and the positions after 64 moves, 128 moves and so on
+-- the start and the positions after 32 moves, 64 moves and so on
 pub record AreMilestones (n : ℕ) (l : List Triple) (milestones : List Parts) : Type 0 where
   pub count : length milestones ≡ length l / MILE + 1
   pub each : (k : ℕ) → k < length milestones → slice_get milestones k ≡ Some (last_position n (take (k * MILE) l))
