@@ -1,30 +1,31 @@
 -- When a seat is a desk's, and notes.
-use Rattle.std.proofs.Common.{◌≡◌, ℕ, ◌+◌, ◌-◌, ◌/◌, ◌%◌, ◌<◌, ◌≤◌, ◌≢◌, zero, suc, List, [], ◌∷◌, set, get_or, length, replicate, true, sym, refl, ap, ◌∙◌, cond, eqb, eqb-true, ⊎_elim, arith}
+use Rattle.std.specs.Prelude.{min}
+use Rattle.std.proofs.Common.{◌≡◌, ℕ, ◌+◌, ◌-◌, ◌<◌, ◌≤◌, ◌≢◌, List, [], ◌∷◌, set, get_or, length, replicate, true, sym, refl, ap, ◌∙◌, subst, eqb, eqb-true, ⊎_elim, arith}
 use Rattle.atomic_table.specs.Seated.{TableId}
 use Rattle.atomic_table.specs.declared.shared.Seat.{Seat}
 use Rattle.atomic_table.proofs.Lists.{at_index, at_set}
-use mathlib.Core.Option.{some, some-ne-none}
+use mathlib.Core.Option.{some}
 use lib.ListN.{get_elem?}
 use Rattle.live_board.specs.Limits.{AreBoardLimits}
 use Rattle.live_board.specs.declared.setup.BoardSetup.{BoardSetup}
 use Rattle.live_board.specs.declared.note.Note.{Note}
 use Rattle.live_board.specs.declared.note.Note.TheVariants.{Vacant, Open, Closed}
 use Rattle.live_board.specs.declared.view.View.{View}
-use Rattle.live_board.specs.Words.{header_word, joined_noted, note_after, word_count}
+use Rattle.live_board.specs.Words.{header_word, note_after, word_count}
 use Rattle.live_board.specs.Views.{starting}
 use Rattle.live_board.specs.Sound.{IsSound, Follows}
 use Rattle.live_board.proofs.Allowed.{table_made}
 use Rattle.live_board.proofs.lemmas.Cases.{pick}
 use Rattle.live_board.proofs.SoundViews.{sound}
 use Rattle.live_board.specs.Carried.{Carries}
-use Rattle.live_board.specs.Seats.{NoneBefore, IsDesk}
-use Rattle.live_board.proofs.lemmas.Notes.{same_open, vacant_open, closed_open}
+use Rattle.live_board.specs.Seats.{NoneBefore, NoneVacantBefore, least_vacant_with, past, IsDesk}
+use Rattle.live_board.proofs.lemmas.Notes.{same_open, vacant_open, vacant_closed, closed_open}
 use Rattle.c960_board.specs.declared.numbering.TheConstants.{STARTS}
 
-pub desk_of : {id : TableId} {key : BoardSetup} {seat : Seat (Unit {0}) View} {setup : BoardSetup} {len least : ℕ} {notes : List Note} {room : ℕ} (v : View) → seat.me.0 ≡ v → seat.table_id ≡ id → id.words ≡ word_count setup.limits → key ≡ setup
-    → v.owns ≡ true → v.setup ≡ setup → len ≡ length v.log → notes ≡ v.notes → NoneBefore least notes → least ≤ len → room ≡ setup.limits.followers → seat.me.1 ≡ [] → IsSound seat.me.0
-    → IsDesk id key seat setup len least notes room
-desk_of v is table words key owns setup-is len-is notes-are least-is least-low room-is none-held sound = record {
+pub desk_of : {id : TableId} {key : BoardSetup} {seat : Seat (Unit {0}) View} {setup : BoardSetup} {len least vacant : ℕ} {notes : List Note} {room : ℕ} (v : View) → seat.me.0 ≡ v → seat.table_id ≡ id → id.words ≡ word_count setup.limits → key ≡ setup
+    → v.owns ≡ true → v.setup ≡ setup → len ≡ length v.log → notes ≡ v.notes → NoneBefore least notes → least ≤ len → NoneVacantBefore vacant notes → room ≡ setup.limits.followers → seat.me.1 ≡ [] → IsSound seat.me.0
+    → IsDesk id key seat setup len least vacant notes room
+desk_of v is table words key owns setup-is len-is notes-are least-is least-low vacant-is room-is none-held sound = record {
   table = table;
   words = words;
   key_is = key;
@@ -34,6 +35,7 @@ desk_of v is table words key owns setup-is len-is notes-are least-is least-low r
   notes_are = notes-are ∙ ap (λ (u : View). u.notes) (sym is);
   least_is = least-is;
   least_low = least-low;
+  vacant_is = vacant-is;
   room_is = room-is;
   none_held = none-held;
   sound = sound;
@@ -54,7 +56,7 @@ pub noted_is : (l : List Note) (k r : ℕ) (x : Note) → get_or l k Vacant ≡ 
 noted_is l k r x is = let here : k ≡ k + 2 - 2 = omega arith in λ i. set l (here i) (note_after ((sym is ∙ ap (λ (j : ℕ). get_or l j Vacant) here) i) r)
 
 -- the note that a desk has read
-pub noted_there : {id : TableId} {key : BoardSetup} {seat : Seat (Unit {0}) View} {setup : BoardSetup} {len least : ℕ} {notes : List Note} {room : ℕ} → IsDesk id key seat setup len least notes room → (k : ℕ) (n : Note) (v : View) → seat.me.0 ≡ v → k < v.setup.limits.followers
+pub noted_there : {id : TableId} {key : BoardSetup} {seat : Seat (Unit {0}) View} {setup : BoardSetup} {len least vacant : ℕ} {notes : List Note} {room : ℕ} → IsDesk id key seat setup len least vacant notes room → (k : ℕ) (n : Note) (v : View) → seat.me.0 ≡ v → k < v.setup.limits.followers
     → n ≡ get_or notes k n → get_elem? v.notes k ≡ some n
 noted_there {notes = notes} i k n v is inside found =
     let b = i.sound.board i.owns in
@@ -63,14 +65,14 @@ noted_there {notes = notes} i k n v is inside found =
     ∙ ap (λ (l : List Note). get_elem? l k) (sym i.notes_are) ∙ at_index notes k n low found
 
 -- the slot of a part that a desk carries
-pub carried_inside : {id : TableId} {key : BoardSetup} {seat : Seat (Unit {0}) View} {setup : BoardSetup} {len least : ℕ} {notes : List Note} {room : ℕ} → IsDesk id key seat setup len least notes room → (v : View) (k : ℕ) → seat.me.0 ≡ v → Carries v k
+pub carried_inside : {id : TableId} {key : BoardSetup} {seat : Seat (Unit {0}) View} {setup : BoardSetup} {len least vacant : ℕ} {notes : List Note} {room : ℕ} → IsDesk id key seat setup len least vacant notes room → (v : View) (k : ℕ) → seat.me.0 ≡ v → Carries v k
     → k < v.setup.limits.followers
 carried_inside i v k is c =
     let inside = ((i.sound.board i.owns).inside c.0 c.1 (ap (λ (u : View). get_elem? u.parts c.0) is ∙ c.2)).0 in
     omega (arith, inside, c.3, ap (λ (u : View). u.setup.limits.followers) is)
 
 -- how many cursors a desk has, by its fields and by the view that callers see
-pub same_followers : {id : TableId} {key : BoardSetup} {seat : Seat (Unit {0}) View} {setup : BoardSetup} {len least : ℕ} {notes : List Note} {room : ℕ} → IsDesk id key seat setup len least notes room → (v : View) → seat.me.0 ≡ v → setup.limits.followers ≡ v.setup.limits.followers
+pub same_followers : {id : TableId} {key : BoardSetup} {seat : Seat (Unit {0}) View} {setup : BoardSetup} {len least vacant : ℕ} {notes : List Note} {room : ℕ} → IsDesk id key seat setup len least vacant notes room → (v : View) → seat.me.0 ≡ v → setup.limits.followers ≡ v.setup.limits.followers
 same_followers i v is = ap (λ (z : BoardSetup). z.limits.followers) (sym i.setup_is) ∙ ap (λ (u : View). u.setup.limits.followers) is
 
 -- ---- The least place that is noted.
@@ -97,6 +99,28 @@ pub none_before_noted : (least k : ℕ) (l : List Note) (n m : Note) → NoneBef
 none_before_noted least k l n m all there f = none_before_set least k l m all (follows_later least n m (λ j b e. all k j b (there ∙ ap some e)) f)
 
 -- the notes of a desk after the cursor k was loaded
-pub none_before_loaded : {id : TableId} {key : BoardSetup} {seat : Seat (Unit {0}) View} {setup : BoardSetup} {len least : ℕ} {notes : List Note} {room : ℕ} → IsDesk id key seat setup len least notes room → (k : ℕ) (n m : Note) → get_elem? seat.me.0.notes k ≡ some n
+pub none_before_loaded : {id : TableId} {key : BoardSetup} {seat : Seat (Unit {0}) View} {setup : BoardSetup} {len least vacant : ℕ} {notes : List Note} {room : ℕ} → IsDesk id key seat setup len least vacant notes room → (k : ℕ) (n m : Note) → get_elem? seat.me.0.notes k ≡ some n
     → Follows n m → NoneBefore least (set notes k m)
 none_before_loaded {notes = notes} i k n m there f = none_before_noted _ k notes n m i.least_is (ap (λ (l : List Note). get_elem? l k) i.notes_are ∙ there) f
+
+-- ---- The slot before which none is noted vacant.
+
+-- none of the other slots before it is noted vacant, and a note is set that is not vacant before it
+pub none_vacant_set : (vacant k : ℕ) (l : List Note) (m : Note) → ((i : ℕ) → i < vacant → i ≢ k → get_elem? l i ≡ some Vacant → ⊥) → (m ≡ Vacant → vacant ≤ k) → NoneVacantBefore vacant (set l k m)
+none_vacant_set vacant k l m others mine i less e =
+    ⊎_elim (λ (x : (i ≡ k) × (m ≡ Vacant)). let low = mine x.1 in let here = x.0 in absurd (omega arith)) (λ (x : (i ≢ k) × (get_elem? l i ≡ some Vacant)). others i less x.0 x.1) (at_set l k i m Vacant e)
+
+-- the slot is not vacant then
+none_vacant_past : (vacant k : ℕ) (l : List Note) (m : Note) → NoneVacantBefore vacant l → (m ≡ Vacant → ⊥) → NoneVacantBefore (past vacant k) (set l k m)
+none_vacant_past vacant k l m all ne = pick (λ (x : ℕ). NoneVacantBefore x (set l k m)) (eqb k vacant) (vacant + 1) vacant
+    (λ same. let here = eqb-true k vacant same in none_vacant_set (vacant + 1) k l m (λ i less other e. all i (omega arith) e) (λ e. absurd (ne e)))
+    (λ _. none_vacant_set vacant k l m (λ i less other e. all i less e) (λ e. absurd (ne e)))
+
+-- the note m is made of the slot k, and that slot becomes what it is then
+pub none_vacant_noted : (vacant now k : ℕ) (l : List Note) (n m : Note) → NoneVacantBefore vacant l → now ≡ least_vacant_with vacant k n → n ≡ m → NoneVacantBefore now (set l k m)
+none_vacant_noted vacant now k l n m all is same = subst (λ (x : ℕ). NoneVacantBefore x (set l k m)) (sym (is ∙ ap (least_vacant_with vacant k) same)) (by_note m)
+  where
+    by_note : (m : Note) → NoneVacantBefore (least_vacant_with vacant k m) (set l k m)
+    by_note Vacant = none_vacant_set (min vacant k) k l Vacant (λ i less ne e. all i (omega arith) e) (λ e. omega arith)
+    by_note (Open j b) = none_vacant_past vacant k l (Open j b) all (λ e. vacant_open j b (sym e))
+    by_note (Closed c) = none_vacant_past vacant k l (Closed c) all (λ e. vacant_closed c (sym e))

@@ -1,5 +1,5 @@
 -- What contracts see of a board and of a follower, and how the fields of each relate to the view of its seat.
-use Rattle.std.specs.Prelude.{◌≡◌, ℕ, ◌≤◌, List, [], ◌∷◌, length, Option, None, true}
+use Rattle.std.specs.Prelude.{◌≡◌, ℕ, ◌+◌, ◌<◌, ◌≤◌, ◌==◌, if◌then◌else◌, min, List, [], ◌∷◌, length, Option, None, true}
 use Rattle.atomic_table.specs.Seated.{TableId}
 use Rattle.atomic_table.specs.declared.shared.Seat.{Seat}
 use Rattle.c960_game.specs.declared.outcome.Outcome.{Outcome}
@@ -7,7 +7,7 @@ use Rattle.live_board.specs.declared.setup.BoardSetup.{BoardSetup}
 use mathlib.Core.Option.{some}
 use lib.ListN.{get_elem?}
 use Rattle.live_board.specs.declared.note.Note.{Note}
-use Rattle.live_board.specs.declared.note.Note.TheVariants.{Open}
+use Rattle.live_board.specs.declared.note.Note.TheVariants.{Vacant, Open, Closed}
 use Rattle.live_board.specs.declared.view.Part.{Part}
 use Rattle.live_board.specs.declared.view.View.{View}
 use Rattle.live_board.specs.Words.{word_count}
@@ -51,9 +51,23 @@ part_of v = first_part (nobody v.setup) v.parts
 abbrev pub NoneBefore : ℕ → List Note → Type 0
 NoneBefore least notes = (k joined next : ℕ) → get_elem? notes k ≡ some (Open joined next) → least ≤ next
 
+-- no slot before this one is noted vacant
+abbrev pub NoneVacantBefore : ℕ → List Note → Type 0
+NoneVacantBefore vacant notes = (k : ℕ) → k < vacant → get_elem? notes k ≡ some Vacant → ⊥
+
+-- such a slot, once another note than Vacant is made of a slot
+abbrev pub past : ℕ → ℕ → ℕ
+past vacant slot = if slot == vacant then vacant + 1 else vacant
+
+-- and once this note is
+abbrev pub least_vacant_with : ℕ → ℕ → Note → ℕ
+least_vacant_with vacant slot Vacant = min vacant slot
+least_vacant_with vacant slot (Open joined next) = past vacant slot
+least_vacant_with vacant slot (Closed c) = past vacant slot
+
 -- Of a board: the table's identity and key, the seat, and the fields besides. After the opening and after each call the notes have room
 -- for each follower, and for no more. This says nothing about memory that a call allocates and frees itself.
-pub record IsDesk (id : TableId) (key : BoardSetup) (seat : Seat (Unit {0}) View) (setup : BoardSetup) (len least : ℕ)
+pub record IsDesk (id : TableId) (key : BoardSetup) (seat : Seat (Unit {0}) View) (setup : BoardSetup) (len least vacant : ℕ)
     (notes : List Note) (room : ℕ) : Type 0 where
   pub table : seat.table_id ≡ id
   pub words : id.words ≡ word_count setup.limits
@@ -64,6 +78,7 @@ pub record IsDesk (id : TableId) (key : BoardSetup) (seat : Seat (Unit {0}) View
   pub notes_are : notes ≡ seat.me.0.notes
   pub least_is : NoneBefore least notes
   pub least_low : least ≤ len
+  pub vacant_is : NoneVacantBefore vacant notes
   pub room_is : room ≡ setup.limits.followers
   pub none_held : seat.me.1 ≡ []
   pub sound : IsSound seat.me.0

@@ -237,6 +237,22 @@ impl Board {
         self.desk.join_at(slot, u64::from(from));
     }
 
+    /// Adds a follower in the first vacant slot, as `join_at` does. The next search for a vacant slot then passes over all slots up to
+    /// this one.
+    pub fn join_first(&mut self, slot: u64, from: u16)
+        requires inside { slot < self.old.knows.setup.limits.followers }
+        requires vacant { get_elem? self.old.knows.notes slot ≡ some Vacant }
+        requires first { NoneVacantBelow slot self.old.knows }
+        requires from { (from ≤ length self.old.knows.log) × (length self.old.knows.log ≤ from + self.old.knows.setup.limits.capacity) }
+        ensures table { self.new.table ≡ self.old.table }
+        ensures knows { self.new.knows ≡ followed slot from self.old.knows }
+        ensures valid { IsLegalGame self.new.knows }
+        ensures sound { IsSound self.new.knows }
+    {
+        self.desk.pass_over(slot);
+        self.join_at(slot, from);
+    }
+
     /// Takes for the follower in the slot, whose next move is the one at the place `next` of the log. It allocates nothing.
     pub fn take_at(&mut self, slot: u64, next: u16) -> Taken
         requires { CarriesAt self.old.knows slot next }

@@ -21,6 +21,7 @@ ghost use Rattle.live_board.specs.Seats.{NoneBefore};
 use crate::cursor::{note_after, renew};
 use crate::follower::Follower;
 use crate::kinds::{Check, Close, Finish, Hand, Look, Publish, Spare, Store};
+use crate::note::least_vacant_with;
 use crate::words::{
     STATUS, closed_cursor, closing_in, cursor_at, header, length_in, move_word_at, open_cursor,
     outcome_in, status, word_count,
@@ -53,6 +54,8 @@ pub struct Desk {
     /// No open follower is noted at a place of the log before this one, which is at most the length. So none can be full while the log
     /// is less than a capacity beyond it.
     pub(crate) least_noted: u64,
+    /// No slot before this one is noted vacant. So a vacant slot is looked for from here on.
+    pub(crate) least_vacant: u64,
 }
 
 impl Model for Desk {
@@ -64,7 +67,7 @@ impl Model for Desk {
 
     ghost view = { λ d. record { table = d.seat.table_id; knows = d.seat.me.0 } };
 
-    ghost invariant = { λ d. IsDesk (arc_value d.table).shared.table_id (arc_value d.table).shared.key d.seat d.setup d.len d.least_noted d.notes.items (vec_capacity d.notes) };
+    ghost invariant = { λ d. IsDesk (arc_value d.table).shared.table_id (arc_value d.table).shared.key d.seat d.setup d.len d.least_noted d.least_vacant d.notes.items (vec_capacity d.notes) };
 }
 
 impl Desk {
@@ -93,6 +96,7 @@ impl Desk {
             len: 0,
             notes,
             least_noted: 0,
+            least_vacant: 0,
         })
     }
 
@@ -144,7 +148,9 @@ impl Desk {
     {
         let shared = &self.table.shared;
         let word = shared.load::<Check>(&mut self.seat, cursor_at(slot));
-        renew(&mut self.notes[slot as usize], word)
+        let note = renew(&mut self.notes[slot as usize], word);
+        self.least_vacant = least_vacant_with(self.least_vacant, slot, note);
+        note
     }
 
     /// Closes the follower in the slot if its cursor is still open at `next`, as it was when it was last loaded.
@@ -166,6 +172,7 @@ impl Desk {
             note_after(self.notes[slot as usize], word)
         };
         self.notes[slot as usize] = note;
+        self.least_vacant = least_vacant_with(self.least_vacant, slot, note);
     }
 
     /// Whether the follower in the slot may be full, according to its note.
@@ -292,12 +299,20 @@ impl Desk {
         ensures first { IfSome result (λ k. NoneVacantBelow k self.now.knows) }
         ensures sound { IsSound self.now.knows }
     {
-        for slot in 0..self.notes.len() {
+        for slot in self.least_vacant as usize..self.notes.len() {
             if let Note::Vacant = self.notes[slot] {
                 return Some(slot as u64);
             }
         }
         None
+    }
+
+    /// Lets the next search begin at this slot. None before it is noted vacant.
+    pub(crate) fn pass_over(&mut self, slot: u64)
+        requires { NoneVacantBelow slot self.old.knows }
+        ensures kept { self.new ≡ self.old }
+    {
+        self.least_vacant = slot;
     }
 
     /// Loads each cursor once, in the order of their slots, and notes what they say.
@@ -325,6 +340,7 @@ impl Desk {
         ensures sound { IsSound self.new.knows }
     {
         if let Some(slot) = self.vacant() {
+            self.pass_over(slot);
             return Some(slot);
         }
         self.check_all();
@@ -386,7 +402,8 @@ impl Desk {
         follower.seen = length_in(status);
         follower.outcome = outcome_in(status);
         follower.closing = closing_in(cursor);
-        let note = self.notes[slot];
-        self.notes[slot] = note_after(note, cursor);
+        let note = note_after(self.notes[slot], cursor);
+        self.notes[slot] = note;
+        self.least_vacant = least_vacant_with(self.least_vacant, follower.slot, note);
     }
 }

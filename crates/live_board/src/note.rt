@@ -1,5 +1,9 @@
 //! What a board knows of its cursors.
 
+ghost use Rattle.std.specs.Prelude.{◌≡◌, ◌<◌};
+ghost use Rattle.c960_game.specs.declared.limits.TheConstants.{MOST_FOLLOWERS};
+ghost use Rattle.live_board.specs.Seats.{least_vacant_with};
+
 /// What the board notes of a slot.
 #[derive(Clone, Copy, PartialEq, Eq, Debug)]
 pub enum Note {
@@ -14,4 +18,16 @@ pub enum Note {
     },
     /// A follower that was closed at this length, or nobody if it has since left.
     Closed(u64),
+}
+
+/// The slot before which none is noted vacant once this is noted of a slot. Until then none was before `least`.
+pub(crate) fn least_vacant_with(least: u64, slot: u64, note: Note) -> u64
+    requires { slot < MOST_FOLLOWERS }
+    ensures { result ≡ least_vacant_with least slot note }
+{
+    match note {
+        Note::Vacant => least.min(slot),
+        _ if slot == least => least + 1,
+        _ => least,
+    }
 }

@@ -30,6 +30,9 @@ same_open i j x y e = cc
 pub vacant_open : (j b : ℕ) → Vacant ≡ Open j b → ⊥
 vacant_open j b e = cc
 
+pub vacant_closed : (c : ℕ) → Vacant ≡ Closed c → ⊥
+vacant_closed c e = cc
+
 pub closed_open : (c j b : ℕ) → Closed c ≡ Open j b → ⊥
 closed_open c j b e = cc
 

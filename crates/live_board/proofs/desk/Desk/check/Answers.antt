@@ -4,7 +4,7 @@ use lib.ListN.{get_elem?}
 use Rattle.atomic_table.proofs.Lists.{set_here}
 use Rattle.live_board.specs.declared.note.Note.{Note}
 use Rattle.live_board.specs.declared.view.View.{View}
-use Rattle.live_board.proofs.Desks.{desk_of, none_before_loaded, noted_is, noted_there}
+use Rattle.live_board.proofs.Desks.{desk_of, none_before_loaded, none_vacant_noted, noted_is, noted_there}
 use Rattle.live_board.specs.Sound.{Follows}
 use Rattle.live_board.specs.Words.{note_after}
 use Rattle.live_board.specs.Views.{noted}
@@ -43,8 +43,9 @@ invariant_of-self c =
     let at-slot : slot + 2 - 2 ≡ slot = omega arith in
     let follows : Follows x (note_after x n) = (f.2.2 i.owns x (ap (λ (y : ℕ). get_elem? v.notes (y - 2)) c.cursor_at.ensures ∙ ap (get_elem? v.notes) at-slot ∙ there)).0 in
     desk_of _ f.2.1 (f.0 ∙ i.table) i.words i.key_is i.owns i.setup_is i.len_is
-    ((λ k. set (i.notes_are k) slot (c.renew.ensures.note k)) ∙ noted_is v.notes slot n x (note_read v.notes slot x there) ∙ ap (λ (y : ℕ). (noted y n v).notes) (sym c.cursor_at.ensures))
-    (subst (λ m. NoneBefore c.self.inside.least_noted (set c.self.inside.notes.items slot m)) (sym c.renew.ensures.note) (none_before_loaded i slot x (note_after x n) there follows)) i.least_low i.room_is
+    ((λ k. set (i.notes_are k) slot (c.renew-note.ensures.note k)) ∙ noted_is v.notes slot n x (note_read v.notes slot x there) ∙ ap (λ (y : ℕ). (noted y n v).notes) (sym c.cursor_at.ensures))
+    (subst (λ m. NoneBefore c.self.inside.least_noted (set c.self.inside.notes.items slot m)) (sym c.renew-note.ensures.note) (none_before_loaded i slot x (note_after x n) there follows)) i.least_low
+    (none_vacant_noted _ _ slot _ _ _ i.vacant_is c.least_vacant_with-self-inside.ensures (c.renew-note.ensures.result ∙ sym c.renew-note.ensures.note)) i.room_is
     (f.2.0.0 ∙ i.none_held) f.2.0.1
 
 -- the note that was made is in its slot
@@ -60,4 +61,4 @@ returns-clause-note c =
     ap (λ (u : View). get_elem? u.notes c.args.slot) (c.load-word.ensures.2.1 ∙ ap (λ (y : ℕ). noted y c.load-word.result v) c.cursor_at.ensures)
     ∙ ap (λ (l : List Note). get_elem? l c.args.slot) (sym (noted_is v.notes c.args.slot c.load-word.result x (note_read v.notes c.args.slot x there)))
     ∙ set_here v.notes c.args.slot (note_after x c.load-word.result) low
-    ∙ ap some (sym c.renew.ensures.result)
+    ∙ ap some (sym c.renew-note.ensures.result)

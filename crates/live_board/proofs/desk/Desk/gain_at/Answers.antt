@@ -78,7 +78,7 @@ invariant_of-self c =
     let i = c.self.invariant in
     let f = c.load-code.ensures in
     let g = c.fetch_add-cursor.ensures in
-    desk_of _ (now c) (g.0 ∙ f.0 ∙ i.table) i.words i.key_is i.owns i.setup_is i.len_is i.notes_are i.least_is i.least_low i.room_is (g.2.0.0 ∙ f.2.0.0 ∙ i.none_held) g.2.0.1
+    desk_of _ (now c) (g.0 ∙ f.0 ∙ i.table) i.words i.key_is i.owns i.setup_is i.len_is i.notes_are i.least_is i.least_low i.vacant_is i.room_is (g.2.0.0 ∙ f.2.0.0 ∙ i.none_held) g.2.0.1
 
 pub returns-clause-move_is : goal.returns-clause-move_is
 returns-clause-move_is c =

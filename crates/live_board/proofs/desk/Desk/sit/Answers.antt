@@ -32,7 +32,7 @@ invariant_of-self c =
     let v = c.self-2.inside.seat.me.0 in
     let e = c.split_seat-seat.ensures in
     let view = ap (λ m. m.0) e.2 in
-    desk_of (kept_part v) view (e.0 ∙ i.table) i.words i.key_is i.owns i.setup_is i.len_is i.notes_are i.least_is i.least_low i.room_is (ap (λ m. m.1) e.2 ∙ i.none_held) (subst IsSound (sym view) (kept_sound v i.sound))
+    desk_of (kept_part v) view (e.0 ∙ i.table) i.words i.key_is i.owns i.setup_is i.len_is i.notes_are i.least_is i.least_low i.vacant_is i.room_is (ap (λ m. m.1) e.2 ∙ i.none_held) (subst IsSound (sym view) (kept_sound v i.sound))
 
 pub returns-clause-sound : goal.returns-clause-sound
 returns-clause-sound c = subst IsSound (sym (ap (λ m. m.0) c.split_seat-seat.ensures.2)) (kept_sound c.self-2.inside.seat.me.0 c.self-2.invariant.sound)

@@ -1,8 +1,9 @@
-use Rattle.std.proofs.Common.{arith, sym, ap, ◌∙◌, ◌<◌, ◌≡◌, length}
+use Rattle.std.proofs.Common.{arith, sym, ap, ◌∙◌, ◌<◌, ◌≡◌, length, List}
 use lib.ListN.{get_elem?}
 use mathlib.Core.Option.{some, some-injective}
 use mathlib.Core.Logic.{dite}
 use native.Mathlib.Decide.{ℕ_discrete}
+use Rattle.live_board.specs.declared.note.Note.{Note}
 use Rattle.live_board.specs.Seats.{BoardSeat}
 use Rattle.live_board.proofs.lemmas.Notes.{at_within}
 use Rattle.live_board.proofs.Desks.{noted_there}
@@ -19,6 +20,11 @@ returns-in-Vacant-clause-slot c =
 
 pub returns-in-Vacant-clause-first : goal.returns-in-Vacant-clause-first
 returns-in-Vacant-clause-first c = c.loop-slot.invariant
+
+pub loop-slot-init : goal.loop-slot-init
+loop-slot-init c = λ j less e.
+    let i = c.self.invariant in
+    i.vacant_is j less (ap (λ (l : List Note). get_elem? l j) i.notes_are ∙ ap (λ (h : BoardSeat). get_elem? h.knows.notes j) c.self.view_is ∙ e)
 
 pub loop-slot-preserved : goal.loop-slot-preserved
 loop-slot-preserved c = λ j less e.
