@@ -15,7 +15,7 @@ ghost use Rattle.live_board.specs.Sound.{IsSound};
 ghost use Rattle.live_board.specs.Views.{each_part, finished, followed, left_at, sees};
 ghost use Rattle.live_board.specs.Board.{game_of};
 ghost use Rattle.live_board.specs.Carried.{closing_at, due_at, TookAt};
-ghost use Rattle.live_board.specs.Desk.{Submitted};
+ghost use Rattle.live_board.specs.Desk.{NoneVacantBelow, Submitted};
 ghost use Rattle.live_board.specs.Seats.{BoardSeat};
 ghost use Rattle.relay_live.specs.Live.{IsSeated, Swapped, held_in};
 
@@ -78,10 +78,10 @@ pub(crate) fn take_for(boards: &mut IndexMap<BoardKey, Board>, seated: Seated) -
     live.take_at(seated.slot, seated.joined + seated.taken)
 }
 
-/// Lets a follower join in a vacant slot of a board. It takes from a place of its log on.
+/// Lets a follower join in the first vacant slot of a board. It takes from a place of its log on.
 pub(crate) fn join(boards: &mut IndexMap<BoardKey, Board>, board: BoardKey, slot: u64, from: u16)
     requires { (b : BoardSeat) × (lookup (same_name board) boards.old.entries ≡ Some b)
-        × (slot < b.knows.setup.limits.followers) × (get_elem? b.knows.notes slot ≡ some Vacant)
+        × (slot < b.knows.setup.limits.followers) × (get_elem? b.knows.notes slot ≡ some Vacant) × NoneVacantBelow slot b.knows
         × (from ≤ length b.knows.log) × (length b.knows.log ≤ from + b.knows.setup.limits.capacity) }
     ensures swapped { Swapped (λ b c. (c.knows ≡ followed slot from b.knows) × IsSound c.knows) board boards.old.entries boards.new.entries }
     ensures room { spare boards.new ≡ spare boards.old }
@@ -89,7 +89,7 @@ pub(crate) fn join(boards: &mut IndexMap<BoardKey, Board>, board: BoardKey, slot
     let Some(live) = boards.get_mut(&board) else {
         unreachable!();
     };
-    live.join_at(slot, from);
+    live.join_first(slot, from);
 }
 
 /// Removes a spectator that is seated at a board, and returns what it has had.

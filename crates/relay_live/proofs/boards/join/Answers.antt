@@ -4,23 +4,30 @@ use mathlib.Core.Option.{some}
 use lib.ListN.{get_elem?}
 use Rattle.std.specs.Option.{option_copied_mut}
 use Rattle.live_board.specs.declared.note.Note.TheVariants.{Vacant}
+use Rattle.live_board.specs.Desk.{NoneVacantBelow}
 use Rattle.live_board.specs.Seats.{BoardSeat}
 use Rattle.relay_live.proofs.boards.join.Goals as goal
 
-pub join_at-requires-clause-inside : goal.join_at-requires-clause-inside
-join_at-requires-clause-inside c =
+pub join_first-requires-clause-inside : goal.join_first-requires-clause-inside
+join_first-requires-clause-inside c =
     let s = c.requires in
     let is : c.in-Some.live.now ≡ s.0 = same_Some _ _ (sym (ap option_copied_mut c.in-Some.is) ∙ c.get_mut.ensures.value ∙ s.1) in
     subst (λ (h : BoardSeat). c.args.slot < h.knows.setup.limits.followers) (sym is) s.2
 
-pub join_at-requires-clause-vacant : goal.join_at-requires-clause-vacant
-join_at-requires-clause-vacant c =
+pub join_first-requires-clause-vacant : goal.join_first-requires-clause-vacant
+join_first-requires-clause-vacant c =
     let s = c.requires in
     let is : c.in-Some.live.now ≡ s.0 = same_Some _ _ (sym (ap option_copied_mut c.in-Some.is) ∙ c.get_mut.ensures.value ∙ s.1) in
     subst (λ (h : BoardSeat). get_elem? h.knows.notes c.args.slot ≡ some Vacant) (sym is) s.3
 
-pub join_at-requires-clause-from : goal.join_at-requires-clause-from
-join_at-requires-clause-from c =
+pub join_first-requires-clause-first : goal.join_first-requires-clause-first
+join_first-requires-clause-first c =
     let s = c.requires in
     let is : c.in-Some.live.now ≡ s.0 = same_Some _ _ (sym (ap option_copied_mut c.in-Some.is) ∙ c.get_mut.ensures.value ∙ s.1) in
-    subst (λ (h : BoardSeat). (c.args.from ≤ length h.knows.log) × (length h.knows.log ≤ c.args.from + h.knows.setup.limits.capacity)) (sym is) (s.4, s.5)
+    subst (λ (h : BoardSeat). NoneVacantBelow c.args.slot h.knows) (sym is) s.4
+
+pub join_first-requires-clause-from : goal.join_first-requires-clause-from
+join_first-requires-clause-from c =
+    let s = c.requires in
+    let is : c.in-Some.live.now ≡ s.0 = same_Some _ _ (sym (ap option_copied_mut c.in-Some.is) ∙ c.get_mut.ensures.value ∙ s.1) in
+    subst (λ (h : BoardSeat). (c.args.from ≤ length h.knows.log) × (length h.knows.log ≤ c.args.from + h.knows.setup.limits.capacity)) (sym is) (s.5, s.6)

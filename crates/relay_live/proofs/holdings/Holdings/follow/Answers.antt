@@ -1,9 +1,11 @@
-use Rattle.std.proofs.Common.{◌≡◌, ◌-◌, ◌≤◌, sym, refl, ap, ◌∙◌, length, nat_eq, is_some, unwrap_or, None, Some, Ok, arith}
+use Rattle.std.proofs.Common.{◌≡◌, ◌-◌, ◌≤◌, ℕ, Option, sym, refl, ap, subst, ◌∙◌, length, nat_eq, is_some, unwrap_or, None, Some, Ok, arith}
+use Rattle.std.specs.Prelude.{IfSome}
 use Rattle.std.specs.Map.{lookup}
 use Rattle.std.specs.Option.{option_copied}
 use Rattle.std.proofs.lemmas.Option.{none-some}
 use Rattle.c960_game.proofs.lemmas.LogFacts.{position_made}
 use Rattle.live_board.specs.declared.setup.BoardSetup.{BoardSetup}
+use Rattle.live_board.specs.Desk.{NoneVacantBelow}
 use Rattle.relay_core.specs.declared.reply.Reply.TheVariants.{Following}
 use Rattle.relay_core.specs.declared.step.Step.TheVariants.{Follow}
 use Rattle.relay_core.specs.Name.{same_name}
@@ -115,7 +117,8 @@ join-requires c =
     let b = c.in-Some.live.now in
     let v = found_vacant b.knows c.vacant_slot-vacant.result c.in-Some-vacant.slot c.in-Some-vacant.is c.vacant_slot-vacant.ensures.slot in
     let capacity : b.knows.setup.limits.capacity ≡ c.self.inside.limits.capacity = ap (λ (s : BoardSetup). s.limits.capacity) (c.self.invariant.0.setups c.args.board b (there m)) in
-    (b, there m, v.0, v.1, w.1, omega (arith, capacity, w.1, w.2))
+    let first = subst (λ (o : Option ℕ). IfSome o (λ k. NoneVacantBelow k b.knows)) c.in-Some-vacant.is c.vacant_slot-vacant.ensures.first in
+    (b, there m, v.0, v.1, first, w.1, omega (arith, capacity, w.1, w.2))
 
 pub invariant_of-self-2 : goal.invariant_of-self-2
 invariant_of-self-2 c =
