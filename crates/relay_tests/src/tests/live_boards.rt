@@ -8,6 +8,7 @@ mod long;
 mod memory;
 mod plain;
 mod random;
+mod slots;
 mod stage;
 mod table;
 mod threads;

@@ -13,5 +13,6 @@ mod places;
 mod plain;
 mod plies;
 mod random;
+mod slots;
 mod table;
 mod threads;

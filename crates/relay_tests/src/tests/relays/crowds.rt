@@ -32,13 +32,13 @@ fn leaver(order: Order, others: u32) -> Spectator {
 
 /// The two kinds of relay, given the same steps.
 #[derive(Drop)]
-struct Both {
-    plain: Relay,
-    live: LiveRelay,
+pub struct Both {
+    pub plain: Relay,
+    pub live: LiveRelay,
 }
 
 /// Asserts that both answer a step alike. Returns whether they accept it.
-fn ask(rt: &impl Abort, both: &mut Both, step: &Step) -> bool {
+pub fn ask(rt: &impl Abort, both: &mut Both, step: &Step) -> bool {
     let plain = both.plain.step(*step);
     let live = both.live.step(*step);
     assert!(rt; live == plain);

@@ -1,0 +1,83 @@
+//! The slots of a live board, which are given out again once they are left.
+
+use crate::tests::relays::crowds::{Both, ask};
+use crate::tests::relays::table::limits_of;
+use crate::tests::values::board_of;
+use relay_core::{BoardName, Relay, Spectator, Step};
+use relay_live::{Board, LiveRelay};
+use std::alloc::{AllocError, Global};
+use std::process::Abort;
+use std::test::Fail;
+
+/// How many may follow.
+const MOST: u32 = 6;
+
+/// How often two leave and follow again.
+const ROUNDS: u32 = 3;
+
+/// Two leave and follow again, while one more asks in vain.
+fn swap_places(
+    rt: &impl Abort,
+    both: &mut Both,
+    board: BoardName,
+    first: Spectator,
+    second: Spectator,
+) {
+    assert!(rt; ask(rt, both, &Step::Leave(first)));
+    assert!(rt; ask(rt, both, &Step::Leave(second)));
+    assert!(rt; ask(rt, both, &Step::Follow(first, board, None)));
+    assert!(rt; ask(rt, both, &Step::Follow(second, board, None)));
+    assert!(rt; !ask(rt, both, &Step::Follow(MOST, board, None)));
+}
+
+/// Asserts that only this slot is vacant.
+fn assert_vacant(rt: &impl Abort, board: &Board, vacant: u32) {
+    for slot in 0..MOST {
+        let cursor = board.word(u64::from(slot) + 2);
+        assert!(rt; (cursor == Some(0)) == (slot == vacant), "slot {slot}");
+    }
+}
+
+/// Asserts that of two slots that were left a newcomer has the lower one, also after both were left and taken several times.
+fn assert_lower(
+    rt: &impl Abort,
+    alloc: Global,
+    first: Spectator,
+    second: Spectator,
+) -> Result<(), AllocError> {
+    let limits = limits_of(rt, (1, MOST as u16, 64, 64));
+    let board = board_of(rt, "crowded");
+    let mut both = Both {
+        plain: Relay::new(alloc, limits)?,
+        live: LiveRelay::new(alloc, limits)?,
+    };
+    assert!(rt; ask(rt, &mut both, &Step::Open(board, 518)));
+    // Each has the slot of its own number.
+    for who in 0..MOST {
+        assert!(rt; ask(rt, &mut both, &Step::Follow(who, board, None)));
+    }
+    for _ in 0..ROUNDS {
+        swap_places(rt, &mut both, board, first, second);
+    }
+    assert!(rt; ask(rt, &mut both, &Step::Leave(first)));
+    assert!(rt; ask(rt, &mut both, &Step::Leave(second)));
+    assert!(rt; ask(rt, &mut both, &Step::Follow(first, board, None)));
+    let Both { plain: _, live } = both;
+    let Some(board) = live.into_board(&board) else {
+        panic!(rt; "no board");
+    };
+    assert_vacant(rt, &board, first.max(second));
+    Ok(())
+}
+
+#[test]
+fn the_lowest_slot_that_was_left_is_given_out_first(rt: HostRuntime) -> Result<(), Fail> {
+    for first in 0..MOST {
+        for second in 0..MOST {
+            if first != second {
+                assert_lower(&rt, rt.alloc(), first, second)?;
+            }
+        }
+    }
+    Ok(())
+}
