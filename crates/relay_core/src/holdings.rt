@@ -40,6 +40,8 @@ impl Model for Holdings {
     ghost invariant = { λ h. IsKept (held_of h) × HasRoom h };
 }
 
+// The functions marked `inline(never)` make one kind of step each. Inlined into `step`, the replies of all kinds would share their buffers:
+// each would be put together byte by byte and copied twice, with the room of the largest cleared first.
 impl Holdings {
     /// Holdings without boards, with room for as many as the limits allow.
     pub(crate) fn new(alloc: Global, limits: Limits) -> Result<Holdings, AllocError>
@@ -53,6 +55,7 @@ impl Holdings {
     }
 
     /// Opens a board with a game from a numbered start. Refused: `BoardExists`, `BadStart`, `TooManyBoards`, `OutOfMemory`.
+    #[inline(never)]
     fn open(&mut self, alloc: Global, board: BoardName, start: u16) -> Reply
         ensures stands { Leads self.old.shown self.new.shown (Step.Open board start) result }
         ensures refused { is_accepted result ≡ false → self.new.shown ≡ self.old.shown }
@@ -70,6 +73,7 @@ impl Holdings {
 
     /// Makes a move on a board and offers it to the board's followers. Refused: `NoSuchBoard`, `GameOver`, `LogFull`,
     /// `Illegal`.
+    #[inline(never)]
     fn submit(&mut self, board: BoardName, m: Move) -> Reply
         ensures stands { Leads self.old.shown self.new.shown (Step.Submit board m) result }
         ensures refused { is_accepted result ≡ false → self.new.shown ≡ self.old.shown }
@@ -85,6 +89,7 @@ impl Holdings {
     }
 
     /// Ends the game of a board. Refused: `NoSuchBoard`, `GameOver`, `ClaimRefused`.
+    #[inline(never)]
     fn end(&mut self, board: BoardName, ending: Ending) -> Reply
         ensures stands { Leads self.old.shown self.new.shown (Step.End board ending) result }
         ensures refused { is_accepted result ≡ false → self.new.shown ≡ self.old.shown }
@@ -99,6 +104,7 @@ impl Holdings {
 
     /// Lets a spectator follow a board from a place of its log on, or from now on. Refused: `NoSuchBoard`, `FollowerExists`,
     /// `NotYet`, `TooFarBack`, `TooManyFollowers`, `OutOfMemory`.
+    #[inline(never)]
     #[tactic(auto, using(c960_game::proofs::lemmas::LogFacts::position_made))]
     fn follow(
         &mut self,
@@ -133,6 +139,7 @@ impl Holdings {
     }
 
     /// Takes the spectator's next move. Refused: `NoSuchFollower`.
+    #[inline(never)]
     fn take(&mut self, who: Spectator) -> Reply
         ensures stands { Leads self.old.shown self.new.shown (Step.Take who) result }
         ensures refused { is_accepted result ≡ false → self.new.shown ≡ self.old.shown }
@@ -147,6 +154,7 @@ impl Holdings {
     }
 
     /// Ends a spectator's following. Refused: `NoSuchFollower`.
+    #[inline(never)]
     fn leave(&mut self, who: Spectator) -> Reply
         ensures stands { Leads self.old.shown self.new.shown (Step.Leave who) result }
         ensures refused { is_accepted result ≡ false → self.new.shown ≡ self.old.shown }
