@@ -3,6 +3,7 @@ mod NameFacts
 mod NameText
 mod BoardKept
 mod Orders
+mod Seatings
 mod Facts
 mod Lawful
 mod Queue

@@ -21,10 +21,17 @@ pub fields_of_name : (text : List ℕ) → IsName text
 fields_of_name text name = rw (take-append_seam text (replicate {A = ℕ} (32 - length text) 0)) (is_short text name, name, refl)
 
 -- names of different tags differ
-pub told_apart : (a b : List ℕ) (x y : ℕ) → x ≡ tag_of a → y ≡ tag_of b → (x ≡ y → ⊥) → nat_eq x y ≡ same_name a b
-told_apart a b x y p q differ = by (nat_eq x y) refl (same_name a b) refl
+pub apart : (a b : List ℕ) → (tag_of a ≡ tag_of b → ⊥) → same_name a b ≡ false
+apart a b differ = by (same_name a b) refl
   where
-    by : (s : Bool) → nat_eq x y ≡ s → (t : Bool) → same_name a b ≡ t → s ≡ t
-    by true e t h = absurd (differ (eqb-true x y e))
-    by false e false h = refl
-    by false e true h = absurd (differ (p ∙ ap tag_of (same_name_is a b h) ∙ sym q))
+    by : (s : Bool) → same_name a b ≡ s → s ≡ false
+    by false e = refl
+    by true e = absurd (differ (ap tag_of (same_name_is a b e)))
+
+-- the compare of different tags tells that the names differ
+pub told_apart : (a b : List ℕ) (x y : ℕ) → x ≡ tag_of a → y ≡ tag_of b → (x ≡ y → ⊥) → nat_eq x y ≡ same_name a b
+told_apart a b x y p q differ = by (nat_eq x y) refl
+  where
+    by : (s : Bool) → nat_eq x y ≡ s → s ≡ same_name a b
+    by false e = sym (apart a b (λ same. differ (p ∙ same ∙ sym q)))
+    by true e = absurd (differ (eqb-true x y e))

@@ -220,7 +220,7 @@ module _ {V : Type 0} where
   -- ---- What keeps an order.
 
   module _ (order : List ℕ) (es fs : List (ℕ × V)) (was : IsOrderOf order es) where
-    pub changed : ((q : ℕ) → is_some (lookup (nat_eq q) fs) ≡ is_some (lookup (nat_eq q) es)) → IsOrderOf order fs
+    changed : ((q : ℕ) → is_some (lookup (nat_eq q) fs) ≡ is_some (lookup (nat_eq q) es)) → IsOrderOf order fs
     changed h = record { once = was.once; same = λ q. was.same q ∙ sym (h q) }
 
     pub keys_kept : keys_of fs ≡ keys_of es → IsOrderOf order fs
@@ -268,14 +268,6 @@ module _ {V W : Type 0} (f : V → W) where
       front_shown w (lookup (nat_eq w) es) (in_order ws es)
       ∙ ap (λ o. in_front w o (shown f (in_order ws es))) (sym (lookup-map (nat_eq w) f es))
       ∙ ap (in_front w (lookup (nat_eq w) (shown f es))) (shown-in_order ws es)
-
-  -- the same keys have an entry
-  pub is_some-shown : (es : List (ℕ × V)) (q : ℕ) → is_some (lookup (nat_eq q) (shown f es)) ≡ is_some (lookup (nat_eq q) es)
-  is_some-shown es q = ap is_some (lookup-map (nat_eq q) f es) ∙ by (lookup (nat_eq q) es)
-    where
-      by : (o : Option V) → is_some (option_map f o) ≡ is_some o
-      by None = refl
-      by (Some v) = refl
 
 -- a value that is written in the place of another
 pub written : {V W : Type 0} (f : V → W) (order : List ℕ) (es : List (ℕ × V)) (k : ℕ) (v w : V) → lookup (nat_eq k) es ≡ Some v → f w ≡ f v

@@ -4,3 +4,4 @@ pub mod Order
 pub mod Maps
 pub mod HoldingsFields
 pub mod Tag
+pub mod Seating

@@ -4,6 +4,7 @@ ghost use Rattle.std.specs.Prelude.{◌≡◌, ◌+◌, ◌-◌, ◌≤◌, ◌<
 ghost use Rattle.std.specs.Map.{lookup};
 ghost use Rattle.relay_core.specs.BoardAnswers.{outcome_at};
 ghost use Rattle.relay_core.specs.Held.Followers.{HasPlaces, account_of, joining, offered, popped};
+ghost use Rattle.relay_core.specs.Inner.Tag.{tag_of};
 ghost use Rattle.relay_core.specs.Name.{same_name};
 ghost use Rattle.relay_core.specs.Replies.{taken_of};
 
@@ -86,6 +87,13 @@ impl QueueFollower {
         ensures { result ≡ self.now.board }
     {
         self.board.name()
+    }
+
+    /// The tag of the board followed.
+    pub(crate) fn tag(&self) -> u32
+        ensures { result ≡ tag_of self.now.board }
+    {
+        self.board.tag()
     }
 
     /// Whether it follows this board.

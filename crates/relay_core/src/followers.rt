@@ -25,23 +25,29 @@ use std::marker::Model;
 pub(crate) struct Followers {
     /// The followers, in any order: when a spectator leaves, at most one other moves, wherever it stood.
     seats: IndexMap<Spectator, QueueFollower>,
+    /// The tag of each follower's board, at the follower's place in the map. Names of different tags differ, so what concerns one board passes
+    /// over the followers of others by 4 bytes each, of the 80 that each has.
+    tags: Vec<u32>,
     /// The order of joining, which only contracts read.
     order: JoiningOrder,
 }
 
 impl Model for Followers {
+    ghost use Rattle.std.specs.Prelude.{◌-◌, min};
     ghost use Rattle.std.specs.HashMap.{spare};
+    ghost use Rattle.std.specs.Vec.{vec_capacity, vec_len};
     ghost use Rattle.relay_core.specs.Inner.Maps.{HeldFollowers};
-    ghost use Rattle.relay_core.specs.Inner.Order.{IsOrderOf, in_order};
+    ghost use Rattle.relay_core.specs.Inner.Order.{in_order};
+    ghost use Rattle.relay_core.specs.Inner.Seating.{IsSeating};
 
     ghost Value = { HeldFollowers };
 
     ghost view = { λ f. record {
       entries = in_order f.order.spectators f.seats.entries;
-      room = spare f.seats;
+      room = min (spare f.seats) (vec_capacity f.tags - vec_len f.tags);
     } };
 
-    ghost invariant = { λ f. IsOrderOf f.order.spectators f.seats.entries };
+    ghost invariant = { λ f. IsSeating f.order.spectators f.tags.items f.seats.entries };
 }
 
 impl Followers {
@@ -51,6 +57,7 @@ impl Followers {
     {
         Followers {
             seats: IndexMap::new(alloc),
+            tags: Vec::new(alloc),
             order: JoiningOrder::new(),
         }
     }
@@ -62,26 +69,32 @@ impl Followers {
         self.seats.contains_key(&who)
     }
 
-    /// How many spectators follow a board.
+    /// How many spectators follow a board. The followers of other tags are passed over.
     pub(crate) fn count(&self, board: BoardName) -> usize
         ensures { result ≡ count_by (λ e. same_name board e.1.board) self.now.entries }
     {
         let tagged = TaggedName::new(board);
-        self.seats
-            .iter()
-            .filter(|(_, follower)| follower.follows(&tagged))
-            .count()
+        let mut count = 0;
+        for i in 0..self.seats.len() {
+            if self.tags[i] == tagged.tag() && self.seats[i].follows(&tagged) {
+                count += 1;
+            }
+        }
+        count
     }
 
-    /// Offers a move made on a board at a place to each follower. It allocates nothing.
+    /// Offers a move made on a board at a place to each follower. It allocates nothing. Those of other tags, which it would not change, are
+    /// passed over.
     pub(crate) fn publish(&mut self, board: BoardName, place: u16, m: Move)
         ensures entries { self.new.entries ≡ published board place m self.old.entries }
         ensures room { self.new.room ≡ self.old.room }
     {
         let tagged = TaggedName::new(board);
-        for i in 0..self.seats.len() {
-            let (_, follower) = self.seats.pair_mut(i);
-            follower.offer(&tagged, place, m);
+        for i in 0..self.tags.len() {
+            if self.tags[i] == tagged.tag() {
+                let (_, follower) = self.seats.pair_mut(i);
+                follower.offer(&tagged, place, m);
+            }
         }
     }
 
@@ -118,13 +131,17 @@ impl Followers {
         ensures err { OnErr result (self.new.entries ≡ self.old.entries) }
     {
         let follower = QueueFollower::new(alloc, board, place, game, capacity)?;
+        let tag = follower.tag();
+        // Its room comes first: once the follower is in, nothing can fail.
+        self.tags.reserve(1)?;
         self.seats.insert(who, follower)?;
+        self.tags.push_reserved(tag);
         self.order = self.order.joined(&who);
         Ok(())
     }
 
-    /// Removes a spectator: the last one of the map takes its place. The room does not shrink: the map's contract says no more about a
-    /// removal.
+    /// Removes a spectator: the last one of the map takes its place, and so does the last tag. The room does not shrink: the map's contract
+    /// says no more about a removal.
     pub(crate) fn remove(&mut self, who: Spectator) -> Option<QueueFollower>
         ensures value { result ≡ lookup (nat_eq who) self.old.entries }
         ensures updates { (q : ℕ) → lookup (nat_eq q) self.new.entries
@@ -133,7 +150,8 @@ impl Followers {
         ensures none { IfNone result (self.new.entries ≡ self.old.entries) }
         ensures room { self.old.room ≤ self.new.room }
     {
-        let follower = self.seats.swap_remove(&who)?;
+        let (place, _, follower) = self.seats.swap_remove_full(&who)?;
+        self.tags.swap_remove(place);
         self.order = self.order.left(&who);
         Some(follower)
     }

@@ -43,6 +43,14 @@ impl TaggedName {
         self.name
     }
 
+    /// Its tag.
+    #[inline(always)]
+    pub(crate) fn tag(&self) -> u32
+        ensures { result ≡ tag_of self.now }
+    {
+        self.tag
+    }
+
     /// Whether the names are the same. Names of different tags differ, so that the bytes are compared only where the tags are equal.
     #[inline(always)]
     pub(crate) fn is_same(&self, other: &TaggedName) -> bool

@@ -17,6 +17,13 @@ module _ {K V : Type 0} (f : V → V) where
   done_one_more (x ∷ xs) zero k v h = let e : x ≡ (k, v) = cc in ap (λ (p : K × V). (x.0, f p.1) ∷ xs) (sym e)
   done_one_more (x ∷ xs) (suc i) k v h = ap (λ t. (x.0, f x.1) ∷ t) (done_one_more xs i k v h)
 
+  -- one that stays as it is need not be written
+  pub done_as_it_is : (xs : List (K × V)) (i : ℕ) → ((x : K × V) → slice_get xs i ≡ Some x → f x.1 ≡ x.1) → done_up_to i xs ≡ done_up_to (suc i) xs
+  done_as_it_is [] zero same = refl
+  done_as_it_is [] (suc i) same = refl
+  done_as_it_is (x ∷ xs) zero same = ap (λ v. (x.0, v) ∷ xs) (sym (same x refl))
+  done_as_it_is (x ∷ xs) (suc i) same = ap (λ t. (x.0, f x.1) ∷ t) (done_as_it_is xs i same)
+
   -- all are changed
   pub done_all : (xs : List (K × V)) (i : ℕ) → length xs ≤ i → done_up_to i xs ≡ map (λ e. (e.0, f e.1)) xs
   done_all [] zero all = refl

@@ -1,6 +1,7 @@
 use Rattle.std.proofs.Common.{◌≡◌, ◌++◌, take, drop, length}
 use Rattle.std.specs.HashMap.{spare}
 use Rattle.relay_core.specs.Held.Followers.{published}
+use Rattle.relay_core.specs.Inner.Seating.{IsSeating}
 use Rattle.relay_core.proofs.followers.Followers.publish.Given as goal
 
 abbrev pub invariant-loop-i : goal.invariant-loop-i
@@ -8,6 +9,8 @@ invariant-loop-i l = record {
   done : l.self-inside.seats.entries
       ≡ published l.fn.board l.place l.m (take l.i l.initial.self-inside.seats.entries) ++ drop l.i l.initial.self-inside.seats.entries;
   same : length l.self-inside.seats.entries ≡ length l.initial.self-inside.seats.entries;
+  tags : l.self-inside.tags ≡ l.initial.self-inside.tags;
   order : l.self-inside.order.spectators ≡ l.initial.self-inside.order.spectators;
+  seating : IsSeating l.self-inside.order.spectators l.self-inside.tags.items l.self-inside.seats.entries;
   room : spare l.self-inside.seats ≡ spare l.initial.self-inside.seats;
 }
