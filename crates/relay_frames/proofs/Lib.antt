@@ -3,6 +3,7 @@ pub mod Heads
 pub mod Hearings
 pub mod Moves
 pub mod Rules
+pub mod Sent
 pub mod Steps
 pub mod Texts
 pub mod Written

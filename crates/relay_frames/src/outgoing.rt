@@ -1,7 +1,7 @@
 //! The frames that a server sends: each is a whole message, without a mask (RFC 6455, sections 5.1 and 5.2). Each call appends one
 //! frame to the output, and after an error the output is as it was.
 
-ghost use Rattle.std.specs.Prelude.{◌≡◌, ◌≤◌, ◌++◌, length, OnOk, OnErr};
+ghost use Rattle.std.specs.Prelude.{◌≡◌, ◌<◌, ◌≤◌, ◌++◌, length, OnOk, OnErr};
 ghost use Rattle.relay_frames.specs.Events.{number_of};
 ghost use Rattle.relay_frames.specs.Frames.{close_frame, ping_frame, pong_frame, text_frame};
 
@@ -20,8 +20,27 @@ pub fn text(text: &str, output: &mut Vec<u8>) -> Result<(), AllocError>
     ensures ok { OnOk result (output.new.items ≡ output.old.items ++ text_frame text.now) }
     ensures err { OnErr result (output.new.items ≡ output.old.items) }
 {
+    if text.len() < 126 {
+        return short_text(text, output);
+    }
     let header = FrameHeader::new(OpCode::Data(Data::Text), None);
     write_frame(&header, text.as_bytes(), output)
+}
+
+/// The frame of a text of fewer than 126 bytes, as nearly all are. Its header is two bytes (RFC 6455, section 5.2): the first says that
+/// it is a text and a whole message, the second is the length. So there is no header to be worked out. Room is asked for once, for the
+/// whole frame: after a refusal nothing was appended, and what follows is never refused.
+#[inline(always)]
+#[tactic(auto, using(crate::proofs::Sent::short_text_sent))]
+fn short_text(text: &str, output: &mut Vec<u8>) -> Result<(), AllocError>
+    requires { length text.now < 126 }
+    ensures ok { OnOk result (output.new.items ≡ output.old.items ++ text_frame text.now) }
+    ensures err { OnErr result (output.new.items ≡ output.old.items) }
+{
+    output.reserve(text.len() + 2)?;
+    output.push_reserved(0x81);
+    output.push_reserved(text.len() as u8);
+    output.extend_from_slice(text.as_bytes())
 }
 
 /// A ping with at most 125 bytes.
