@@ -5,6 +5,8 @@ mod PlainFacts
 mod PlainReading
 mod CompactBytes
 mod CompactReading
+mod UsualReading
+mod UsualFacts
 mod Converted
 mod FirstValues
 mod Turns

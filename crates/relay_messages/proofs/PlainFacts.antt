@@ -25,7 +25,8 @@ pub members_in-push : (ms : List Member) (m : Member)
     → members_in (ms ++ m ∷ []) ≡ put m.key.now (field_data m.field) (members_in ms)
 members_in-push ms m = with_all-push no_members ms m
 
-found_or_other : (same : Bool) (name key : List ℕ) (d : Data) (ms : Members) → bytes_eq key name ≡ same
+-- a member is found, or another
+pub found_or_other : (same : Bool) (name key : List ℕ) (d : Data) (ms : Members) → bytes_eq key name ≡ same
     → get_member name (put key d ms) ≡ cond same (Some d) (get_member name ms)
 found_or_other true name key d ms is =
     let here : key ≡ name = (bytes_eq-Decides key name).0 is in

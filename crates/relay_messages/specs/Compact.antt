@@ -57,3 +57,17 @@ pub record IsSpaced (after_value : Bool) (text : List ℕ) (ts : List Token) : T
   pub gaps : AreGaps spaced
   pub tokens : map (λ p. p.1) spaced ≡ ts
   pub written : text ≡ print_spaced after_value spaced
+
+-- the member with this key and this field
+abbrev pub member_of : List ℕ → Field → Member
+member_of key field = record { key = record { ref_ptr = (0, 0); now = key }; field = field }
+
+-- behind a gap, the text is these bytes, and behind another the rest
+pub record IsBehindKey (key text rest : List ℕ) : Type 0 where
+  pub value : List ℕ
+  pub key_behind : IsBehindGap text (key ++ value)
+  pub value_behind : IsBehindGap value rest
+
+-- the text is the member with the key that is written so and with this field, and then the rest
+abbrev pub IsMemberOf : List ℕ → Field → List ℕ → List ℕ → Type 0
+IsMemberOf key field text rest = (name : List ℕ) → key ≡ token_text (Token.key name) → IsMember (member_of name field) text rest

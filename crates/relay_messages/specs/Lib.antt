@@ -7,6 +7,7 @@ pub mod Plain
 pub mod Beginnings
 pub mod Any
 pub mod Tokens
+pub mod Usual
 pub mod Compact
 pub mod Commands
 pub mod Others

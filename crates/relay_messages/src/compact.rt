@@ -2,12 +2,13 @@
 //! before a key or a value. Nearly all objects of commands are compact. Such an object is read in one pass over its bytes, without an index of
 //! them and without memory.
 
-ghost use Rattle.std.specs.Prelude.{◌≡◌, ◌≤◌, ◌<◌, ◌∷◌, ◌++◌, ℕ, ◌+◌, IfSome, OnSome, Some, decimal, false, get_or, length, true};
+ghost use Rattle.std.specs.Prelude.{◌≡◌, ◌≤◌, ◌<◌, ◌∷◌, ◌++◌, [], ℕ, ◌+◌, IfSome, OnSome, Some, decimal, false, get_or, length, true};
 ghost use Rattle.json.specs.Print.{quoted};
 ghost use Rattle.serde_json.specs.Data.{no_members, object as an_object, put};
 ghost use Rattle.serde_json.specs.Read.{read as read_text};
-ghost use Rattle.relay_messages.specs.Compact.{IsBehindGap, IsField, IsMember, IsPlainByte};
+ghost use Rattle.relay_messages.specs.Compact.{IsBehindGap, IsBehindKey, IsField, IsMember, IsMemberOf, IsPlainByte};
 ghost use Rattle.relay_messages.specs.Members.{field_data, members_in};
+ghost use Rattle.relay_messages.specs.declared.member.Field.TheVariants.{Number as ANumber, Text as AText};
 ghost use Rattle.relay_messages.specs.declared.member.Member.{Member as AMember};
 
 use crate::member::{Field, Member};
@@ -42,7 +43,7 @@ fn plain_len(bytes: &[u8]) -> usize
 }
 
 /// What follows an ASCII character, if the text begins with it.
-fn after(text: &str, first: u8) -> Option<&str>
+pub fn after(text: &str, first: u8) -> Option<&str>
     requires { first < 128 }
     ensures { IfSome result (λ rest. text.now ≡ first ∷ rest.now) }
 {
@@ -110,6 +111,28 @@ fn take_number(text: &str) -> Option<(u64, &str)>
     Some((number, rest))
 }
 
+/// What follows a key and the space behind it, if the key comes first, or behind a space. The key is written as in a text, with its colon.
+fn after_key<'a>(text: &'a str, key: &str) -> Option<&'a str>
+    ensures { IfSome result (λ rest. IsBehindKey key.now text.now rest.now) }
+{
+    let value = skip_space(text).strip_prefix(key)?;
+    Some(skip_space(value))
+}
+
+/// The text of the member with this key, if that comes first, and what follows it.
+pub fn take_text_of<'a>(text: &'a str, key: &str) -> Option<(&'a str, &'a str)>
+    ensures { IfSome result (λ taken. IsMemberOf key.now (AText taken.0) text.now taken.1.now) }
+{
+    take_text(after_key(text, key)?)
+}
+
+/// The number of the member with this key, if that comes first, and what follows it.
+pub fn take_number_of<'a>(text: &'a str, key: &str) -> Option<(u64, &'a str)>
+    ensures { IfSome result (λ taken. IsMemberOf key.now (ANumber taken.0) text.now taken.1.now) }
+{
+    take_number(after_key(text, key)?)
+}
+
 /// The text or the number that comes first, and what follows it.
 fn take_field(text: &str) -> Option<(Field<'_>, &str)>
     ensures { IfSome result (λ taken. IsField taken.0 text.now taken.1.now) }
@@ -143,24 +166,34 @@ fn add_member<'a>(object: &mut PlainObject<'a>, text: &'a str) -> Option<&'a str
     Some(rest)
 }
 
-/// Reads the compact object that a text is into an object without members, where it stays. Returns `None` if the text is not a compact object
-/// with members, or longer than one may be. The object is of no use then. The last byte is looked at first: many texts that are not compact
-/// have white space behind their object, as the lines of a file from Windows do.
-pub fn read_compact<'a>(text: &'a str, object: &mut PlainObject<'a>) -> Option<()>
-    requires { members_in object.old.members.items ≡ no_members }
-    ensures { OnSome result (read_text text.now ≡ Some (an_object (members_in object.new.members.items))) }
+/// What follows the first brace of a text that may be a compact object: it is no longer than one may be, and ends with a brace. That one is
+/// looked at first: many texts that are not compact have white space behind their object, as the lines of a file from Windows do.
+pub fn open_compact(text: &str) -> Option<&str>
+    ensures { IfSome result (λ first. text.now ≡ 123 ∷ first.now) }
 {
     if text.len() > LONGEST || text.as_bytes().last() != Some(&b'}') {
         return None;
     }
-    let first = after(text, b'{')?;
+    after(text, b'{')
+}
+
+/// Whether a text is the brace that closes a compact object, and nothing else.
+pub fn is_closed(text: &str) -> bool
+    ensures { result ≡ true → text.now ≡ 125 ∷ [] }
+{
+    text == "}"
+}
+
+/// Reads the compact object that a text is into an object without members, where it stays. Returns `None` if the text is not a compact object
+/// with members, or longer than one may be. The object is of no use then.
+pub fn read_compact<'a>(text: &'a str, object: &mut PlainObject<'a>) -> Option<()>
+    requires { members_in object.old.members.items ≡ no_members }
+    ensures { OnSome result (read_text text.now ≡ Some (an_object (members_in object.new.members.items))) }
+{
+    let first = open_compact(text)?;
     let mut rest = add_member(object, first)?;
     'members: while let Some(next) = after(rest, b',') {
         rest = add_member(object, next)?;
     }
-    if after(rest, b'}')?.is_empty() {
-        Some(())
-    } else {
-        None
-    }
+    if is_closed(rest) { Some(()) } else { None }
 }

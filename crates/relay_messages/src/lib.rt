@@ -19,6 +19,7 @@ mod pieces;
 mod plain;
 mod reading;
 mod unread;
+mod usual;
 mod watch_command;
 
 pub use answer::Answer;

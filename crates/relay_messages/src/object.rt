@@ -8,6 +8,7 @@ ghost use Rattle.relay_messages.specs.Fields.{member_count, number_at, text_at};
 use crate::any::AnyObject;
 use crate::member::Field;
 use crate::plain::PlainObject;
+use crate::usual::Usual;
 
 /// A JSON value in which members are looked up. One that is not an object has none.
 pub trait Object {
@@ -90,5 +91,50 @@ impl<'t> Object for AnyObject<'t> {
 
     fn has(&self, key: &str) -> bool {
         self.members().get(key).is_some()
+    }
+}
+
+impl<'t> Object for Usual<'t> {
+    ghost use Rattle.relay_messages.specs.Usual.{usual_data};
+
+    ghost said = { λ usual. usual_data usual };
+
+    #[inline(always)]
+    fn is_object(&self) -> bool {
+        true
+    }
+
+    #[inline(always)]
+    fn count(&self) -> usize {
+        match *self {
+            Usual::Spectator { .. } => 2,
+        }
+    }
+
+    #[inline(always)]
+    fn text<'a>(&'a self, key: &str) -> Option<&'a str> {
+        match *self {
+            Usual::Spectator { cmd, .. } => match key {
+                "cmd" => Some(cmd),
+                _ => None,
+            },
+        }
+    }
+
+    #[inline(always)]
+    fn number(&self, key: &str) -> Option<u64> {
+        match *self {
+            Usual::Spectator { spectator, .. } => match key {
+                "spectator" => Some(spectator),
+                _ => None,
+            },
+        }
+    }
+
+    #[inline(always)]
+    fn has(&self, key: &str) -> bool {
+        match *self {
+            Usual::Spectator { .. } => matches!(key, "cmd" | "spectator"),
+        }
     }
 }

@@ -14,6 +14,7 @@ use crate::fault::MessageFault;
 use crate::passing::{Beginning, Nest, pass_rest, take_beginning};
 use crate::plain::{PlainObject, read_plain};
 use crate::unread::Unread;
+use crate::usual::read_usual;
 use crate::watch_command::WatchCommand;
 use json::{Reader, Scratch};
 use relay_core::Step;
@@ -94,10 +95,13 @@ fn read_any<A: Asked>(alloc: Global, scratch: &mut Scratch, text: &str) -> Resul
     }
 }
 
-/// What a compact object asks for, or none for another text.
+/// What a compact object asks for, or none for another text. Most are usual ones, in which nothing is looked up.
 fn read_if_compact<A: Asked>(text: &str) -> Option<Result<A, MessageFault>>
     ensures { IfSome result (λ answer. answer ≡ value_says A.says (read text.now)) }
 {
+    if let Some(usual) = read_usual(text) {
+        return Some(A::of(&usual));
+    }
     let mut object = PlainObject::new();
     read_compact(text, &mut object)?;
     Some(A::of(&object))

@@ -1,5 +1,4 @@
-use Rattle.std.proofs.Common.{◌≡◌, ◌∷◌, ◌++◌, [], Some, false, ap, ◌∙◌, arith, rules, subst, sym}
-use Rattle.std.proofs.lemmas.Grind.{common_steps}
+use Rattle.std.proofs.Common.{◌∷◌, ◌++◌, [], Some, false, ap, ◌∙◌, refl, rules, subst, sym}
 use Rattle.serde_json.specs.Data.{object, put}
 use Rattle.json.specs.Token.{Token}
 use Rattle.relay_messages.proofs.CompactReading.{AreWithin64Bits-push, closed, first_written, member_tokens-push, next_written, text_read}
@@ -35,9 +34,8 @@ members-preserved c =
           (before.written _ (next_written m c.members.rest.now c.in-Some.next.now c.in_ok-rest-2.rest.now ts c.in-Some.ensures added.1 more));
     }
 
-pub returns-then-is_empty : goal.returns-then-is_empty
-returns-then-is_empty c =
+pub returns-then-is_closed : goal.returns-then-is_closed
+returns-then-is_closed c =
     let read = c.members.invariant in
-    let none : c.in_ok-after.field-0.now ≡ [] = grind (arith, common_steps) in
-    text_read c.args.text.now read.found read.within (read.written _ (closed c.members.rest.now c.in_ok-after.field-0.now c.in_ok-after.ensures none))
+    text_read c.args.text.now read.found read.within (read.written _ (closed c.members.rest.now [] (c.if-is_closed.ensures refl) refl))
     ∙ ap (λ ms. Some (object ms)) (sym read.added)

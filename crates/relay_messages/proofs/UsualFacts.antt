@@ -1,0 +1,53 @@
+-- Lemmas on the members of a usual object: which are not found under a key.
+use Rattle.std.proofs.Common.{◌≡◌, ◌≢◌, List, ℕ, Bool, true, false, cond, Option, Some, None, refl, ap, ◌∙◌, option_and_then, codes}
+use Rattle.std.specs.Str.{bytes_eq}
+use Rattle.serde_json.specs.Data.{Data, Members, no_members, number, put, string, unsigned}
+use Rattle.serde_json.specs.Find.{as_number, as_str, as_u64, get_member}
+use Rattle.serde_json.proofs.Views.{get_member-put_other}
+use Rattle.relay_messages.specs.Fields.{number_at, text_at}
+use Rattle.relay_messages.specs.Members.{members_in}
+use Rattle.relay_messages.specs.Usual.{usual_data, usual_members}
+use Rattle.relay_messages.specs.declared.usual.Usual.{Usual}
+use Rattle.relay_messages.specs.declared.usual.Usual.TheVariants.{Spectator}
+use Rattle.relay_messages.proofs.PlainFacts.{found_or_other}
+
+-- a text, and a number
+abbrev text_in : Option Data → Option (List ℕ)
+text_in found = option_and_then as_str found
+
+abbrev number_in : Option Data → Option ℕ
+number_in found = option_and_then as_u64 (option_and_then as_number found)
+
+none_of_both : {A : Type 0} (form : Option Data → Option A) (test : Bool) (found other : Option Data) → form found ≡ None → form other ≡ None
+    → form (cond test found other) ≡ None
+none_of_both form true found other a b = a
+none_of_both form false found other a b = b
+
+-- a member of another form is passed over, or found and of no use
+other_form : {A : Type 0} (form : Option Data → Option A) (name key : List ℕ) (d : Data) (ms : Members) → form (Some d) ≡ None
+    → form (get_member name ms) ≡ None → form (get_member name (put key d ms)) ≡ None
+other_form form name key d ms none before =
+    ap form (found_or_other (bytes_eq key name) name key d ms refl) ∙ none_of_both form (bytes_eq key name) (Some d) (get_member name ms) none before
+
+-- a member with another key is passed over
+other_key : {A : Type 0} (form : Option Data → Option A) (name key : List ℕ) (d : Data) (ms : Members) → name ≢ key
+    → form (get_member name ms) ≡ None → form (get_member name (put key d ms)) ≡ None
+other_key form name key d ms other before = ap form (get_member-put_other name key d ms other) ∙ before
+
+-- ---- `cmd` and `spectator`.
+
+pub spectator_texts : (name : List ℕ) (usual : Usual) → name ≢ codes "cmd" → text_at name (usual_data usual) ≡ None
+spectator_texts name (Spectator cmd who) no_cmd =
+    other_form text_in name (codes "spectator") (number (unsigned who)) (put (codes "cmd") (string cmd.now) no_members) refl
+    (other_key text_in name (codes "cmd") (string cmd.now) no_members no_cmd refl)
+
+pub spectator_numbers : (name : List ℕ) (usual : Usual) → name ≢ codes "spectator" → number_at name (usual_data usual) ≡ None
+spectator_numbers name (Spectator cmd who) no_who =
+    other_key number_in name (codes "spectator") (number (unsigned who)) (put (codes "cmd") (string cmd.now) no_members) no_who
+    (other_form number_in name (codes "cmd") (string cmd.now) no_members refl refl)
+
+pub spectator_keys : (name : List ℕ) (usual : Usual) → name ≢ codes "cmd" → name ≢ codes "spectator"
+    → get_member name (members_in (usual_members usual)) ≡ None
+spectator_keys name (Spectator cmd who) no_cmd no_who =
+    get_member-put_other name (codes "spectator") (number (unsigned who)) (put (codes "cmd") (string cmd.now) no_members) no_who
+    ∙ get_member-put_other name (codes "cmd") (string cmd.now) no_members no_cmd

@@ -1,0 +1,29 @@
+-- A usual object is a compact one: its members are those that its places say.
+use Rattle.std.proofs.Common.{◌≡◌, List, [], ◌∷◌, Some, codes, ℕ, refl}
+use Rattle.json.specs.Token.{Token}
+use Rattle.json.specs.Print.{escape_byte, token_text}
+use Rattle.serde_json.specs.Data.{object}
+use Rattle.serde_json.specs.Read.{read}
+use Rattle.relay_messages.proofs.CompactReading.{closed, first_written, next_written, text_read}
+use Rattle.relay_messages.specs.Compact.{IsMember}
+use Rattle.relay_messages.specs.Members.{members_in}
+use Rattle.relay_messages.specs.declared.member.Member.{Member}
+
+-- ---- How the keys are written.
+
+pub cmd_written : codes "\"cmd\":" ≡ token_text (Token.key (codes "cmd"))
+unfolding escape_byte
+cmd_written = refl
+
+pub spectator_written : codes "\"spectator\":" ≡ token_text (Token.key (codes "spectator"))
+unfolding escape_byte
+spectator_written = refl
+
+-- ---- What is read.
+
+-- two members between braces
+pub two_read : (m n : Member) (text first then next end : List ℕ) → text ≡ 123 ∷ first → IsMember m first then → then ≡ 44 ∷ next
+    → IsMember n next end → end ≡ 125 ∷ [] → read text ≡ Some (object (members_in (m ∷ n ∷ [])))
+two_read m n text first then next end opened one divided two ended =
+    text_read text (m ∷ n ∷ []) (one.within, (two.within, tt))
+    (first_written m text first then _ opened one (next_written n then next end _ divided two (closed end [] ended refl)))

@@ -1,0 +1,16 @@
+-- The value that an object with the usual keys represents.
+use Rattle.std.specs.Prelude.{List, [], ◌∷◌, codes}
+use Rattle.serde_json.specs.Data.{Data, object}
+use Rattle.relay_messages.specs.Compact.{member_of}
+use Rattle.relay_messages.specs.Members.{members_in}
+use Rattle.relay_messages.specs.declared.member.Field.TheVariants.{Text, Number}
+use Rattle.relay_messages.specs.declared.member.Member.{Member}
+use Rattle.relay_messages.specs.declared.usual.Usual.{Usual}
+use Rattle.relay_messages.specs.declared.usual.Usual.TheVariants.{Spectator}
+
+-- the members, in the order in which they are written
+abbrev pub usual_members : Usual → List Member
+usual_members (Spectator cmd who) = member_of (codes "cmd") (Text cmd) ∷ member_of (codes "spectator") (Number who) ∷ []
+
+abbrev pub usual_data : Usual → Data
+usual_data u = object (members_in (usual_members u))
