@@ -1,5 +1,5 @@
 -- Lemmas on the members of a usual object: which are not found under a key.
-use Rattle.std.proofs.Common.{◌≡◌, ◌≢◌, List, ℕ, Bool, true, false, cond, Option, Some, None, refl, ap, ◌∙◌, option_and_then, codes}
+use Rattle.std.proofs.Common.{◌≡◌, ◌≢◌, List, ℕ, Bor, Bool, true, false, cond, Option, Some, None, refl, ap, ◌∙◌, option_and_then, codes}
 use Rattle.std.specs.Str.{bytes_eq}
 use Rattle.serde_json.specs.Data.{Data, Members, no_members, number, put, string, unsigned}
 use Rattle.serde_json.specs.Find.{as_number, as_str, as_u64, get_member}
@@ -7,8 +7,7 @@ use Rattle.serde_json.proofs.Views.{get_member-put_other}
 use Rattle.relay_messages.specs.Fields.{number_at, text_at}
 use Rattle.relay_messages.specs.Members.{members_in}
 use Rattle.relay_messages.specs.Usual.{usual_data, usual_members}
-use Rattle.relay_messages.specs.declared.usual.Usual.{Usual}
-use Rattle.relay_messages.specs.declared.usual.Usual.TheVariants.{Spectator}
+use Rattle.relay_messages.specs.declared.usual.Usual.TheVariants.{Spectator, Move}
 use Rattle.relay_messages.proofs.PlainFacts.{found_or_other}
 
 -- a text, and a number
@@ -36,18 +35,32 @@ other_key form name key d ms other before = ap form (get_member-put_other name k
 
 -- ---- `cmd` and `spectator`.
 
-pub spectator_texts : (name : List ℕ) (usual : Usual) → name ≢ codes "cmd" → text_at name (usual_data usual) ≡ None
-spectator_texts name (Spectator cmd who) no_cmd =
+pub spectator_texts : (name : List ℕ) (cmd : Bor (List ℕ)) (who : ℕ) → name ≢ codes "cmd" → text_at name (usual_data (Spectator cmd who)) ≡ None
+spectator_texts name cmd who no_cmd =
     other_form text_in name (codes "spectator") (number (unsigned who)) (put (codes "cmd") (string cmd.now) no_members) refl
     (other_key text_in name (codes "cmd") (string cmd.now) no_members no_cmd refl)
 
-pub spectator_numbers : (name : List ℕ) (usual : Usual) → name ≢ codes "spectator" → number_at name (usual_data usual) ≡ None
-spectator_numbers name (Spectator cmd who) no_who =
+pub spectator_numbers : (name : List ℕ) (cmd : Bor (List ℕ)) (who : ℕ) → name ≢ codes "spectator" → number_at name (usual_data (Spectator cmd who)) ≡ None
+spectator_numbers name cmd who no_who =
     other_key number_in name (codes "spectator") (number (unsigned who)) (put (codes "cmd") (string cmd.now) no_members) no_who
     (other_form number_in name (codes "cmd") (string cmd.now) no_members refl refl)
 
-pub spectator_keys : (name : List ℕ) (usual : Usual) → name ≢ codes "cmd" → name ≢ codes "spectator"
-    → get_member name (members_in (usual_members usual)) ≡ None
-spectator_keys name (Spectator cmd who) no_cmd no_who =
+pub spectator_keys : (name : List ℕ) (cmd : Bor (List ℕ)) (who : ℕ) → name ≢ codes "cmd" → name ≢ codes "spectator"
+    → get_member name (members_in (usual_members (Spectator cmd who))) ≡ None
+spectator_keys name cmd who no_cmd no_who =
     get_member-put_other name (codes "spectator") (number (unsigned who)) (put (codes "cmd") (string cmd.now) no_members) no_who
     ∙ get_member-put_other name (codes "cmd") (string cmd.now) no_members no_cmd
+
+-- ---- `cmd`, `board` and `move`.
+
+pub move_keys : (name : List ℕ) (cmd board m : Bor (List ℕ)) → name ≢ codes "cmd" → name ≢ codes "board" → name ≢ codes "move"
+    → get_member name (members_in (usual_members (Move cmd board m))) ≡ None
+move_keys name cmd board m no_cmd no_board no_move =
+    let first = put (codes "cmd") (string cmd.now) no_members in
+    get_member-put_other name (codes "move") (string m.now) (put (codes "board") (string board.now) first) no_move
+    ∙ get_member-put_other name (codes "board") (string board.now) first no_board
+    ∙ get_member-put_other name (codes "cmd") (string cmd.now) no_members no_cmd
+
+pub move_texts : (name : List ℕ) (cmd board m : Bor (List ℕ)) → name ≢ codes "cmd" → name ≢ codes "board" → name ≢ codes "move"
+    → text_at name (usual_data (Move cmd board m)) ≡ None
+move_texts name cmd board m no_cmd no_board no_move = ap text_in (move_keys name cmd board m no_cmd no_board no_move)

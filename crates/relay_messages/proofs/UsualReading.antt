@@ -19,11 +19,27 @@ pub spectator_written : codes "\"spectator\":" ≡ token_text (Token.key (codes 
 unfolding escape_byte
 spectator_written = refl
 
+pub board_written : codes "\"board\":" ≡ token_text (Token.key (codes "board"))
+unfolding escape_byte
+board_written = refl
+
+pub move_written : codes "\"move\":" ≡ token_text (Token.key (codes "move"))
+unfolding escape_byte
+move_written = refl
+
 -- ---- What is read.
 
 -- two members between braces
-pub two_read : (m n : Member) (text first then next end : List ℕ) → text ≡ 123 ∷ first → IsMember m first then → then ≡ 44 ∷ next
-    → IsMember n next end → end ≡ 125 ∷ [] → read text ≡ Some (object (members_in (m ∷ n ∷ [])))
-two_read m n text first then next end opened one divided two ended =
+pub two_read : (m n : Member) (text first then next : List ℕ) → text ≡ 123 ∷ first → IsMember m first then → then ≡ 44 ∷ next
+    → IsMember n next (125 ∷ []) → read text ≡ Some (object (members_in (m ∷ n ∷ [])))
+two_read m n text first then next opened one divided two =
     text_read text (m ∷ n ∷ []) (one.within, (two.within, tt))
-    (first_written m text first then _ opened one (next_written n then next end _ divided two (closed end [] ended refl)))
+    (first_written m text first then _ opened one (next_written n then next _ _ divided two (closed _ [] refl refl)))
+
+-- three members between braces
+pub three_read : (m n o : Member) (text first then next later last : List ℕ) → text ≡ 123 ∷ first → IsMember m first then → then ≡ 44 ∷ next
+    → IsMember n next later → later ≡ 44 ∷ last → IsMember o last (125 ∷ []) → read text ≡ Some (object (members_in (m ∷ n ∷ o ∷ [])))
+three_read m n o text first then next later last opened one divided two divided_again three =
+    text_read text (m ∷ n ∷ o ∷ []) (one.within, (two.within, (three.within, tt)))
+    (first_written m text first then _ opened one (next_written n then next later _ divided two
+    (next_written o later last _ _ divided_again three (closed _ [] refl refl))))

@@ -106,8 +106,9 @@ impl<'t> Object for Usual<'t> {
 
     #[inline(always)]
     fn count(&self) -> usize {
-        match *self {
+        match self {
             Usual::Spectator { .. } => 2,
+            Usual::Move { .. } => 3,
         }
     }
 
@@ -116,6 +117,12 @@ impl<'t> Object for Usual<'t> {
         match *self {
             Usual::Spectator { cmd, .. } => match key {
                 "cmd" => Some(cmd),
+                _ => None,
+            },
+            Usual::Move { cmd, board, m } => match key {
+                "cmd" => Some(cmd),
+                "board" => Some(board),
+                "move" => Some(m),
                 _ => None,
             },
         }
@@ -128,13 +135,15 @@ impl<'t> Object for Usual<'t> {
                 "spectator" => Some(spectator),
                 _ => None,
             },
+            Usual::Move { .. } => None,
         }
     }
 
     #[inline(always)]
     fn has(&self, key: &str) -> bool {
-        match *self {
+        match self {
             Usual::Spectator { .. } => matches!(key, "cmd" | "spectator"),
+            Usual::Move { .. } => matches!(key, "cmd" | "board" | "move"),
         }
     }
 }

@@ -1,9 +1,11 @@
 //! Usual objects: compact objects whose keys are those of a usual command, each once, in the order in which nearly all clients write them. What
 //! each member is follows from its place, so no key is kept or looked up.
 
-ghost use Rattle.std.specs.Prelude.{◌≡◌, IfSome, Some};
+ghost use Rattle.std.specs.Prelude.{◌≡◌, ◌∷◌, [], IfSome, Some};
 ghost use Rattle.serde_json.specs.Read.{read as read_text};
+ghost use Rattle.relay_messages.specs.Compact.{IsMemberOf};
 ghost use Rattle.relay_messages.specs.Usual.{usual_data};
+ghost use Rattle.relay_messages.specs.declared.member.Field.TheVariants.{Number as ANumber, Text as AText};
 
 use crate::compact::{after, is_closed, open_compact, take_number_of, take_text_of};
 
@@ -17,6 +19,31 @@ pub enum Usual<'a> {
         /// The number of the spectator.
         spectator: u64,
     },
+    /// `cmd`, `board` and `move`, as to submit.
+    Move {
+        /// The name of the command.
+        cmd: &'a str,
+        /// The name of the board.
+        board: &'a str,
+        /// The text of the move.
+        m: &'a str,
+    },
+}
+
+/// The text of the member with this key, if the object ends behind it.
+fn last_text<'a>(text: &'a str, key: &str) -> Option<&'a str>
+    ensures { IfSome result (λ value. IsMemberOf key.now (AText value) text.now (125 ∷ [])) }
+{
+    let (value, end) = take_text_of(text, key)?;
+    if is_closed(end) { Some(value) } else { None }
+}
+
+/// The number of the member with this key, if the object ends behind it.
+fn last_number(text: &str, key: &str) -> Option<u64>
+    ensures { IfSome result (λ number. IsMemberOf key.now (ANumber number) text.now (125 ∷ [])) }
+{
+    let (number, end) = take_number_of(text, key)?;
+    if is_closed(end) { Some(number) } else { None }
 }
 
 /// Reads the usual object that a text is. Returns `None` for any other text, also for one that means the same.
@@ -24,10 +51,12 @@ pub fn read_usual(text: &str) -> Option<Usual<'_>>
     ensures { IfSome result (λ usual. read_text text.now ≡ Some (usual_data usual)) }
 {
     let (cmd, rest) = take_text_of(open_compact(text)?, r#""cmd":"#)?;
-    let (spectator, end) = take_number_of(after(rest, b',')?, r#""spectator":"#)?;
-    if is_closed(end) {
-        Some(Usual::Spectator { cmd, spectator })
-    } else {
-        None
+    let second = after(rest, b',')?;
+    if let Some(spectator) = last_number(second, r#""spectator":"#) {
+        return Some(Usual::Spectator { cmd, spectator });
     }
+    let (board, rest) = take_text_of(second, r#""board":"#)?;
+    let third = after(rest, b',')?;
+    let m = last_text(third, r#""move":"#)?;
+    Some(Usual::Move { cmd, board, m })
 }

@@ -1,9 +1,14 @@
-use Rattle.std.proofs.Common.{codes, refl}
-use Rattle.relay_messages.proofs.UsualReading.{cmd_written, spectator_written, two_read}
+use Rattle.std.proofs.Common.{codes}
+use Rattle.relay_messages.proofs.UsualReading.{board_written, cmd_written, move_written, spectator_written, three_read, two_read}
 use Rattle.relay_messages.proofs.usual.read_usual.Goals as goal
 
-pub returns-then-is_closed : goal.returns-then-is_closed
-returns-then-is_closed c =
-    two_read _ _ c.args.text.now c.in_ok-open_compact.field-0.now c.in_ok-cmd.rest.now c.in_ok-after.field-0.now c.in_ok-spectator.end.now
-    c.in_ok-open_compact.ensures (c.in_ok-cmd.ensures (codes "cmd") cmd_written) c.in_ok-after.ensures
-    (c.in_ok-spectator.ensures (codes "spectator") spectator_written) (c.if-is_closed.ensures refl)
+pub returns-in-Some : goal.returns-in-Some
+returns-in-Some c =
+    two_read _ _ c.args.text.now c.in_ok-open_compact.field-0.now c.in_ok-cmd.rest.now c.in_ok-second.second.now c.in_ok-open_compact.ensures
+    (c.in_ok-cmd.ensures (codes "cmd") cmd_written) c.in_ok-second.ensures (c.in-Some.ensures (codes "spectator") spectator_written)
+
+pub returns : goal.returns
+returns c =
+    three_read _ _ _ c.args.text.now c.in_ok-open_compact.field-0.now c.in_ok-cmd.rest.now c.in_ok-second.second.now c.in_ok-board.rest.now
+    c.in_ok-third.third.now c.in_ok-open_compact.ensures (c.in_ok-cmd.ensures (codes "cmd") cmd_written) c.in_ok-second.ensures
+    (c.in_ok-board.ensures (codes "board") board_written) c.in_ok-third.ensures (c.in_ok-m.ensures (codes "move") move_written)

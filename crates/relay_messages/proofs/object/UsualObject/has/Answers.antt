@@ -1,6 +1,17 @@
-use Rattle.std.proofs.Common.{is_some, ap, sym}
-use Rattle.relay_messages.proofs.UsualFacts.{spectator_keys}
+use Rattle.std.proofs.Common.{is_some, ap, sym, ◌∙◌}
+use Rattle.serde_json.specs.Find.{get}
+use Rattle.relay_messages.specs.Usual.{usual_data}
+use Rattle.relay_messages.specs.declared.usual.Usual.{Usual}
+use Rattle.relay_messages.proofs.UsualFacts.{move_keys, spectator_keys}
 use Rattle.relay_messages.proofs.object.UsualObject.has.Goals as goal
 
 pub returns-in_default : goal.returns-in_default
-returns-in_default c = sym (ap is_some (spectator_keys c.args.key.now c.args.self.now c.in_default.not-cmd c.in_default.not-spectator))
+returns-in_default c =
+    sym (ap (λ (u : Usual). is_some (get c.args.key.now (usual_data u))) c.in-Spectator.is
+    ∙ ap is_some (spectator_keys c.args.key.now c.in-Spectator.cmd c.in-Spectator.spectator c.in_default.not-cmd c.in_default.not-spectator))
+
+pub returns-in_default-matches : goal.returns-in_default-matches
+returns-in_default-matches c =
+    let other = c.in_default-matches in
+    sym (ap (λ (u : Usual). is_some (get c.args.key.now (usual_data u))) c.in-Move.is
+    ∙ ap is_some (move_keys c.args.key.now c.in-Move.cmd c.in-Move.board c.in-Move.m other.not-cmd other.not-board other.not-move))

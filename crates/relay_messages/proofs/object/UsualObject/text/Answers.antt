@@ -1,6 +1,16 @@
-use Rattle.std.proofs.Common.{sym}
-use Rattle.relay_messages.proofs.UsualFacts.{spectator_texts}
+use Rattle.std.proofs.Common.{ap, sym, ◌∙◌}
+use Rattle.relay_messages.specs.Fields.{text_at}
+use Rattle.relay_messages.specs.Usual.{usual_data}
+use Rattle.relay_messages.specs.declared.usual.Usual.{Usual}
+use Rattle.relay_messages.proofs.UsualFacts.{move_texts, spectator_texts}
 use Rattle.relay_messages.proofs.object.UsualObject.text.Goals as goal
 
 pub returns-in_default : goal.returns-in_default
-returns-in_default c = sym (spectator_texts c.args.key.now c.args.self.now c.in_default.not-cmd)
+returns-in_default c =
+    sym (ap (λ (u : Usual). text_at c.args.key.now (usual_data u)) c.in-Spectator.is ∙ spectator_texts c.args.key.now c.in-Spectator.cmd c.in-Spectator.spectator c.in_default.not-cmd)
+
+pub returns-in_default-key : goal.returns-in_default-key
+returns-in_default-key c =
+    let other = c.in_default-key in
+    sym (ap (λ (u : Usual). text_at c.args.key.now (usual_data u)) c.in-Move.is
+    ∙ move_texts c.args.key.now c.in-Move.cmd c.in-Move.board c.in-Move.m other.not-cmd other.not-board other.not-move)
