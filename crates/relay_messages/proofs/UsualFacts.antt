@@ -7,7 +7,7 @@ use Rattle.serde_json.proofs.Views.{get_member-put_other}
 use Rattle.relay_messages.specs.Fields.{number_at, text_at}
 use Rattle.relay_messages.specs.Members.{members_in}
 use Rattle.relay_messages.specs.Usual.{usual_data, usual_members}
-use Rattle.relay_messages.specs.declared.usual.Usual.TheVariants.{Spectator, Move}
+use Rattle.relay_messages.specs.declared.usual.Usual.TheVariants.{Spectator, Move, Follow}
 use Rattle.relay_messages.proofs.PlainFacts.{found_or_other}
 
 -- a text, and a number
@@ -64,3 +64,27 @@ move_keys name cmd board m no_cmd no_board no_move =
 pub move_texts : (name : List ℕ) (cmd board m : Bor (List ℕ)) → name ≢ codes "cmd" → name ≢ codes "board" → name ≢ codes "move"
     → text_at name (usual_data (Move cmd board m)) ≡ None
 move_texts name cmd board m no_cmd no_board no_move = ap text_in (move_keys name cmd board m no_cmd no_board no_move)
+
+-- ---- `cmd`, `board` and `spectator`.
+
+pub follow_keys : (name : List ℕ) (cmd board : Bor (List ℕ)) (who : ℕ) → name ≢ codes "cmd" → name ≢ codes "board" → name ≢ codes "spectator"
+    → get_member name (members_in (usual_members (Follow cmd board who))) ≡ None
+follow_keys name cmd board who no_cmd no_board no_who =
+    let first = put (codes "cmd") (string cmd.now) no_members in
+    get_member-put_other name (codes "spectator") (number (unsigned who)) (put (codes "board") (string board.now) first) no_who
+    ∙ get_member-put_other name (codes "board") (string board.now) first no_board
+    ∙ get_member-put_other name (codes "cmd") (string cmd.now) no_members no_cmd
+
+pub follow_texts : (name : List ℕ) (cmd board : Bor (List ℕ)) (who : ℕ) → name ≢ codes "cmd" → name ≢ codes "board"
+    → text_at name (usual_data (Follow cmd board who)) ≡ None
+follow_texts name cmd board who no_cmd no_board =
+    let first = put (codes "cmd") (string cmd.now) no_members in
+    other_form text_in name (codes "spectator") (number (unsigned who)) (put (codes "board") (string board.now) first) refl
+    (other_key text_in name (codes "board") (string board.now) first no_board (other_key text_in name (codes "cmd") (string cmd.now) no_members no_cmd refl))
+
+pub follow_numbers : (name : List ℕ) (cmd board : Bor (List ℕ)) (who : ℕ) → name ≢ codes "spectator"
+    → number_at name (usual_data (Follow cmd board who)) ≡ None
+follow_numbers name cmd board who no_who =
+    let first = put (codes "cmd") (string cmd.now) no_members in
+    other_key number_in name (codes "spectator") (number (unsigned who)) (put (codes "board") (string board.now) first) no_who
+    (other_form number_in name (codes "board") (string board.now) first refl (other_form number_in name (codes "cmd") (string cmd.now) no_members refl refl))

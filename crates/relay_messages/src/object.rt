@@ -109,6 +109,7 @@ impl<'t> Object for Usual<'t> {
         match self {
             Usual::Spectator { .. } => 2,
             Usual::Move { .. } => 3,
+            Usual::Follow { .. } => 3,
         }
     }
 
@@ -125,6 +126,11 @@ impl<'t> Object for Usual<'t> {
                 "move" => Some(m),
                 _ => None,
             },
+            Usual::Follow { cmd, board, .. } => match key {
+                "cmd" => Some(cmd),
+                "board" => Some(board),
+                _ => None,
+            },
         }
     }
 
@@ -136,6 +142,10 @@ impl<'t> Object for Usual<'t> {
                 _ => None,
             },
             Usual::Move { .. } => None,
+            Usual::Follow { spectator, .. } => match key {
+                "spectator" => Some(spectator),
+                _ => None,
+            },
         }
     }
 
@@ -144,6 +154,7 @@ impl<'t> Object for Usual<'t> {
         match self {
             Usual::Spectator { .. } => matches!(key, "cmd" | "spectator"),
             Usual::Move { .. } => matches!(key, "cmd" | "board" | "move"),
+            Usual::Follow { .. } => matches!(key, "cmd" | "board" | "spectator"),
         }
     }
 }

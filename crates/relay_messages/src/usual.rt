@@ -28,6 +28,15 @@ pub enum Usual<'a> {
         /// The text of the move.
         m: &'a str,
     },
+    /// `cmd`, `board` and `spectator`, as to follow from the log's present length.
+    Follow {
+        /// The name of the command.
+        cmd: &'a str,
+        /// The name of the board.
+        board: &'a str,
+        /// The number of the spectator.
+        spectator: u64,
+    },
 }
 
 /// The text of the member with this key, if the object ends behind it.
@@ -57,6 +66,13 @@ pub fn read_usual(text: &str) -> Option<Usual<'_>>
     }
     let (board, rest) = take_text_of(second, r#""board":"#)?;
     let third = after(rest, b',')?;
-    let m = last_text(third, r#""move":"#)?;
-    Some(Usual::Move { cmd, board, m })
+    if let Some(m) = last_text(third, r#""move":"#) {
+        return Some(Usual::Move { cmd, board, m });
+    }
+    let spectator = last_number(third, r#""spectator":"#)?;
+    Some(Usual::Follow {
+        cmd,
+        board,
+        spectator,
+    })
 }
