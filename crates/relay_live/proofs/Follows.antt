@@ -1,10 +1,10 @@
 -- A follow on a live relay.
-use Rattle.std.proofs.Common.{◌≡◌, ◌≢◌, ◌+◌, ◌-◌, ◌<◌, ◌≤◌, ℕ, zero, suc, nat_eq, add-zero, nat_le, is_some, Bool, true, false, not, List, [], ◌∷◌, ◌++◌, length, drop, take, unwrap_or, Option, Some, None, option_map, Ok, sym, refl, ap, ◌∙◌, subst, cond, arith, fold, inl, inr, ⊎_elim, ◌⊎◌}
+use Rattle.std.proofs.Common.{◌≡◌, ◌≢◌, ◌+◌, ◌<◌, ◌≤◌, ℕ, zero, suc, nat_eq, add-zero, nat_le, is_some, Bool, true, false, not, List, [], ◌∷◌, ◌++◌, length, position, drop, take, unwrap_or, Option, Some, None, option_map, Ok, sym, refl, ap, ◌∙◌, subst, cond, arith, fold, inl, inr, ⊎_elim, ◌⊎◌}
 use Rattle.std.specs.Prelude.{count_by, MatchOption}
 use Rattle.std.proofs.lemmas.Bool.{le-leb, lt-leb}
 use Rattle.std.proofs.Math.Seq.{take-length}
 use Rattle.std.proofs.lemmas.Option.{same_Some}
-use Rattle.std.specs.Map.{lookup, set_value}
+use Rattle.std.specs.Map.{keys_of, lookup, set_value}
 use mathlib.Core.Option.{some, some-injective, some-ne-none}
 use mathlib.Core.Logic.{dite}
 use native.Mathlib.Decide.{ℕ_discrete}
@@ -48,7 +48,7 @@ use Rattle.relay_live.specs.declared.seated.Seated.{Seated}
 use Rattle.relay_live.specs.Live.{Boards, held_at, held_in, view_in, held_by, game, games, holders, IsSeated, IsLive, Swapped, vacancy}
 use Rattle.live_board.proofs.lemmas.Notes.{at_within}
 use Rattle.relay_live.proofs.Entries.{crowd, one_if_true, crowd_push, none_vacant}
-use Rattle.relay_live.proofs.Swaps.{Each, each_on, each_turned, flipped, held_still, holders_on, same_games, seated_still, sound_board, swapped_here}
+use Rattle.relay_live.proofs.Swaps.{Each, each_on, each_turned, flipped, held_still, holders_on, same_games, same_index, seated_still, sound_board, swapped_here}
 
 -- how many spectators follow, as the record counts them
 pub crowd_held : (q : List ℕ) (k : ℕ) (boards : Boards) (fs : List (ℕ × Seated)) → count_by (λ e. same_name q e.1.board) (holders k boards fs) ≡ crowd q fs
@@ -133,7 +133,7 @@ joins name old new slot joined b there t =
 module _ (limits : LimitNumbers) (old new : Boards) (fs fs' : List (ℕ × Seated)) (who : ℕ) (name : List ℕ) (slot joined : ℕ) (live : IsLive limits old fs) (nobody : lookup (nat_eq who) fs ≡ None)
     (b c : BoardSeat) (there : lookup (same_name name) old ≡ Some b) (vacant : get_elem? b.knows.notes slot ≡ some Vacant) (within : joined ≤ length b.knows.log)
     (knows : c.knows ≡ followed slot joined b.knows) (sound' : IsSound c.knows) (new-is : new ≡ set_value (same_name name) old c)
-    (s : Seated) (s-board : s.board ≡ name) (s-slot : s.slot ≡ slot) (s-joined : s.joined ≡ joined) (s-taken : s.taken ≡ 0) (fs-is : fs' ≡ fs ++ (who, s) ∷ []) where
+    (s : Seated) (s-board : s.board ≡ name) (s-index : position (same_name name) (keys_of old) ≡ Some s.index) (s-slot : s.slot ≡ slot) (s-joined : s.joined ≡ joined) (s-taken : s.taken ≡ 0) (fs-is : fs' ≡ fs ++ (who, s) ∷ []) where
   here : lookup (same_name s.board) new ≡ Some c
   here = swapped_here old new name b c there new-is s.board (sym s-board)
 
@@ -211,6 +211,7 @@ module _ (limits : LimitNumbers) (old new : Boards) (fs fs' : List (ℕ × Seate
   seated_new = record {
     board = c;
     there = here;
+    at = same_index old new name b c there new-is s.board ∙ ap (λ (x : List ℕ). position (same_name x) (keys_of old)) s-board ∙ s-index;
     index = 0;
     part = newcomer slot joined b.knows;
     carried = ap (λ (x : View). get_elem? x.parts 0) knows;

@@ -1,7 +1,13 @@
--- Look-ups after one value has changed.
-use Rattle.std.proofs.Common.{◌≡◌, ◌≢◌, ◌⊎◌, ℕ, zero, suc, Bool, true, false, true≢false, List, [], ◌∷◌, cond, Some, sym, refl, ap, ◌∙◌, inl, inr, ⊎_elim}
+-- Look-ups after one value has changed, and by index.
+use Rattle.std.proofs.Common.{◌≡◌, ◌≢◌, ◌⊎◌, ℕ, zero, suc, ◌+◌, nat_lt, lt-ltb, ne_eqb, Bool, true, false, true≢false, List, [], ◌∷◌, ◌++◌, length, length-append, position, slice_get, cond, not, None, Some, sym, refl, ap, ◌∙◌, arith, inl, inr, ⊎_elim}
+use Rattle.std.proofs.lemmas.List.Folds.{position_or_len_push}
+use Rattle.std.proofs.lemmas.List.Quantifiers.{position-Some}
 use Rattle.std.proofs.lemmas.Option.{same_Some, none-some}
-use Rattle.std.specs.Map.{lookup, set_value}
+use Rattle.std.specs.List.{position_or_len}
+use Rattle.std.specs.Map.{keys_of, lookup, set_value, values_of}
+use Rattle.indexmap.specs.IndexMap.{set_value_at}
+use Rattle.indexmap.proofs.MapLemmas.{Found-position}
+use Rattle.relay_core.proofs.lemmas.Lists.{keys-push}
 use mathlib.Core.Option.{some, some-injective}
 use lib.ListN.{get_elem?}
 
@@ -22,6 +28,41 @@ module _ {K V : Type 0} (eq : K → K → Bool) (is : (a b : K) → eq a b ≡ t
       by more true true i at = absurd (true≢false (sym (back b q (is b y.0 i ∙ sym (is q y.0 at))) ∙ ne))
       by more true false i at = ap (λ t. cond t (Some c) (lookup (eq q) ys)) at ∙ sym (ap (λ t. cond t (Some y.1) (lookup (eq q) ys)) at)
       by more false s i at = ap (cond (eq q y.0) (Some y.1)) more
+
+-- ---- What stands at an index.
+
+-- the value that a look-up finds stands at the index of its key, and a write there is a write under that key
+module _ {K V : Type 0} (test : K → Bool) (es : List (K × V)) (i : ℕ) (at : position test (keys_of es) ≡ Some i) where
+  pub found_at : lookup test es ≡ slice_get (values_of es) i
+  found_at = (Found-position test es i at).value
+
+  pub written_at : (w : V) → set_value_at es i w ≡ set_value test es w
+  written_at w = ap (λ (n : ℕ). set_value_at es n w) (sym (Found-position test es i at).or_len) ∙ from es
+    where
+      from : (l : List (K × V)) → set_value_at l (position_or_len test (keys_of l)) w ≡ set_value test l w
+      from [] = refl
+      from (y ∷ ys) = by (test y.0) (from ys)
+        where
+          by : (t : Bool) → set_value_at ys (position_or_len test (keys_of ys)) w ≡ set_value test ys w
+              → set_value_at (y ∷ ys) (cond (not t) (1 + position_or_len test (keys_of ys)) 0) w ≡ cond t ((y.0, w) ∷ ys) (y ∷ set_value test ys w)
+          by true rest = refl
+          by false rest =
+              let one : 1 + position_or_len test (keys_of ys) ≡ suc (position_or_len test (keys_of ys)) = omega arith in
+              ap (λ (n : ℕ). set_value_at (y ∷ ys) n w) one ∙ ap (λ (l : List (K × V)). y ∷ l) rest
+
+-- a new entry comes last, so the index of each key stays
+pub index_pushed : {K V : Type 0} (test : K → Bool) (es : List (K × V)) (k : K) (v : V) (i : ℕ) → position test (keys_of es) ≡ Some i → position test (keys_of (es ++ (k, v) ∷ [])) ≡ Some i
+index_pushed test es k v i at =
+    let found = position-Some test (keys_of es) i k at in
+    let first = (Found-position test es i at).or_len in
+    let within = found.0 in
+    let long = length-append (keys_of es) (k ∷ []) in
+    let same : position_or_len test (keys_of es ++ k ∷ []) ≡ i = position_or_len_push test (keys_of es) k
+    ∙ ap (λ (t : Bool). cond t (length (keys_of es) + cond (test k) 0 1) (position_or_len test (keys_of es))) (ne_eqb (position_or_len test (keys_of es)) (length (keys_of es)) (λ z. omega (arith, z, first, within)))
+    ∙ first in
+    let low : nat_lt i (length (keys_of es ++ k ∷ [])) ≡ true = lt-ltb i (length (keys_of es ++ k ∷ [])) (omega (arith, within, long)) in
+    ap (position test) (keys-push es k v)
+    ∙ ap (λ (n : ℕ). cond (nat_lt n (length (keys_of es ++ k ∷ []))) (Some n) None) same ∙ ap (λ (t : Bool). cond t (Some i) None) low
 
 -- where the value that is written is
 abbrev pub Written : {K V : Type 0} → (K → Bool) → List (K × V) → V → V → Type 0

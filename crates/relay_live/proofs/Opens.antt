@@ -1,9 +1,9 @@
 -- An open on a live relay.
-use Rattle.std.proofs.Common.{◌≡◌, ◌≢◌, ◌+◌, ◌<◌, ◌≤◌, ℕ, nat_le, is_some, inl, inr, Bool, true, false, true≢false, List, [], ◌∷◌, ◌++◌, length, Option, Some, None, option_map, Ok, sym, refl, ap, ◌∙◌, subst, cond, arith}
+use Rattle.std.proofs.Common.{◌≡◌, ◌≢◌, ◌+◌, ℕ, is_some, Bool, true, false, List, [], ◌∷◌, ◌++◌, length, position, Option, Some, None, option_map, Ok, sym, refl, ap, ◌∙◌, subst, cond, arith}
 use Rattle.std.specs.Prelude.{count_by}
 use Rattle.std.proofs.lemmas.List.{length-map}
 use Rattle.std.proofs.lemmas.Option.{same_Some, none-some}
-use Rattle.std.specs.Map.{lookup}
+use Rattle.std.specs.Map.{keys_of, lookup}
 use mathlib.Core.Option.{some}
 use lib.ListN.{get_elem?}
 use Rattle.c960_game.specs.Limits.{LimitNumbers}
@@ -29,6 +29,7 @@ use Rattle.live_board.specs.Seats.{BoardSeat}
 use Rattle.relay_live.specs.declared.seated.Seated.{Seated}
 use Rattle.relay_live.specs.Live.{Boards, held_at, held_in, view_in, held_by, game, games, holders, IsSeated, IsLive, vacancy}
 use Rattle.relay_live.proofs.Entries.{at_replicate, all_vacant, crowd_none}
+use Rattle.relay_live.proofs.Maps.{index_pushed}
 use Rattle.relay_live.proofs.Swaps.{holders_on}
 
 -- ---- The grounds according to what the relay keeps are those of its record.
@@ -67,8 +68,12 @@ module _ (limits : LimitNumbers) (old new : Boards) (fs : List (ℕ × Seated)) 
   still : (q : List ℕ) (x : BoardSeat) → lookup (same_name q) old ≡ Some x → lookup (same_name q) new ≡ Some x
   still q x e = found q ∙ ap (λ o. first_some o (cond (same_name q name) (Some b) None)) e
 
+  -- every board keeps its index
+  same_index : (q : List ℕ) (i : ℕ) → position (same_name q) (keys_of old) ≡ Some i → position (same_name q) (keys_of new) ≡ Some i
+  same_index q i at = ap (λ (l : Boards). position (same_name q) (keys_of l)) new-is ∙ index_pushed (same_name q) old name b i at
+
   seated_on : (f : Seated) → IsSeated old f → IsSeated new f
-  seated_on f s = record { board = s.board; there = still f.board s.board s.there; index = s.index; part = s.part; carried = s.carried; slot_is = s.slot_is; joined_is = s.joined_is; taken_is = s.taken_is }
+  seated_on f s = record { board = s.board; there = still f.board s.board s.there; at = same_index f.board f.index s.at; index = s.index; part = s.part; carried = s.carried; slot_is = s.slot_is; joined_is = s.joined_is; taken_is = s.taken_is }
 
   same_held : (f : Seated) → IsSeated old f → held_at limits.capacity new f ≡ held_at limits.capacity old f
   same_held f s = ap (λ o. held_in limits.capacity (view_in o) f) (still f.board s.board s.there ∙ sym s.there)

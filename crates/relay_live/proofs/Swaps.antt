@@ -1,9 +1,9 @@
 -- One board of the map has changed: what is at each name, who sits there, and what the record shows.
-use Rattle.std.proofs.Common.{◌≡◌, ◌+◌, ℕ, suc, Bool, true, false, List, [], ◌∷◌, length, drop, take, unwrap_or, Some, option_map, sym, refl, ap, ◌∙◌, subst, cond}
+use Rattle.std.proofs.Common.{◌≡◌, ◌+◌, ℕ, suc, Bool, true, false, List, [], ◌∷◌, length, position, drop, take, unwrap_or, Some, option_map, sym, refl, ap, ◌∙◌, subst, cond}
 use Rattle.std.proofs.lemmas.List.{length-map}
-use Rattle.std.proofs.lemmas.Map.{length-set_value}
+use Rattle.std.proofs.lemmas.Map.{keys-set_value, length-set_value}
 use Rattle.std.proofs.lemmas.Option.{same_Some}
-use Rattle.std.specs.Map.{lookup, set_value}
+use Rattle.std.specs.Map.{keys_of, lookup, set_value}
 use mathlib.Core.Option.{some}
 use lib.ListN.{get_elem?}
 use Rattle.c960_game.specs.GameRecord.{GameRecord}
@@ -56,6 +56,10 @@ module _ (old new : Boards) (name : List ℕ) (b c : BoardSeat) (there : lookup 
       ap (λ (x : List ℕ). lookup (same_name x) new) (sym same) ∙ ap (lookup (same_name name)) new-is
       ∙ seek_same same_name same_name_is is_same_name name old b c there
 
+  -- every board keeps its index
+  pub same_index : (q : List ℕ) → position (same_name q) (keys_of new) ≡ position (same_name q) (keys_of old)
+  same_index q = ap (position (same_name q)) (ap keys_of new-is ∙ keys-set_value (same_name name) old c)
+
   -- what is true of each board now, from what was true of it and what has happened to the changed one
   pub each_turned : (P Q : List ℕ → View → Type 0) → Each P old → ((q : List ℕ) → name ≡ q → P q b.knows → Q q c.knows) → ((q : List ℕ) (v : View) → same_name name q ≡ false → P q v → Q q v) → Each Q new
   each_turned P Q was mine others q x e = by (same_name name q) refl
@@ -76,7 +80,7 @@ module _ (old new : Boards) (name : List ℕ) (b c : BoardSeat) (there : lookup 
   seated_still g s carried = by (same_name name g.board) refl
     where
       by : (t : Bool) → same_name name g.board ≡ t → IsSeated new g
-      by false e = record { board = s.board; there = swapped_elsewhere g.board e ∙ s.there; index = s.index; part = s.part; carried = s.carried; slot_is = s.slot_is; joined_is = s.joined_is; taken_is = s.taken_is }
+      by false e = record { board = s.board; there = swapped_elsewhere g.board e ∙ s.there; at = same_index g.board ∙ s.at; index = s.index; part = s.part; carried = s.carried; slot_is = s.slot_is; joined_is = s.joined_is; taken_is = s.taken_is }
       by true e =
           let same = same_name_is name g.board e in
           let is : s.board ≡ b = same_Some _ _ (sym s.there ∙ swapped_before g.board same) in
@@ -84,6 +88,7 @@ module _ (old new : Boards) (name : List ℕ) (b c : BoardSeat) (there : lookup 
           record {
             board = c;
             there = swapped_here g.board same;
+            at = same_index g.board ∙ s.at;
             index = m.0;
             part = m.1;
             carried = m.2;

@@ -39,11 +39,11 @@ use Rattle.std.specs.Prelude.{count_by}
 use Rattle.live_board.proofs.lemmas.Cases.{pick}
 use Rattle.live_board.specs.declared.note.Note.TheVariants.{Vacant}
 use Rattle.relay_live.proofs.Maps.{seek_same, seek_other, written}
-use Rattle.relay_live.proofs.Swaps.{Each, each_on, each_turned, held_still, same_games, seated_still, swapped_here}
+use Rattle.relay_live.proofs.Swaps.{Each, each_on, each_turned, held_still, same_games, same_index, seated_still, swapped_here}
 use Rattle.live_board.proofs.lemmas.Totals.{at_map_back}
 
 abbrev pub after : Taken → Seated → Seated
-after a f = record { board = f.board; slot = f.slot; joined = f.joined; taken = f.taken + length (items_of a) }
+after a f = record { board = f.board; index = f.index; slot = f.slot; joined = f.joined; taken = f.taken + length (items_of a) }
 
 abbrev queue_of : BoardSeat → Seated → List Triple
 queue_of b f = due_at b.knows f.slot (f.joined + f.taken)
@@ -160,6 +160,7 @@ module _ (limits : LimitNumbers) (old new : Boards) (fs fs' : List (ℕ × Seate
       record {
         board = c;
         there = swapped_here old new f.board b c there new-is f.board refl;
+        at = same_index old new f.board b c there new-is f.board ∙ s.at;
         index = s.index;
         part = q.0;
         carried = q.1;
@@ -230,7 +231,7 @@ some_due next place m None None [] e = cc
 
 pub same_after : (a : Taken) (f : Seated) → items_of a ≡ [] → after a f ≡ f
 same_after a f none = let t : f.taken + length (items_of a) ≡ f.taken = let x = ap length none in omega arith in
-    λ i. record { board = f.board; slot = f.slot; joined = f.joined; taken = t i }
+    λ i. record { board = f.board; index = f.index; slot = f.slot; joined = f.joined; taken = t i }
 
 pub due_is : (k : ℕ) (boards : Boards) (f : Seated) (b : BoardSeat) → lookup (same_name f.board) boards ≡ Some b → (held_at k boards f).queue ≡ due_at b.knows f.slot (f.joined + f.taken)
 due_is k boards f b there = ap (λ o. (held_in k (view_in o) f).queue) there

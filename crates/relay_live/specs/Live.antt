@@ -1,7 +1,7 @@
 -- What a live relay keeps, and what its contracts see of it.
-use Rattle.std.specs.Prelude.{ℕ, ◌≡◌, ◌≢◌, ◌≤◌, ◌+◌, count_by, List, length, map, true, Option, Some, None}
+use Rattle.std.specs.Prelude.{ℕ, ◌≡◌, ◌≢◌, ◌≤◌, ◌+◌, count_by, List, length, map, position, true, Option, Some, None}
 use Rattle.std.specs.HashMap.{spare}
-use Rattle.std.specs.Map.{lookup, set_value}
+use Rattle.std.specs.Map.{keys_of, lookup, set_value}
 use lib.ListN.{get_elem?}
 use mathlib.Core.Option.{some}
 use Rattle.c960_game.specs.Limits.{LimitNumbers}
@@ -72,10 +72,11 @@ holding_of a = record {
 
 -- ---- What is kept.
 
--- the board exists, and carries the follower's part
+-- the board exists, stands at its index, and carries the follower's part
 pub record IsSeated (boards : Boards) (f : Seated) : Type 0 where
   pub board : BoardSeat
   pub there : lookup (same_name f.board) boards ≡ Some board
+  pub at : position (same_name f.board) (keys_of boards) ≡ Some f.index
   pub index : ℕ
   pub part : Part
   pub carried : get_elem? board.knows.parts index ≡ some part
@@ -123,4 +124,4 @@ Swapped R name old new = (b : BoardSeat) × (c : BoardSeat) × (lookup (same_nam
     × (new ≡ set_value (same_name name) old c)
 
 abbrev pub with_one_more : Seated → Seated
-with_one_more f = record { board = f.board; slot = f.slot; joined = f.joined; taken = f.taken + 1 }
+with_one_more f = record { board = f.board; index = f.index; slot = f.slot; joined = f.joined; taken = f.taken + 1 }

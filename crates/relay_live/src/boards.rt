@@ -72,7 +72,7 @@ pub(crate) fn take_for(boards: &mut IndexMap<BoardKey, Board>, seated: Seated) -
         seated.board boards.old.entries boards.new.entries }
     ensures room { spare boards.new ≡ spare boards.old }
 {
-    let Some(live) = boards.get_mut(&seated.board) else {
+    let Some(live) = boards.get_index_mut(seated.index) else {
         unreachable!();
     };
     live.take_at(seated.slot, seated.joined + seated.taken)
@@ -101,7 +101,7 @@ pub(crate) fn leave_for(boards: &mut IndexMap<BoardKey, Board>, seated: Seated) 
         seated.board boards.old.entries boards.new.entries }
     ensures room { spare boards.new ≡ spare boards.old }
 {
-    let Some(live) = boards.get_mut(&seated.board) else {
+    let Some(live) = boards.get_index_mut(seated.index) else {
         unreachable!();
     };
     let present = live.len();

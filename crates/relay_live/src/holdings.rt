@@ -114,7 +114,7 @@ impl Holdings {
         ensures stands { Leads self.old.shown self.new.shown (Step.Follow who board from) result }
         ensures refused { is_accepted result ≡ false → self.new.shown ≡ self.old.shown }
     {
-        let Some(live) = self.boards.get(&board) else {
+        let Some((index, _, live)) = self.boards.get_full(&board) else {
             return Reply::Refused(Refusal::NoSuchBoard);
         };
         let follows = self.followers.contains(who);
@@ -133,6 +133,7 @@ impl Holdings {
         };
         let seated = Seated {
             board,
+            index,
             slot,
             joined,
             taken: 0,

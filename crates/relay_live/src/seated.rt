@@ -10,6 +10,8 @@ use relay_core::Account;
 pub(crate) struct Seated {
     /// The board that it follows.
     pub(crate) board: BoardKey,
+    /// The index of that board in the map of boards. It stays, since a board is removed only when the relay ends.
+    pub(crate) index: usize,
     /// Its slot there.
     pub(crate) slot: u64,
     /// The place of the log at which it joined.

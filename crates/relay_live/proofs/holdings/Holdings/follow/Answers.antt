@@ -1,7 +1,6 @@
-use Rattle.std.proofs.Common.{◌≡◌, ◌-◌, ◌≤◌, ℕ, Option, sym, refl, ap, subst, ◌∙◌, length, nat_eq, is_some, unwrap_or, None, Some, Ok, arith}
+use Rattle.std.proofs.Common.{◌≡◌, ◌-◌, ◌≤◌, ℕ, Option, sym, refl, ap, subst, ◌∙◌, length, position, nat_eq, is_some, option_map, unwrap_or, None, Some, Ok, arith}
 use Rattle.std.specs.Prelude.{IfSome}
-use Rattle.std.specs.Map.{lookup}
-use Rattle.std.specs.Option.{option_copied}
+use Rattle.std.specs.Map.{keys_of, lookup}
 use Rattle.std.proofs.lemmas.Option.{none-some}
 use Rattle.c960_game.proofs.lemmas.LogFacts.{position_made}
 use Rattle.live_board.specs.declared.setup.BoardSetup.{BoardSetup}
@@ -24,7 +23,11 @@ use Rattle.relay_live.proofs.holdings.Holdings.follow.Goals as goal
 
 -- the board that was found, and its game in the record
 there : (c : After-may_follow) → lookup (same_name c.args.board) c.self.inside.boards.entries ≡ Some c.in-Some.live.now
-there c = sym c.get.ensures.value ∙ ap option_copied c.in-Some.is
+there c = sym c.get_full.ensures.value ∙ ap (option_map (λ p. p.2.now)) c.in-Some.is
+
+-- and its index
+stood_at : (c : After-may_follow) → position (same_name c.args.board) (keys_of c.self.inside.boards.entries) ≡ Some c.in-Some.index
+stood_at c = sym c.get_full.ensures.index ∙ ap (option_map (λ p. p.0)) c.in-Some.is
 
 found : (c : After-may_follow) → lookup (same_name c.args.board) (held_of c.self.inside).boards ≡ Some (game c.in-Some.live.now)
 found c = let a = c.self.inside in game_found a.limits a.boards.entries a.followers.entries c.args.who c.args.board c.args.from c.in-Some.live.now (there c)
@@ -69,14 +72,14 @@ joined c =
     let w = granted m u c.in_default-may_follow.is in
     let fine = sym c.in_default-may_follow.is ∙ held_grounds m in
     let vacant = (found_vacant b.knows c.vacant_slot-vacant.result c.in-Some-vacant.slot c.in-Some-vacant.is c.vacant_slot-vacant.ensures.slot).1 in
-    let s : Seated = record { board = c.args.board; slot = c.in-Some-vacant.slot; joined = c.unwrap_or-joined.result; taken = 0 } in
+    let s : Seated = record { board = c.args.board; index = c.in-Some.index; slot = c.in-Some-vacant.slot; joined = c.unwrap_or-joined.result; taken = 0 } in
     let t = joins c.args.board a.boards.entries c.join.new.boards.entries c.in-Some-vacant.slot c.unwrap_or-joined.result b (there m) c.join.ensures.swapped in
     let new = c.in-Ok.ensures.entries in
     let stood = sym c.in-Some-position_at.is ∙ c.position_at.ensures.value in (
       goes a.limits a.boards.entries c.join.new.boards.entries a.followers.entries c.insert.new.self.entries c.args.who c.args.board c.in-Some-vacant.slot c.unwrap_or-joined.result c.self.invariant.0 w.0
-          b t.0 (there m) vacant w.1 t.1 t.2 t.3 s refl refl refl refl new c.args.from c.in-Some-position_at.position u fine (place m) stood,
+          b t.0 (there m) vacant w.1 t.1 t.2 t.3 s refl (stood_at m) refl refl refl new c.args.from c.in-Some-position_at.position u fine (place m) stood,
       lives a.limits a.boards.entries c.join.new.boards.entries a.followers.entries c.insert.new.self.entries c.args.who c.args.board c.in-Some-vacant.slot c.unwrap_or-joined.result c.self.invariant.0 w.0
-          b t.0 (there m) vacant w.1 t.1 t.2 t.3 s refl refl refl refl new c.args.from c.in-Some-position_at.position u fine (place m) stood,
+          b t.0 (there m) vacant w.1 t.1 t.2 t.3 s refl (stood_at m) refl refl refl new c.args.from c.in-Some-position_at.position u fine (place m) stood,
       boards_counted a.boards.entries c.join.new.boards.entries c.args.board b t.0 (there m) t.3,
     )
 
@@ -84,7 +87,7 @@ pub returns-in_default-clause-stands : goal.returns-in_default-clause-stands
 returns-in_default-clause-stands c =
     let a = c.self.inside in
     stays (held_of a) _ _ c.self.invariant.0.kept _ (shown_is c.self.view_is)
-    (nowhere a.limits a.boards.entries a.followers.entries c.args.who c.args.board c.args.from (sym c.get.ensures.value ∙ ap option_copied c.in_default.is))
+    (nowhere a.limits a.boards.entries a.followers.entries c.args.who c.args.board c.args.from (sym c.get_full.ensures.value ∙ ap (option_map (λ p. p.2.now)) c.in_default.is))
 
 pub returns-in-Err-clause-stands : goal.returns-in-Err-clause-stands
 returns-in-Err-clause-stands c =

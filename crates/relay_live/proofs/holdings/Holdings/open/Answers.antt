@@ -1,4 +1,4 @@
-use Rattle.std.proofs.Common.{◌≡◌, length, length-append, is_some, sym, ◌∙◌, arith}
+use Rattle.std.proofs.Common.{length, length-append, is_some, sym, ◌∙◌, arith}
 use Rattle.std.specs.Map.{lookup}
 use Rattle.indexmap.proofs.CallerLemmas.{insert_entry-new}
 use Rattle.relay_core.specs.Name.{same_name}
