@@ -5,7 +5,7 @@ use Rattle.std.specs.Int.{bit_at}
 use Rattle.std.proofs.Math.Nat.{div-div-eq-div-mul}
 use Rattle.std.proofs.lemmas.Bool.{cases_eq, cases_lt}
 use Rattle.std.proofs.lemmas.Nat.{pow-add}
-use Rattle.std.proofs.lemmas.Nat.Bits.{bit_at_and, bit_at_or, bit_at_ones, bit_at_above, bit_at-lt, bit_at-zero}
+use Rattle.std.proofs.lemmas.Nat.Bits.{bit_at_and, bit_at_or, bit_at_ones, bit_at-lt, bit_at-zero}
 use Rattle.c960_board.specs.declared.sets.Sets.{Sets}
 use Rattle.c960_board.specs.Fen.Letters.{letter}
 use Rattle.c960_board.specs.Sets.{cell_in}
@@ -26,11 +26,6 @@ rank_bits n rank f l =
     let is = bit_at_and from_rank 255 f in
     let same : min (bit_at from_rank f) (bit_at 255 f) ≡ bit_at from_rank f = omega (arith, ones, bit_at-lt from_rank f) in
     is ∙ same ∙ shifted n (8 * rank) f
-
--- a bit that is 1 is one of the number's bits
-pub below_width : (n width i : ℕ) → n < 2 ^ width → bit_at n i ≡ 1 → i < width
-below_width n width i l e =
-    elim (cases_lt i width) [ inl m ↦ m | inr m ↦ absurd (omega (arith, bit_at_above n width i l m, e)) ]
 
 -- of two bits that are 0 together, both are
 neither : (a b : ℕ) → max a b ≡ 0 → (a ≡ 0) × (b ≡ 0)

@@ -2,6 +2,7 @@
 
 ghost use Rattle.std.specs.Prelude.{◌≡◌, ◌≢◌, ◌<◌, ◌+◌, ◌*◌, ℕ, bit_or};
 ghost use Rattle.std.specs.Int.{bit_at};
+ghost use Rattle.c960_board.specs.Inner.Lowest.{IsLowest};
 
 use crate::sets::Sets;
 
@@ -20,20 +21,20 @@ pub(super) fn lowest_file(files: u64) -> u8
     requires some { 0 < files }
     requires no_others { files < 256 }
     ensures bound { result < 8 }
-    ensures inside { bit_at files result ≡ 1 }
-    ensures least { (file : ℕ) → file < result → bit_at files file ≡ 0 }
+    ensures lowest { IsLowest files result }
 {
     files.trailing_zeros() as u8
 }
 
-/// The set without that file.
+/// The set without its lowest file. Subtracting 1 turns the lowest 1 into a 0 and the zeros below it into ones, and changes no higher bit. So
+/// the next turn of a loop waits for two plain steps, and not for the count of zeros and a shift by that many.
 #[inline(always)]
-pub(super) fn without_file(files: u64, file: u8) -> u64
-    requires on_board { file < 8 }
+pub(super) fn without_lowest(files: u64) -> u64
+    requires some { 0 < files }
     requires no_others { files < 256 }
     ensures no_others { result < 256 }
-    ensures gone { bit_at result file ≡ 0 }
-    ensures others { (other : ℕ) → other < 8 → other ≢ file → bit_at result other ≡ bit_at files other }
+    ensures gone { (file : ℕ) → IsLowest files file → bit_at result file ≡ 0 }
+    ensures others { (file other : ℕ) → IsLowest files file → other ≢ file → bit_at result other ≡ bit_at files other }
 {
-    files & !(1 << file)
+    files & (files - 1)
 }

@@ -10,7 +10,7 @@ ghost use Rattle.c960_board.specs.Sets.{cells_of, parts_of};
 ghost use Rattle.c960_board.specs.Inner.PieceLetters.{AreLettersOf};
 
 use crate::fen::bytes::{FenBytes, TextBytes};
-use crate::fen::files::{lowest_file, occupied_files, without_file};
+use crate::fen::files::{lowest_file, occupied_files, without_lowest};
 use crate::fen::letters::Letters;
 use crate::piece::Colour;
 use crate::position::Position;
@@ -71,7 +71,7 @@ fn write_rank(
         end = write_run(bytes, end, next - file);
         bytes[end] = letters.on(Square::known(8 * rank + next));
         end += 1;
-        left = without_file(left, next);
+        left = without_lowest(left);
         file = next + 1;
     }
     write_run(bytes, end, 8 - file)

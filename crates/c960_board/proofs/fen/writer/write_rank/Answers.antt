@@ -9,17 +9,17 @@ pub bounds-bytes-end : goal.bounds-bytes-end
 bounds-bytes-end c =
     let n = c.lowest_file-next.ensures in
     let i = c.loop-left.invariant in
-    let ahead = next_ahead _ _ _ _ _ i.left n.inside in
-    let step = run_and_piece _ _ _ _ _ i.left n.bound n.inside n.least ahead in
+    let ahead = next_ahead _ _ _ _ _ i.left n.lowest.inside in
+    let step = run_and_piece _ _ _ _ _ i.left n.bound n.lowest.inside n.lowest.least ahead in
     omega (arith, simp length-append at (ap length step))
 
 pub loop-left-preserved : goal.loop-left-preserved
 loop-left-preserved c =
     let n = c.lowest_file-next.ensures in
-    let w = c.without_file-left.ensures in
+    let w = c.without_lowest-left.ensures in
     let i = c.loop-left.invariant in
-    let ahead = next_ahead _ _ _ _ _ i.left n.inside in
-    let step = run_and_piece _ _ _ _ _ i.left n.bound n.inside n.least ahead in
+    let ahead = next_ahead _ _ _ _ _ i.left n.lowest.inside in
+    let step = run_and_piece _ _ _ _ _ i.left n.bound n.lowest.inside n.lowest.least ahead in
     let steps = simp length-append at (ap length step) in
     let square = 8 * c.args.rank + c.lowest_file-next.result in
     let is = c.on.ensures ∙ ap (letter_on c.args.letters.now) c.known.ensures ∙ c.requires.letters square (omega arith) in
@@ -29,7 +29,7 @@ loop-left-preserved c =
       text = written _ _ _ _ (c.on.result ∷ []) _ piece refl run;
       end = omega arith;
       bound = omega arith;
-      left = less_left _ _ _ _ _ _ i.left n.bound n.least w.no_others w.gone w.others ahead;
+      left = less_left _ _ _ _ _ _ i.left n.bound n.lowest.least w.no_others (w.gone _ n.lowest) (λ f _. w.others _ f n.lowest) ahead;
     }
 
 pub returns-clause-end : goal.returns-clause-end
