@@ -5,7 +5,6 @@ mod BetweenTable
 mod RayTables
 mod WhereFacts
 mod RayFacts
-mod BitFacts
 mod AttackerFacts
 mod AttackAgree
 mod AfterSets

@@ -38,9 +38,23 @@ use Rattle.c960_rules.proofs.WhereFacts.{in_where, where_and, where_or, where_no
 
 -- ---- Squares that stand alone.
 
+-- a square of the set is another than each that is off the set
+pub sole_self : (set a rest : ℕ) → IsWithout set a rest → HasOthers set set
+sole_self set a rest w =
+    let inside = eq-eqb (bit_at set a) 1 w.was in
+    record {
+      others = λ f _ out.
+          record {
+            square = a;
+            on_board = w.on_board;
+            inside = inside;
+            other = λ e. both_ways (is_in set f) out (subst (λ (s : ℕ). is_in set s ≡ true) e inside);
+          };
+    }
+
 -- a set that has a square more
-pub sole_none : (set a rest : ℕ) → IsWithout set a rest → bit_at set a ≡ 1 → rest < 2 ^ 64 → rest ≢ 0 → HasOthers set 0
-sole_none set a rest w inside fits more =
+pub sole_none : (set a rest : ℕ) → IsWithout set a rest → rest < 2 ^ 64 → rest ≢ 0 → HasOthers set 0
+sole_none set a rest w fits more =
     let least = bit_at-trailing_zeros w64 rest (omega arith) fits in
     let b = trailing_zeros w64 rest in
     let apart : b ≢ a = λ e. let gone = w.gone in let there = subst (λ (s : ℕ). bit_at rest s ≡ 1) e least.1 in omega arith in
@@ -50,7 +64,7 @@ sole_none set a rest w inside fits more =
           elim (cases_eq a f) [
             | inl e ↦
                 record { square = b; on_board = least.0; inside = eq-eqb (bit_at set b) 1 (sym same ∙ least.1); other = λ g. apart (g ∙ sym e) }
-            | inr ne ↦ record { square = a; on_board = w.on_board; inside = eq-eqb (bit_at set a) 1 inside; other = ne }
+            | inr ne ↦ record { square = a; on_board = w.on_board; inside = eq-eqb (bit_at set a) 1 w.was; other = ne }
           ];
     }
 

@@ -7,7 +7,7 @@ ghost use Rattle.c960_rules.specs.Reaches.{Reaches};
 ghost use Rattle.c960_rules.specs.Inner.Listing.{triple, promotes, goes_to, HasMoveBetween, HasMoveFrom};
 ghost use Rattle.c960_rules.specs.Inner.Wheres.{where_set};
 
-use crate::bitset::{lowest, without};
+use crate::bitset::{lowest, without_lowest};
 use crate::goals::{goals, rooks_to_castle};
 use crate::lawful::Lawful;
 use crate::legal::{is_legal_castling, is_legal_ordinary};
@@ -89,7 +89,7 @@ fn has_move_from(position: &Position, from: Square) -> bool
     let mut left = goals | rooks_to_castle(position, from);
     while left != 0 {
         let to = lowest(left);
-        left = without(left, to);
+        left = without_lowest(left);
         if has_move_between(position, goals, from, to) {
             return true;
         }
@@ -106,7 +106,7 @@ pub fn any_legal(lawful: &Lawful) -> bool
     let mut left = squares_of(&position, turn);
     while left != 0 {
         let from = lowest(left);
-        left = without(left, from);
+        left = without_lowest(left);
         if has_move_from(&position, from) {
             return true;
         }

@@ -9,7 +9,7 @@ ghost use Rattle.c960_rules.specs.Tests.Attacks.{attacks};
 ghost use Rattle.c960_board.specs.Sets.{is_in};
 ghost use Rattle.c960_rules.specs.Inner.Wheres.{where_set, is_free, is_leaper_on, is_slider_on, is_attacker_on};
 
-use crate::bitset::{lowest, only, without};
+use crate::bitset::{lowest, only, without_lowest};
 use crate::lookups::{
     bishop_lines, king_steps, knight_leaps, pawn_hits_on, rook_lines, squares_between,
 };
@@ -50,7 +50,7 @@ pub(crate) fn free_from(set: u64, square: Square, occupied: u64) -> u64
     let mut found: u64 = 0;
     while left != 0 {
         let goal = lowest(left);
-        left = without(left, goal);
+        left = without_lowest(left);
         if squares_between(square, goal) & occupied == 0 {
             found |= only(goal);
         }

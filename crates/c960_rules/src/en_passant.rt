@@ -5,7 +5,7 @@ ghost use Rattle.c960_board.specs.Moves.{Triple};
 ghost use Rattle.c960_rules.specs.Legal.{LegalEnPassant};
 ghost use Rattle.c960_rules.specs.Inner.Wheres.{where_set, is_taker};
 
-use crate::bitset::{lowest, without};
+use crate::bitset::{lowest, without_lowest};
 use crate::lawful::Lawful;
 use crate::legal::is_legal;
 use crate::lookups::pawn_hits_on;
@@ -50,7 +50,7 @@ pub fn ep_legal(lawful: &Lawful) -> Option<Square>
     let mut left = takers(&position, target);
     while left != 0 {
         let from = lowest(left);
-        left = without(left, from);
+        left = without_lowest(left);
         if takes(lawful, from, target) {
             return Some(target);
         }

@@ -10,7 +10,7 @@ ghost use Rattle.c960_rules.specs.Reaches.{Reaches};
 ghost use Rattle.c960_rules.specs.Inner.Listing.{triple, promotes, legal_one, legal_promotions, legal_between, legal_on, goes_to, one_plain, stretches_in, is_special, are_plain};
 ghost use Rattle.c960_rules.specs.Inner.Pins.{AreEvasions, IsUnpinned};
 
-use crate::bitset::{lowest, without};
+use crate::bitset::{lowest, without_lowest};
 use crate::goals::{goals, rooks_to_castle, target_set};
 use crate::lawful::Lawful;
 use crate::legal::is_legal_castling;
@@ -156,7 +156,7 @@ fn push_all(moves: &mut Vec<Move>, from: Square, goals: u64) -> Result<(), Alloc
     let mut left = goals;
     while left != 0 {
         let to = lowest(left);
-        left = without(left, to);
+        left = without_lowest(left);
         push_plain(moves, from, to)?;
     }
     Ok(())
@@ -192,7 +192,7 @@ fn push_tested(
     let mut left = candidates(position, evasions, goals, from);
     while left != 0 {
         let to = lowest(left);
-        left = without(left, to);
+        left = without_lowest(left);
         push_at(moves, position, unpinned, goals, from, to)?;
     }
     Ok(())
@@ -261,7 +261,7 @@ pub fn legal_moves(alloc: Global, lawful: &Lawful) -> Result<Vec<Move>, AllocErr
     let mut left = squares_of(&position, turn);
     while left != 0 {
         let from = lowest(left);
-        left = without(left, from);
+        left = without_lowest(left);
         push_from(&mut moves, &position, unpinned, evasions, from)?;
     }
     Ok(moves)

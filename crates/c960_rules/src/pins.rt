@@ -8,7 +8,7 @@ ghost use Rattle.c960_rules.specs.Reaches.{Reaches};
 ghost use Rattle.c960_rules.specs.Inner.Pins.{AreEvasions, HasOthers, IsUnpinned, blockers};
 
 use crate::attack_sets::{attackers_over, leapers, sliders};
-use crate::bitset::{lowest, only, without};
+use crate::bitset::{lowest, only, without_lowest};
 use crate::legal::is_legal_ordinary;
 use crate::lookups::squares_between;
 use crate::placement::is_en_passant;
@@ -22,7 +22,7 @@ fn sole(set: u64) -> u64
     requires { 0 < set }
     ensures { HasOthers set result }
 {
-    let rest = without(set, lowest(set));
+    let rest = without_lowest(set);
     if rest == 0 { set } else { 0 }
 }
 
@@ -34,7 +34,7 @@ fn pinned(sliders: u64, king: Square, occupied: u64) -> Option<u64>
     let mut pinned: u64 = 0;
     while left != 0 {
         let slider = lowest(left);
-        left = without(left, slider);
+        left = without_lowest(left);
         let blockers = squares_between(king, slider) & occupied;
         if blockers == 0 {
             return None;

@@ -28,7 +28,7 @@ pub loop-left-preserved : goal.loop-left-preserved
 loop-left-preserved c =
     let p = c.position-position.result in
     let k = c.lowest-from.result in
-    searched_more (HasMoveFrom p) c.loop-left.left k c.without-left.result c.without-left.ensures.taken_out c.loop-left.invariant
+    searched_more (HasMoveFrom p) c.loop-left.left k c.without_lowest-left.result (c.without_lowest-left.ensures.taken_out _ c.lowest-from.ensures.lowest) c.loop-left.invariant
     (λ h. both_ways c.has_move_from.result c.if-has_move_from.false (c.has_move_from.ensures.1 h))
 
 pub returns : goal.returns

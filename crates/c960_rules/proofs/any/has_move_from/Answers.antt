@@ -17,7 +17,7 @@ pub loop-left-preserved : goal.loop-left-preserved
 loop-left-preserved c =
     let p = c.args.position.now in
     let k = c.lowest-to.result in
-    searched_more (HasMoveBetween p c.args.from) c.loop-left.left k c.without-left.result c.without-left.ensures.taken_out c.loop-left.invariant
+    searched_more (HasMoveBetween p c.args.from) c.loop-left.left k c.without_lowest-left.result (c.without_lowest-left.ensures.taken_out _ c.lowest-to.ensures.lowest) c.loop-left.invariant
     (λ h. both_ways c.has_move_between.result c.if-has_move_between.false (c.has_move_between.ensures.1 h))
 
 pub returns : goal.returns

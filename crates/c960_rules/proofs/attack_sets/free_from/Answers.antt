@@ -11,7 +11,7 @@ pub loop-left-preserved-then-squares_between-occupied-eq0 : goal.loop-left-prese
 loop-left-preserved-then-squares_between-occupied-eq0 c =
     let k = c.lowest-goal.result in
     filtered_in (λ s. is_free c.args.occupied c.args.square s) c.args.set c.loop-left.left c.loop-left.found k
-    c.without-left.result c.only-found.result c.loop-left.invariant c.without-left.ensures.taken_out
+    c.without_lowest-left.result c.only-found.result c.loop-left.invariant (c.without_lowest-left.ensures.taken_out _ c.lowest-goal.ensures.lowest)
     (free_is c.args.occupied c.args.square k c.squares_between.result c.squares_between.ensures
     c.if-squares_between-occupied-eq0.true)
     c.only-found.ensures
@@ -20,7 +20,7 @@ pub loop-left-preserved : goal.loop-left-preserved
 loop-left-preserved c =
     let k = c.lowest-goal.result in
     filtered_out (λ s. is_free c.args.occupied c.args.square s) c.args.set c.loop-left.left c.loop-left.found k
-    c.without-left.result c.loop-left.invariant c.without-left.ensures.taken_out
+    c.without_lowest-left.result c.loop-left.invariant (c.without_lowest-left.ensures.taken_out _ c.lowest-goal.ensures.lowest)
     (free_isnt c.args.occupied c.args.square k c.squares_between.result c.squares_between.ensures
     c.if-squares_between-occupied-eq0.false)
 

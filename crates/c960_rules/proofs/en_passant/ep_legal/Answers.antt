@@ -30,7 +30,7 @@ loop-left-preserved c =
     let p = c.args.lawful.now in
     let t = c.in-Some.target in
     let k = c.lowest-from.result in
-    searched_more (λ (s : ℕ). LegalEnPassant p (capture s t)) c.loop-left.left k c.without-left.result c.without-left.ensures.taken_out c.loop-left.invariant
+    searched_more (λ (s : ℕ). LegalEnPassant p (capture s t)) c.loop-left.left k c.without_lowest-left.result (c.without_lowest-left.ensures.taken_out _ c.lowest-from.ensures.lowest) c.loop-left.invariant
     (λ h. both_ways c.takes.result c.if-takes.false (c.takes.ensures.1 h))
 
 pub returns-clause-some : goal.returns-clause-some

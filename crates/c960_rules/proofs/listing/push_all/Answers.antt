@@ -7,8 +7,8 @@ use Rattle.c960_rules.proofs.listing.push_all.Goals as goal
 
 pub loop-left-preserved : goal.loop-left-preserved
 loop-left-preserved c =
-    stretches_step (one_plain c.args.from) _ _ _ c.loop-left.left c.lowest-to.result c.without-left.result
-    c.without-left.ensures.taken_out c.lowest-to.ensures.least c.loop-left.invariant c.in_ok-push_plain.ensures
+    stretches_step (one_plain c.args.from) _ _ _ c.loop-left.left c.lowest-to.result c.without_lowest-left.result
+    (c.without_lowest-left.ensures.taken_out _ c.lowest-to.ensures.lowest) c.lowest-to.ensures.lowest.least c.loop-left.invariant c.in_ok-push_plain.ensures
 
 pub returns : goal.returns
 returns c =

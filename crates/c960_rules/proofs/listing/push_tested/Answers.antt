@@ -15,7 +15,7 @@ pub loop-left-preserved : goal.loop-left-preserved
 loop-left-preserved c =
     let p = c.args.position.now in
     let k = c.lowest-to.result in
-    stretches_step (legal_between p c.args.from) _ _ _ c.loop-left.left k c.without-left.result c.without-left.ensures.taken_out c.lowest-to.ensures.least
+    stretches_step (legal_between p c.args.from) _ _ _ c.loop-left.left k c.without_lowest-left.result (c.without_lowest-left.ensures.taken_out _ c.lowest-to.ensures.lowest) c.lowest-to.ensures.lowest.least
     c.loop-left.invariant c.in_ok-push_at.ensures
 
 pub returns : goal.returns

@@ -31,7 +31,7 @@ returns c =
     let are = c.attackers_over-checkers.ensures ∙ ap (λ (d : Colour). where_set (λ s. is_attacker_on p.placement occupied d s king)) by in
     let hit : is_attacker_on p.placement occupied (other p.turn) checker king ≡ true =
     sym (in_where (λ s. is_attacker_on p.placement occupied (other p.turn) s king) checkers checker are c.lowest-checker.ensures.bound)
-    ∙ eq-eqb (bit_at checkers checker) 1 c.lowest-checker.ensures.inside in
+    ∙ eq-eqb (bit_at checkers checker) 1 c.lowest-checker.ensures.lowest.inside in
     evasions_are p king occupied checker c.only.result c.squares_between.result valid c.king_of-king.ensures.bound
     (c.king_of-king.ensures.stands ∙ ap (λ (d : Colour). man d King) turn) c.lowest-checker.ensures.bound
     (occupied_where p valid c.occupied.ensures.set) hit c.only.ensures c.squares_between.ensures
