@@ -95,20 +95,23 @@ fn read_any<A: Asked>(alloc: Global, scratch: &mut Scratch, text: &str) -> Resul
     }
 }
 
-/// What a compact object asks for, or none for another text. Most are usual ones, in which nothing is looked up.
+/// What a compact object asks for, or none for another text.
 fn read_if_compact<A: Asked>(text: &str) -> Option<Result<A, MessageFault>>
     ensures { IfSome result (λ answer. answer ≡ value_says A.says (read text.now)) }
 {
-    if let Some(usual) = read_usual(text) {
-        return Some(A::of(&usual));
-    }
     let mut object = PlainObject::new();
     read_compact(text, &mut object)?;
     Some(A::of(&object))
 }
 
-/// What a text in UTF-8 asks for.
-fn read_text<A: Asked>(alloc: Global, scratch: &mut Scratch, text: &str) -> Result<A, MessageFault>
+/// What a text in UTF-8 asks for that is not a usual object, or any other. It is never inlined, so that the room for members is not cleared
+/// for a usual object.
+#[inline(never)]
+fn read_unusual<A: Asked>(
+    alloc: Global,
+    scratch: &mut Scratch,
+    text: &str,
+) -> Result<A, MessageFault>
     ensures { IsReading A.says text.now result }
 {
     if let Some(answer) = read_if_compact(text) {
@@ -121,6 +124,16 @@ fn read_text<A: Asked>(alloc: Global, scratch: &mut Scratch, text: &str) -> Resu
         Err(_) => return Err(MessageFault::OutOfMemory),
     }
     read_any(alloc, scratch, text)
+}
+
+/// What a text in UTF-8 asks for.
+fn read_text<A: Asked>(alloc: Global, scratch: &mut Scratch, text: &str) -> Result<A, MessageFault>
+    ensures { IsReading A.says text.now result }
+{
+    match read_usual(text) {
+        Some(usual) => A::of(&usual),
+        None => read_unusual(alloc, scratch, text),
+    }
 }
 
 /// Decodes texts one after another. It keeps the memory that reading needs from one text to the next.
