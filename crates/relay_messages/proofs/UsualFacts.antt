@@ -7,7 +7,7 @@ use Rattle.serde_json.proofs.Views.{get_member-put_other}
 use Rattle.relay_messages.specs.Fields.{number_at, text_at}
 use Rattle.relay_messages.specs.Members.{members_in}
 use Rattle.relay_messages.specs.Usual.{usual_data, usual_members}
-use Rattle.relay_messages.specs.declared.usual.Usual.TheVariants.{Spectator, Move, Follow}
+use Rattle.relay_messages.specs.declared.usual.Usual.TheVariants.{Spectator, Move, Follow, FollowFrom}
 use Rattle.relay_messages.proofs.PlainFacts.{found_or_other}
 
 -- a text, and a number
@@ -88,3 +88,23 @@ follow_numbers name cmd board who no_who =
     let first = put (codes "cmd") (string cmd.now) no_members in
     other_key number_in name (codes "spectator") (number (unsigned who)) (put (codes "board") (string board.now) first) no_who
     (other_form number_in name (codes "board") (string board.now) first refl (other_form number_in name (codes "cmd") (string cmd.now) no_members refl refl))
+
+-- ---- `cmd`, `board`, `spectator` and `from`.
+
+pub from_keys : (name : List ℕ) (cmd board : Bor (List ℕ)) (who from : ℕ) → name ≢ codes "cmd" → name ≢ codes "board" → name ≢ codes "spectator"
+    → name ≢ codes "from" → get_member name (members_in (usual_members (FollowFrom cmd board who from))) ≡ None
+from_keys name cmd board who from no_cmd no_board no_who no_from =
+    get_member-put_other name (codes "from") (number (unsigned from)) (members_in (usual_members (Follow cmd board who))) no_from
+    ∙ follow_keys name cmd board who no_cmd no_board no_who
+
+pub from_texts : (name : List ℕ) (cmd board : Bor (List ℕ)) (who from : ℕ) → name ≢ codes "cmd" → name ≢ codes "board"
+    → text_at name (usual_data (FollowFrom cmd board who from)) ≡ None
+from_texts name cmd board who from no_cmd no_board =
+    other_form text_in name (codes "from") (number (unsigned from)) (members_in (usual_members (Follow cmd board who))) refl
+    (follow_texts name cmd board who no_cmd no_board)
+
+pub from_numbers : (name : List ℕ) (cmd board : Bor (List ℕ)) (who from : ℕ) → name ≢ codes "spectator" → name ≢ codes "from"
+    → number_at name (usual_data (FollowFrom cmd board who from)) ≡ None
+from_numbers name cmd board who from no_who no_from =
+    other_key number_in name (codes "from") (number (unsigned from)) (members_in (usual_members (Follow cmd board who))) no_from
+    (follow_numbers name cmd board who no_who)

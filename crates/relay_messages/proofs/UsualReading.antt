@@ -27,6 +27,10 @@ pub move_written : codes "\"move\":" ≡ token_text (Token.key (codes "move"))
 unfolding escape_byte
 move_written = refl
 
+pub from_written : codes "\"from\":" ≡ token_text (Token.key (codes "from"))
+unfolding escape_byte
+from_written = refl
+
 -- ---- What is read.
 
 -- two members between braces
@@ -43,3 +47,12 @@ three_read m n o text first then next later last opened one divided two divided_
     text_read text (m ∷ n ∷ o ∷ []) (one.within, (two.within, (three.within, tt)))
     (first_written m text first then _ opened one (next_written n then next later _ divided two
     (next_written o later last _ _ divided_again three (closed _ [] refl refl))))
+
+-- four members between braces
+pub four_read : (m n o p : Member) (text first then next later last after end : List ℕ) → text ≡ 123 ∷ first → IsMember m first then → then ≡ 44 ∷ next
+    → IsMember n next later → later ≡ 44 ∷ last → IsMember o last after → after ≡ 44 ∷ end → IsMember p end (125 ∷ [])
+    → read text ≡ Some (object (members_in (m ∷ n ∷ o ∷ p ∷ [])))
+four_read m n o p text first then next later last after end opened one divided two divided_again three divided_last four =
+    text_read text (m ∷ n ∷ o ∷ p ∷ []) (one.within, (two.within, (three.within, (four.within, tt))))
+    (first_written m text first then _ opened one (next_written n then next later _ divided two
+    (next_written o later last after _ divided_again three (next_written p after end _ _ divided_last four (closed _ [] refl refl)))))

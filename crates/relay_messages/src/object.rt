@@ -110,6 +110,7 @@ impl<'t> Object for Usual<'t> {
             Usual::Spectator { .. } => 2,
             Usual::Move { .. } => 3,
             Usual::Follow { .. } => 3,
+            Usual::FollowFrom { .. } => 4,
         }
     }
 
@@ -131,6 +132,11 @@ impl<'t> Object for Usual<'t> {
                 "board" => Some(board),
                 _ => None,
             },
+            Usual::FollowFrom { cmd, board, .. } => match key {
+                "cmd" => Some(cmd),
+                "board" => Some(board),
+                _ => None,
+            },
         }
     }
 
@@ -146,6 +152,15 @@ impl<'t> Object for Usual<'t> {
                 "spectator" => Some(spectator),
                 _ => None,
             },
+            Usual::FollowFrom {
+                spectator,
+                from,
+                ..
+            } => match key {
+                "spectator" => Some(spectator),
+                "from" => Some(from),
+                _ => None,
+            },
         }
     }
 
@@ -155,6 +170,7 @@ impl<'t> Object for Usual<'t> {
             Usual::Spectator { .. } => matches!(key, "cmd" | "spectator"),
             Usual::Move { .. } => matches!(key, "cmd" | "board" | "move"),
             Usual::Follow { .. } => matches!(key, "cmd" | "board" | "spectator"),
+            Usual::FollowFrom { .. } => matches!(key, "cmd" | "board" | "spectator" | "from"),
         }
     }
 }

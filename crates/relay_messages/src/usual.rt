@@ -37,6 +37,17 @@ pub enum Usual<'a> {
         /// The number of the spectator.
         spectator: u64,
     },
+    /// `cmd`, `board`, `spectator` and `from`, as to follow from a place.
+    FollowFrom {
+        /// The name of the command.
+        cmd: &'a str,
+        /// The name of the board.
+        board: &'a str,
+        /// The number of the spectator.
+        spectator: u64,
+        /// The place.
+        from: u64,
+    },
 }
 
 /// The text of the member with this key, if the object ends behind it.
@@ -69,10 +80,20 @@ pub fn read_usual(text: &str) -> Option<Usual<'_>>
     if let Some(m) = last_text(third, r#""move":"#) {
         return Some(Usual::Move { cmd, board, m });
     }
-    let spectator = last_number(third, r#""spectator":"#)?;
-    Some(Usual::Follow {
+    let (spectator, rest) = take_number_of(third, r#""spectator":"#)?;
+    if is_closed(rest) {
+        return Some(Usual::Follow {
+            cmd,
+            board,
+            spectator,
+        });
+    }
+    let fourth = after(rest, b',')?;
+    let from = last_number(fourth, r#""from":"#)?;
+    Some(Usual::FollowFrom {
         cmd,
         board,
         spectator,
+        from,
     })
 }

@@ -2,7 +2,7 @@ use Rattle.std.proofs.Common.{is_some, ap, sym, ◌∙◌}
 use Rattle.serde_json.specs.Find.{get}
 use Rattle.relay_messages.specs.Usual.{usual_data}
 use Rattle.relay_messages.specs.declared.usual.Usual.{Usual}
-use Rattle.relay_messages.proofs.UsualFacts.{follow_keys, move_keys, spectator_keys}
+use Rattle.relay_messages.proofs.UsualFacts.{follow_keys, from_keys, move_keys, spectator_keys}
 use Rattle.relay_messages.proofs.object.UsualObject.has.Goals as goal
 
 pub returns-in_default : goal.returns-in_default
@@ -21,3 +21,10 @@ returns-in_default-matches-2 c =
     let other = c.in_default-matches-2 in
     sym (ap (λ (u : Usual). is_some (get c.args.key.now (usual_data u))) c.in-Follow.is
     ∙ ap is_some (follow_keys c.args.key.now c.in-Follow.cmd c.in-Follow.board c.in-Follow.spectator other.not-cmd other.not-board other.not-spectator))
+
+pub returns-in_default-matches-3 : goal.returns-in_default-matches-3
+returns-in_default-matches-3 c =
+    let other = c.in_default-matches-3 in
+    let u = c.in-FollowFrom in
+    sym (ap (λ (u : Usual). is_some (get c.args.key.now (usual_data u))) u.is
+    ∙ ap is_some (from_keys c.args.key.now u.cmd u.board u.spectator u.from other.not-cmd other.not-board other.not-spectator other.not-from))
