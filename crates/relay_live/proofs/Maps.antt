@@ -1,8 +1,8 @@
 -- Look-ups after one value has changed, and by index.
-use Rattle.std.proofs.Common.{◌≡◌, ◌≢◌, ◌⊎◌, ℕ, zero, suc, ◌+◌, nat_lt, lt-ltb, ne_eqb, Bool, true, false, true≢false, List, [], ◌∷◌, ◌++◌, length, length-append, position, slice_get, cond, not, None, Some, sym, refl, ap, ◌∙◌, arith, inl, inr, ⊎_elim}
+use Rattle.std.proofs.Common.{◌≡◌, ◌≢◌, ◌⊎◌, ℕ, zero, suc, ◌+◌, nat_eq, nat_lt, eqb-true, lt-ltb, ne_eqb, Bool, true, false, true≢false, List, [], ◌∷◌, ◌++◌, length, length-append, position, slice_get, cond, not, None, Some, option_map, sym, refl, ap, ◌∙◌, arith, inl, inr, ⊎_elim}
 use Rattle.std.proofs.lemmas.List.Folds.{position_or_len_push}
 use Rattle.std.proofs.lemmas.List.Quantifiers.{position-Some}
-use Rattle.std.proofs.lemmas.Option.{same_Some, none-some}
+use Rattle.std.proofs.lemmas.Option.{get_or_from_slice_get, same_Some, slice_get-map, none-some}
 use Rattle.std.specs.List.{position_or_len}
 use Rattle.std.specs.Map.{keys_of, lookup, set_value, values_of}
 use Rattle.indexmap.specs.IndexMap.{set_value_at}
@@ -49,6 +49,13 @@ module _ {K V : Type 0} (test : K → Bool) (es : List (K × V)) (i : ℕ) (at :
           by false rest =
               let one : 1 + position_or_len test (keys_of ys) ≡ suc (position_or_len test (keys_of ys)) = omega arith in
               ap (λ (n : ℕ). set_value_at (y ∷ ys) n w) one ∙ ap (λ (l : List (K × V)). y ∷ l) rest
+
+-- the key that stands where a number was found is that number
+pub key_at : {V : Type 0} (n : ℕ) (es : List (ℕ × V)) (i k : ℕ) (v : V) → position (nat_eq n) (keys_of es) ≡ Some i → slice_get es i ≡ Some (k, v) → slice_get es i ≡ Some (n, v)
+key_at n es i k v at there =
+    let key : slice_get (keys_of es) i ≡ Some k = slice_get-map (λ e. e.0) es i ∙ ap (option_map (λ e. e.0)) there in
+    let same : n ≡ k = eqb-true n k (ap (nat_eq n) (sym (get_or_from_slice_get (keys_of es) i k k key)) ∙ (position-Some (nat_eq n) (keys_of es) i k at).1) in
+    there ∙ ap (λ (m : ℕ). Some (m, v)) (sym same)
 
 -- a new entry comes last, so the index of each key stays
 pub index_pushed : {K V : Type 0} (test : K → Bool) (es : List (K × V)) (k : K) (v : V) (i : ℕ) → position test (keys_of es) ≡ Some i → position test (keys_of (es ++ (k, v) ∷ [])) ≡ Some i

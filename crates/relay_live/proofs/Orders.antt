@@ -70,13 +70,13 @@ module _ (places places' order : List (ℕ × Seated)) (was : IsOrderOf places o
     same = λ q. updates q ∙ ap (cond (nat_eq k q) None) (was.same q) ∙ sym (lookup-remove_entry nat_eq_equiv (nat_eq k) (nat_eq_equiv.congr k) q order was.once);
   }
 
-  pub one_changed : (f v : Seated) → lookup (nat_eq k) order ≡ Some f → places' ≡ set_value (nat_eq k) places v → IsOrderOf places' (insert_entry nat_eq order k v)
-  one_changed f v there written =
+  pub one_changed : (f v : Seated) → lookup (nat_eq k) order ≡ Some f → ((q : ℕ) → lookup (nat_eq q) places' ≡ cond (nat_eq k q) (Some v) (lookup (nat_eq q) places))
+      → IsOrderOf places' (insert_entry nat_eq order k v)
+  one_changed f v there updates =
       let stays = inserted_there order k f v there in
       record {
         once = subst (λ l. IsDistinct nat_eq (keys_of l)) (sym stays) (subst (λ (l : List ℕ). IsDistinct nat_eq l) (sym (keys-set_value (nat_eq k) order v)) was.once);
-        same = λ q. ap (lookup (nat_eq q)) written
-            ∙ lookup-set_value nat_eq_equiv (nat_eq k) (nat_eq_equiv.congr k) q v places (subst IsSome (sym (was.same k ∙ there)) refl)
+        same = λ q. updates q
             ∙ ap (cond (nat_eq k q) (Some v)) (was.same q)
             ∙ sym (ap (lookup (nat_eq q)) stays ∙ lookup-set_value nat_eq_equiv (nat_eq k) (nat_eq_equiv.congr k) q v order (subst IsSome (sym there) refl));
       }

@@ -236,10 +236,10 @@ same_after a f none = let t : f.taken + length (items_of a) ≡ f.taken = let x 
 pub due_is : (k : ℕ) (boards : Boards) (f : Seated) (b : BoardSeat) → lookup (same_name f.board) boards ≡ Some b → (held_at k boards f).queue ≡ due_at b.knows f.slot (f.joined + f.taken)
 due_is k boards f b there = ap (λ o. (held_in k (view_in o) f).queue) there
 
-pub counted : (who : ℕ) (fs fs' : List (ℕ × Seated)) (f : Seated) (a : Taken) (place : ℕ) (m : Triple) → lookup (nat_eq who) fs ≡ Some f → a ≡ Move place m
-    → IfSome (lookup (nat_eq who) fs) (λ g. fs' ≡ set_value (nat_eq who) fs (with_one_more g)) → fs' ≡ set_value (nat_eq who) fs (after a f)
-counted who fs fs' f a place m mine is told =
-    subst (λ (o : Option Seated). IfSome o (λ g. fs' ≡ set_value (nat_eq who) fs (with_one_more g))) mine told
+pub counted : (who : ℕ) (entry : Option (ℕ × Seated)) (fs fs' : List (ℕ × Seated)) (f : Seated) (a : Taken) (place : ℕ) (m : Triple) → entry ≡ Some (who, f) → a ≡ Move place m
+    → IfSome entry (λ e. fs' ≡ set_value (nat_eq e.0) fs (with_one_more e.1)) → fs' ≡ set_value (nat_eq who) fs (after a f)
+counted who entry fs fs' f a place m mine is told =
+    subst (λ (o : Option (ℕ × Seated)). IfSome o (λ e. fs' ≡ set_value (nat_eq e.0) fs (with_one_more e.1))) mine told
     ∙ ap (λ (x : Taken). set_value (nat_eq who) fs (after x f)) (sym is)
 
 pub uncounted : (who : ℕ) (fs : List (ℕ × Seated)) (f : Seated) (a : Taken) → lookup (nat_eq who) fs ≡ Some f → ((place : ℕ) (m : Triple) → a ≡ Move place m → ⊥) → fs ≡ set_value (nat_eq who) fs (after a f)

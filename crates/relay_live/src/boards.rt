@@ -64,12 +64,12 @@ pub(crate) fn end(
 }
 
 /// Makes a take for a spectator that is seated at a board.
-pub(crate) fn take_for(boards: &mut IndexMap<BoardKey, Board>, seated: Seated) -> Taken
-    requires seated { IsSeated boards.old.entries seated }
-    requires fits { seated.joined + seated.taken < 65536 }
-    ensures swapped { Swapped (λ b c. TookAt seated.slot result b.knows c.knows × IsSound c.knows
-        × (result ≡ taken_of (seated.joined + seated.taken) b.knows.outcome (closing_at b.knows seated.slot) (due_at b.knows seated.slot (seated.joined + seated.taken))))
-        seated.board boards.old.entries boards.new.entries }
+pub(crate) fn take_for(boards: &mut IndexMap<BoardKey, Board>, seated: &Seated) -> Taken
+    requires seated { IsSeated boards.old.entries seated.now }
+    requires fits { seated.now.joined + seated.now.taken < 65536 }
+    ensures swapped { Swapped (λ b c. TookAt seated.now.slot result b.knows c.knows × IsSound c.knows
+        × (result ≡ taken_of (seated.now.joined + seated.now.taken) b.knows.outcome (closing_at b.knows seated.now.slot) (due_at b.knows seated.now.slot (seated.now.joined + seated.now.taken))))
+        seated.now.board boards.old.entries boards.new.entries }
     ensures room { spare boards.new ≡ spare boards.old }
 {
     let Some(live) = boards.get_index_mut(seated.index) else {

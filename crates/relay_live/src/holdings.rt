@@ -154,12 +154,12 @@ impl Holdings {
     {
         // Hence the places of a log fit in 16 bits.
         prove!(self.limits.plies() <= MOST_PLIES);
-        let Some(seated) = self.followers.get(who) else {
+        let Some((index, seated)) = self.followers.find(who) else {
             return Reply::Refused(Refusal::NoSuchFollower);
         };
         let taken = take_for(&mut self.boards, seated);
         if let Taken::Move(_, _) = taken {
-            self.followers.count_take(who);
+            self.followers.count_take(index);
         }
         Reply::Took(taken)
     }

@@ -1,6 +1,6 @@
 //! The spectators who follow, and where. Contracts see them in the order of joining.
 
-ghost use Rattle.std.specs.Prelude.{◌≡◌, ◌≤◌, ◌<◌, ℕ, nat_eq, is_some, cond, IfNone, IfSome, OnOk, OnErr, None, [], ◌∷◌, ◌++◌};
+ghost use Rattle.std.specs.Prelude.{◌≡◌, ◌≤◌, ◌<◌, ℕ, nat_eq, is_some, option_map, slice_get, cond, IfNone, IfSome, OnOk, OnErr, None, Some, [], ◌∷◌, ◌++◌};
 ghost use Rattle.std.specs.Map.{lookup, remove_entry, set_value};
 ghost use Rattle.relay_live.specs.Live.{with_one_more};
 
@@ -28,6 +28,7 @@ impl Model for Seats {
 
     ghost view = { λ s. record {
       entries = s.order.entries;
+      places = s.places.entries;
       room = spare s.places;
     } };
 
@@ -52,25 +53,28 @@ impl Seats {
         self.places.contains_key(&who)
     }
 
-    /// Where a spectator follows, if it does.
-    pub(crate) fn get(&self, who: Spectator) -> Option<Seated>
-        ensures { result ≡ lookup (nat_eq who) self.now.entries }
+    /// Where a spectator follows, if it does, behind its index in the map.
+    pub(crate) fn find(&self, who: Spectator) -> Option<(usize, &Seated)>
+        ensures seated { option_map (λ p. p.1.now) result ≡ lookup (nat_eq who) self.now.entries }
+        ensures place { IfSome result (λ p. slice_get self.now.places p.0 ≡ Some (who, p.1.now)) }
     {
-        self.places.get(&who).copied()
+        let (index, _, seated) = self.places.get_full(&who)?;
+        Some((index, seated))
     }
 
-    /// Counts one more move for a spectator.
-    pub(crate) fn count_take(&mut self, who: Spectator)
-        requires { IfSome (lookup (nat_eq who) self.old.entries) (λ f. f.taken < 65535) }
-        ensures counted { IfSome (lookup (nat_eq who) self.old.entries) (λ f. self.new.entries ≡ set_value (nat_eq who) self.old.entries (with_one_more f)) }
-        ensures nobody { lookup (nat_eq who) self.old.entries ≡ None → self.new.entries ≡ self.old.entries }
+    /// Counts one more move for the spectator at an index of the map.
+    pub(crate) fn count_take(&mut self, index: usize)
+        requires { IfSome (slice_get self.old.places index) (λ e. e.1.taken < 65535) }
+        ensures counted { IfSome (slice_get self.old.places index) (λ e. self.new.entries ≡ set_value (nat_eq e.0) self.old.entries (with_one_more e.1)) }
+        ensures nobody { slice_get self.old.places index ≡ None → self.new.entries ≡ self.old.entries }
         ensures room { self.new.room ≡ self.old.room }
     {
-        let Some(seated) = self.places.get_mut(&who) else {
+        if index >= self.places.len() {
             return;
-        };
+        }
+        let (who, seated) = self.places.pair_mut(index);
         seated.taken += 1;
-        self.order = self.order.with(&who, seated);
+        self.order = self.order.with(who, seated);
     }
 
     /// Seats a spectator that follows no board. It may allocate.

@@ -9,7 +9,7 @@ use Rattle.relay_live.proofs.boards.take_for.Goals as goal
 
 pub take_at-requires : goal.take_at-requires
 take_at-requires c =
-    let f = c.args.seated in
+    let f = c.args.seated.now in
     let s = c.requires.seated in
     let found = found_at (same_name f.board) c.args.boards.now.entries f.index s.at in
     let is : c.in-Some.live.now ≡ s.board = same_Some _ _ (sym (ap option_copied_mut c.in-Some.is) ∙ c.get_index_mut.ensures.value ∙ sym found ∙ s.there) in
@@ -17,7 +17,7 @@ take_at-requires c =
 
 pub returns-clause-swapped : goal.returns-clause-swapped
 returns-clause-swapped c =
-    let f = c.args.seated in
+    let f = c.args.seated.now in
     let s = c.requires.seated in (
       c.in-Some.live.now,
       c.take_at.new.self,
