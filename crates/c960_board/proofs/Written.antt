@@ -8,5 +8,6 @@ pub mod Fields
 pub mod Laws
 pub mod RankCells
 pub mod Gaps
+pub mod Spread
 pub mod PieceLetters
 pub mod Told

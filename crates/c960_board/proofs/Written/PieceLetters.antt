@@ -1,16 +1,18 @@
 -- The letters of the pieces, by the bits of their kinds' numbers.
-use Rattle.std.proofs.Common.{◌≡◌, ℕ, zero, suc, ◌+◌, ◌*◌, ◌-◌, ◌^◌, ◌<◌, List, [], ◌∷◌, ◌++◌, map, min, max, get_or, Bool, true, false, not, ◌&&◌, ◌||◌, cond, refl, ap, ◌∙◌, arith, w64}
+use Rattle.std.proofs.Common.{◌≡◌, ℕ, zero, suc, ◌+◌, ◌*◌, ◌-◌, ◌/◌, ◌%◌, ◌^◌, ◌<◌, List, map, min, max, get_or, Bool, true, false, not, ◌&&◌, ◌||◌, cond, refl, ap, ◌∙◌, zero-add, arith, w64}
+use Rattle.std.proofs.lemmas.List.FromFn.{get_or-map-range_with_len}
+use Rattle.std.proofs.lemmas.Nat.{and_mask}
 use Rattle.std.proofs.lemmas.Nat.Bits.{bit_at_and, bit_at_or, bit_at_not, bit_at-lt}
 use Rattle.std.specs.Prelude.{◌==◌, bit_and, bit_or}
 use Rattle.std.specs.Int.{bit_at, bit_not}
-use Rattle.c960_board.specs.declared.piece.Colour.TheVariants.{White, Black}
-use Rattle.c960_board.specs.declared.piece.Kind.{Kind}
-use Rattle.c960_board.specs.declared.piece.Kind.TheVariants.{Pawn, Knight, Bishop, Rook, Queen, King}
+use Rattle.std.specs.List.{range_with_len}
+use Rattle.c960_board.specs.declared.fen.letters.TheConstants.{LETTERS}
 use Rattle.c960_board.specs.Fen.Letters.{letter_of}
 use Rattle.c960_board.specs.Sets.{is_in, kind_by}
 use Rattle.c960_board.proofs.lemmas.SetFacts.{or_bits, and_bits}
 use Rattle.c960_board.proofs.lemmas.Tests.{one_in}
-use Rattle.c960_board.specs.Inner.PieceLetters.{colour_by, kind_numbered}
+use Rattle.c960_board.specs.Inner.PieceLetters.{colour_by, kind_numbered, letter_numbered, digits}
+use Rattle.c960_board.proofs.Written.Spread.{digits_sum, digit_at}
 
 -- ---- Tests of bits.
 
@@ -61,40 +63,69 @@ number_is false false false true q = refl
 number_is false false false false true = refl
 number_is false false false false false = refl
 
--- the kinds by their numbers, with the two that no piece has
-abbrev kinds : List Kind
-kinds = Pawn ∷ Knight ∷ Bishop ∷ Rook ∷ Queen ∷ King ∷ King ∷ King ∷ []
+-- the letter of a number, by its bits
+letter_is : (w f t o : Bool)
+    → letter_numbered (cond o 1 0 + 2 * cond t 1 0 + 4 * cond f 1 0 + 8 * cond w 1 0) ≡ letter_of (colour_by w) (kind_numbered f t o)
+letter_is true true true true = refl
+letter_is true true true false = refl
+letter_is true true false true = refl
+letter_is true true false false = refl
+letter_is true false true true = refl
+letter_is true false true false = refl
+letter_is true false false true = refl
+letter_is true false false false = refl
+letter_is false true true true = refl
+letter_is false true true false = refl
+letter_is false true false true = refl
+letter_is false true false false = refl
+letter_is false false true true = refl
+letter_is false false true false = refl
+letter_is false false false true = refl
+letter_is false false false false = refl
 
--- the letters by the numbers, with 8 more for White
-abbrev pub letter_table : List ℕ
-letter_table = map (letter_of Black) kinds ++ map (letter_of White) kinds
+-- and by the bits of each square
+letter_by : (o t f w : ℕ) → o < 2 → t < 2 → f < 2 → w < 2
+    → letter_numbered (o + 2 * t + 4 * f + 8 * w) ≡ letter_of (colour_by (w == 1)) (kind_numbered (f == 1) (t == 1) (o == 1))
+letter_by o t f w lo lt lf lw =
+    let eo = one_if o lo in
+    let et = one_if t lt in
+    let ef = one_if f lf in
+    let ew = one_if w lw in
+    let bits : o + 2 * t + 4 * f + 8 * w ≡ cond (o == 1) 1 0 + 2 * cond (t == 1) 1 0 + 4 * cond (f == 1) 1 0 + 8 * cond (w == 1) 1 0 =
+    omega (arith, eo, et, ef, ew) in
+    ap letter_numbered bits
+    ∙ letter_is (w == 1) (f == 1) (t == 1) (o == 1)
 
 -- the table has the letter of each number
-table_is : (w f t o : Bool)
-    → get_or letter_table (cond o 1 0 + 2 * cond t 1 0 + 4 * cond f 1 0 + 8 * cond w 1 0) 0 ≡ letter_of (colour_by w) (kind_numbered f t o)
-table_is true true true true = refl
-table_is true true true false = refl
-table_is true true false true = refl
-table_is true true false false = refl
-table_is true false true true = refl
-table_is true false true false = refl
-table_is true false false true = refl
-table_is true false false false = refl
-table_is false true true true = refl
-table_is false true true false = refl
-table_is false true false true = refl
-table_is false true false false = refl
-table_is false false true true = refl
-table_is false false true false = refl
-table_is false false false true = refl
-table_is false false false false = refl
+letter_table : LETTERS ≡ map letter_numbered (range_with_len 0 16)
+letter_table = refl
 
--- and so has the bits of each square
-pub table_on : (o t f w : ℕ) → o < 2 → t < 2 → f < 2 → w < 2
-    → get_or letter_table (o + 2 * t + 4 * f + 8 * w) 0 ≡ letter_of (colour_by (w == 1)) (kind_numbered (f == 1) (t == 1) (o == 1))
-table_on o t f w lo lt lf lw =
-    ap (λ (k : ℕ). get_or letter_table k 0) (let eo = one_if o lo in let et = one_if t lt in let ef = one_if f lf in let ew = one_if w lw in omega (arith, eo, et, ef, ew))
-    ∙ table_is (w == 1) (f == 1) (t == 1) (o == 1)
+pub letter_entry : (n : ℕ) → get_or LETTERS (bit_and n 15) 0 ≡ letter_numbered (n % 16)
+letter_entry n =
+    let place = bit_and n 15 in
+    let is : place ≡ n % 16 = and_mask n 4 in
+    ap (λ (l : List ℕ). get_or l place 0) letter_table
+    ∙ get_or-map-range_with_len letter_numbered 0 16 place place 0 (omega (arith, is)) (zero-add place)
+    ∙ ap letter_numbered is
+
+-- the letters of a rank, by the numbers of four sets
+pub letters_in : (ones twos fours white o t f w rank file : ℕ) → file < 8
+    → o ≡ digits (λ i. bit_at ones (8 * rank + i)) 8 → t ≡ digits (λ i. bit_at twos (8 * rank + i)) 8
+    → f ≡ digits (λ i. bit_at fours (8 * rank + i)) 8 → w ≡ digits (λ i. bit_at white (8 * rank + i)) 8
+    → letter_numbered ((o + 2 * t + 4 * f + 8 * w) / 2 ^ (4 * file) % 16)
+    ≡ letter_of (colour_by (is_in white (8 * rank + file)))
+    (kind_numbered (is_in fours (8 * rank + file)) (is_in twos (8 * rank + file)) (is_in ones (8 * rank + file)))
+letters_in ones twos fours white o t f w rank file l eo et ef ew =
+    let bit : ℕ → ℕ → ℕ = λ set i. bit_at set (8 * rank + i) in
+    let code : ℕ → ℕ = λ i. bit ones i + 2 * bit twos i + 4 * bit fours i + 8 * bit white i in
+    let small : (i : ℕ) → code i < 16 =
+    λ i. omega (arith, bit_at-lt ones (8 * rank + i), bit_at-lt twos (8 * rank + i), bit_at-lt fours (8 * rank + i), bit_at-lt white (8 * rank + i)) in
+    let sum : o + 2 * t + 4 * f + 8 * w ≡ digits code 8 =
+    rw (eo, et, ef, ew) (digits_sum (bit ones) (bit twos) (bit fours) (bit white) 8) in
+    let u = 8 * rank + file in
+    ap (λ (n : ℕ). letter_numbered (n / 2 ^ (4 * file) % 16)) sum
+    ∙ ap letter_numbered (digit_at code 8 file small l)
+    ∙ letter_by (bit_at ones u) (bit_at twos u) (bit_at fours u) (bit_at white u) (bit_at-lt ones u) (bit_at-lt twos u) (bit_at-lt fours u) (bit_at-lt white u)
 
 -- ---- The sets of the numbers' bits.
 

@@ -1,6 +1,7 @@
 -- The letters of the pieces on the occupied squares, by the bits of a number for each kind: the contracts of src/fen/letters.rt use them.
-use Rattle.std.specs.Prelude.{ℕ, ◌≡◌, ◌<◌, Bool, true, false}
+use Rattle.std.specs.Prelude.{ℕ, zero, suc, ◌≡◌, ◌<◌, ◌+◌, ◌*◌, ◌/◌, ◌%◌, ◌^◌, Bool, true, false}
 use Rattle.c960_board.specs.declared.fen.letters.Letters.{Letters}
+use Rattle.c960_board.specs.declared.fen.letters.RankLetters.{RankLetters}
 use Rattle.c960_board.specs.declared.piece.Colour.{Colour}
 use Rattle.c960_board.specs.declared.piece.Colour.TheVariants.{White, Black}
 use Rattle.c960_board.specs.declared.piece.Kind.{Kind}
@@ -28,6 +29,19 @@ kind_numbered true true ones = King
 -- the letter of the piece on an occupied square
 abbrev pub letter_on : Letters → ℕ → ℕ
 letter_on l u = letter_of (colour_by (is_in l.white u)) (kind_numbered (is_in l.fours u) (is_in l.twos u) (is_in l.ones u))
+
+-- the number whose digits to the base 16, from the lowest on, are the first of a sequence
+unfoldable pub digits : (ℕ → ℕ) → ℕ → ℕ
+digits d zero = 0
+digits d (suc n) = d 0 + 16 * digits (λ i. d (suc i)) n
+
+-- the letter of a number of four bits: three of the kind, and the colour's
+abbrev pub letter_numbered : ℕ → ℕ
+letter_numbered n = letter_of (colour_by (is_in n 3)) (kind_numbered (is_in n 2) (is_in n 1) (is_in n 0))
+
+-- the letter of the piece on an occupied square of a rank
+abbrev pub letter_in : RankLetters → ℕ → ℕ
+letter_in r file = letter_numbered (r.codes / 2 ^ (4 * file) % 16)
 
 -- the piece on an occupied square
 abbrev pub piece_in : Sets → ℕ → Piece

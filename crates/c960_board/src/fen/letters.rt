@@ -1,11 +1,10 @@
-//! The letters of the pieces of a placement, square by square.
+//! The letters of the pieces of a placement, rank by rank.
 
-ghost use Rattle.std.specs.Prelude.{◌≡◌, ◌<◌};
-ghost use Rattle.std.specs.Int.{bit_at};
-ghost use Rattle.c960_board.specs.Inner.PieceLetters.{letter_on, AreLettersOf};
+ghost use Rattle.std.specs.Prelude.{◌≡◌, ◌<◌, ◌+◌, ◌*◌, ℕ};
+ghost use Rattle.c960_board.specs.Inner.PieceLetters.{letter_in, letter_on, AreLettersOf};
 
+use crate::fen::spread::spread_rank;
 use crate::sets::Sets;
-use crate::square::Square;
 
 /// The letters by the numbers of the kinds, pawn 0, knight 1, bishop 2, rook 3, queen 4 and king 5, and 8 more for White. No piece has
 /// the number 6 or 7.
@@ -26,12 +25,11 @@ pub(super) struct Letters {
     white: u64,
 }
 
-/// Whether the square is in the set: 1 if it is, and 0 if not.
-#[inline(always)]
-fn bit(set: u64, square: Square) -> usize
-    ensures { result ≡ bit_at set square }
-{
-    ((set >> square.number()) & 1) as usize
+/// The letters of the pieces of a rank. The bits of its squares are gathered once, and then a letter takes one shift and one look-up.
+#[derive(Drop)]
+pub(super) struct RankLetters {
+    /// For each file, from file a on, four bits that number the letter of its piece. Of a vacant square they mean nothing.
+    codes: u32,
 }
 
 impl Letters {
@@ -48,14 +46,28 @@ impl Letters {
         }
     }
 
-    /// The letter of the piece on an occupied square: a capital for White, a small letter for Black.
+    /// The letters of the pieces of the rank. Rank 0 is the first.
     #[inline(always)]
-    pub(super) fn on(&self, square: Square) -> u8
-        ensures { result ≡ letter_on self.now square }
+    pub(super) fn rank(&self, rank: u8) -> RankLetters
+        requires on_board { rank < 8 }
+        ensures { (file : ℕ) → file < 8 → letter_in result file ≡ letter_on self.now (8 * rank + file) }
     {
-        let kind = bit(self.ones, square)
-            + 2 * bit(self.twos, square)
-            + 4 * bit(self.fours, square);
-        LETTERS[kind + 8 * bit(self.white, square)]
+        RankLetters {
+            codes: spread_rank(self.ones, rank)
+                + 2 * spread_rank(self.twos, rank)
+                + 4 * spread_rank(self.fours, rank)
+                + 8 * spread_rank(self.white, rank),
+        }
+    }
+}
+
+impl RankLetters {
+    /// The letter of the piece on the occupied square of the file: a capital for White, a small letter for Black.
+    #[inline(always)]
+    pub(super) fn on(&self, file: u8) -> u8
+        requires on_board { file < 8 }
+        ensures { result ≡ letter_in self.now file }
+    {
+        LETTERS[((self.codes >> (4 * file)) & 15) as usize]
     }
 }

@@ -63,13 +63,14 @@ fn write_rank(
     ensures end { result ≡ at + length (squares_text (rank_cells sets.now rank) 0) }
     ensures text { take result bytes.new ≡ take at bytes.old ++ squares_text (rank_cells sets.now rank) 0 }
 {
+    let pieces = letters.rank(rank);
     let mut end = at;
     let mut left = occupied_files(sets, rank);
     let mut file: u8 = 0;
     while left != 0 {
         let next = lowest_file(left);
         end = write_run(bytes, end, next - file);
-        bytes[end] = letters.on(Square::known(8 * rank + next));
+        bytes[end] = pieces.on(next);
         end += 1;
         left = without_lowest(left);
         file = next + 1;

@@ -1,6 +1,5 @@
 use Rattle.std.proofs.Common.{arith, [], ◌∷◌, ◌∙◌, ◌+◌, ◌*◌, length, ap, refl, length-append}
 use Rattle.std.proofs.lemmas.List.{take_more_set}
-use Rattle.c960_board.specs.Inner.PieceLetters.{letter_on}
 use Rattle.c960_board.proofs.Written.Steps.{written}
 use Rattle.c960_board.proofs.Written.Gaps.{next_ahead, less_left, run_and_piece, run_at_end}
 use Rattle.c960_board.proofs.fen.writer.write_rank.Goals as goal
@@ -21,8 +20,8 @@ loop-left-preserved c =
     let ahead = next_ahead _ _ _ _ _ i.left n.lowest.inside in
     let step = run_and_piece _ _ _ _ _ i.left n.bound n.lowest.inside n.lowest.least ahead in
     let steps = simp length-append at (ap length step) in
-    let square = 8 * c.args.rank + c.lowest_file-next.result in
-    let is = c.on.ensures ∙ ap (letter_on c.args.letters.now) c.known.ensures ∙ c.requires.letters square (omega arith) in
+    let next = c.lowest_file-next.result in
+    let is = c.on.ensures ∙ c.rank-pieces.ensures next n.bound ∙ c.requires.letters (8 * c.args.rank + next) (omega arith) in
     let run = written _ _ _ _ _ _ c.write_run-end.ensures.text (rw (← is) at step) i.text in
     let piece = take_more_set c.write_run-end.new.bytes c.write_run-end.result c.on.result (omega arith) in
     record {
