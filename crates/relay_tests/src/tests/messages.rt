@@ -8,4 +8,5 @@ mod compact;
 mod decoders;
 mod faults;
 mod round_trip;
+mod usual;
 mod watch_commands;

@@ -78,7 +78,7 @@ const BETWEEN: [&str; 8] = [",", ",", ",", ",", ",", ", ", "", ":"];
 const BEHIND: [&str; 8] = ["}", "}", "}", "}", "} ", "}}", "},", ""];
 
 /// Whether a text is decoded as behind a space, on both ports.
-fn agrees(decoder: &mut Decoder, text: &[u8]) -> bool {
+pub fn agrees(decoder: &mut Decoder, text: &[u8]) -> bool {
     let mut spaced = [b' '; 1024];
     if text.len() >= 1024 {
         return false;
