@@ -2,4 +2,3 @@
 pub mod Conditions
 pub mod SetsWith
 pub mod PieceLetters
-pub mod Lowest

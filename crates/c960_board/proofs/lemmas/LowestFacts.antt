@@ -4,7 +4,7 @@ use Rattle.std.specs.Prelude.{bit_and}
 use Rattle.std.specs.Int.{bit_at, trailing_zeros}
 use Rattle.std.proofs.lemmas.Bool.{cases_lt}
 use Rattle.std.proofs.lemmas.Nat.Bits.{bit_at_above, bit_at_and, bit_at-suc, bit_at-trailing_zeros, bit_at_lowest}
-use Rattle.c960_board.specs.Inner.Lowest.{IsLowest}
+use Rattle.c960_board.specs.Lowest.{IsLowest}
 
 -- a bit that is 1 is one of the number's bits
 pub below_width : (n width i : ℕ) → n < 2 ^ width → bit_at n i ≡ 1 → i < width

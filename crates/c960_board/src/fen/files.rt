@@ -2,7 +2,7 @@
 
 ghost use Rattle.std.specs.Prelude.{◌≡◌, ◌≢◌, ◌<◌, ◌+◌, ◌*◌, ℕ, bit_or};
 ghost use Rattle.std.specs.Int.{bit_at};
-ghost use Rattle.c960_board.specs.Inner.Lowest.{IsLowest};
+ghost use Rattle.c960_board.specs.Lowest.{IsLowest};
 
 use crate::sets::Sets;
 
