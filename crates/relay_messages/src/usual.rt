@@ -1,5 +1,5 @@
-//! Usual objects: compact objects whose keys are those of a usual command, each once, in the order in which nearly all clients write them. What
-//! each member is follows from its place, so no key is kept or looked up.
+//! Usual objects: compact objects whose keys are those of a usual command, each once, in the order of docs/PROTOCOL.md. What each member is
+//! follows from its place, so no key is kept or looked up.
 
 ghost use Rattle.std.specs.Prelude.{◌≡◌, ◌∷◌, [], IfSome, Some};
 ghost use Rattle.serde_json.specs.Read.{read as read_text};

@@ -164,8 +164,8 @@ fn write_target(text: &mut TextBytes, target: Option<Square>)
     }
 }
 
-/// Appends a number in decimal. One of a single digit, as most counters are, is written without the formatter, which clears a buffer that is
-/// long enough for the longest number.
+/// Appends a number in decimal. One of a single digit, as the half-move counter nearly always is, is written without the formatter, which
+/// clears a buffer that is long enough for the longest number.
 #[tactic(auto, using(std::proofs::lemmas::Fmt::decimal_digit))]
 fn write_number(text: &mut TextBytes, number: u16)
     requires { array_vec_len text.old + length (decimal number) ≤ 93 }

@@ -111,7 +111,7 @@ fn play_first(rt: &impl Abort, game: &mut Game, plies: u16) {
 
 #[test]
 fn a_full_log_of_sixty_four_moves_has_its_positions(rt: HostRuntime) -> Result<(), AllocError> {
-    for plies in [63, 64, 65] {
+    for plies in [31, 32, 33, 63, 64, 65] {
         let mut game = standard(&rt, rt.alloc(), plies)?;
         play_first(&rt, &mut game, plies);
         assert!(rt; game.len() == plies);
