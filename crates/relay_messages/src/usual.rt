@@ -66,11 +66,20 @@ fn last_number(text: &str, key: &str) -> Option<u64>
     if is_closed(end) { Some(number) } else { None }
 }
 
+/// Whether an object of the command with this name has one of the forms, if its keys stand in the usual order. Other commands come once a
+/// board, and are not read twice up to their last key.
+fn has_usual_form(cmd: &str) -> bool {
+    matches!(cmd, "take" | "leave" | "submit" | "follow")
+}
+
 /// Reads the usual object that a text is. Returns `None` for any other text, also for one that means the same.
 pub fn read_usual(text: &str) -> Option<Usual<'_>>
     ensures { IfSome result (λ usual. read_text text.now ≡ Some (usual_data usual)) }
 {
     let (cmd, rest) = take_text_of(open_compact(text)?, r#""cmd":"#)?;
+    if !has_usual_form(cmd) {
+        return None;
+    }
     let second = after(rest, b',')?;
     if let Some(spectator) = last_number(second, r#""spectator":"#) {
         return Some(Usual::Spectator { cmd, spectator });
