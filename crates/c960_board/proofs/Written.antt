@@ -7,7 +7,9 @@ pub mod Rights
 pub mod Fields
 pub mod Laws
 pub mod RankCells
-pub mod Gaps
+pub mod RankShape
+pub mod RankMarks
+pub mod RankBits
 pub mod Spread
 pub mod PieceLetters
 pub mod Told

@@ -2,3 +2,4 @@
 pub mod Conditions
 pub mod SetsWith
 pub mod PieceLetters
+pub mod RankShape

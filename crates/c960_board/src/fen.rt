@@ -10,6 +10,7 @@ mod placement;
 mod rank;
 mod reader;
 mod rights;
+mod shape;
 mod spread;
 mod symbol;
 mod target;

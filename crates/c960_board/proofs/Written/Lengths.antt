@@ -19,7 +19,7 @@ use Rattle.c960_board.proofs.Written.Steps.{both_sides}
 use Rattle.c960_board.proofs.Written.SideRights.{side_length}
 
 -- a run's digit is no longer than the run
-run_length : (n : ℕ) → length (run_text n) ≤ n
+pub run_length : (n : ℕ) → length (run_text n) ≤ n
 run_length zero = omega arith
 run_length (suc n) = omega arith
 

@@ -8,7 +8,7 @@ use Rattle.std.proofs.lemmas.List.FromFn.{get_or-map-range_with_len}
 use Rattle.std.proofs.lemmas.Nat.{pow-add, and_mask}
 use Rattle.c960_board.specs.declared.fen.spread.TheConstants.{SPREAD}
 use Rattle.c960_board.specs.Inner.PieceLetters.{digits}
-use Rattle.c960_board.proofs.Written.Gaps.{rank_bits}
+use Rattle.c960_board.proofs.Written.RankBits.{rank_bits}
 
 -- ---- Digits.
 

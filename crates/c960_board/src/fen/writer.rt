@@ -2,16 +2,18 @@
 
 ghost use Rattle.std.specs.Prelude.{◌≡◌, ◌≤◌, ◌<◌, ◌+◌, ◌++◌, length, take, decimal};
 ghost use Rattle.arrayvec.specs.ArrayVec.{array_vec_len};
-ghost use Rattle.c960_board.specs.Fen.Canonical.{canonical, ranks_text, rights_text, run_text, side_text, squares_text};
+ghost use Rattle.c960_board.specs.Fen.Canonical.{canonical, ranks_text, rights_text, side_text, squares_text};
 ghost use Rattle.c960_board.specs.Fen.Letters.{right_base, turn_text};
 ghost use Rattle.c960_board.specs.Fen.RankCells.{rank_cells};
 ghost use Rattle.c960_board.specs.Fen.Target.{target_text};
 ghost use Rattle.c960_board.specs.Sets.{cells_of, parts_of};
-ghost use Rattle.c960_board.specs.Inner.PieceLetters.{AreLettersOf};
+ghost use Rattle.c960_board.specs.Inner.PieceLetters.{AreLettersOf, letter_in};
+ghost use Rattle.c960_board.specs.Inner.RankShape.{digits_text, place_of, with_letters};
 
 use crate::fen::bytes::{FenBytes, TextBytes};
-use crate::fen::files::{lowest_file, occupied_files, without_lowest};
-use crate::fen::letters::Letters;
+use crate::fen::files::occupied_files;
+use crate::fen::letters::{Letters, RankLetters};
+use crate::fen::shape::{LetterPlaces, digits_text, text_length};
 use crate::piece::Colour;
 use crate::position::Position;
 use crate::rights::CastlingRights;
@@ -21,8 +23,9 @@ use crate::square_text::square_bytes;
 use arrayvec::ArrayVec;
 use itoa::Buffer;
 
-/// The room in which a placement is written: 64 squares and 7 slashes at most, and a byte behind them for the digit of a run that is empty.
-const PLACEMENT_ROOM: usize = 72;
+/// The room in which a placement is written: 64 squares and 7 slashes at most, and nine bytes behind them, over which the digits of a rank
+/// and what is written for a vacant square may reach.
+const PLACEMENT_ROOM: usize = 80;
 
 /// Appends bytes.
 fn append(text: &mut TextBytes, bytes: &[u8])
@@ -34,21 +37,32 @@ fn append(text: &mut TextBytes, bytes: &[u8])
     let _ = text.try_extend_from_slice(bytes);
 }
 
-/// Writes the digit of a run of empty squares, and returns the end of the text. If there are none, that is where it was, and what comes next
-/// is written over the digit: a branch on that is one that nothing foretells.
+/// Writes the digits of a rank's text at their places. The bytes between them and behind the text mean nothing.
 #[inline(always)]
-fn write_run(bytes: &mut [u8; PLACEMENT_ROOM], at: usize, empty: u8) -> usize
-    requires digit { empty ≤ 8 }
-    requires room { at < 72 }
-    ensures end { result ≡ at + length (run_text empty) }
-    ensures text { take result bytes.new ≡ take at bytes.old ++ run_text empty }
+fn write_digits(bytes: &mut [u8; PLACEMENT_ROOM], at: usize, files: u64)
+    requires files { files < 256 }
+    requires room { at + 8 < PLACEMENT_ROOM }
+    ensures { take (at + 8) bytes.new ≡ take at bytes.old ++ digits_text files }
 {
-    bytes[at] = b'0' + empty;
-    at + usize::from(empty > 0)
+    bytes[at..at + 8].copy_from_slice(&digits_text(files));
 }
 
-/// Writes the squares of a rank, from file a to file h, and returns the end of the text. Rank 0 is the first. The occupied squares are met one
-/// after another, each at the lowest bit of those that are left, so no empty square is looked at and no step shifts the board.
+/// Writes the letters of a rank's text at their places. For a vacant square there is no letter in the text: what is written for it stands
+/// behind the text, and means nothing. A test whether the square is occupied would be a branch that nothing foretells.
+#[inline(always)]
+fn write_letters(bytes: &mut [u8; PLACEMENT_ROOM], at: usize, files: u64, pieces: &RankLetters)
+    requires files { files < 256 }
+    requires room { at + 8 < PLACEMENT_ROOM }
+    ensures { bytes.new ≡ with_letters (place_of files) (letter_in pieces.now) at 8 bytes.old }
+{
+    let places = LetterPlaces::of(files);
+    for file in 0..8u8 {
+        bytes[at + places.place(file)] = pieces.on(file);
+    }
+}
+
+/// Writes the squares of a rank, from file a to file h, and returns the end of the text. Rank 0 is the first. Where the digits and the letters
+/// stand depends on the occupied files alone, and is looked up.
 #[inline(always)]
 fn write_rank(
     bytes: &mut [u8; PLACEMENT_ROOM],
@@ -64,18 +78,10 @@ fn write_rank(
     ensures text { take result bytes.new ≡ take at bytes.old ++ squares_text (rank_cells sets.now rank) 0 }
 {
     let pieces = letters.rank(rank);
-    let mut end = at;
-    let mut left = occupied_files(sets, rank);
-    let mut file: u8 = 0;
-    while left != 0 {
-        let next = lowest_file(left);
-        end = write_run(bytes, end, next - file);
-        bytes[end] = pieces.on(next);
-        end += 1;
-        left = without_lowest(left);
-        file = next + 1;
-    }
-    write_run(bytes, end, 8 - file)
+    let files = occupied_files(sets, rank);
+    write_digits(bytes, at, files);
+    write_letters(bytes, at, files, &pieces);
+    at + text_length(files)
 }
 
 /// Appends the ranks from the eighth to the first, separated by slashes. They are written into an array first, whose end is a local number:

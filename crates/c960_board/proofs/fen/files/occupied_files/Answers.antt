@@ -1,5 +1,5 @@
 use Rattle.std.proofs.Common.{bit_or}
-use Rattle.c960_board.proofs.Written.Gaps.{rank_bits}
+use Rattle.c960_board.proofs.Written.RankBits.{rank_bits}
 use Rattle.c960_board.proofs.fen.files.occupied_files.Goals as goal
 
 pub returns-clause-occupied : goal.returns-clause-occupied

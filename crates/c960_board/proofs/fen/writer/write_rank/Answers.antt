@@ -1,45 +1,35 @@
-use Rattle.std.proofs.Common.{arith, [], ◌∷◌, ◌∙◌, ◌+◌, ◌*◌, length, ap, refl, length-append}
-use Rattle.std.proofs.lemmas.List.{take_more_set}
-use Rattle.c960_board.proofs.Written.Steps.{written}
-use Rattle.c960_board.proofs.Written.Gaps.{next_ahead, less_left, run_and_piece, run_at_end}
+use Rattle.std.proofs.Common.{◌≡◌, ◌+◌, ◌*◌, ◌++◌, List, ℕ, length, map, take, sym, ap, ◌∙◌, arith}
+use Rattle.std.proofs.lemmas.List.{length-map}
+use Rattle.c960_board.specs.Fen.Canonical.{squares_text}
+use Rattle.c960_board.specs.Fen.RankCells.{rank_cells}
+use Rattle.c960_board.specs.Inner.PieceLetters.{letter_in}
+use Rattle.c960_board.specs.Inner.RankShape.{marks}
+use Rattle.c960_board.proofs.Written.RankMarks.{letters_written, rank_spelt, spelt}
+use Rattle.c960_board.proofs.fen.writer.write_rank.Goals.{After-text_length}
 use Rattle.c960_board.proofs.fen.writer.write_rank.Goals as goal
 
-pub bounds-bytes-end : goal.bounds-bytes-end
-bounds-bytes-end c =
-    let n = c.lowest_file-next.ensures in
-    let i = c.loop-left.invariant in
-    let ahead = next_ahead _ _ _ _ _ i.left n.lowest.inside in
-    let step = run_and_piece _ _ _ _ _ i.left n.bound n.lowest.inside n.lowest.least ahead in
-    omega (arith, simp length-append at (ap length step))
-
-pub loop-left-preserved : goal.loop-left-preserved
-loop-left-preserved c =
-    let n = c.lowest_file-next.ensures in
-    let w = c.without_lowest-left.ensures in
-    let i = c.loop-left.invariant in
-    let ahead = next_ahead _ _ _ _ _ i.left n.lowest.inside in
-    let step = run_and_piece _ _ _ _ _ i.left n.bound n.lowest.inside n.lowest.least ahead in
-    let steps = simp length-append at (ap length step) in
-    let next = c.lowest_file-next.result in
-    let is = c.on.ensures ∙ c.rank-pieces.ensures next n.bound ∙ c.requires.letters (8 * c.args.rank + next) (omega arith) in
-    let run = written _ _ _ _ _ _ c.write_run-end.ensures.text (rw (← is) at step) i.text in
-    let piece = take_more_set c.write_run-end.new.bytes c.write_run-end.result c.on.result (omega arith) in
-    record {
-      text = written _ _ _ _ (c.on.result ∷ []) _ piece refl run;
-      end = omega arith;
-      bound = omega arith;
-      left = less_left _ _ _ _ _ _ i.left n.bound n.lowest.least w.no_others (w.gone _ n.lowest) (λ f _. w.others _ f n.lowest) ahead;
-    }
+-- what the marks of the rank's occupied files spell
+spells : (c : After-text_length)
+    → squares_text (rank_cells c.args.sets.now c.args.rank) 0 ≡ map (spelt (letter_in c.rank-pieces.result)) (marks c.occupied_files-files.result)
+spells c =
+    rank_spelt c.args.sets.now c.args.rank c.occupied_files-files.result (letter_in c.rank-pieces.result) c.occupied_files-files.ensures.occupied
+    (λ file on. c.rank-pieces.ensures file on ∙ c.requires.letters (8 * c.args.rank + file) (omega (arith, c.requires.on_board, on)))
 
 pub returns-clause-end : goal.returns-clause-end
 returns-clause-end c =
-    let i = c.loop-left.invariant in
-    let step = run_at_end _ _ _ _ i.left (omega arith) i.bound in
-    omega (arith, ap length step)
+    omega (
+      arith,
+      c.text_length.ensures.value,
+      ap length (spells c),
+      length-map (marks c.occupied_files-files.result) (spelt (letter_in c.rank-pieces.result)),
+    )
 
 pub returns-clause-text : goal.returns-clause-text
 returns-clause-text c =
-    let i = c.loop-left.invariant in
-    let step = run_at_end _ _ _ _ i.left (omega arith) i.bound in
-    let all = rw step at i.text in
-    cc
+    let files = c.occupied_files-files.result in
+    let letter = letter_in c.rank-pieces.result in
+    ap (λ (n : ℕ). take (c.args.at + n) c.write_letters.new.bytes) c.text_length.ensures.value
+    ∙ ap (λ (l : List ℕ). take (c.args.at + length (marks files)) l) c.write_letters.ensures
+    ∙ letters_written files c.occupied_files-files.ensures.no_others letter c.args.at c.args.bytes.now c.write_digits.new.bytes
+    (omega (arith, c.requires.room, c.write_digits.array_long)) c.write_digits.ensures
+    ∙ ap (λ (l : List ℕ). take c.args.at c.args.bytes.now ++ l) (sym (spells c))
