@@ -1,13 +1,11 @@
 -- What the text of a rank is made of, and that its digits and its letters, each written at its place, are the text.
-use Rattle.std.proofs.Common.{◌≡◌, ◌≢◌, ℕ, zero, suc, ◌+◌, ◌-◌, ◌*◌, ◌/◌, ◌%◌, ◌^◌, ◌≤◌, ◌<◌, ◌==◌, nat_lt, Bool, true, false, ◌&&◌, ◌||◌, not, cond, List, [], ◌∷◌, ◌++◌, length, map, get_or, take, drop, replicate, refl, sym, ap, ◌∙◌, zero-add, true≢false, inl, inr, ◌⊎◌, arith, bit_or, length-append}
+use Rattle.std.proofs.Common.{◌≡◌, ◌≢◌, ℕ, zero, suc, ◌+◌, ◌-◌, ◌*◌, ◌/◌, ◌%◌, ◌^◌, ◌≤◌, ◌<◌, ◌==◌, nat_lt, Bool, true, false, ◌&&◌, ◌||◌, not, cond, List, [], ◌∷◌, ◌++◌, length, map, get_or, take, drop, replicate, refl, sym, ap, ◌∙◌, true≢false, inl, inr, ◌⊎◌, arith, bit_or, length-append}
 use Rattle.std.specs.Int.{bit_at}
 use Rattle.std.specs.List.{list_all, range_with_len}
 use Rattle.std.proofs.lemmas.Bool.{cases_eq, cases_lt, eq-eqb, eqb-true, le-ltb, lt-ltb, ltb-false, ltb-true}
 use Rattle.std.proofs.Math.ListN.{get_or-append}
 use Rattle.std.proofs.lemmas.Grind.{get_or-set_at}
-use Rattle.std.proofs.lemmas.List.{ext_get_or, get_or-append-add, get_or-map, get_or-replicate, get_or-set_other, get_or-take, length-map, length-replicate, length-set, length-take-le, map-append}
-use Rattle.std.proofs.lemmas.List.Folds.{list_all_at}
-use Rattle.std.proofs.lemmas.List.FromFn.{get_or-map-range_with_len, get_or-range_with_len, length-range_with_len}
+use Rattle.std.proofs.lemmas.List.{ext_get_or, get_or-append-add, get_or-map, get_or-set_other, get_or-take, length-map, length-replicate, length-set, length-take-le, map-append}
 use Rattle.std.proofs.lemmas.List.Sums.{prefix_len-le-length, prefix_len_stops}
 use Rattle.std.proofs.lemmas.Nat.Bits.{bit_at-lt}
 use Rattle.c960_board.specs.declared.sets.Sets.{Sets}
@@ -17,6 +15,7 @@ use Rattle.c960_board.specs.Fen.RankCells.{rank_cells}
 use Rattle.c960_board.specs.Sets.{is_in}
 use Rattle.c960_board.specs.Inner.PieceLetters.{digits, piece_in}
 use Rattle.c960_board.specs.Inner.RankShape.{digit_of, digits_text, marks, marks_from, place_of, with_letters}
+use Rattle.c960_board.proofs.lemmas.Ranges.{each_below}
 use Rattle.c960_board.proofs.Written.Lengths.{run_length}
 use Rattle.c960_board.proofs.Written.RankBits.{none_there, piece_there}
 use Rattle.c960_board.proofs.Written.Spread.{digit_at}
@@ -48,17 +47,9 @@ abbrev are_placed : ℕ → Bool
 are_placed files = list_all (is_placed files) (range_with_len 0 (length (marks files)))
 
 -- by computation over all sets of files
-all_placed : map are_placed (range_with_len 0 256) ≡ replicate 256 true
+all_placed : list_all are_placed (range_with_len 0 256) ≡ true
 unfolding marks place_of
 all_placed = refl
-
--- a test that all pass
-passes : (p : ℕ → Bool) (xs : List ℕ) (i : ℕ) → i < length xs → list_all p xs ≡ true → p (get_or xs i 0) ≡ true
-passes p xs i inside all = by (p (get_or xs i 0)) refl
-  where
-    by : (b : Bool) → p (get_or xs i 0) ≡ b → b ≡ true
-    by true e = refl
-    by false e = absurd (true≢false (sym all ∙ list_all_at p xs i 0 inside e))
 
 -- the digit or the letter of a mark
 abbrev pub spelt : (ℕ → ℕ) → ℕ → ℕ
@@ -69,13 +60,7 @@ module _ (files : ℕ) (few : files < 256) (i : ℕ) (inside : i < length (marks
   mark = get_or (marks files) i 0
 
   placed : is_placed files i ≡ true
-  placed =
-      let every : are_placed files ≡ true =
-      sym (get_or-map-range_with_len are_placed 0 256 files files false few (zero-add files)) ∙ ap (λ (l : List Bool). get_or l files false) all_placed
-      ∙ get_or-replicate 256 files true false few in
-      let places = range_with_len 0 (length (marks files)) in
-      ap (is_placed files) (sym (get_or-range_with_len 0 (length (marks files)) i 0 inside ∙ zero-add i))
-      ∙ passes (is_placed files) places i (omega (arith, inside, length-range_with_len 0 (length (marks files)))) every
+  placed = each_below (is_placed files) (length (marks files)) (each_below are_placed 256 all_placed files few) i inside
 
   kind : (mark < 256) ⊎ ((file : ℕ) × (file < 8) × (mark ≡ 256 + file) × (place_of files file ≡ i))
   kind = by (nat_lt mark 256) (nat_lt mark 264) (place_of files (mark - 256) == i) refl refl refl placed
@@ -298,9 +283,9 @@ module _ (s : Sets) (rank files : ℕ) (letter : ℕ → ℕ)
   unfolding marks
   rank_spelt = spelt_from 0 8 0 refl (omega arith)
 
--- ---- What the code reads and writes.
+-- ---- A place that is read.
 
--- a place that is read from the row of all
+-- from the row of all
 pub place_read : (files places file place : ℕ) → places ≡ digits (place_of files) 8 → file < 8 → place ≡ places / 2 ^ (4 * file) % 16
     → place ≡ place_of files file
 place_read files places file place row on read =

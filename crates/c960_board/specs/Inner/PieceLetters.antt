@@ -1,4 +1,5 @@
--- The letters of the pieces on the occupied squares, by the bits of a number for each kind: the contracts of src/fen/letters.rt use them.
+-- The letters of the pieces on the occupied squares, by the bits of a number for each kind: the contracts of
+-- src/fen/letters.rt use them, and those of src/fen/shape.rt the digits.
 use Rattle.std.specs.Prelude.{ℕ, zero, suc, ◌≡◌, ◌<◌, ◌+◌, ◌*◌, ◌/◌, ◌%◌, ◌^◌, Bool, true, false}
 use Rattle.c960_board.specs.declared.fen.letters.Letters.{Letters}
 use Rattle.c960_board.specs.declared.fen.letters.RankLetters.{RankLetters}

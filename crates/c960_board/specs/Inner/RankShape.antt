@@ -1,4 +1,5 @@
--- The text of a rank by the files of its occupied squares, without the letters of its pieces.
+-- The text of a rank by the files of its occupied squares, without the letters of its pieces: the contracts of src/fen/shape.rt and
+-- src/fen/writer.rt use them.
 use Rattle.std.specs.Prelude.{ℕ, zero, suc, ◌+◌, ◌==◌, nat_lt, List, ◌∷◌, ◌++◌, cond, map, not, take, replicate, slice_set}
 use Rattle.std.specs.List.{prefix_len}
 use Rattle.c960_board.specs.Sets.{is_in}

@@ -265,7 +265,8 @@ static DIGITS: [[u8; 8]; 256] = [
     *b"........",
 ];
 
-/// For each file four bits, from file a on: the place of the letter of its piece in the text or, if its square is vacant, the text's length.
+/// For each file four bits, from file a on: the place of the letter of its piece in the text or, if its square is vacant, the text's
+/// length.
 static PLACES: [u32; 256] = [
     0x11111111, 0x22222220, 0x33333313, 0x33333310, 0x33333133, 0x44444240, 0x44444214, 0x44444210,
     0x33331333, 0x44442440, 0x55553515, 0x55553510, 0x44442144, 0x55553250, 0x55553215, 0x55553210,

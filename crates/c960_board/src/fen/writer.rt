@@ -23,8 +23,8 @@ use crate::square_text::square_bytes;
 use arrayvec::ArrayVec;
 use itoa::Buffer;
 
-/// The room in which a placement is written: 64 squares and 7 slashes at most, and nine bytes behind them, over which the digits of a rank
-/// and what is written for a vacant square may reach.
+/// The room in which a placement is written: 64 squares and 7 slashes at most, and nine bytes more. So a rank that begins anywhere in
+/// those 71 has room for eight digits and a letter behind them.
 const PLACEMENT_ROOM: usize = 80;
 
 /// Appends bytes.
@@ -61,8 +61,8 @@ fn write_letters(bytes: &mut [u8; PLACEMENT_ROOM], at: usize, files: u64, pieces
     }
 }
 
-/// Writes the squares of a rank, from file a to file h, and returns the end of the text. Rank 0 is the first. Where the digits and the letters
-/// stand depends on the occupied files alone, and is looked up.
+/// Writes the squares of a rank, from file a to file h, and returns the end of the text. Rank 0 is the first. Where the digits and the
+/// letters stand depends on the occupied files alone, and is looked up.
 #[inline(always)]
 fn write_rank(
     bytes: &mut [u8; PLACEMENT_ROOM],
