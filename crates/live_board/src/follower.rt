@@ -141,8 +141,9 @@ impl Follower {
         m
     }
 
-    /// Makes a take when all moves seen have been taken: it loads the status and answers by that.
-    #[inline(never)]
+    /// Makes a take when all moves seen have been taken: it loads the status and answers by that. It is inlined: its answer would come back
+    /// through memory in bytes and be read in wider pieces, for which a processor waits.
+    #[inline(always)]
     #[tactic(auto, using(crate::proofs::Headlines::took_of_game))]
     fn take_unseen(&mut self) -> Taken
         requires taken { self.old.part.seen ≤ next_of self.old.part }
