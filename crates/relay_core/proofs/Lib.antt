@@ -3,6 +3,7 @@ mod NameFacts
 mod NameText
 mod BoardKept
 mod Orders
+mod TagRows
 mod Seatings
 mod Facts
 mod Lawful

@@ -1,10 +1,11 @@
 -- What the tags of the followers' boards tell, and what a change of the followers keeps of them.
-use Rattle.std.proofs.Common.{◌≡◌, ℕ, ◌+◌, ◌<◌, suc, zero, nat_eq, Bool, true, false, ◌&&◌, ◌==◌, not, cond, is_some, List, [], ◌∷◌, ◌++◌, length, take, map, count_by, slice_get, slice_index_or, Some, option_map, refl, sym, ap, ◌∙◌, arith}
+use Rattle.std.proofs.Common.{◌≡◌, ℕ, ◌+◌, ◌<◌, ◌≤◌, ◌-◌, suc, zero, nat_eq, Bool, true, false, ◌&&◌, ◌==◌, not, cond, is_some, List, [], ◌∷◌, ◌++◌, length, take, map, count_by, slice_get, slice_index, Some, option_map, refl, sym, ap, ◌∙◌, true≢false, arith}
 use Rattle.std.specs.List.{position, swap_remove}
 use Rattle.std.specs.Map.{keys_of, lookup, set_value}
 use Rattle.std.proofs.lemmas.List.{length-map, map-append}
 use Rattle.std.proofs.lemmas.List.Quantifiers.{position-Some}
 use Rattle.std.proofs.lemmas.List.Sums.{count_by_more_no, count_by_more_yes}
+use Rattle.std.proofs.lemmas.Bool.{eq-eqb}
 use Rattle.std.proofs.lemmas.Option.{get_or_from_slice_get, slice_get-map}
 use Rattle.std.proofs.lemmas.Map.Entries.{length-keys_of}
 use Rattle.indexmap.specs.IndexMap.{set_value_at, swap_remove_entry}
@@ -15,10 +16,11 @@ use Rattle.relay_core.specs.Held.{HeldFollower}
 use Rattle.relay_core.specs.Held.Followers.{boards_of, closed_at, offered, queued}
 use Rattle.relay_core.specs.Inner.Seating.{IsSeating, tags_of}
 use Rattle.relay_core.specs.Inner.Tag.{tag_of}
+use Rattle.relay_core.specs.Inner.TagRow.{PassesOver}
 use Rattle.relay_core.specs.Name.{same_name}
 use Rattle.relay_core.proofs.NameFacts.{apart}
 use Rattle.relay_core.proofs.Orders.{one_written}
-use Rattle.relay_core.proofs.lemmas.Lists.{set_value-map}
+use Rattle.relay_core.proofs.lemmas.Lists.{done_as_they_are, done_up_to, set_value-map}
 
 -- there is an entry at each place of a list
 entry_at : {X : Type 0} (xs : List X) (i : ℕ) → i < length xs → (x : X) × (slice_get xs i ≡ Some x)
@@ -30,16 +32,15 @@ entry_at (x ∷ xs) (suc i) inside = entry_at xs i (omega (arith, inside))
 pub as_many : (tags : List ℕ) (es : List (ℕ × HeldFollower)) → tags ≡ tags_of es → length tags ≡ length es
 as_many tags es tagged = ap length tagged ∙ length-map es (λ e. tag_of e.1.board)
 
--- the follower at a place whose tag is not the board's follows another board
-module _ (board tags : List ℕ) (es : List (ℕ × HeldFollower)) (tagged : tags ≡ tags_of es) (i t : ℕ) (is : t ≡ slice_index_or tags i t)
-    (differ : t ≡ tag_of board → ⊥) where
-  pub other_board : (e : ℕ × HeldFollower) → slice_get es i ≡ Some e → same_name board e.1.board ≡ false
-  other_board e at =
-      let there : slice_get (tags_of es) i ≡ Some (tag_of e.1.board) =
-      slice_get-map (λ (x : ℕ × HeldFollower). tag_of x.1.board) es i ∙ ap (option_map (λ (x : ℕ × HeldFollower). tag_of x.1.board)) at in
-      let its : t ≡ tag_of e.1.board =
-      is ∙ ap (λ ts. slice_index_or ts i t) tagged ∙ get_or_from_slice_get (tags_of es) i (tag_of e.1.board) t there in
-      apart board e.1.board (λ same. differ (its ∙ sym same))
+-- the followers that a search for the board's tag passes over follow other boards
+pub others : (board tags : List ℕ) (es : List (ℕ × HeldFollower)) (from to : ℕ) → tags ≡ tags_of es → PassesOver tags (tag_of board) from to
+    → (k : ℕ) (e : ℕ × HeldFollower) → from ≤ k → k < to → slice_get es k ≡ Some e → same_name board e.1.board ≡ false
+others board tags es from to tagged passed k e not_before below at =
+    let there : slice_get (tags_of es) k ≡ Some (tag_of e.1.board) =
+    slice_get-map (λ (x : ℕ × HeldFollower). tag_of x.1.board) es k ∙ ap (option_map (λ (x : ℕ × HeldFollower). tag_of x.1.board)) at in
+    let its : slice_index tags k ≡ tag_of e.1.board =
+    ap (λ ts. slice_index ts k) tagged ∙ get_or_from_slice_get (tags_of es) k (tag_of e.1.board) 0 there in
+    apart board e.1.board (λ same. true≢false (sym (eq-eqb (slice_index tags k) (tag_of board) (its ∙ sym same)) ∙ passed k not_before below))
 
 -- ---- How many of the first followers follow a board.
 
@@ -73,9 +74,27 @@ module _ (board : List ℕ) (es : List (ℕ × HeldFollower)) (i : ℕ) (inside 
   read_not_counted f read other =
       none_counted (λ e at. ap (λ (g : HeldFollower). same_name board g.board) (read_there f read e at) ∙ other)
 
-  pub passed_over : (tags : List ℕ) → tags ≡ tags_of es → (t : ℕ) → t ≡ slice_index_or tags i t → (t ≡ tag_of board → ⊥)
-      → counted_up_to (i + 1) ≡ counted_up_to i
-  passed_over tags tagged t is differ = none_counted (other_board board tags es tagged i t is differ)
+-- nobody of a stretch of followers of other boards is counted
+pub none_of_stretch_counted : (board : List ℕ) (es : List (ℕ × HeldFollower)) (i n : ℕ) → i + n ≤ length es
+    → ((k : ℕ) (e : ℕ × HeldFollower) → i ≤ k → k < i + n → slice_get es k ≡ Some e → same_name board e.1.board ≡ false)
+    → count_by (λ e. same_name board e.1.board) (take (i + n) es) ≡ count_by (λ e. same_name board e.1.board) (take i es)
+none_of_stretch_counted board es i zero inside other = ap (λ k. count_by (λ (e : ℕ × HeldFollower). same_name board e.1.board) (take k es)) (omega arith)
+none_of_stretch_counted board es i (suc n) inside other =
+    let count : ℕ → ℕ = λ k. count_by (λ (e : ℕ × HeldFollower). same_name board e.1.board) (take k es) in
+    let all : i + suc n ≡ (i + 1) + n = omega arith in
+    ap count all
+    ∙ none_of_stretch_counted board es (i + 1) n (omega (arith, inside)) (λ k e from to at. other k e (omega (arith, from)) (omega (arith, to)) at)
+    ∙ none_counted board es i (omega (arith, inside)) (λ e at. other i e (omega arith) (omega arith) at)
+
+-- nor is anybody whom a search for the board's tag passes over
+pub others_not_counted : (board tags : List ℕ) (es : List (ℕ × HeldFollower)) (from to : ℕ) → from ≤ to → to ≤ length tags
+    → tags ≡ tags_of es → PassesOver tags (tag_of board) from to
+    → count_by (λ e. same_name board e.1.board) (take to es) ≡ count_by (λ e. same_name board e.1.board) (take from es)
+others_not_counted board tags es from to behind inside tagged passed =
+    let all : from + (to - from) ≡ to = omega (arith, behind) in
+    ap (λ k. count_by (λ (e : ℕ × HeldFollower). same_name board e.1.board) (take k es)) (sym all)
+    ∙ none_of_stretch_counted board es from (to - from) (omega (arith, all, inside, as_many tags es tagged)) (λ k e not_before below at.
+    others board tags es from to tagged passed k e not_before (omega (arith, below, all)) at)
 
 -- ---- What a move offered to the followers keeps.
 
@@ -83,6 +102,16 @@ module _ (board : List ℕ) (es : List (ℕ × HeldFollower)) (i : ℕ) (inside 
 pub not_offered : (board : List ℕ) (place : ℕ) (m : Triple) (f : HeldFollower) → same_name board f.board ≡ false → offered board place m f ≡ f
 not_offered board place m f other =
     ap (λ b. cond (b && not (is_some f.cut)) (cond (length f.queue == f.capacity) (closed_at place f) (queued m f)) f) other
+
+-- nor are those that a search for the board's tag passes over
+pub others_as_they_are : (board : List ℕ) (place : ℕ) (m : Triple) (tags : List ℕ) (es : List (ℕ × HeldFollower)) (from to : ℕ) → from ≤ to
+    → tags ≡ tags_of es → PassesOver tags (tag_of board) from to
+    → done_up_to (offered board place m) from es ≡ done_up_to (offered board place m) to es
+others_as_they_are board place m tags es from to behind tagged passed =
+    let all : from + (to - from) ≡ to = omega (arith, behind) in
+    done_as_they_are (offered board place m) es from (to - from) (λ k e not_before below at.
+    not_offered board place m e.1 (others board tags es from to tagged passed k e not_before (omega (arith, below, all)) at))
+    ∙ ap (λ k. done_up_to (offered board place m) k es) all
 
 -- nobody changes its board
 pub offered_board : (board : List ℕ) (place : ℕ) (m : Triple) (f : HeldFollower) → (offered board place m f).board ≡ f.board

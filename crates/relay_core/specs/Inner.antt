@@ -4,4 +4,5 @@ pub mod Order
 pub mod Maps
 pub mod HoldingsFields
 pub mod Tag
+pub mod TagRow
 pub mod Seating

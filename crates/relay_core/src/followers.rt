@@ -14,6 +14,7 @@ use crate::order::JoiningOrder;
 use crate::reply::Taken;
 use crate::step::Spectator;
 use crate::tagged::TaggedName;
+use crate::tags::TagSearch;
 use c960_board::Move;
 use c960_game::Game;
 use indexmap::IndexMap;
@@ -75,10 +76,13 @@ impl Followers {
     {
         let tagged = TaggedName::new(board);
         let mut count = 0;
-        for i in 0..self.seats.len() {
-            if self.tags[i] == tagged.tag() && self.seats[i].follows(&tagged) {
+        let mut search = TagSearch::new();
+        let mut i = search.next(&self.tags, tagged.tag());
+        while i < self.seats.len() {
+            if self.seats[i].follows(&tagged) {
                 count += 1;
             }
+            i = search.next(&self.tags, tagged.tag());
         }
         count
     }
@@ -90,11 +94,12 @@ impl Followers {
         ensures room { self.new.room ≡ self.old.room }
     {
         let tagged = TaggedName::new(board);
-        for i in 0..self.tags.len() {
-            if self.tags[i] == tagged.tag() {
-                let (_, follower) = self.seats.pair_mut(i);
-                follower.offer(&tagged, place, m);
-            }
+        let mut search = TagSearch::new();
+        let mut i = search.next(&self.tags, tagged.tag());
+        while i < self.tags.len() {
+            let (_, follower) = self.seats.pair_mut(i);
+            follower.offer(&tagged, place, m);
+            i = search.next(&self.tags, tagged.tag());
         }
     }
 

@@ -16,6 +16,7 @@ mod reply;
 mod step;
 mod stepper;
 mod tagged;
+mod tags;
 mod take;
 
 pub use grounds::{may_follow, may_join_at, may_open};

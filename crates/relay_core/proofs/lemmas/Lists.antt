@@ -1,5 +1,5 @@
 -- Lists of entries, none of whose keys change.
-use Rattle.std.proofs.Common.{◌≡◌, ℕ, ◌≤◌, suc, zero, Bool, true, false, ◌||◌, cond, List, [], ◌∷◌, ◌++◌, length, take, drop, map, slice_get, Option, Some, None, option_map, ap, refl, sym, ◌∙◌, arith}
+use Rattle.std.proofs.Common.{◌≡◌, ℕ, ◌+◌, ◌<◌, ◌≤◌, suc, zero, Bool, true, false, ◌||◌, cond, List, [], ◌∷◌, ◌++◌, length, take, drop, map, slice_get, Option, Some, None, option_map, ap, refl, sym, ◌∙◌, arith}
 use Rattle.std.specs.Map.{lookup, keys_of, remove_entry, set_value}
 use Rattle.std.specs.List.{AllByRecursion, IsDistinct, list_any}
 use Rattle.std.proofs.lemmas.Map.Keys.{IsDistinct-head, IsDistinct-tail, IsDistinct-cons}
@@ -23,6 +23,16 @@ module _ {K V : Type 0} (f : V → V) where
   done_as_it_is [] (suc i) same = refl
   done_as_it_is (x ∷ xs) zero same = ap (λ v. (x.0, v) ∷ xs) (sym (same x refl))
   done_as_it_is (x ∷ xs) (suc i) same = ap (λ t. (x.0, f x.1) ∷ t) (done_as_it_is xs i same)
+
+  -- nor those of a stretch that all stay as they are
+  pub done_as_they_are : (xs : List (K × V)) (i n : ℕ) → ((k : ℕ) (x : K × V) → i ≤ k → k < i + n → slice_get xs k ≡ Some x → f x.1 ≡ x.1)
+      → done_up_to i xs ≡ done_up_to (i + n) xs
+  done_as_they_are xs i zero same = ap (λ k. done_up_to k xs) (omega arith)
+  done_as_they_are xs i (suc n) same =
+      let next : suc i + n ≡ i + suc n = omega arith in
+      done_as_it_is xs i (λ x at. same i x (omega arith) (omega arith) at)
+      ∙ done_as_they_are xs (suc i) n (λ k x from to at. same k x (omega (arith, from)) (omega (arith, to)) at)
+      ∙ ap (λ k. done_up_to k xs) next
 
   -- all are changed
   pub done_all : (xs : List (K × V)) (i : ℕ) → length xs ≤ i → done_up_to i xs ≡ map (λ e. (e.0, f e.1)) xs
