@@ -2,6 +2,7 @@
 use Rattle.std.proofs.Common.{◌≡◌, ◌≢◌, ℕ, ◌*◌, ◌%◌, ◌^◌, ◌<◌, Bool, true, false, not, ◌&&◌, ◌||◌, Option, Some, None, length, refl, ap, sym, ◌∙◌, ◌⊎◌, inl, inr, arith, w64, IsTrue}
 use Rattle.std.specs.Prelude.{◌==◌, bit_and, bit_or, ◌↔◌}
 use Rattle.std.specs.Int.{bit_not}
+use Rattle.std.specs.Option.{is_some}
 use mir.Val.{bool_byte}
 use Rattle.std.proofs.Math.Bool.{and-false, and-true, or-false, or-true}
 use Rattle.std.proofs.lemmas.Bool.{cases_eq, ne_eqb, eqb-true, eqb-false, both_ways, not-true, not_from_false}
@@ -20,14 +21,14 @@ use Rattle.c960_rules.specs.Attacks.{AttackedBy}
 use Rattle.c960_rules.specs.Tests.Attacks.{attacks}
 use Rattle.c960_rules.specs.Reaches.{Reaches}
 use Rattle.c960_rules.proofs.lemmas.Reached.{passed_pawn}
-use Rattle.c960_rules.specs.Inner.Carried.{taken_off, put_on}
+use Rattle.c960_rules.specs.Inner.Carried.{taken_off, put_on, carried, all_carried}
 use Rattle.c960_rules.specs.Check.{InCheck}
 use Rattle.c960_rules.specs.Inner.Safety.{is_passed_on, is_occupied_after, is_gone}
 use Rattle.c960_rules.specs.Inner.Wheres.{where_set, is_attacker_on, attacks_over}
 use Rattle.c960_rules.proofs.lemmas.PieceFacts.{piece_on, goes_to_own, no_man, one_colour, one_kind, is_holds, is_own, not_other}
 use Rattle.c960_rules.proofs.lemmas.AfterFacts.{has_king, cells_after, full_after}
 use Rattle.c960_rules.proofs.CellFacts.{moved_cases, landing}
-use Rattle.c960_rules.proofs.WhereFacts.{where_none, where_nothing, where_only, where_or, where_and, where_not, where_agree, set_where}
+use Rattle.c960_rules.proofs.WhereFacts.{where_none, where_nothing, where_only, where_or, where_and, where_not, where_agree, set_where, in_where}
 use Rattle.c960_rules.proofs.AttackAgree.{some_attacked, none_attacked}
 
 -- ---- One cell.
@@ -290,4 +291,35 @@ moved_sets p m changed own free full l ec =
     let rooks = set_after_is (is_kind Rook) p m _ changed _ refl own free full l refl ec refl in
     let queens = set_after_is (is_kind Queen) p m _ changed _ refl own free full l refl ec refl in
     let kings = set_after_is (is_kind King) p m _ changed _ refl own free full l refl ec refl in
+    rw (white, black, pawns, knights, bishops, rooks, queens, kings) refl
+
+-- ---- The sets after a move that is no promotion: what lands is what the square held that is left.
+
+-- whether there is none, from its test
+pub none_of : {A : Type 0} (o : Option A) → is_some o ≡ false → o ≡ None
+none_of None h = refl
+none_of (Some x) h = cc
+
+set_carried_is : (test : Cell → Bool) (p : Parts) (m : Triple) (changed : ℕ) → test None ≡ false → m.promotion ≡ None
+    → is_of p.turn (piece_on p m.from) ≡ true → goes_to_own p m ≡ false → length p.placement ≡ 64 → m.from < 64 → m.to < 64
+    → changed ≡ where_set (λ u. (u == m.from) || is_gone p m u)
+    → carried changed m.from m.to (set_of test p.placement) ≡ set_of test (placement_after p m)
+set_carried_is test p m changed none plain own free full lf lt ec =
+    let had = in_where (λ s. test (piece_on p s)) (set_of test p.placement) m.from (set_where test p.placement full) lf in
+    set_after_is test p m (set_of test p.placement) changed _ none own free full lt refl ec (rw (plain, had) refl)
+
+-- all sets
+pub carried_sets : (p : Parts) (m : Triple) (changed : ℕ) → m.promotion ≡ None → is_of p.turn (piece_on p m.from) ≡ true
+    → goes_to_own p m ≡ false → length p.placement ≡ 64 → m.from < 64 → m.to < 64
+    → changed ≡ where_set (λ u. (u == m.from) || is_gone p m u)
+    → all_carried changed m.from m.to (sets_of p.placement) ≡ sets_of (placement_after p m)
+carried_sets p m changed plain own free full lf lt ec =
+    let white = set_carried_is (is_of White) p m changed refl plain own free full lf lt ec in
+    let black = set_carried_is (is_of Black) p m changed refl plain own free full lf lt ec in
+    let pawns = set_carried_is (is_kind Pawn) p m changed refl plain own free full lf lt ec in
+    let knights = set_carried_is (is_kind Knight) p m changed refl plain own free full lf lt ec in
+    let bishops = set_carried_is (is_kind Bishop) p m changed refl plain own free full lf lt ec in
+    let rooks = set_carried_is (is_kind Rook) p m changed refl plain own free full lf lt ec in
+    let queens = set_carried_is (is_kind Queen) p m changed refl plain own free full lf lt ec in
+    let kings = set_carried_is (is_kind King) p m changed refl plain own free full lf lt ec in
     rw (white, black, pawns, knights, bishops, rooks, queens, kings) refl

@@ -11,7 +11,7 @@ use Rattle.c960_board.specs.declared.piece.Kind.TheVariants.{Pawn, Knight, Bisho
 use Rattle.c960_board.specs.declared.parts.Parts.{Parts}
 use Rattle.c960_board.specs.Moves.{Triple}
 use Rattle.c960_board.specs.Squares.{home_square}
-use Rattle.c960_board.specs.Pieces.{Cell, other, is_of, holds}
+use Rattle.c960_board.specs.Pieces.{Cell, other, is_of}
 use Rattle.c960_board.specs.Position.{IsPosition}
 use Rattle.c960_board.specs.Cells.{cell_at}
 use Rattle.c960_board.specs.Sets.{is_kind, is_occupied, set_of, sets_of}

@@ -30,15 +30,14 @@ none_left p m c h =
     are_rights_after p m c (replicate 8 false) refl (λ f l. get_or-replicate 8 f false false l ∙ sym (h f l))
 
 -- a side without rights has none after a move
-pub none_before : (p : Parts) (m : Triple) (c : Colour) (r : List Bool) → r ≡ rights_of p.rights c
-    → pointwise beq r (replicate 8 false) ≡ true → r ≡ rights_after p m c
+pub none_before : (p : Parts) (m : Triple) (c : Colour) → pointwise beq (rights_of p.rights c) (replicate 8 false) ≡ true
+    → replicate 8 false ≡ rights_after p m c
 unfolding keeps_right
-none_before p m c r had test =
-    let none : r ≡ replicate 8 false = (slice_eq-Decides {E = beq} booleans_Decides r (replicate 8 false) _ refl).0 test in
-    let lost : (f : ℕ) → f < 8 → keeps_right p m c f ≡ false =
-    λ f l. and_left (has_right p.rights c f) _
-    (ap (λ (rs : List Bool). get_or rs f false) (sym had ∙ none) ∙ get_or-replicate 8 f false false l) in
-    none ∙ none_left p m c lost
+none_before p m c test =
+    let none : rights_of p.rights c ≡ replicate 8 false =
+    (slice_eq-Decides {E = beq} booleans_Decides (rights_of p.rights c) (replicate 8 false) _ refl).0 test in
+    none_left p m c (λ f l. and_left (has_right p.rights c f) _
+    (ap (λ (rs : List Bool). get_or rs f false) none ∙ get_or-replicate 8 f false false l))
 
 -- the king's move ends all rights of its side
 pub none_of_king : (p : Parts) (m : Triple) (c : Colour) → holds c King (cell_at p.placement m.from) ≡ true

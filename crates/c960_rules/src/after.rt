@@ -1,13 +1,17 @@
 //! The position after a move (FIDE Laws, Articles 3.1, 3.7 and 3.8.2; Guidelines II.3).
 
-ghost use Rattle.std.specs.Prelude.{ℕ, false, ◌≡◌, ◌<◌, ◌*◌, ◌^◌, ◌%◌, ◌&&◌, ◌==◌, not, length, get_or, IsFalse, bit_or};
+ghost use Rattle.std.specs.Prelude.{ℕ, false, ◌≡◌, ◌<◌, ◌*◌, ◌^◌, ◌%◌, ◌&&◌, ◌==◌, not, length, get_or, replicate, IsFalse, bit_or};
+ghost use Rattle.std.specs.Bool.{beq};
+ghost use Rattle.std.specs.Cmp.Lexicographic.{pointwise};
 ghost use mir.Val.{bool_byte};
 ghost use Rattle.c960_board.specs.Pieces.{is_of};
 ghost use Rattle.c960_board.specs.Cells.{cell_at, rights_of};
 ghost use Rattle.c960_board.specs.Squares.{home_square};
 ghost use Rattle.c960_board.specs.Sets.{sets_of};
 ghost use Rattle.c960_rules.specs.After.{placement_after, rights_after, target_after, half_moves_after, number_after, after};
-ghost use Rattle.c960_rules.specs.Inner.Carried.{taken_off, put_on};
+ghost use Rattle.c960_rules.specs.Inner.Carried.{carried, all_carried, taken_off, put_on};
+ghost use Rattle.c960_rules.specs.Inner.Safety.{is_changed};
+ghost use Rattle.c960_rules.specs.Inner.Wheres.{where_set};
 ghost use Rattle.c960_rules.specs.Castles.{Castles};
 ghost use Rattle.c960_rules.specs.Check.{IsLawful};
 ghost use Rattle.c960_rules.specs.Legal.{Legal};
@@ -45,19 +49,32 @@ fn without(rights: [bool; 8], colour: Colour, square: Square) -> [bool; 8]
     left
 }
 
+/// Whether a side has no rights. The rights are compared where they are stored, by one test of eight bytes; of a copy in a register each byte
+/// would be shifted out.
+#[inline(always)]
+fn has_none(position: &Position, colour: Colour) -> bool
+    ensures { result ≡ pointwise beq (rights_of position.now.rights colour) (replicate 8 false) }
+{
+    let rights = position.rights();
+    match colour {
+        Colour::White => rights.white == [false; 8],
+        Colour::Black => rights.black == [false; 8],
+    }
+}
+
 /// The rights of a side after a move. Its king's move ends all of them, another move at most those of the rooks on its two squares. Of a side
 /// that has none left, as after most openings, nothing is looked up.
 #[tactic(auto, using(crate::proofs::TableFacts::none_before, crate::proofs::TableFacts::none_of_king))]
 fn rights_after(position: &Position, m: &Move, colour: Colour) -> [bool; 8]
     ensures { result ≡ rights_after position.now m.now colour }
 {
-    let rights = rights_of(position, colour);
-    if rights == [false; 8] {
-        return rights;
+    if has_none(position, colour) {
+        return [false; 8];
     }
     if stands(position, colour, Kind::King, m.from) {
         return [false; 8];
     }
+    let rights = rights_of(position, colour);
     without(without(rights, colour, m.from), colour, m.to)
 }
 
@@ -76,7 +93,8 @@ fn target_after(position: &Position, m: &Move) -> Option<Square>
     }
 }
 
-/// The half-move counter after a move: a pawn's move and a capture set it to 0.
+/// The half-move counter after a move: a pawn's move and a capture set it to 0. Both tests are made at once: which of them holds is hard to
+/// foretell, and each costs but two steps.
 #[tactic(auto, unfolding(crate::specs::After::half_moves_after))]
 fn half_moves_after(position: &Position, m: &Move) -> u16
     requires { position.now.half_moves < 65535 }
@@ -84,7 +102,8 @@ fn half_moves_after(position: &Position, m: &Move) -> u16
 {
     let turn = position.turn();
     let is_pawn = stands(position, turn, Kind::Pawn, m.from);
-    if is_pawn || is_occupied_by(position, turn.other(), m.to) {
+    let captures = is_occupied_by(position, turn.other(), m.to);
+    if is_pawn | captures {
         0
     } else {
         position.half_moves() + 1
@@ -102,12 +121,13 @@ fn number_after(colour: Colour, number: u16) -> u16
     }
 }
 
-/// A set of squares with one more, if it belongs there.
+/// A set of squares with one more, if it belongs there: a choice between that square and none, which needs no branch.
 #[inline(always)]
 fn with(set: u64, belongs: bool, square: Square) -> u64
     ensures { result ≡ bit_or set (bool_byte belongs * 2 ^ square % 2 ^ 64) }
 {
-    set | (u64::from(belongs) << square.number())
+    let added = if belongs { 1u64 << square.number() } else { 0 };
+    set | added
 }
 
 /// The sets without the pieces on these squares.
@@ -124,6 +144,32 @@ fn taken_off(sets: &Sets, gone: u64) -> Sets
         rooks: sets.rooks & !gone,
         queens: sets.queens & !gone,
         kings: sets.kings & !gone,
+    }
+}
+
+/// A set after a move that is no promotion: without the squares that change, and with the goal exactly if it had the square that is left. What
+/// moves keeps its colour and its kind, so nobody has to find out which they are: five plain steps and no branch, for two sets at once.
+#[inline(always)]
+fn carried(set: u64, changed: u64, m: &Move) -> u64
+    ensures { result ≡ carried changed m.now.from m.now.to set }
+{
+    with(set & !changed, Sets::is_in(set, m.from), m.to)
+}
+
+/// The sets after a move whose piece stays of its kind.
+#[inline(always)]
+fn all_carried(sets: &Sets, changed: u64, m: &Move) -> Sets
+    ensures { result ≡ all_carried changed m.now.from m.now.to sets.now }
+{
+    Sets {
+        white: carried(sets.white, changed, m),
+        black: carried(sets.black, changed, m),
+        pawns: carried(sets.pawns, changed, m),
+        knights: carried(sets.knights, changed, m),
+        bishops: carried(sets.bishops, changed, m),
+        rooks: carried(sets.rooks, changed, m),
+        queens: carried(sets.queens, changed, m),
+        kings: carried(sets.kings, changed, m),
     }
 }
 
@@ -144,7 +190,8 @@ fn put_on(sets: &Sets, cell: Option<Piece>, square: Square) -> Sets
     }
 }
 
-/// The sets of the placement after castling.
+/// The sets of the placement after castling. It is rare, and a function apart as `sets_promoted` is.
+#[inline(never)]
 fn sets_castled(position: &Position, m: &Move) -> Sets
     requires { Castles position.now m.now }
     ensures { result ≡ sets_of (placement_after position.now m.now) }
@@ -161,20 +208,44 @@ fn sets_castled(position: &Position, m: &Move) -> Sets
     put_on(&with_king, rook, place)
 }
 
-/// The sets of the placement after an ordinary move.
+/// The sets of the placement after a promotion. It is rare, and a function apart: so its result and that of the other moves meet in memory,
+/// where the others' sets are made two at a time, and not in eight registers.
+#[inline(never)]
+fn sets_promoted(position: &Position, m: &Move, changed: u64) -> Sets
+    requires legal { Legal position.now m.now }
+    requires ordinary { IsFalse (is_of position.now.turn (cell_at position.now.placement m.now.to)) }
+    requires changed { changed ≡ where_set (λ s. is_changed position.now m.now s) }
+    ensures { result ≡ sets_of (placement_after position.now m.now) }
+{
+    let piece = landed(position.piece_at(m.from), m.promotion);
+    let left = taken_off(&position.sets(), changed);
+    put_on(&left, piece, m.to)
+}
+
+/// The squares that an ordinary move changes.
+#[inline(always)]
+fn changed_by(position: &Position, m: &Move) -> u64
+    ensures { result ≡ where_set (λ s. is_changed position.now m.now s) }
+{
+    only(m.from) | (only(m.to) | captured_pawn(position, m))
+}
+
+/// The sets of the placement after an ordinary move. Only a promotion, which is rare, has to find out what arrives.
+#[inline(always)]
 fn sets_moved(position: &Position, m: &Move) -> Sets
     requires legal { Legal position.now m.now }
     requires ordinary { IsFalse (is_of position.now.turn (cell_at position.now.placement m.now.to)) }
     ensures { result ≡ sets_of (placement_after position.now m.now) }
 {
-    let sets = position.sets();
-    let piece = landed(position.piece_at(m.from), m.promotion);
-    let changed = only(m.from) | (only(m.to) | captured_pawn(position, m));
-    let left = taken_off(&sets, changed);
-    put_on(&left, piece, m.to)
+    let changed = changed_by(position, m);
+    if m.promotion.is_some() {
+        return sets_promoted(position, m, changed);
+    }
+    all_carried(&position.sets(), changed, m)
 }
 
 /// The sets of the placement after a legal move: a move onto a piece of the mover's own side is castling.
+#[inline(always)]
 fn sets_after(position: &Position, m: &Move) -> Sets
     requires { Legal position.now m.now }
     ensures { result ≡ sets_of (placement_after position.now m.now) }

@@ -6,7 +6,7 @@ use Rattle.c960_board.specs.declared.piece.Colour.TheVariants.{White, Black}
 use Rattle.c960_board.specs.declared.piece.Kind.TheVariants.{Pawn, Knight, Bishop, Rook, Queen, King}
 use Rattle.c960_board.specs.declared.sets.Sets.{Sets}
 use Rattle.c960_board.specs.Pieces.{Cell, is_of}
-use Rattle.c960_board.specs.Sets.{is_kind}
+use Rattle.c960_board.specs.Sets.{is_kind, is_in}
 
 -- each set, changed according to the test that it is the set of
 abbrev pub each_set : ((Cell → Bool) → ℕ → ℕ) → Sets → Sets
@@ -29,3 +29,11 @@ taken_off gone s = each_set (λ test set. bit_and set (bit_not w64 gone)) s
 -- with the contents of the cell on a square
 abbrev pub put_on : Cell → ℕ → Sets → Sets
 put_on cell k s = each_set (λ test set. bit_or set (bool_byte (test cell) * 2 ^ k % 2 ^ 64)) s
+
+-- a set without the squares that change, and with the goal if it had the square that is left
+abbrev pub carried : ℕ → ℕ → ℕ → ℕ → ℕ
+carried changed from to set = bit_or (bit_and set (bit_not w64 changed)) (bool_byte (is_in set from) * 2 ^ to % 2 ^ 64)
+
+-- each set so
+abbrev pub all_carried : ℕ → ℕ → ℕ → Sets → Sets
+all_carried changed from to s = each_set (λ test set. carried changed from to set) s

@@ -22,6 +22,10 @@ is_occupied_after p m u =
 abbrev pub is_gone : Parts → Triple → ℕ → Bool
 is_gone p m u = (u == m.to) || is_passed_on p m u
 
+-- u holds something else after the move, or may
+abbrev pub is_changed : Parts → Triple → ℕ → Bool
+is_changed p m u = (u == m.from) || is_gone p m u
+
 -- u is occupied after castling
 abbrev pub is_occupied_castled : Parts → Triple → ℕ → Bool
 is_occupied_castled p m u =

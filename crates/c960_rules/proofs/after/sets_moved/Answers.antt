@@ -1,14 +1,7 @@
-use Rattle.std.proofs.Common.{ℕ, ap, ◌∙◌, Option}
-use Rattle.std.specs.Prelude.{◌==◌}
-use Rattle.c960_board.specs.declared.piece.Kind.{Kind}
+use Rattle.std.proofs.Common.{◌≡◌, ap, sym, ◌∙◌, None}
 use Rattle.c960_board.specs.Moves.{Triple}
-use Rattle.c960_board.specs.Pieces.{Cell}
-use Rattle.c960_rules.specs.After.{landed}
-use Rattle.c960_rules.specs.Inner.Safety.{is_gone, is_passed_on}
-use Rattle.c960_rules.proofs.lemmas.PieceFacts.{piece_on}
 use Rattle.c960_rules.proofs.ListFacts.{goes_from_own}
-use Rattle.c960_rules.proofs.WhereFacts.{where_or, only_at}
-use Rattle.c960_rules.proofs.AfterSets.{moved_sets}
+use Rattle.c960_rules.proofs.AfterSets.{carried_sets, none_of}
 use Rattle.c960_rules.proofs.after.sets_moved.Goals as goal
 
 pub returns : goal.returns
@@ -18,17 +11,10 @@ returns c =
     let from = ap (λ (t : Triple). t.from) c.m.view_is in
     let to = ap (λ (t : Triple). t.to) c.m.view_is in
     let promotion = ap (λ (t : Triple). t.promotion) c.m.view_is in
-    let sets = c.sets-sets.ensures.value in
-    let lands =
-    c.landed-piece.ensures ∙ ap (λ (o : Cell). landed o c.m.inside.promotion) (c.piece_at.ensures ∙ ap (λ (u : ℕ). piece_on p u) from)
-    ∙ ap (λ (k : Option Kind). landed (piece_on p m.from) k) promotion in
-    let gone =
-    where_or (λ u. u == m.to) (λ u. is_passed_on p m u) c.only-2.result c.captured_pawn.result
-    (only_at to c.only-2.ensures) c.captured_pawn.ensures in
-    let changed =
-    where_or (λ u. u == m.from) (λ u. is_gone p m u) c.only.result _
-    (only_at from c.only.ensures) gone in
-    let left = c.taken_off-left.ensures in
-    c.put_on.ensures ∙ rw (left, sets, lands, to)
-    (moved_sets p m _ (goes_from_own p m c.requires.legal.goes) c.requires.ordinary c.sets-sets.ensures.valid.placement.full
-    c.requires.legal.move.to changed)
+    let sets = c.sets.ensures.value in
+    let some = c.is_some.ensures in
+    let plain : m.promotion ≡ None = sym promotion ∙ none_of c.m.inside.promotion (sym some ∙ c.if-is_some.false) in
+    c.all_carried.ensures
+    ∙ rw sets
+    (carried_sets p m _ plain (goes_from_own p m c.requires.legal.goes) c.requires.ordinary c.sets.ensures.valid.placement.full
+    c.requires.legal.move.from c.requires.legal.move.to c.changed_by-changed.ensures)
