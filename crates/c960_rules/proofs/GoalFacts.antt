@@ -8,14 +8,14 @@ use Rattle.std.proofs.lemmas.Bool.{and_parts, both_ways, eqb-true, or_parts, fal
 use Rattle.c960_board.specs.declared.piece.Colour.{Colour}
 use Rattle.c960_board.specs.declared.piece.Colour.TheVariants.{White, Black}
 use Rattle.c960_board.specs.declared.piece.Kind.{Kind}
-use Rattle.c960_board.specs.declared.piece.Kind.TheVariants.{Pawn, Rook, King}
+use Rattle.c960_board.specs.declared.piece.Kind.TheVariants.{Pawn, King}
 use Rattle.c960_board.specs.declared.piece.Piece.{Piece}
 use Rattle.c960_board.specs.declared.parts.Parts.{Parts}
 use Rattle.c960_board.specs.Squares.{file_of, rank_of, ahead}
 use Rattle.c960_board.specs.Pieces.{Cell, man, other, is_of, holds}
 use Rattle.c960_board.specs.Position.{IsPosition}
 use Rattle.c960_board.specs.Moves.{Triple}
-use Rattle.c960_board.specs.Sets.{is_kind, is_occupied, set_of, is_in}
+use Rattle.c960_board.specs.Sets.{is_occupied, set_of, is_in}
 use Rattle.c960_rules.specs.Lines.{same_file}
 use Rattle.c960_rules.specs.Tests.Attacks.{attacks, is_forward}
 use Rattle.c960_rules.specs.Reaches.{Reaches, pawn_rank, last_rank, is_target}
@@ -29,7 +29,6 @@ use Rattle.c960_rules.proofs.InnerRanks.{IsInner, pawn_inner}
 use Rattle.c960_rules.proofs.lemmas.MoveTests.{reaches_tells, reaches_from}
 use Rattle.c960_rules.proofs.ListFacts.{none_or_some, goes_by_test, between_one, plain_on_last, promoted_elsewhere}
 use Rattle.c960_rules.proofs.lemmas.PieceFacts.{piece_on, is_holds, is_own}
-use Rattle.c960_rules.proofs.WayCandidates.{castle_rook}
 use Rattle.c960_rules.proofs.WhereFacts.{in_where, where_agree, where_or, where_and, where_not, where_itself, only_at, occupied_where}
 
 -- ---- Pawns.
@@ -284,14 +283,6 @@ pub goal_tells : {goals : ℕ} {answer test : Bool} (p : Parts) (s t : ℕ) → 
 goal_tells p s t e l told is = sym (in_where (λ u. goes_to p s u) _ t e l) ∙ sym told ∙ is
 
 -- ---- The squares to which nothing goes.
-
-pub no_castle : (p : Parts) (s t set : ℕ) (k : Option Kind) → IsPosition p
-    → set ≡ where_set (λ u. is_of p.turn (piece_on p u) && is_kind Rook (piece_on p u)) → t < 64 → is_in set t ≡ false
-    → Castles p (triple s t k) → ⊥
-no_castle p s t set k valid es l out w =
-    both_ways (is_of p.turn (piece_on p t) && is_kind Rook (piece_on p t))
-    (sym (in_where (λ u. is_of p.turn (piece_on p u) && is_kind Rook (piece_on p u)) set t es l) ∙ out)
-    (castle_rook p (triple s t k) valid w l)
 
 pub no_kings_castle : (p : Parts) (s t : ℕ) (k : Option Kind) → holds p.turn King (piece_on p s) ≡ false → Castles p (triple s t k) → ⊥
 no_kings_castle p s t k h w = both_ways (holds p.turn King (piece_on p s)) h (is_holds p.turn King (piece_on p s) w.king)

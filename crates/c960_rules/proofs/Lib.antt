@@ -25,6 +25,7 @@ mod WayFacts
 mod TableFacts
 mod EnPassantFacts
 mod GoalFacts
+mod CastlingSight
 mod InnerRanks
 mod MoveLaws
 mod CarryLaws

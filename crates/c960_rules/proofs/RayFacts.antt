@@ -1,13 +1,15 @@
 -- Rays up to their first blockers, and lines made of them.
-use Rattle.std.proofs.Common.{◌≡◌, ℕ, suc, ◌+◌, ◌-◌, ◌*◌, ◌/◌, ◌%◌, ◌^◌, ◌<◌, Bool, true, false, not, ◌&&◌, ◌||◌, cond, nat_lt, refl, ap, sym, ◌∙◌, inl, inr, arith, w64}
+use Rattle.std.proofs.Common.{◌≡◌, ℕ, suc, ◌+◌, ◌-◌, ◌/◌, ◌%◌, ◌^◌, ◌<◌, Bool, true, false, not, ◌&&◌, ◌||◌, cond, nat_lt, refl, ap, sym, subst, ◌∙◌, inl, inr, arith, w64}
 use Rattle.std.proofs.Math.Bool.{and-false, or-false}
 use Rattle.std.proofs.Math.Nat.{div-eq_of_lt-le, pow-suc}
-use Rattle.std.proofs.lemmas.Bool.{cases_eq, eq-eqb, ne_eqb, both_ways, ltb-true, ltb-false}
-use Rattle.std.proofs.lemmas.Nat.{leading_top, or_lt}
-use Rattle.std.proofs.lemmas.Nat.Bits.{bit_at_or, bit_at-lt, bit_at-zero, bit_at_above, bit_at-trailing_zeros, bit_at-pow_same, bit_at-pow_other, bit_at_ones, bit_at_ones_above, bit_at_mask_inside, bit_at_mask_below, ones_shr, ones_shl}
-use Rattle.std.specs.Prelude.{◌==◌, bit_and, bit_or}
+use Rattle.std.proofs.lemmas.Bool.{cases_eq, cases_lt, eq-eqb, ne_eqb, both_ways, ltb-true, ltb-false}
+use Rattle.std.proofs.lemmas.Nat.{leading_top, or_lt, xor_lt, and_le_r}
+use Rattle.std.proofs.lemmas.Nat.Bits.{bit_at_or, bit_at_xor, bit_at-lt, bit_at-zero, bit_at_above, bit_at-pow_same, bit_at-pow_other}
+use Rattle.std.specs.Prelude.{◌==◌, bit_and, bit_or, bit_xor}
 use Rattle.std.specs.Int.{bit_at, trailing_zeros, leading_zeros}
+use Rattle.c960_board.specs.Lowest.{IsLowest}
 use Rattle.c960_board.specs.Sets.{is_in}
+use Rattle.c960_board.proofs.lemmas.LowestFacts.{before_gone, before_below, before_above, lowest_of, below_width}
 use Rattle.c960_rules.specs.Inner.Wheres.{where_set, is_free}
 use Rattle.c960_rules.specs.Inner.Rays.{below, above, is_unblocked}
 use Rattle.c960_rules.proofs.RayTables.{IsRay}
@@ -22,22 +24,6 @@ some_bit word i h =
       | inl e ↦ absurd (let none : bit_at word i ≡ 0 = ap (λ (x : ℕ). bit_at x i) e ∙ bit_at-zero i in omega arith)
       | inr ne ↦ omega arith
     ]
-
--- the lowest square of a set with h8
-pub lowest_is : (set : ℕ) → set < 2 ^ 64
-    → let k = trailing_zeros w64 (bit_or set (2 ^ 63)) in
-    (k < 64) × ((u : ℕ) → u < k → bit_at set u ≡ 0) × (k < 63 → bit_at set k ≡ 1)
-lowest_is set fits =
-    let word : ℕ = bit_or set (2 ^ 63) in
-    let k : ℕ = trailing_zeros w64 word in
-    let at = λ (u : ℕ). bit_at_or set (2 ^ 63) u in
-    let full : word < 2 ^ 64 = or_lt 64 set (2 ^ 63) fits (omega arith) in
-    let last : bit_at word 63 ≡ 1 = let high = bit_at-pow_same 63 in let bound = bit_at-lt set 63 in let e = at 63 in omega arith in
-    let least = bit_at-trailing_zeros w64 word (some_bit word 63 last) full in (
-      least.0,
-      λ u l. let none = least.2 u l in let e = at u in omega arith,
-      λ l. let off = bit_at-pow_other 63 k (omega arith) in let on = least.1 in let e = at k in omega arith,
-    )
 
 -- the highest square of a set with a1
 pub highest_is : (set : ℕ) → set < 2 ^ 64
@@ -120,28 +106,33 @@ up_to_first before ray occupied first mask fits full w e =
 
 -- ---- The masks.
 
--- the squares up to k
-ones_up_to : (k : ℕ) → k < 64 → (2 ^ 64 - 1) / 2 ^ (63 - k) ≡ where_set (λ t. not (below k t))
-ones_up_to k h =
-    let width : 64 - (63 - k) ≡ k + 1 = omega arith in
-    let ones : (2 ^ 64 - 1) / 2 ^ (63 - k) ≡ 2 ^ (k + 1) - 1 = ones_shr 64 (63 - k) (omega arith) ∙ ap (λ (n : ℕ). 2 ^ n - 1) width in
-    ones ∙ where_is (λ t. not (below k t)) (2 ^ (k + 1) - 1) (rw (← ones) (omega arith))
-    (λ t l.
-    elim (nat_lt k t) as (λ b. nat_lt k t ≡ b → bit_at (2 ^ (k + 1) - 1) t ≡ cond (not b) 1 0) [
-      | true ↦ λ e. let after = ltb-true k t e in bit_at_ones_above (k + 1) t (omega arith)
-      | false ↦ λ e. let upto = ltb-false k t e in bit_at_ones (k + 1) t (omega arith)
-    ] refl)
+-- the bits that change where 1 is taken from a number with its lowest 1 at k
+changed_bits : (b k t : ℕ) → 0 < b → IsLowest b k → bit_at (bit_xor b (b - 1)) t ≡ cond (not (below k t)) 1 0
+changed_bits b k t some l =
+    let e = bit_at_xor b (b - 1) t in
+    elim (nat_lt k t) as (λ x. nat_lt k t ≡ x → bit_at (bit_xor b (b - 1)) t ≡ cond (not x) 1 0) [
+      | true ↦ λ x. let after = ltb-true k t x in let same = before_above b k t l after in let bound = bit_at-lt b t in omega arith
+      | false ↦ λ x.
+          let upto = ltb-false k t x in
+          elim (cases_lt t k) [
+            | inl m ↦ let was = l.least t m in let is = before_below b k t some l m in omega arith
+            | inr m ↦
+                let at : t ≡ k = omega arith in
+                let was = ap (bit_at b) at ∙ l.inside in
+                let is = ap (bit_at (b - 1)) at ∙ before_gone b k l in
+                omega arith
+          ]
+    ] refl
 
--- the squares from k on
-ones_from : (k : ℕ) → k < 64 → (2 ^ 64 - 1) * 2 ^ k % 2 ^ 64 ≡ where_set (λ t. not (above k t))
-ones_from k h =
-    let ones : (2 ^ 64 - 1) * 2 ^ k % 2 ^ 64 ≡ 2 ^ 64 - 2 ^ k = ones_shl 64 k (omega arith) in
-    ones ∙ where_is (λ t. not (above k t)) (2 ^ 64 - 2 ^ k) (rw (← ones) (omega arith))
-    (λ t l.
-    elim (nat_lt t k) as (λ b. nat_lt t k ≡ b → bit_at (2 ^ 64 - 2 ^ k) t ≡ cond (not b) 1 0) [
-      | true ↦ λ e. let under = ltb-true t k e in bit_at_mask_below k 64 t under
-      | false ↦ λ e. let from = ltb-false t k e in bit_at_mask_inside k 64 t from l
-    ] refl)
+-- those are the squares up to the lowest
+changed_up_to : (b k : ℕ) → 0 < b → b < 2 ^ 64 → IsLowest b k → bit_xor b (b - 1) ≡ where_set (λ t. not (below k t))
+changed_up_to b k some fits l =
+    where_is (λ t. not (below k t)) (bit_xor b (b - 1)) (xor_lt 64 b (b - 1) fits (omega arith)) (λ t m. changed_bits b k t some l)
+
+-- where there is no square, all of them change
+all_up_to_last : 2 ^ 64 - 1 ≡ where_set (λ t. not (below 63 t))
+unfolding where_set
+all_up_to_last = refl
 
 -- ---- The ray up to its first blocker, as the code computes it.
 
@@ -171,17 +162,40 @@ first_falling ray occupied k bound greatest inside =
       inside = λ t l on. let over = ltb-true t k on in eq-eqb (bit_at (bit_and ray occupied) k) 1 (inside (omega arith));
     }
 
-pub rising_is : (ray occupied k : ℕ) → ray < 2 ^ 64 → occupied < 2 ^ 64 → k < 64
-    → ((u : ℕ) → u < k → bit_at (bit_and ray occupied) u ≡ 0) → (k < 63 → bit_at (bit_and ray occupied) k ≡ 1)
-    → bit_and ray ((2 ^ 64 - 1) / 2 ^ (63 - k)) ≡ where_set (λ t. is_in ray t && is_unblocked below ray occupied t)
-rising_is ray occupied k fits full bound least inside =
-    up_to_first below ray occupied k _ fits full (first_rising ray occupied k bound least inside) (ones_up_to k bound)
+-- a set without a square begins with the last
+first_of_none : IsFirst below 0 63
+first_of_none = record {
+  on_board = omega arith;
+  least = λ u t l on off. ne_eqb (bit_at 0 u) 1 (λ h. let none = bit_at-zero u in omega arith);
+  inside = λ t l on. absurd (let after = ltb-true 63 t on in omega arith);
+}
 
-pub falling_is : (ray occupied k : ℕ) → ray < 2 ^ 64 → occupied < 2 ^ 64 → k < 64
+-- the bits of the blockers that change where 1 is taken from them, modulo 2 ^ 64
+pub rising_is : (ray occupied : ℕ) → ray < 2 ^ 64 → occupied < 2 ^ 64
+    → bit_and ray (bit_xor (bit_and ray occupied) ((bit_and ray occupied + (2 ^ 64 - 1)) % 2 ^ 64))
+    ≡ where_set (λ t. is_in ray t && is_unblocked below ray occupied t)
+rising_is ray occupied fits full =
+    let b : ℕ = bit_and ray occupied in
+    let bound : b < 2 ^ 64 = omega (arith, and_le_r ray occupied) in
+    elim (cases_eq b 0) [
+      | inl e ↦
+          up_to_first below ray occupied 63 _ fits full (subst (λ (x : ℕ). IsFirst below x 63) (sym e) first_of_none)
+          (ap (λ (x : ℕ). bit_xor x ((x + (2 ^ 64 - 1)) % 2 ^ 64)) e ∙ all_up_to_last)
+      | inr ne ↦
+          let some : 0 < b = omega arith in
+          let l = lowest_of b some bound in
+          let k : ℕ = trailing_zeros w64 b in
+          let before : (b + (2 ^ 64 - 1)) % 2 ^ 64 ≡ b - 1 = omega arith in
+          up_to_first below ray occupied k _ fits full
+          (first_rising ray occupied k (below_width b 64 k bound l.inside) (λ u m. l.least u m) (λ _. l.inside))
+          (ap (bit_xor b) before ∙ changed_up_to b k some bound l)
+    ]
+
+pub falling_is : {mask : ℕ} (ray occupied k : ℕ) → ray < 2 ^ 64 → occupied < 2 ^ 64 → k < 64
     → ((u : ℕ) → k < u → u < 64 → bit_at (bit_and ray occupied) u ≡ 0) → (0 < k → bit_at (bit_and ray occupied) k ≡ 1)
-    → bit_and ray ((2 ^ 64 - 1) * 2 ^ k % 2 ^ 64) ≡ where_set (λ t. is_in ray t && is_unblocked above ray occupied t)
-falling_is ray occupied k fits full bound greatest inside =
-    up_to_first above ray occupied k _ fits full (first_falling ray occupied k bound greatest inside) (ones_from k bound)
+    → mask ≡ where_set (λ t. not (above k t)) → bit_and ray mask ≡ where_set (λ t. is_in ray t && is_unblocked above ray occupied t)
+falling_is ray occupied k fits full bound greatest inside is =
+    up_to_first above ray occupied k _ fits full (first_falling ray occupied k bound greatest inside) is
 
 -- ---- The tests of a ray are those of a free way.
 

@@ -2,11 +2,11 @@
 -- over all squares.
 use Rattle.std.proofs.Common.{◌≡◌, ℕ, ◌<◌, Bool, true, false, ◌||◌, map, refl}
 use Rattle.std.proofs.lemmas.Bool.{eqb-true}
-use Rattle.std.specs.Prelude.{◌==◌, bit_and}
+use Rattle.std.specs.Prelude.{◌==◌, bit_and, not}
 use Rattle.std.specs.Bool.{beq}
 use Rattle.std.specs.Cmp.{booleans_Decides}
 use Rattle.std.specs.List.{list_all}
-use Rattle.c960_rules.specs.declared.tables.TheConstants.{NORTH, EAST, SOUTH, WEST, NORTH_EAST, NORTH_WEST, SOUTH_EAST, SOUTH_WEST}
+use Rattle.c960_rules.specs.declared.tables.TheConstants.{NORTH, EAST, SOUTH, WEST, NORTH_EAST, NORTH_WEST, SOUTH_EAST, SOUTH_WEST, ONWARD}
 use Rattle.c960_rules.specs.Lines.{squares, between}
 use Rattle.c960_rules.specs.Inner.Wheres.{where_set, is_rook_line, is_bishop_line}
 use Rattle.c960_rules.specs.Inner.Rays.{is_north, is_east, is_south, is_west, is_north_east, is_north_west, is_south_east, is_south_west, below, above}
@@ -43,6 +43,11 @@ south_east_table = refl
 pub south_west_table : SOUTH_WEST ≡ map (λ s. where_set (is_south_west s)) squares
 unfolding where_set
 south_west_table = refl
+
+-- the masks of the rays on which the numbers fall
+pub onward_table : ONWARD ≡ map (λ k. where_set (λ t. not (above k t))) squares
+unfolding where_set
+onward_table = refl
 
 -- ---- The squares between the start of a ray and one of its squares are the squares of the ray before that one.
 

@@ -1,11 +1,9 @@
 //! The position after a move (FIDE Laws, Articles 3.1, 3.7 and 3.8.2; Guidelines II.3).
 
-ghost use Rattle.std.specs.Prelude.{ℕ, false, ◌≡◌, ◌<◌, ◌*◌, ◌^◌, ◌%◌, ◌&&◌, ◌==◌, not, length, get_or, replicate, IsFalse, bit_or};
-ghost use Rattle.std.specs.Bool.{beq};
-ghost use Rattle.std.specs.Cmp.Lexicographic.{pointwise};
+ghost use Rattle.std.specs.Prelude.{ℕ, false, ◌≡◌, ◌<◌, ◌*◌, ◌^◌, ◌%◌, ◌&&◌, ◌==◌, not, length, get_or, IsFalse, bit_or};
 ghost use mir.Val.{bool_byte};
 ghost use Rattle.c960_board.specs.Pieces.{is_of};
-ghost use Rattle.c960_board.specs.Cells.{cell_at, rights_of};
+ghost use Rattle.c960_board.specs.Cells.{cell_at};
 ghost use Rattle.c960_board.specs.Squares.{home_square};
 ghost use Rattle.c960_board.specs.Sets.{sets_of};
 ghost use Rattle.c960_rules.specs.After.{placement_after, rights_after, target_after, half_moves_after, number_after, after};
@@ -20,20 +18,8 @@ use crate::bitset::only;
 use crate::castling::{king_goal, rook_goal};
 use crate::placement::landed;
 use crate::safety::captured_pawn;
-use crate::sides::{ahead, home_rank, is_occupied_by, stands};
+use crate::sides::{ahead, has_none, home_rank, is_occupied_by, rights_of, stands};
 use c960_board::{CastlingRights, Colour, Kind, Move, Piece, Position, Sets, Square};
-
-/// The rights of a side, by the file of the rook.
-#[inline(always)]
-fn rights_of(position: &Position, colour: Colour) -> [bool; 8]
-    ensures { result ≡ rights_of position.now.rights colour }
-{
-    let rights = position.rights();
-    match colour {
-        Colour::White => rights.white,
-        Colour::Black => rights.black,
-    }
-}
 
 /// A side's rights but that of the rook on a square: a square off the home rank has none, one on it that of its file.
 #[inline(always)]
@@ -47,19 +33,6 @@ fn without(rights: [bool; 8], colour: Colour, square: Square) -> [bool; 8]
         left[(square.number() % 8) as usize] = false;
     }
     left
-}
-
-/// Whether a side has no rights. The rights are compared where they are stored, by one test of eight bytes; of a copy in a register each byte
-/// would be shifted out.
-#[inline(always)]
-fn has_none(position: &Position, colour: Colour) -> bool
-    ensures { result ≡ pointwise beq (rights_of position.now.rights colour) (replicate 8 false) }
-{
-    let rights = position.rights();
-    match colour {
-        Colour::White => rights.white == [false; 8],
-        Colour::Black => rights.black == [false; 8],
-    }
 }
 
 /// The rights of a side after a move. Its king's move ends all of them, another move at most those of the rooks on its two squares. Of a side

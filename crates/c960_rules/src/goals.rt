@@ -16,8 +16,8 @@ ghost use Rattle.c960_rules.specs.Inner.Wheres.{where_set};
 
 use crate::bitset::only;
 use crate::lookups::pawn_hits;
-use crate::rays::reach_over;
-use crate::sides::{ahead, is_occupied_by, squares_of, stands};
+use crate::rays::{reach_over, straight};
+use crate::sides::{ahead, has_none, is_occupied_by, squares_of, stands};
 use c960_board::{Colour, Kind, Piece, Position, Sets, Square};
 
 /// The rank on which a side's pawns are at the start, from 0.
@@ -139,16 +139,30 @@ pub(crate) fn goals(position: &Position, from: Square) -> u64
     officer_goals(position, from, piece)
 }
 
-/// The squares of the side's own rooks, if the king is on the square: every legal castling goes to one.
+/// The squares of the side's rooks that a king sees from its square along its rank or file.
+#[inline(always)]
+fn rooks_in_sight(position: &Position, from: Square) -> u64
+    ensures { (t : ℕ) (k : Option Kind) → t < 64 → is_in result t ≡ false → Castles position.now (triple from t k) → ⊥ }
+{
+    let _bound = from.number();
+    let sets = position.sets();
+    let turn = position.turn();
+    squares_of(position, turn) & sets.rooks & straight(from, position.occupied())
+}
+
+/// The squares of the rooks with which the side may castle, if its king is on the square: every legal castling goes to one. A side that has no
+/// right left has none. And each square between the king and the rook is on the way of one of the two, and so is vacant: where a piece stands
+/// between them, castling is not tested in full.
 #[inline(always)]
 pub(crate) fn rooks_to_castle(position: &Position, from: Square) -> u64
     ensures { (t : ℕ) (k : Option Kind) → t < 64 → is_in result t ≡ false → Castles position.now (triple from t k) → ⊥ }
 {
-    let sets = position.sets();
     let turn = position.turn();
-    if stands(position, turn, Kind::King, from) {
-        squares_of(position, turn) & sets.rooks
-    } else {
-        0
+    if !stands(position, turn, Kind::King, from) {
+        return 0;
     }
+    if has_none(position, turn) {
+        return 0;
+    }
+    rooks_in_sight(position, from)
 }

@@ -1,15 +1,15 @@
 //! The squares related to a square, as sets from tables.
 
-ghost use Rattle.std.specs.Prelude.{◌≡◌, ◌↔◌, ◌<◌, ℕ, IsTrue};
-ghost use Rattle.c960_rules.specs.Inner.Rays.{is_north, is_east, is_south, is_west, is_north_east, is_north_west, is_south_east, is_south_west};
+ghost use Rattle.std.specs.Prelude.{◌≡◌, ◌↔◌, ◌<◌, ℕ, not, IsTrue};
+ghost use Rattle.c960_rules.specs.Inner.Rays.{is_north, is_east, is_south, is_west, is_north_east, is_north_west, is_south_east, is_south_west, above};
 ghost use Rattle.c960_rules.specs.Inner.Wheres.{where_set, is_knight_leap, is_king_step, is_rook_line, is_bishop_line, is_pawn_hit, is_way};
 ghost use Rattle.c960_board.specs.declared.piece.Colour.TheVariants.{White, Black};
 ghost use Rattle.c960_rules.specs.Lines.{between};
 
 use crate::between::BETWEEN;
 use crate::tables::{
-    BISHOP_LINES, BLACK_PAWN, EAST, KING, KNIGHT, NORTH, NORTH_EAST, NORTH_WEST, ROOK_LINES, SOUTH,
-    SOUTH_EAST, SOUTH_WEST, WEST, WHITE_PAWN,
+    BISHOP_LINES, BLACK_PAWN, EAST, KING, KNIGHT, NORTH, NORTH_EAST, NORTH_WEST, ONWARD,
+    ROOK_LINES, SOUTH, SOUTH_EAST, SOUTH_WEST, WEST, WHITE_PAWN,
 };
 use c960_board::{Colour, Kind, Piece, Square};
 
@@ -180,6 +180,16 @@ pub fn south_west(square: Square) -> u64
     ensures { result ≡ where_set (is_south_west square) }
 {
     SOUTH_WEST[square.number() as usize]
+}
+
+/// The squares of this number and of the higher ones. A look at a table is one step, where the shift that makes this set, by a number that
+/// has just been found, is several.
+#[inline(always)]
+pub fn onward(first: u32) -> u64
+    requires { first < 64 }
+    ensures { result ≡ where_set (λ t. not (above first t)) }
+{
+    ONWARD[first as usize]
 }
 
 /// The squares strictly between two squares of one line, or none if they are not on one.

@@ -8,19 +8,10 @@ ghost use Rattle.c960_rules.specs.Inner.Rays.{below, above, is_unblocked};
 ghost use Rattle.c960_rules.specs.Inner.Wheres.{where_set, is_rook_line, is_bishop_line, is_free, attacks_over_as};
 
 use crate::lookups::{
-    east, north, north_east, north_west, reach_on_empty_board, south, south_east, south_west, west,
+    east, north, north_east, north_west, onward, reach_on_empty_board, south, south_east,
+    south_west, west,
 };
 use c960_board::{Kind, Piece, Square};
-
-/// The number of the lowest square of a set, or 63 if the set is empty.
-#[inline(always)]
-fn lowest_or_last(set: u64) -> u32
-    ensures bound { result < 64 }
-    ensures least { (u : ℕ) → u < result → bit_at set u ≡ 0 }
-    ensures inside { result < 63 → bit_at set result ≡ 1 }
-{
-    (set | (1u64 << 63)).trailing_zeros()
-}
 
 /// The number of the highest square of a set, or 0 if the set is empty.
 #[inline(always)]
@@ -32,28 +23,28 @@ fn highest_or_first(set: u64) -> u32
     63 - (set | 1).leading_zeros()
 }
 
-/// The squares of a ray up to its first blocker, if their numbers rise from the ray's start. No ray goes beyond h8, which so stands
-/// in for a blocker where there is none: this takes neither a loop nor a branch.
+/// The squares of a ray up to its first blocker, if their numbers rise from the ray's start. Subtracting 1 turns the lowest blocker's 1
+/// into a 0 and the zeros below it into ones, and changes no higher bit: so the bits that change are those up to the blocker, and all where
+/// there is none. This takes neither a count of zeros nor a shift by that many, nor a loop or a branch.
 #[inline(always)]
 fn rising(ray: u64, occupied: u64) -> u64
     ensures { result ≡ where_set (λ t. is_in ray t && is_unblocked below ray occupied t) }
 {
-    let first = lowest_or_last(ray & occupied);
-    ray & (u64::MAX >> (63 - first))
+    let blockers = ray & occupied;
+    ray & (blockers ^ blockers.wrapping_sub(1))
 }
 
-/// The same, if their numbers fall: a1 stands in for a blocker.
+/// The same, if their numbers fall. No ray goes beyond a1, which so stands in for a blocker where there is none.
 #[inline(always)]
 fn falling(ray: u64, occupied: u64) -> u64
     ensures { result ≡ where_set (λ t. is_in ray t && is_unblocked above ray occupied t) }
 {
-    let first = highest_or_first(ray & occupied);
-    ray & (u64::MAX << first)
+    ray & onward(highest_or_first(ray & occupied))
 }
 
 /// The squares that a rook attacks, if these squares are occupied.
 #[inline(always)]
-fn straight(from: Square, occupied: u64) -> u64
+pub(crate) fn straight(from: Square, occupied: u64) -> u64
     ensures { result ≡ where_set (λ t. is_rook_line from t && is_free occupied from t) }
 {
     let _bound = from.number();

@@ -1,8 +1,10 @@
 //! The two sides.
 
-ghost use Rattle.std.specs.Prelude.{◌≡◌, ◌<◌, ◌≤◌};
+ghost use Rattle.std.specs.Prelude.{◌≡◌, ◌<◌, ◌≤◌, false, replicate};
+ghost use Rattle.std.specs.Bool.{beq};
+ghost use Rattle.std.specs.Cmp.Lexicographic.{pointwise};
 ghost use Rattle.c960_board.specs.Pieces.{is_of, holds};
-ghost use Rattle.c960_board.specs.Cells.{cell_at};
+ghost use Rattle.c960_board.specs.Cells.{cell_at, rights_of};
 ghost use Rattle.c960_board.specs.Squares.{home_rank, home_square, ahead};
 ghost use Rattle.c960_rules.specs.Inner.Wheres.{where_set};
 
@@ -65,4 +67,29 @@ pub(crate) fn stands(position: &Position, colour: Colour, kind: Kind, square: Sq
 {
     let _sets = position.sets();
     Sets::is_in(position.pieces(Piece { colour, kind }), square)
+}
+
+/// The castling rights of a side, by the file of the rook.
+#[inline(always)]
+pub(crate) fn rights_of(position: &Position, colour: Colour) -> [bool; 8]
+    ensures { result ≡ rights_of position.now.rights colour }
+{
+    let rights = position.rights();
+    match colour {
+        Colour::White => rights.white,
+        Colour::Black => rights.black,
+    }
+}
+
+/// Whether a side has no castling rights. The rights are compared where they are stored, by one test of eight bytes; of a copy in a register each byte
+/// would be shifted out.
+#[inline(always)]
+pub(crate) fn has_none(position: &Position, colour: Colour) -> bool
+    ensures { result ≡ pointwise beq (rights_of position.now.rights colour) (replicate 8 false) }
+{
+    let rights = position.rights();
+    match colour {
+        Colour::White => rights.white == [false; 8],
+        Colour::Black => rights.black == [false; 8],
+    }
 }

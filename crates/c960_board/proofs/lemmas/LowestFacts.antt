@@ -30,14 +30,24 @@ even_before : (n : ℕ) → n % 2 ≡ 0 → (n - 1) / 2 ≡ n / 2 - 1
 even_before n e = omega (arith, e)
 
 -- n - 1 has a 0 where n has its lowest 1
-before_gone : (n k : ℕ) → IsLowest n k → bit_at (n - 1) k ≡ 0
+pub before_gone : (n k : ℕ) → IsLowest n k → bit_at (n - 1) k ≡ 0
 before_gone n zero l = omega (arith, bit_at_lowest n, bit_at_lowest (n - 1), l.inside)
 before_gone n (suc k) l =
     let even : n % 2 ≡ 0 = sym (bit_at_lowest n) ∙ l.least 0 (omega arith) in
     bit_at-suc (n - 1) k ∙ ap (λ x. bit_at x k) (even_before n even) ∙ before_gone (n / 2) k (halved n k l)
 
+-- a 1 at each place below
+pub before_below : (n k i : ℕ) → 0 < n → IsLowest n k → i < k → bit_at (n - 1) i ≡ 1
+before_below n zero i some l m = absurd (omega arith)
+before_below n (suc k) zero some l m =
+    let even : n % 2 ≡ 0 = sym (bit_at_lowest n) ∙ l.least 0 (omega arith) in omega (arith, some, even, bit_at_lowest (n - 1))
+before_below n (suc k) (suc i) some l m =
+    let even : n % 2 ≡ 0 = sym (bit_at_lowest n) ∙ l.least 0 (omega arith) in
+    bit_at-suc (n - 1) i ∙ ap (λ x. bit_at x i) (even_before n even)
+    ∙ before_below (n / 2) k i (omega (arith, some, even)) (halved n k l) (omega arith)
+
 -- and the bits of n above that place
-before_above : (n k i : ℕ) → IsLowest n k → k < i → bit_at (n - 1) i ≡ bit_at n i
+pub before_above : (n k i : ℕ) → IsLowest n k → k < i → bit_at (n - 1) i ≡ bit_at n i
 before_above n k zero l m = absurd (omega arith)
 before_above n zero (suc i) l m =
     let odd : n % 2 ≡ 1 = sym (bit_at_lowest n) ∙ l.inside in
