@@ -35,8 +35,8 @@ fn without(rights: [bool; 8], colour: Colour, square: Square) -> [bool; 8]
     left
 }
 
-/// The rights of a side after a move. Its king's move ends all of them, another move at most those of the rooks on its two squares. Of a side
-/// that has none left, as after most openings, nothing is looked up.
+/// The rights of a side after a move. Its king's move ends all of them, another move at most those of the rooks on its two squares. Of a
+/// side that has none left, as after most openings, nothing is looked up.
 #[tactic(auto, using(crate::proofs::TableFacts::none_before, crate::proofs::TableFacts::none_of_king))]
 fn rights_after(position: &Position, m: &Move, colour: Colour) -> [bool; 8]
     ensures { result ≡ rights_after position.now m.now colour }
@@ -120,8 +120,9 @@ fn taken_off(sets: &Sets, gone: u64) -> Sets
     }
 }
 
-/// A set after a move that is no promotion: without the squares that change, and with the goal exactly if it had the square that is left. What
-/// moves keeps its colour and its kind, so nobody has to find out which they are: five plain steps and no branch, for two sets at once.
+/// A set after an ordinary move that is no promotion: without the squares that change, and with the goal exactly if it had the square that
+/// is left. What moves keeps its colour and its kind, so nobody has to find out which they are: five plain steps and no branch, for two
+/// sets at once.
 #[inline(always)]
 fn carried(set: u64, changed: u64, m: &Move) -> u64
     ensures { result ≡ carried changed m.now.from m.now.to set }

@@ -120,8 +120,8 @@ fn officer_goals(position: &Position, from: Square, piece: Piece) -> u64
     reach_over(piece, from, occupied) & !own
 }
 
-/// The squares to which the piece on a square goes, if it is one of the side to move. Two sets tell a pawn, the piece that most often stands
-/// there; only for an officer its kind is looked up.
+/// The squares to which the piece on a square goes, if it is one of the side to move. Two sets tell a pawn, the piece that most often
+/// stands there; only for an officer its kind is looked up.
 #[inline(always)]
 pub(crate) fn goals(position: &Position, from: Square) -> u64
     ensures { result ≡ where_set (λ t. goes_to position.now from t) }
@@ -150,9 +150,9 @@ fn rooks_in_sight(position: &Position, from: Square) -> u64
     squares_of(position, turn) & sets.rooks & straight(from, position.occupied())
 }
 
-/// The squares of the rooks with which the side may castle, if its king is on the square: every legal castling goes to one. A side that has no
-/// right left has none. And each square between the king and the rook is on the way of one of the two, and so is vacant: where a piece stands
-/// between them, castling is not tested in full.
+/// The squares of the rooks with which the side may castle, if its king is on the square: every legal castling goes to one. A side that has
+/// no right left has none. And each square between the king and the rook is on the way of one of the two, and so is vacant: where a piece
+/// stands between them, castling is not looked at.
 #[inline(always)]
 pub(crate) fn rooks_to_castle(position: &Position, from: Square) -> u64
     ensures { (t : ℕ) (k : Option Kind) → t < 64 → is_in result t ≡ false → Castles position.now (triple from t k) → ⊥ }

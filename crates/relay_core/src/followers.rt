@@ -26,8 +26,8 @@ use std::marker::Model;
 pub(crate) struct Followers {
     /// The followers, in any order: when a spectator leaves, at most one other moves, wherever it stood.
     seats: IndexMap<Spectator, QueueFollower>,
-    /// The tag of each follower's board, at the follower's place in the map. Names of different tags differ, so what concerns one board passes
-    /// over the followers of others by 4 bytes each, of the 80 that each has.
+    /// The tag of each follower's board, at the follower's place in the map. Names of different tags differ, so what concerns one board
+    /// passes over the followers of others by 4 bytes each, of the 80 that each has.
     tags: Vec<u32>,
     /// The order of joining, which only contracts read.
     order: JoiningOrder,

@@ -6,8 +6,8 @@ ghost use Rattle.relay_core.specs.Inner.TagRow.{PassesOver, IsSearch};
 
 use std::simd::prelude::*;
 
-/// How many tags are compared at once: as many as a mask has bits. The end of each mask is a branch that is often foretold wrongly, so there are
-/// few of them.
+/// How many tags are compared at once: as many as a mask has bits. The end of each mask is a branch that is often foretold wrongly, so there
+/// are few of them.
 const LANES: usize = 64;
 
 /// Which of the sixty-four tags from a place on are this one: bit k of the answer is 1 if the tag at the k-th place after it is. They are
@@ -22,8 +22,8 @@ fn marks(tags: &[u32], at: usize, tag: u32) -> u64
         .to_bitmask()
 }
 
-/// The same of the tags from a place on to the last, which are fewer than sixty-four. It is called once in a search at most, so it is not made
-/// part of the loops that search.
+/// The same of the tags from a place on to the last, which are fewer than sixty-four. It is called once in a search at most, so it is not
+/// made part of the loops that search.
 #[inline(never)]
 fn last_marks(tags: &[u32], at: usize, tag: u32) -> u64
     requires inside { at ≤ length tags.now }
@@ -39,8 +39,8 @@ fn last_marks(tags: &[u32], at: usize, tag: u32) -> u64
     marks
 }
 
-/// A search for one tag in a row, from its first place on. A block of the row is compared once, and then the places that have the tag are read
-/// from the bits of its mask: the next one waits only for the lowest bit to be taken out of a number, and for no compare.
+/// A search for one tag in a row, from its first place on. A block of the row is compared once, and then the places that have the tag are
+/// read from the bits of its mask: the next one waits only for the lowest bit to be taken out of a number, and for no compare.
 #[derive(Drop)]
 pub(crate) struct TagSearch {
     /// The place after the last one that was found. Only contracts read it, so no code is made for it.
@@ -90,8 +90,8 @@ impl TagSearch {
         }
     }
 
-    /// The next place that has this tag, or the number of tags if none has. Whether a block has any is a branch of its own, which is foretold:
-    /// one count that gives the block's length for an empty mask would make each block wait for the one before.
+    /// The next place that has this tag, or the number of tags if none has. Whether a block has any is a branch of its own, which is mostly
+    /// foretold: one count that gives the block's length for an empty mask would make each block wait for the one before.
     #[inline(always)]
     pub(crate) fn next(&mut self, tags: &[u32], tag: u32) -> usize
         requires { IsSearch tags.now tag self.old }
