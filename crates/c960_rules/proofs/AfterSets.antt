@@ -2,7 +2,6 @@
 use Rattle.std.proofs.Common.{◌≡◌, ◌≢◌, ℕ, ◌*◌, ◌%◌, ◌^◌, ◌<◌, Bool, true, false, not, ◌&&◌, ◌||◌, Option, Some, None, length, refl, ap, sym, ◌∙◌, ◌⊎◌, inl, inr, arith, w64, IsTrue}
 use Rattle.std.specs.Prelude.{◌==◌, bit_and, bit_or, ◌↔◌}
 use Rattle.std.specs.Int.{bit_not}
-use Rattle.std.specs.Option.{is_some}
 use mir.Val.{bool_byte}
 use Rattle.std.proofs.Math.Bool.{and-false, and-true, or-false, or-true}
 use Rattle.std.proofs.lemmas.Bool.{cases_eq, ne_eqb, eqb-true, eqb-false, both_ways, not-true, not_from_false}
@@ -294,11 +293,6 @@ moved_sets p m changed own free full l ec =
     rw (white, black, pawns, knights, bishops, rooks, queens, kings) refl
 
 -- ---- The sets after a move that is no promotion: what lands is what the square held that is left.
-
--- whether there is none, from its test
-pub none_of : {A : Type 0} (o : Option A) → is_some o ≡ false → o ≡ None
-none_of None h = refl
-none_of (Some x) h = cc
 
 set_carried_is : (test : Cell → Bool) (p : Parts) (m : Triple) (changed : ℕ) → test None ≡ false → m.promotion ≡ None
     → is_of p.turn (piece_on p m.from) ≡ true → goes_to_own p m ≡ false → length p.placement ≡ 64 → m.from < 64 → m.to < 64

@@ -2,7 +2,7 @@
 use Rattle.std.proofs.Common.{◌≡◌, ℕ, ◌+◌, ◌*◌, ◌/◌, ◌%◌, ◌<◌, List, map, get_or, refl, ap, ◌∙◌, zero-add, arith}
 use Rattle.std.proofs.lemmas.List.FromFn.{get_or-map-range_with_len}
 use Rattle.std.specs.List.{range_with_len}
-use Rattle.c960_rules.specs.declared.between.TheConstants.{BETWEEN}
+use Rattle.c960_rules.specs.declared.tables.between.TheConstants.{BETWEEN}
 use Rattle.c960_rules.specs.Lines.{between}
 use Rattle.c960_rules.specs.Inner.Wheres.{where_set}
 

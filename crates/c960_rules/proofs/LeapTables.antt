@@ -1,7 +1,12 @@
 -- The tables against the relations between squares. This is checked by computation over all squares.
 use Rattle.std.proofs.Common.{◌≡◌, ℕ, ◌<◌, List, map, get_or, refl, ap, ◌∙◌, zero-add}
 use Rattle.std.proofs.lemmas.List.FromFn.{get_or-map-range_with_len}
-use Rattle.c960_rules.specs.declared.tables.TheConstants.{KNIGHT, KING, ROOK_LINES, BISHOP_LINES, WHITE_PAWN, BLACK_PAWN}
+use Rattle.c960_rules.specs.declared.tables.knight.TheConstants.{KNIGHT}
+use Rattle.c960_rules.specs.declared.tables.king.TheConstants.{KING}
+use Rattle.c960_rules.specs.declared.tables.rook_lines.TheConstants.{ROOK_LINES}
+use Rattle.c960_rules.specs.declared.tables.bishop_lines.TheConstants.{BISHOP_LINES}
+use Rattle.c960_rules.specs.declared.tables.white_pawn.TheConstants.{WHITE_PAWN}
+use Rattle.c960_rules.specs.declared.tables.black_pawn.TheConstants.{BLACK_PAWN}
 use Rattle.c960_board.specs.declared.piece.Colour.TheVariants.{White, Black}
 use Rattle.c960_rules.specs.Lines.{squares}
 use Rattle.c960_rules.specs.Inner.Wheres.{where_set, is_knight_leap, is_king_step, is_rook_line, is_bishop_line, is_pawn_hit}

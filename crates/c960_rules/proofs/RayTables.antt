@@ -6,7 +6,15 @@ use Rattle.std.specs.Prelude.{◌==◌, bit_and, not}
 use Rattle.std.specs.Bool.{beq}
 use Rattle.std.specs.Cmp.{booleans_Decides}
 use Rattle.std.specs.List.{list_all}
-use Rattle.c960_rules.specs.declared.tables.TheConstants.{NORTH, EAST, SOUTH, WEST, NORTH_EAST, NORTH_WEST, SOUTH_EAST, SOUTH_WEST, ONWARD}
+use Rattle.c960_rules.specs.declared.tables.north.TheConstants.{NORTH}
+use Rattle.c960_rules.specs.declared.tables.east.TheConstants.{EAST}
+use Rattle.c960_rules.specs.declared.tables.south.TheConstants.{SOUTH}
+use Rattle.c960_rules.specs.declared.tables.west.TheConstants.{WEST}
+use Rattle.c960_rules.specs.declared.tables.north_east.TheConstants.{NORTH_EAST}
+use Rattle.c960_rules.specs.declared.tables.north_west.TheConstants.{NORTH_WEST}
+use Rattle.c960_rules.specs.declared.tables.south_east.TheConstants.{SOUTH_EAST}
+use Rattle.c960_rules.specs.declared.tables.south_west.TheConstants.{SOUTH_WEST}
+use Rattle.c960_rules.specs.declared.tables.onward.TheConstants.{ONWARD}
 use Rattle.c960_rules.specs.Lines.{squares, between}
 use Rattle.c960_rules.specs.Inner.Wheres.{where_set, is_rook_line, is_bishop_line}
 use Rattle.c960_rules.specs.Inner.Rays.{is_north, is_east, is_south, is_west, is_north_east, is_north_west, is_south_east, is_south_west, below, above}

@@ -14,7 +14,7 @@ use Rattle.c960_board.specs.Position.{IsPosition}
 use Rattle.c960_board.specs.Cells.{cell_at}
 use Rattle.c960_board.specs.Sets.{set_of, is_in, is_occupied}
 use Rattle.c960_board.proofs.lemmas.SetFacts.{or_bits, and_bits}
-use Rattle.c960_board.proofs.lemmas.Tests.{one_in}
+use Rattle.c960_board.proofs.lemmas.Tests.{one_in, zero_false}
 use Rattle.c960_rules.specs.Lines.{squares}
 use Rattle.c960_rules.specs.Inner.Wheres.{where_set, IsWithout}
 
@@ -104,10 +104,6 @@ where_but test s t all from one to two =
     (where_and test (λ u. not (u == s)) _ _ all (where_not (λ u. u == s) _ (only_at from one))) (where_not (λ u. u == t) _ (only_at to two))
 
 -- a bit as a test
-pub zero_false : (b : Bool) → ◌≡◌ {A = ℕ} (cond b 1 0) 0 → b ≡ false
-zero_false true e = absurd (omega arith)
-zero_false false e = refl
-
 pub in_where : (t : ℕ → Bool) (a i : ℕ) → a ≡ where_set t → i < 64 → is_in a i ≡ t i
 in_where t a i e l = let p = bit_of t a i e l in rw p (one_in (t i))
 

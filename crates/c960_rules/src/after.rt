@@ -66,8 +66,8 @@ fn target_after(position: &Position, m: &Move) -> Option<Square>
     }
 }
 
-/// The half-move counter after a move: a pawn's move and a capture set it to 0. Both tests are made at once: which of them holds is hard to
-/// foretell, and each costs but two steps.
+/// The half-move counter after a move: a pawn's move and a capture set it to 0. Both tests are made at once, in two steps
+/// each: a branch misprediction would cost more.
 #[tactic(auto, unfolding(crate::specs::After::half_moves_after))]
 fn half_moves_after(position: &Position, m: &Move) -> u16
     requires { position.now.half_moves < 65535 }

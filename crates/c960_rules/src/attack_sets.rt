@@ -10,10 +10,13 @@ ghost use Rattle.c960_board.specs.Sets.{is_in};
 ghost use Rattle.c960_rules.specs.Inner.Wheres.{where_set, is_free, is_leaper_on, is_slider_on, is_attacker_on};
 
 use crate::bitset::{lowest, only, without_lowest};
-use crate::lookups::{
-    bishop_lines, king_steps, knight_leaps, pawn_hits_on, rook_lines, squares_between,
-};
+use crate::lookups::pawn_hits_on;
 use crate::sides::squares_of;
+use crate::tables::between::squares_between;
+use crate::tables::bishop_lines::bishop_lines;
+use crate::tables::king::king_steps;
+use crate::tables::knight::knight_leaps;
+use crate::tables::rook_lines::rook_lines;
 use c960_board::{Colour, Position, Square};
 
 /// The pawns, knights and kings of the colour that attack the square.

@@ -5,7 +5,6 @@ mod after;
 mod any;
 mod attack_sets;
 mod attacks;
-mod between;
 mod bitset;
 mod castling;
 mod check;

@@ -10,10 +10,10 @@ ghost use Rattle.c960_rules.specs.Inner.Pins.{AreEvasions, HasOthers, IsUnpinned
 use crate::attack_sets::{attackers_over, leapers, sliders};
 use crate::bitset::{lowest, only, without_lowest};
 use crate::legal::is_legal_ordinary;
-use crate::lookups::squares_between;
 use crate::placement::is_en_passant;
 use crate::safety::king_of;
 use crate::sides::squares_of;
+use crate::tables::between::squares_between;
 use c960_board::{Move, Position, Sets, Square};
 
 /// The set if it has just one square, and the empty set if it has more.

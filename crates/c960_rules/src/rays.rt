@@ -7,10 +7,16 @@ ghost use Rattle.c960_board.specs.Sets.{is_in};
 ghost use Rattle.c960_rules.specs.Inner.Rays.{below, above, is_unblocked};
 ghost use Rattle.c960_rules.specs.Inner.Wheres.{where_set, is_rook_line, is_bishop_line, is_free, attacks_over_as};
 
-use crate::lookups::{
-    east, north, north_east, north_west, onward, reach_on_empty_board, south, south_east,
-    south_west, west,
-};
+use crate::lookups::reach_on_empty_board;
+use crate::tables::east::east;
+use crate::tables::north::north;
+use crate::tables::north_east::north_east;
+use crate::tables::north_west::north_west;
+use crate::tables::onward::onward;
+use crate::tables::south::south;
+use crate::tables::south_east::south_east;
+use crate::tables::south_west::south_west;
+use crate::tables::west::west;
 use c960_board::{Kind, Piece, Square};
 
 /// The number of the highest square of a set, or 0 if the set is empty.

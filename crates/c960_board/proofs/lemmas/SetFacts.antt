@@ -17,6 +17,7 @@ use Rattle.c960_board.specs.Pieces.{Cell, man, same_colour, same_kind, is_of, ho
 use Rattle.c960_board.specs.Position.{IsPosition}
 use Rattle.c960_board.specs.Cells.{cell_at}
 use Rattle.c960_board.proofs.lemmas.Colours.{same_colour_is, same_colour_self}
+use Rattle.c960_board.proofs.lemmas.Tests.{one_true}
 use Rattle.c960_board.proofs.KindFacts.{same_kind_is, same_kind_self}
 use Rattle.c960_board.specs.Sets.{is_occupied, is_kind, set_of, sets_of, colour_set, kind_set}
 use Rattle.c960_board.specs.Inner.SetsWith.{set_with}
@@ -136,11 +137,6 @@ occupied_either (Some p) = elim p.colour as (λ c. true ≡ (same_colour c White
 pub holds_both : (c : Colour) (k : Kind) (x : Cell) → holds c k x ≡ (is_of c x && is_kind k x)
 holds_both c k None = refl
 holds_both c k (Some p) = refl
-
--- a bit is 1 if the test passes
-one_true : (b : Bool) → ◌≡◌ {A = ℕ} (cond b 1 0) 1 → b ≡ true
-one_true true e = refl
-one_true false e = absurd (omega arith)
 
 -- a bit of a set, if its test states a fact
 pub bit_says : (t : Cell → Bool) (P : Cell → Type 0) (cells : List Cell) (a s : ℕ) → length cells ≡ 64 → a ≡ set_of t cells

@@ -1,16 +1,32 @@
 -- Tests, and tests made of tests.
-use Rattle.std.proofs.Common.{◌≡◌, Bool, true, false, cond, Option, Some, None, refl}
+use Rattle.std.proofs.Common.{◌≡◌, ℕ, Bool, true, false, cond, Option, Some, None, refl, arith}
 use Rattle.std.specs.Prelude.{◌==◌, is_none}
+use Rattle.std.specs.Option.{is_some}
 
 -- a bit is 1 if its test passes
 pub one_in : (b : Bool) → (cond b 1 0 == 1) ≡ b
 one_in true = refl
 one_in false = refl
 
+-- so a test passes if its bit is 1
+pub one_true : (b : Bool) → ◌≡◌ {A = ℕ} (cond b 1 0) 1 → b ≡ true
+one_true true h = refl
+one_true false h = absurd (omega (arith, h))
+
+-- and fails if it is 0
+pub zero_false : (b : Bool) → ◌≡◌ {A = ℕ} (cond b 1 0) 0 → b ≡ false
+zero_false true h = absurd (omega (arith, h))
+zero_false false h = refl
+
 -- an option is empty, from its test
 pub none_is : {X : Type 0} (o : Option X) → is_none o ≡ true → o ≡ None
 none_is None h = refl
 none_is (Some x) h = cc
+
+-- from the opposite test
+pub none_of : {X : Type 0} (o : Option X) → is_some o ≡ false → o ≡ None
+none_of None h = refl
+none_of (Some x) h = cc
 
 -- and to its test
 pub is_none_of : {X : Type 0} (o : Option X) → o ≡ None → is_none o ≡ true

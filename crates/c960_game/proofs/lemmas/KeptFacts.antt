@@ -1,5 +1,5 @@
 -- What a game keeps in memory, at its opening and after one move more.
-use Rattle.std.proofs.Common.{◌≡◌, ℕ, ◌+◌, ◌/◌, ◌%◌, ◌<◌, ◌≤◌, List, [], ◌∷◌, ◌++◌, length, length-append, Option, Some, None, is_some, true, false, cond, refl, sym, ap, subst, ◌∙◌, arith, inl, inr}
+use Rattle.std.proofs.Common.{◌≡◌, ℕ, ◌+◌, ◌/◌, ◌%◌, ◌<◌, ◌≤◌, List, [], ◌∷◌, ◌++◌, length, length-append, None, is_some, true, false, cond, refl, sym, ap, subst, ◌∙◌, arith, inl, inr}
 use Rattle.std.specs.Prelude.{◌==◌}
 use Rattle.std.specs.Vec.{vec_capacity}
 use Rattle.std.proofs.lemmas.Bool.{eqb-true, eqb-false}
@@ -7,6 +7,7 @@ use Rattle.c960_board.specs.declared.numbering.TheConstants.{STARTS}
 use Rattle.c960_board.specs.declared.parts.Parts.{Parts}
 use Rattle.c960_board.specs.Moves.{Triple}
 use Rattle.c960_board.specs.Start.{start}
+use Rattle.c960_board.proofs.lemmas.Tests.{none_of}
 use Rattle.c960_rules.specs.After.{after}
 use Rattle.c960_rules.specs.Legal.{Legal}
 use Rattle.c960_game.specs.declared.kept_positions.TheConstants.{MILE, RECENT}
@@ -36,10 +37,6 @@ opened_is_game n plies numbered most = record {
   within = omega arith;
   most_plies = most;
 }
-
-none_of : {A : Type 0} (o : Option A) → is_some o ≡ false → o ≡ None
-none_of None e = refl
-none_of (Some x) e = cc
 
 -- a game without an outcome has none by itself
 pub goes_on : (g : GameRecord) → IsGame g → is_some g.outcome ≡ false → own_outcome g.start g.log ≡ None

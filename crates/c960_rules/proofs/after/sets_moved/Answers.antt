@@ -1,15 +1,14 @@
 use Rattle.std.proofs.Common.{◌≡◌, ap, sym, ◌∙◌, None}
 use Rattle.c960_board.specs.Moves.{Triple}
+use Rattle.c960_board.proofs.lemmas.Tests.{none_of}
 use Rattle.c960_rules.proofs.ListFacts.{goes_from_own}
-use Rattle.c960_rules.proofs.AfterSets.{carried_sets, none_of}
+use Rattle.c960_rules.proofs.AfterSets.{carried_sets}
 use Rattle.c960_rules.proofs.after.sets_moved.Goals as goal
 
 pub returns : goal.returns
 returns c =
     let p = c.args.position.now in
     let m = c.args.m.now in
-    let from = ap (λ (t : Triple). t.from) c.m.view_is in
-    let to = ap (λ (t : Triple). t.to) c.m.view_is in
     let promotion = ap (λ (t : Triple). t.promotion) c.m.view_is in
     let sets = c.sets.ensures.value in
     let some = c.is_some.ensures in
