@@ -3,6 +3,7 @@
 //! relay calls: when an open and a follow are refused, and what a take answers.
 #![tactic(auto)]
 
+mod board_key;
 mod boards;
 mod follower;
 mod followers;
@@ -19,6 +20,7 @@ mod tagged;
 mod tags;
 mod take;
 
+pub use board_key::BoardKey;
 pub use grounds::{may_follow, may_join_at, may_open};
 pub use name::BoardName;
 pub use relay::Relay;

@@ -19,13 +19,12 @@ ghost use Rattle.live_board.specs.Desk.{NoneVacantBelow, Submitted};
 ghost use Rattle.live_board.specs.Seats.{BoardSeat};
 ghost use Rattle.relay_live.specs.Live.{IsSeated, Swapped, held_in};
 
-use crate::board_key::BoardKey;
 use crate::seated::{Seated, account};
 use c960_board::Move;
 use c960_game::{Ending, Outcome, Refusal};
 use indexmap::IndexMap;
 use live_board::Board;
-use relay_core::{Account, Taken};
+use relay_core::{Account, BoardKey, Taken};
 
 /// Makes a move on a board. Returns its place and the outcome that it brings about, if any.
 #[tactic(auto, using(std::proofs::lemmas::Map::Steps::set_value_same))]

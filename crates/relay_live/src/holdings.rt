@@ -13,7 +13,6 @@ ghost use Rattle.relay_core.specs.Stands.{Stands};
 ghost use Rattle.live_board.specs.Board.{game_of, setup_of};
 ghost use Rattle.relay_live.specs.Live.{SlotsLeft};
 
-use crate::board_key::BoardKey;
 use crate::boards::{end, join, leave_for, play, take_for};
 use crate::seated::Seated;
 use crate::seats::Seats;
@@ -21,7 +20,7 @@ use c960_board::Move;
 use c960_game::{Ending, Limits, MOST_PLIES, Refusal};
 use indexmap::IndexMap;
 use live_board::Board;
-use relay_core::{BoardName, Reply, Spectator, Step, Taken, may_follow, may_open};
+use relay_core::{BoardKey, BoardName, Reply, Spectator, Step, Taken, may_follow, may_open};
 use std::alloc::{AllocError, Global};
 use std::marker::Model;
 

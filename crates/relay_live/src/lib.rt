@@ -2,7 +2,6 @@
 //! that other threads can continue with it.
 #![tactic(auto)]
 
-mod board_key;
 mod boards;
 mod holdings;
 mod order;

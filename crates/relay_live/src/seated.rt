@@ -2,8 +2,7 @@
 
 ghost use Rattle.std.specs.Prelude.{◌≡◌, ℕ, ◌<◌, Some, is_some, unwrap_or};
 
-use crate::board_key::BoardKey;
-use relay_core::Account;
+use relay_core::{Account, BoardKey};
 
 /// Where a spectator follows, and how far it has got. Everything else about it is in what the board knows.
 #[derive(Clone, Copy, PartialEq, Eq, Debug)]

@@ -1,10 +1,12 @@
--- The length of a name is read back from its bytes.
-use Rattle.std.specs.Prelude.{ℕ, ◌-◌, ◌≤◌, ◌≡◌, ◌&&◌, nat_le, List, length, take, replicate}
+-- The length of a name is read back from its bytes, and names that compare equal are the same.
+use Rattle.std.specs.Prelude.{ℕ, ◌-◌, ◌≤◌, ◌≡◌, ◌&&◌, nat_le, nat_eq, true, List, length, take, replicate}
+use Rattle.std.specs.Cmp.Lexicographic.{pointwise, same_text}
 use Rattle.std.specs.List.{list_all}
-use Rattle.std.proofs.Common.{◌∙◌, ap, arith}
+use Rattle.std.proofs.Common.{◌∙◌, ap, sym, eqb, arith}
+use Rattle.std.proofs.Math.Seq.{take-append_seam}
 use Rattle.std.proofs.lemmas.List.{length-append, length-replicate, length-take}
-use Rattle.std.proofs.lemmas.Bool.{and_parts, leb-true}
-use Rattle.relay_core.specs.Name.{IsName, filled, is_name_byte}
+use Rattle.std.proofs.lemmas.Bool.{and_parts, eqb-true, leb-true}
+use Rattle.relay_core.specs.Name.{IsName, filled, is_name_byte, same_name}
 
 -- a name has at most 32 bytes
 pub is_short : (text : List ℕ) → IsName text → length text ≤ 32
@@ -25,3 +27,11 @@ pub length-front : (n : ℕ) (bytes : List ℕ) → n ≤ 32 → length (take n 
 length-front n bytes small short rest =
     let all : length bytes ≡ 32 = ap length rest ∙ length-filled (take n bytes) short in
     omega (arith, all, length-take n bytes)
+
+-- the text is read back from before the zeros
+pub same_name_is : (a b : List ℕ) → same_name a b ≡ true → a ≡ b
+same_name_is a b h =
+    let parts = and_parts (eqb (length a) (length b)) (pointwise nat_eq (filled a) (filled b)) h in
+    let long : length a ≡ length b = eqb-true (length a) (length b) parts.0 in
+    let alike : filled a ≡ filled b = same_text (filled a) (filled b) (sym parts.1) in
+    sym (take-append_seam a _) ∙ ap (take (length a)) alike ∙ ap (λ n. take n (filled b)) long ∙ take-append_seam b _
