@@ -117,8 +117,8 @@ none_vacant_past vacant k l m all ne = pick (λ (x : ℕ). NoneVacantBefore x (s
     (λ _. none_vacant_set vacant k l m (λ i less other e. all i less e) (λ e. absurd (ne e)))
 
 -- the note m is made of the slot k, and that slot becomes what it is then
-pub none_vacant_noted : (vacant now k : ℕ) (l : List Note) (n m : Note) → NoneVacantBefore vacant l → now ≡ least_vacant_with vacant k n → n ≡ m → NoneVacantBefore now (set l k m)
-none_vacant_noted vacant now k l n m all is same = subst (λ (x : ℕ). NoneVacantBefore x (set l k m)) (sym (is ∙ ap (least_vacant_with vacant k) same)) (by_note m)
+pub none_vacant_noted : (vacant k : ℕ) (l : List Note) (m : Note) → NoneVacantBefore vacant l → NoneVacantBefore (least_vacant_with vacant k m) (set l k m)
+none_vacant_noted vacant k l m all = by_note m
   where
     by_note : (m : Note) → NoneVacantBefore (least_vacant_with vacant k m) (set l k m)
     by_note Vacant = none_vacant_set (min vacant k) k l Vacant (λ i less ne e. all i (omega arith) e) (λ e. omega arith)

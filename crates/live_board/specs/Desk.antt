@@ -9,6 +9,7 @@ use Rattle.live_board.specs.declared.view.View.{View}
 use Rattle.live_board.specs.Words.{cursor_at, cursor_of, note_after}
 use Rattle.live_board.specs.Views.{noted, missing, closed_off, followed, kept_part, storing, published}
 use Rattle.live_board.specs.Sound.{Follows}
+use Rattle.live_board.specs.Seats.{NoneVacantBefore}
 
 -- ---- A cursor is loaded.
 
@@ -73,7 +74,7 @@ NoneVacant v = (k : ℕ) → get_elem? v.notes k ≡ some Vacant → ⊥
 
 -- none of the first n slots is noted vacant
 abbrev pub NoneVacantBelow : ℕ → View → Type 0
-NoneVacantBelow n v = (k : ℕ) → k < n → get_elem? v.notes k ≡ some Vacant → ⊥
+NoneVacantBelow n v = NoneVacantBefore n v.notes
 
 -- the first n cursors were loaded, each once, and nothing else was done
 abbrev pub CheckedBelow : ℕ → View → View → Type 0

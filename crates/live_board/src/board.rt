@@ -224,8 +224,8 @@ impl Board {
         self.desk.vacant()
     }
 
-    /// Adds a follower in a vacant slot. It takes from the place `from` of the log. It allocates nothing.
-    pub fn join_at(&mut self, slot: u64, from: u16)
+    /// Adds a follower in a vacant slot. It takes from the place `from` of the log.
+    fn join_at(&mut self, slot: u64, from: u16)
         requires inside { slot < self.old.knows.setup.limits.followers }
         requires vacant { get_elem? self.old.knows.notes slot ≡ some Vacant }
         requires from { (from ≤ length self.old.knows.log) × (length self.old.knows.log ≤ from + self.old.knows.setup.limits.capacity) }
@@ -237,8 +237,8 @@ impl Board {
         self.desk.join_at(slot, u64::from(from));
     }
 
-    /// Adds a follower in the first vacant slot, as `join_at` does. The next search for a vacant slot then passes over all slots up to
-    /// this one.
+    /// Adds a follower in the first vacant slot. It takes from the place `from` of the log. The next search for a vacant slot then passes
+    /// over all slots up to this one. It allocates nothing.
     pub fn join_first(&mut self, slot: u64, from: u16)
         requires inside { slot < self.old.knows.setup.limits.followers }
         requires vacant { get_elem? self.old.knows.notes slot ≡ some Vacant }

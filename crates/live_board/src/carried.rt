@@ -15,7 +15,7 @@ ghost use Rattle.live_board.specs.Carried.{Carries, closing_at};
 use crate::Note;
 use crate::desk::Desk;
 use crate::kinds::{Follow, Leave, Look, Read, Take};
-use crate::note::least_vacant_with;
+use crate::note::set_note;
 use crate::words::{STATUS, cursor_at, move_word_at, open_cursor};
 use c960_board::Move;
 
@@ -49,9 +49,8 @@ impl Desk {
             joined: from,
             next: from,
         };
-        self.notes[slot as usize] = note;
+        set_note(&mut self.notes, &mut self.least_vacant, slot, note);
         self.least_noted = self.least_noted.min(from);
-        self.least_vacant = least_vacant_with(self.least_vacant, slot, note);
     }
 
     /// Loads the status.
@@ -93,7 +92,6 @@ impl Desk {
     {
         let shared = &self.table.shared;
         let _cursor = shared.swap::<Leave>(&mut self.seat, cursor_at(slot), 0);
-        self.notes[slot as usize] = Note::Vacant;
-        self.least_vacant = self.least_vacant.min(slot);
+        set_note(&mut self.notes, &mut self.least_vacant, slot, Note::Vacant);
     }
 }

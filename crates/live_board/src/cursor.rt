@@ -18,27 +18,10 @@ fn joined_noted(note: Note) -> u64
     }
 }
 
-/// Updates a note with what the cursor says, and returns it. The commonest cases are tested first: the slot is still
-/// vacant, and nothing is written; or the follower is open and may have taken more moves.
-pub fn renew(note: &mut Note, word: u64) -> Note
-    ensures note { note.new ≡ note_after note.old word }
-    ensures result { result ≡ note_after note.old word }
-    ensures next { (joined next : ℕ) → result ≡ Open joined next → next < MARK }
-{
-    match *note {
-        Note::Vacant if word == 0 => return Note::Vacant,
-        Note::Open { joined, .. } if is_open(word) => *note = Note::Open {
-            joined,
-            next: place_in(word),
-        },
-        known => *note = note_after(known, word),
-    }
-    *note
-}
-
 /// What a cursor's note becomes when the cursor says this.
 pub fn note_after(note: Note, word: u64) -> Note
-    ensures { result ≡ note_after note word }
+    ensures note { result ≡ note_after note word }
+    ensures next { (joined next : ℕ) → result ≡ Open joined next → next < MARK }
 {
     if word == 0 {
         Note::Vacant

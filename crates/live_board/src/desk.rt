@@ -18,10 +18,10 @@ ghost use Rattle.live_board.specs.Desk.{Asked, Checked, CheckedBelow, Exchanged,
 ghost use Rattle.live_board.specs.Meeting.{Met};
 ghost use Rattle.live_board.specs.Seats.{NoneBefore};
 
-use crate::cursor::{note_after, renew};
+use crate::cursor::note_after;
 use crate::follower::Follower;
 use crate::kinds::{Check, Close, Finish, Hand, Look, Publish, Spare, Store};
-use crate::note::least_vacant_with;
+use crate::note::set_note;
 use crate::words::{
     STATUS, closed_cursor, closing_in, cursor_at, header, length_in, move_word_at, open_cursor,
     outcome_in, status, word_count,
@@ -148,8 +148,8 @@ impl Desk {
     {
         let shared = &self.table.shared;
         let word = shared.load::<Check>(&mut self.seat, cursor_at(slot));
-        let note = renew(&mut self.notes[slot as usize], word);
-        self.least_vacant = least_vacant_with(self.least_vacant, slot, note);
+        let note = note_after(self.notes[slot as usize], word);
+        set_note(&mut self.notes, &mut self.least_vacant, slot, note);
         note
     }
 
@@ -171,8 +171,7 @@ impl Desk {
         } else {
             note_after(self.notes[slot as usize], word)
         };
-        self.notes[slot as usize] = note;
-        self.least_vacant = least_vacant_with(self.least_vacant, slot, note);
+        set_note(&mut self.notes, &mut self.least_vacant, slot, note);
     }
 
     /// Whether the follower in the slot may be full, according to its note.
@@ -403,7 +402,6 @@ impl Desk {
         follower.outcome = outcome_in(status);
         follower.closing = closing_in(cursor);
         let note = note_after(self.notes[slot], cursor);
-        self.notes[slot] = note;
-        self.least_vacant = least_vacant_with(self.least_vacant, follower.slot, note);
+        set_note(&mut self.notes, &mut self.least_vacant, follower.slot, note);
     }
 }

@@ -7,7 +7,7 @@ use Rattle.live_board.specs.Views.{noted}
 use Rattle.live_board.specs.Words.{cursor_of, note_after}
 use Rattle.live_board.proofs.lemmas.Notes.{note_read, closed_open}
 use Rattle.live_board.specs.Seats.{BoardSeat, NoneBefore}
-use Rattle.live_board.proofs.Desks.{desk_of, none_before_loaded, none_before_set, none_vacant_noted, noted_is, noted_there, set_at}
+use Rattle.live_board.proofs.Desks.{desk_of, none_before_loaded, none_before_set, noted_is, noted_there, set_at}
 use Rattle.live_board.proofs.Steps.{closing}
 use Rattle.live_board.proofs.desk.Desk.exchange.Goals.{then-word-open, else-word-open}
 use Rattle.live_board.proofs.desk.Desk.exchange.Goals as goal
@@ -43,21 +43,22 @@ invariant_of-self c =
     let f = c.compare_exchange-word.ensures in
     let n = c.compare_exchange-word.result in
     let at-slot : slot + 2 - 2 ≡ slot = omega arith in
+    let e = c.set_note.ensures in
     elim c.if-word-open.branch [
       | then-word-open w ↦
           desk_of _ (f.2.1 w.if-word-open.true) (f.0 ∙ i.table) i.words i.key_is i.owns i.setup_is i.len_is
-          ((λ k. set (i.notes_are k) slot (w.note-is k)) ∙ set_at v.notes slot (Closed c.self.inside.len) (Closed (length v.log)) (ap Closed i.len_is) ∙ ap (λ (y : ℕ). set v.notes (y - 2) (Closed (length v.log))) (sym c.cursor_at.ensures))
-          (none_before_set _ slot _ _ i.least_is (λ j b e. absurd (closed_open _ j b (sym w.note-is ∙ e)))) i.least_low
-          (none_vacant_noted _ _ slot _ _ _ i.vacant_is c.least_vacant_with-self-inside.ensures refl) i.room_is (f.2.0.0 ∙ i.none_held) f.2.0.1
+          (e.items ∙ (λ k. set (i.notes_are k) slot (w.note-is k)) ∙ set_at v.notes slot (Closed c.self.inside.len) (Closed (length v.log)) (ap Closed i.len_is) ∙ ap (λ (y : ℕ). set v.notes (y - 2) (Closed (length v.log))) (sym c.cursor_at.ensures))
+          (subst (NoneBefore c.self.inside.least_noted) (sym e.items) (none_before_set _ slot _ _ i.least_is (λ j b o. absurd (closed_open _ j b (sym w.note-is ∙ o))))) i.least_low
+          (e.vacant i.vacant_is) (e.room ∙ i.room_is) (f.2.0.0 ∙ i.none_held) f.2.0.1
       | else-word-open w ↦
           let x = w.index.result.now in
           let miss = f.2.2 w.if-word-open.false in
           let there = noted_there i slot x v refl (omega (arith, c.requires.inside, ap (λ (h : BoardSeat). h.knows.setup.limits.followers) c.self.view_is)) w.index.ensures in
-          let new = w.note-is ∙ w.note_after-note.ensures in
+          let new = w.note-is ∙ w.note_after-note.ensures.note in
           let follows : Follows x (note_after x n) = (miss.1 i.owns x (ap (λ (y : ℕ). get_elem? v.notes (y - 2)) c.cursor_at.ensures ∙ ap (get_elem? v.notes) at-slot ∙ there)).0 in
           desk_of _ miss.0 (f.0 ∙ i.table) i.words i.key_is i.owns i.setup_is i.len_is
-          ((λ k. set (i.notes_are k) slot (new k)) ∙ noted_is v.notes slot n x (note_read v.notes slot x there) ∙ ap (λ (y : ℕ). (noted y n v).notes) (sym c.cursor_at.ensures))
-          (subst (λ m. NoneBefore c.self.inside.least_noted (set c.self.inside.notes.items slot m)) (sym new) (none_before_loaded i slot x (note_after x n) there follows)) i.least_low
-          (none_vacant_noted _ _ slot _ _ _ i.vacant_is c.least_vacant_with-self-inside.ensures refl) i.room_is
+          (e.items ∙ (λ k. set (i.notes_are k) slot (new k)) ∙ noted_is v.notes slot n x (note_read v.notes slot x there) ∙ ap (λ (y : ℕ). (noted y n v).notes) (sym c.cursor_at.ensures))
+          (subst (NoneBefore c.self.inside.least_noted) (sym (e.items ∙ ap (set c.self.inside.notes.items slot) new)) (none_before_loaded i slot x (note_after x n) there follows)) i.least_low
+          (e.vacant i.vacant_is) (e.room ∙ i.room_is)
           (f.2.0.0 ∙ i.none_held) f.2.0.1
     ]

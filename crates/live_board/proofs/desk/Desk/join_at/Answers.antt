@@ -1,11 +1,11 @@
-use Rattle.std.proofs.Common.{◌≡◌, rules, arith, ap, refl, ◌∙◌, ◌<◌, ◌-◌, set, length, ℕ}
+use Rattle.std.proofs.Common.{◌≡◌, rules, arith, ap, sym, subst, ◌∙◌, ◌<◌, ◌-◌, set, length, ℕ}
 use lib.ListN.{get_elem?}
 use Rattle.live_board.specs.declared.setup.BoardSetup.{BoardSetup}
 use Rattle.live_board.specs.declared.note.Note.TheVariants.{Open}
 use Rattle.live_board.specs.Words.{place_in}
 use Rattle.live_board.specs.Views.{followed}
-use Rattle.live_board.specs.Seats.{BoardSeat}
-use Rattle.live_board.proofs.Desks.{desk_of, none_before_set, none_vacant_noted}
+use Rattle.live_board.specs.Seats.{BoardSeat, NoneBefore}
+use Rattle.live_board.proofs.Desks.{desk_of, none_before_set}
 use Rattle.live_board.proofs.lemmas.Notes.{same_open}
 use Rattle.live_board.proofs.Hands.{followed_is}
 use Rattle.live_board.proofs.Steps.{following}
@@ -51,9 +51,11 @@ pub invariant_of-self : goal.invariant_of-self
 invariant_of-self c =
     let i = c.self.invariant in
     let f = c.store.ensures in
-    desk_of _ (seated (goal.at.invariant_of-self c).After-store) (f.0 ∙ i.table) i.words i.key_is i.owns i.setup_is i.len_is (ap (λ l. set l c.args.slot (Open c.args.from c.args.from)) i.notes_are)
-    (none_before_set _ c.args.slot _ (Open c.args.from c.args.from) (λ k j b e. omega (arith, i.least_is k j b e, c.min-self-inside.ensures)) (λ j b e. omega (arith, same_open _ _ _ _ e, c.min-self-inside.ensures))) (omega (arith, i.least_low, c.min-self-inside.ensures))
-    (none_vacant_noted _ _ c.args.slot _ _ (Open c.args.from c.args.from) i.vacant_is c.least_vacant_with-self-inside.ensures refl) i.room_is (f.2.0.0 ∙ i.none_held) f.2.0.1
+    let e = c.set_note.ensures in
+    desk_of _ (seated (goal.at.invariant_of-self c).After-store) (f.0 ∙ i.table) i.words i.key_is i.owns i.setup_is i.len_is (e.items ∙ ap (λ l. set l c.args.slot (Open c.args.from c.args.from)) i.notes_are)
+    (subst (NoneBefore c.min-self-inside.result) (sym e.items)
+    (none_before_set _ c.args.slot _ (Open c.args.from c.args.from) (λ k j b o. omega (arith, i.least_is k j b o, c.min-self-inside.ensures)) (λ j b o. omega (arith, same_open _ _ _ _ o, c.min-self-inside.ensures)))) (omega (arith, i.least_low, c.min-self-inside.ensures))
+    (e.vacant i.vacant_is) (e.room ∙ i.room_is) (f.2.0.0 ∙ i.none_held) f.2.0.1
 
 pub returns-clause-knows : goal.returns-clause-knows
 returns-clause-knows c = seated (goal.at.returns-clause-knows c).After-store ∙ ap (λ (h : BoardSeat). followed c.args.slot c.args.from h.knows) c.self.view_is

@@ -1,9 +1,9 @@
-use Rattle.std.proofs.Common.{rules, arith, ap, refl, set, ◌∙◌, sym, ◌+◌, ◌-◌, ℕ}
+use Rattle.std.proofs.Common.{rules, arith, ap, refl, set, subst, ◌∙◌, sym, ◌+◌, ◌-◌, ℕ}
 use lib.ListN.{get_elem?}
 use Rattle.live_board.specs.declared.setup.BoardSetup.{BoardSetup}
-use Rattle.live_board.specs.Seats.{BoardSeat}
+use Rattle.live_board.specs.Seats.{BoardSeat, NoneBefore}
 use Rattle.live_board.specs.declared.note.Note.TheVariants.{Vacant}
-use Rattle.live_board.proofs.Desks.{desk_of, none_before_set, none_vacant_noted, set_at}
+use Rattle.live_board.proofs.Desks.{desk_of, none_before_set, set_at}
 use Rattle.live_board.proofs.lemmas.Notes.{vacant_open}
 use Rattle.live_board.proofs.Steps.{leaving}
 use Rattle.live_board.proofs.desk.Desk.leave_at.Goals as goal
@@ -25,7 +25,8 @@ invariant_of-self c =
     let i = c.self.invariant in
     let v = c.self.inside.seat.me.0 in
     let f = c.swap-cursor.ensures in
+    let e = c.set_note.ensures in
     desk_of _ f.2.1 (f.0 ∙ i.table) i.words i.key_is i.owns i.setup_is i.len_is
-    (ap (λ l. set l c.args.slot Vacant) i.notes_are ∙ set_at v.notes c.args.slot Vacant Vacant refl ∙ ap (λ (y : ℕ). set v.notes (y - 2) Vacant) (sym c.cursor_at.ensures))
-    (none_before_set _ c.args.slot _ Vacant i.least_is (λ j b e. absurd (vacant_open j b e))) i.least_low
-    (none_vacant_noted _ _ c.args.slot _ Vacant Vacant i.vacant_is c.min-self-inside.ensures refl) i.room_is (f.2.0.0 ∙ i.none_held) f.2.0.1
+    (e.items ∙ ap (λ l. set l c.args.slot Vacant) i.notes_are ∙ set_at v.notes c.args.slot Vacant Vacant refl ∙ ap (λ (y : ℕ). set v.notes (y - 2) Vacant) (sym c.cursor_at.ensures))
+    (subst (NoneBefore c.self.inside.least_noted) (sym e.items) (none_before_set _ c.args.slot _ Vacant i.least_is (λ j b o. absurd (vacant_open j b o)))) i.least_low
+    (e.vacant i.vacant_is) (e.room ∙ i.room_is) (f.2.0.0 ∙ i.none_held) f.2.0.1

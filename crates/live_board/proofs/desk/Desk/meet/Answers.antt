@@ -12,7 +12,7 @@ use Rattle.live_board.proofs.EachStep.{off}
 use Rattle.live_board.specs.Meeting.{Met}
 use Rattle.live_board.specs.Takes.{HasSeenNoLess}
 use Rattle.live_board.specs.Seats.{BoardSeat, FollowerSeat, NoneBefore, part_of}
-use Rattle.live_board.proofs.Desks.{desk_of, none_before_loaded, none_vacant_noted, noted_is, noted_there}
+use Rattle.live_board.proofs.Desks.{desk_of, none_before_loaded, noted_is, noted_there}
 use Rattle.live_board.proofs.Followers.{follower_of, only_is, part_sound}
 use Rattle.live_board.proofs.Hands.{kept_sound, given_sound}
 use Rattle.live_board.proofs.Steps.{checking}
@@ -99,8 +99,8 @@ split_seat-out-requires c = (search rules, search rules, allows_splitting _ _ _)
 pub index-requires : goal.index-requires
 index-requires c = omega (arith, noted_low (goal.at.index-requires c).After-load-status)
 
-pub index_mut-requires : goal.index_mut-requires
-index_mut-requires c = omega (arith, noted_low (goal.at.index_mut-requires c).After-load-status)
+pub set_note-requires-clause-inside : goal.set_note-requires-clause-inside
+set_note-requires-clause-inside c = omega (arith, noted_low (goal.at.set_note-requires-clause-inside c).After-load-status)
 
 pub invariant_of-self : goal.invariant_of-self
 invariant_of-self c =
@@ -116,10 +116,12 @@ invariant_of-self c =
     let at-slot : slot + 2 - 2 ≡ slot = omega arith in
     let follows : Follows c.index.result.now (note_after c.index.result.now n) =
     (f.2.2 (ap (λ (u : View). u.owns) (looked (early late)) ∙ i.owns) c.index.result.now (ap (λ (u : View). get_elem? u.notes (c.cursor_at-word.result - 2)) (looked (early late)) ∙ ap (λ (y : ℕ). get_elem? v.notes (y - 2)) c.cursor_at-word.ensures ∙ ap (get_elem? v.notes) at-slot ∙ there)).0 in
+    let set_to : c.set_note.new.notes.items ≡ set c.self.inside.notes.items slot (note_after c.index.result.now n) =
+    c.set_note.ensures.items ∙ ap (set c.self.inside.notes.items slot) c.note_after-note.ensures.note in
     desk_of _ (kept ∙ ap kept_part (whole late)) (out.0 ∙ f.0 ∙ c.load-status.ensures.0 ∙ c.join_seat.ensures.0 ∙ c.split_seat-seat.ensures.0 ∙ i.table) i.words i.key_is i.owns i.setup_is i.len_is
-    (ap (λ l. set l slot c.note_after-note.result) i.notes_are ∙ ap (set v.notes slot) c.note_after-note.ensures ∙ noted_is v.notes slot n c.index.result.now (note_read v.notes slot c.index.result.now there))
-    (subst (λ m. NoneBefore c.self.inside.least_noted (set c.self.inside.notes.items slot m)) (sym c.note_after-note.ensures) (none_before_loaded i slot c.index.result.now (note_after c.index.result.now n) there follows)) i.least_low
-    (none_vacant_noted _ _ slot _ _ _ i.vacant_is c.least_vacant_with-self-inside.ensures refl) i.room_is
+    (set_to ∙ ap (λ l. set l slot (note_after c.index.result.now n)) i.notes_are ∙ noted_is v.notes slot n c.index.result.now (note_read v.notes slot c.index.result.now there))
+    (subst (NoneBefore c.self.inside.least_noted) (sym set_to) (none_before_loaded i slot c.index.result.now (note_after c.index.result.now n) there follows)) i.least_low
+    (c.set_note.ensures.vacant i.vacant_is) (c.set_note.ensures.room ∙ i.room_is)
     (ap (λ m. m.1) out.2 ∙ f.2.0.0 ∙ c.load-status.ensures.2.0.0 ∙ ap (λ m. m.1) c.join_seat.ensures.2 ∙ ap (λ m. m.1) c.split_seat-seat.ensures.2 ∙ i.none_held) (subst IsSound (sym kept) (kept_sound c.load-cursor.new.seat.me.0 f.2.0.1))
 
 pub invariant_of-follower : goal.invariant_of-follower
