@@ -2,7 +2,6 @@ pub mod lemmas
 mod NameFacts
 mod NameText
 mod BoardKept
-mod Orders
 mod TagRows
 mod Seatings
 mod Facts

@@ -19,7 +19,7 @@ use Rattle.relay_core.specs.Inner.Tag.{tag_of}
 use Rattle.relay_core.specs.Inner.TagRow.{PassesOver}
 use Rattle.relay_core.specs.Name.{same_name}
 use Rattle.relay_core.proofs.NameFacts.{apart}
-use Rattle.relay_core.proofs.Orders.{one_written}
+use Rattle.relay_core.proofs.lemmas.Orders.{one_written}
 use Rattle.relay_core.proofs.lemmas.Lists.{done_as_they_are, done_up_to, set_value-map}
 
 -- there is an entry at each place of a list
@@ -165,13 +165,7 @@ seat_written order tags es fs who f g was there written same = record {
       ∙ sym (same_tags es fs (ap boards_of written ∙ set_value-map (nat_eq who) (λ (h : HeldFollower). h.board) es f g there same));
 }
 
--- one that is written by its place in the map: the spectators stay, the boards stay, and so the tags stay
-pub keys_at : (es : List (ℕ × HeldFollower)) (i : ℕ) (g : HeldFollower) → keys_of (set_value_at es i g) ≡ keys_of es
-keys_at [] zero g = refl
-keys_at [] (suc i) g = refl
-keys_at (e ∷ es) zero g = refl
-keys_at (e ∷ es) (suc i) g = ap (λ ks. e.0 ∷ ks) (keys_at es i g)
-
+-- one that is written by its place in the map: the boards stay, and so the tags stay
 boards_at : (es : List (ℕ × HeldFollower)) (i k : ℕ) (f g : HeldFollower) → slice_get es i ≡ Some (k, f) → g.board ≡ f.board
     → boards_of (set_value_at es i g) ≡ boards_of es
 boards_at [] zero k f g there same = refl

@@ -24,7 +24,7 @@ pub search_as : (ts us : List ℕ) (t u : ℕ) (s : TagSearch) → ts ≡ us →
 search_as ts us t u s row tag is = subst (λ l. IsSearch l u s) row (subst (λ x. IsSearch ts x s) tag is)
 
 -- where no bit is left, the block's places are passed over
-pub exhausted : (tags : List ℕ) (tag : ℕ) (s : TagSearch) → IsSearch tags tag s → s.left ≡ 0 → PassesOver tags tag s.from s.ahead
+pub exhausted : (tags : List ℕ) (tag : ℕ) (s : TagSearch) → IsSearch tags tag s → s.left ≡ 0 → PassesOver tags tag s.from.value s.ahead
 exhausted tags tag s is none = λ k not_before below. elim (cases_lt k s.block) [
   | inl before ↦ is.passed k not_before before
   | inr inside ↦
@@ -98,7 +98,7 @@ last_block tags tag at =
 
 -- a search whose block has no bit left goes on with the next block's mask
 pub marked : (tags : List ℕ) (tag n : ℕ) (s t : TagSearch) → IsSearch tags tag s → s.left ≡ 0 → s.ahead + n ≤ length tags
-    → t.from ≡ s.from → t.block ≡ s.ahead → t.ahead ≡ s.ahead + n → t.left ≡ mask_l (map (λ x. x == tag) (chunk s.ahead n tags)) → IsSearch tags tag t
+    → t.from.value ≡ s.from.value → t.block ≡ s.ahead → t.ahead ≡ s.ahead + n → t.left ≡ mask_l (map (λ x. x == tag) (chunk s.ahead n tags)) → IsSearch tags tag t
 marked tags tag n s t is none all from block ahead left =
     let bit : (k : ℕ) → bit_at t.left k ≡ bit_at (mask_l (map (λ x. x == tag) (chunk s.ahead n tags))) k = λ k. ap (λ m. bit_at m k) left in
     let on : (k : ℕ) → bit_at t.left k ≡ 1 → k < n = λ k set. bit_within tags tag s.ahead n k all (sym (bit k) ∙ set) in
@@ -121,7 +121,7 @@ marked tags tag n s t is none all from block ahead left =
 -- ---- The lowest bit.
 
 module _ (tags : List ℕ) (tag : ℕ) (s : TagSearch) (is : IsSearch tags tag s) (first : ℕ) (lowest : IsLowest s.left first) where
-  pub first_behind : s.from ≤ s.block + first
+  pub first_behind : s.from.value ≤ s.block + first
   first_behind = is.behind first lowest.inside
 
   pub first_within : s.block + first < length tags
@@ -130,7 +130,7 @@ module _ (tags : List ℕ) (tag : ℕ) (s : TagSearch) (is : IsSearch tags tag s
   pub first_has_it : slice_index tags (s.block + first) ≡ tag
   first_has_it = eqb-true _ _ (is.have_it first lowest.inside)
 
-  pub first_passed : PassesOver tags tag s.from (s.block + first)
+  pub first_passed : PassesOver tags tag s.from.value (s.block + first)
   first_passed = λ k not_before below. elim (cases_lt k s.block) [
     | inl before ↦ is.passed k not_before before
     | inr inside ↦
@@ -152,7 +152,7 @@ module _ (tags : List ℕ) (tag : ℕ) (s : TagSearch) (is : IsSearch tags tag s
         | inr from ↦ (omega (arith, other, from), was)
       ]
 
-  pub goes_on : (t : TagSearch) → t.from ≡ s.block + first + 1 → t.block ≡ s.block → t.ahead ≡ s.ahead
+  pub goes_on : (t : TagSearch) → t.from.value ≡ s.block + first + 1 → t.block ≡ s.block → t.ahead ≡ s.ahead
       → t.left ≡ bit_and s.left (s.left - 1) → IsSearch tags tag t
   goes_on t from block ahead left =
       let bit : (k : ℕ) → bit_at t.left k ≡ bit_at (bit_and s.left (s.left - 1)) k = λ k. ap (λ m. bit_at m k) left in

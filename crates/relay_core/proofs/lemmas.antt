@@ -6,6 +6,7 @@ pub mod Leaves
 pub mod Lists
 pub mod Names
 pub mod Opened
+pub mod Orders
 pub mod Refusals
 pub mod Refused
 pub mod Standing

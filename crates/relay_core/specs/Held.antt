@@ -1,6 +1,7 @@
 -- What a relay holds between two steps: what its contracts see, and each follower's queue. Whatever keeps boards and followers, in maps
 -- or on live boards, holds one of these, and the laws of the steps (`proofs/lemmas/`) speak of it.
 pub mod Followers
+pub mod Order
 pub mod Room
 pub mod Stands
 use Rattle.std.specs.Prelude.{ℕ, List, Option, map}

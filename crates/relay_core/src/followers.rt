@@ -38,7 +38,7 @@ impl Model for Followers {
     ghost use Rattle.std.specs.HashMap.{spare};
     ghost use Rattle.std.specs.Vec.{vec_capacity, vec_len};
     ghost use Rattle.relay_core.specs.Inner.Maps.{HeldFollowers};
-    ghost use Rattle.relay_core.specs.Inner.Order.{in_order};
+    ghost use Rattle.relay_core.specs.Held.Order.{in_order};
     ghost use Rattle.relay_core.specs.Inner.Seating.{IsSeating};
 
     ghost Value = { HeldFollowers };

@@ -23,6 +23,7 @@ mod take;
 pub use board_key::BoardKey;
 pub use grounds::{may_follow, may_join_at, may_open};
 pub use name::BoardName;
+pub use order::JoiningOrder;
 pub use relay::Relay;
 pub use reply::{Account, Reply, Taken};
 pub use step::{Spectator, Step};

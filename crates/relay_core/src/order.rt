@@ -7,10 +7,12 @@ ghost use Rattle.std.specs.Set.{remove_key};
 use crate::step::Spectator;
 use std::marker::Model;
 
-/// Spectators in the order of joining. Only clauses read it: it takes no memory, and nothing is done with it at run time.
+/// Spectators in the order of joining, beside a map that has them in any order. Only clauses read it: it takes no memory, and nothing is
+/// done with it at run time. A relay keeps one for the record that its contracts show; a program has no use for it.
 #[derive(Drop)]
-pub(crate) struct JoiningOrder {
-    ghost spectators: { List ℕ },
+pub struct JoiningOrder {
+    /// The spectators, the first one to join first.
+    pub ghost spectators: { List ℕ },
 }
 
 impl Model for JoiningOrder {
@@ -26,21 +28,21 @@ unsafe impl Sync for JoiningOrder {}
 
 impl JoiningOrder {
     /// Nobody has joined.
-    pub(crate) fn new() -> JoiningOrder
+    pub fn new() -> JoiningOrder
         ensures { result.spectators ≡ [] }
     {
         JoiningOrder {}
     }
 
     /// A spectator has joined: it comes last.
-    pub(crate) fn joined(&self, _who: &Spectator) -> JoiningOrder
+    pub fn joined(&self, _who: &Spectator) -> JoiningOrder
         ensures { result.spectators ≡ self.now.spectators ++ _who.now ∷ [] }
     {
         JoiningOrder {}
     }
 
     /// A spectator has left: those behind it follow those before it.
-    pub(crate) fn left(&self, _who: &Spectator) -> JoiningOrder
+    pub fn left(&self, _who: &Spectator) -> JoiningOrder
         ensures { result.spectators ≡ remove_key (nat_eq _who.now) self.now.spectators }
     {
         JoiningOrder {}

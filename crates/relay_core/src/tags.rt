@@ -5,6 +5,7 @@ ghost use Rattle.std.specs.Simd.Lanes.{chunk, mask_l};
 ghost use Rattle.relay_core.specs.Inner.TagRow.{PassesOver, IsSearch};
 
 use std::simd::prelude::*;
+use std::snapshot::Snapshot;
 
 /// How many tags are compared at once: as many as a mask has bits. The end of each mask is a branch that is often foretold wrongly, so there
 /// are few of them.
@@ -43,8 +44,8 @@ fn last_marks(tags: &[u32], at: usize, tag: u32) -> u64
 /// read from the bits of its mask: the next one waits only for the lowest bit to be taken out of a number, and for no compare.
 #[derive(Drop)]
 pub(crate) struct TagSearch {
-    /// The place after the last one that was found. Only contracts read it, so no code is made for it.
-    from: usize,
+    /// The place after the last one that was found. Only clauses read it: it takes no memory.
+    from: Snapshot<usize>,
     /// Where the block begins.
     block: usize,
     /// Where the block ends, and the next one begins.
@@ -57,13 +58,13 @@ impl TagSearch {
     /// The search before the first place.
     #[inline(always)]
     pub(crate) fn new() -> TagSearch
-        ensures from { result.from ≡ 0 }
+        ensures from { result.from.value ≡ 0 }
         ensures block { result.block ≡ 0 }
         ensures ahead { result.ahead ≡ 0 }
         ensures left { result.left ≡ 0 }
     {
         TagSearch {
-            from: 0,
+            from: Snapshot::of(&0),
             block: 0,
             ahead: 0,
             left: 0,
@@ -77,7 +78,7 @@ impl TagSearch {
         requires empty { self.old.left ≡ 0 }
         requires more { self.old.ahead < length tags.now }
         ensures search { IsSearch tags.now tag self.new }
-        ensures from { self.new.from ≡ self.old.from }
+        ensures from { self.new.from.value ≡ self.old.from.value }
         ensures ahead { self.old.ahead < self.new.ahead }
     {
         self.block = self.ahead;
@@ -95,12 +96,12 @@ impl TagSearch {
     #[inline(always)]
     pub(crate) fn next(&mut self, tags: &[u32], tag: u32) -> usize
         requires { IsSearch tags.now tag self.old }
-        ensures behind { self.old.from ≤ result }
+        ensures behind { self.old.from.value ≤ result }
         ensures bound { result ≤ length tags.now }
-        ensures passed { PassesOver tags.now tag self.old.from result }
+        ensures passed { PassesOver tags.now tag self.old.from.value result }
         ensures found { result < length tags.now → slice_index tags.now result ≡ tag }
         ensures search { IsSearch tags.now tag self.new }
-        ensures on { result < length tags.now → self.new.from ≡ result + 1 }
+        ensures on { result < length tags.now → self.new.from.value ≡ result + 1 }
     {
         while self.left == 0 {
             if self.ahead == tags.len() {
@@ -110,7 +111,7 @@ impl TagSearch {
         }
         let place = self.block + self.left.trailing_zeros() as usize;
         self.left &= self.left - 1;
-        self.from = place + 1;
+        self.from = Snapshot::of(&(place + 1));
         place
     }
 }

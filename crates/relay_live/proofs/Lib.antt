@@ -1,5 +1,4 @@
 pub mod Maps
-pub mod Orders
 pub mod Swaps
 pub mod Closings
 pub mod Offers

@@ -1,9 +1,9 @@
 //! What a step does to one board of the map.
 
-ghost use Rattle.std.specs.Prelude.{◌≡◌, ◌+◌, ◌<◌, ◌≤◌, ℕ, length, true, option_map, OnErr, OnOk, Some, None};
+ghost use Rattle.std.specs.Prelude.{◌≡◌, ◌+◌, ◌<◌, ◌≤◌, ℕ, List, length, position, slice_get, true, option_map, OnErr, OnOk, Some, None};
 ghost use mathlib.Core.Option.{some};
 ghost use lib.ListN.{get_elem?};
-ghost use Rattle.std.specs.Map.{lookup};
+ghost use Rattle.std.specs.Map.{keys_of, lookup, values_of};
 ghost use Rattle.std.specs.HashMap.{spare};
 ghost use Rattle.c960_game.specs.Ending.{named_outcome};
 ghost use Rattle.relay_core.specs.BoardAnswers.{end_answer_at, play_answer_at};
@@ -77,15 +77,16 @@ pub(crate) fn take_for(boards: &mut IndexMap<BoardKey, Board>, seated: &Seated) 
     live.take_at(seated.slot, seated.joined + seated.taken)
 }
 
-/// Lets a follower join in the first vacant slot of a board. It takes from a place of its log on.
-pub(crate) fn join(boards: &mut IndexMap<BoardKey, Board>, board: BoardKey, slot: u64, from: u16)
-    requires { (b : BoardSeat) × (lookup (same_name board) boards.old.entries ≡ Some b)
+/// Lets a follower join in the first vacant slot of the board at an index of the map. It takes from a place of its log on.
+pub(crate) fn join(boards: &mut IndexMap<BoardKey, Board>, index: usize, slot: u64, from: u16)
+    requires { (b : BoardSeat) × (slice_get (values_of boards.old.entries) index ≡ Some b)
         × (slot < b.knows.setup.limits.followers) × (get_elem? b.knows.notes slot ≡ some Vacant) × NoneVacantBelow slot b.knows
         × (from ≤ length b.knows.log) × (length b.knows.log ≤ from + b.knows.setup.limits.capacity) }
-    ensures swapped { Swapped (λ b c. (c.knows ≡ followed slot from b.knows) × IsSound c.knows) board boards.old.entries boards.new.entries }
+    ensures swapped { (name : List ℕ) → position (same_name name) (keys_of boards.old.entries) ≡ Some index
+        → Swapped (λ b c. (c.knows ≡ followed slot from b.knows) × IsSound c.knows) name boards.old.entries boards.new.entries }
     ensures room { spare boards.new ≡ spare boards.old }
 {
-    let Some(live) = boards.get_mut(&board) else {
+    let Some(live) = boards.get_index_mut(index) else {
         unreachable!();
     };
     live.join_first(slot, from);

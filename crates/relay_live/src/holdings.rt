@@ -14,7 +14,7 @@ ghost use Rattle.live_board.specs.Board.{game_of, setup_of};
 ghost use Rattle.relay_live.specs.Live.{SlotsLeft};
 
 use crate::boards::{end, join, leave_for, play, take_for};
-use crate::seated::Seated;
+use crate::seated::{Followed, Seated};
 use crate::seats::Seats;
 use c960_board::Move;
 use c960_game::{Ending, Limits, MOST_PLIES, Refusal};
@@ -116,31 +116,34 @@ impl Holdings {
         let Some((index, _, live)) = self.boards.get_full(&board) else {
             return Reply::Refused(Refusal::NoSuchBoard);
         };
-        let follows = self.followers.contains(who);
         let len = live.len();
         let joined = from.unwrap_or(len);
         let vacant = live.vacant_slot();
         let capacity = self.limits.capacity();
-        if let Err(refusal) = may_follow(follows, len, joined, capacity, vacant.is_none()) {
+        // Whether the spectator follows already is looked up here only if the Follow is refused in any case, and else as it is seated.
+        if let Err(refusal) = may_follow(false, len, joined, capacity, vacant.is_none()) {
+            if self.followers.contains(who) {
+                return Reply::Refused(Refusal::FollowerExists);
+            }
             return Reply::Refused(refusal);
         }
         let Some(slot) = vacant else {
             unreachable!();
         };
-        let Some(position) = live.position_at(joined) else {
-            unreachable!();
-        };
         let seated = Seated {
-            board,
+            board: Followed::of(&board),
             index,
             slot,
             joined,
             taken: 0,
         };
-        let Ok(_) = self.followers.insert(who, seated) else {
-            return Reply::Refused(Refusal::OutOfMemory);
+        if let Err(refusal) = self.followers.insert(who, seated) {
+            return Reply::Refused(refusal);
+        }
+        let Some(position) = live.position_at(joined) else {
+            unreachable!();
         };
-        join(&mut self.boards, board, slot, joined);
+        join(&mut self.boards, index, slot, joined);
         Reply::Following { joined, position }
     }
 

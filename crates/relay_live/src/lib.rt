@@ -4,7 +4,6 @@
 
 mod boards;
 mod holdings;
-mod order;
 mod relay;
 mod seated;
 mod seats;

@@ -1,14 +1,15 @@
 //! The spectators who follow, and where. Contracts see them in the order of joining.
 
-ghost use Rattle.std.specs.Prelude.{◌≡◌, ◌≤◌, ◌<◌, ℕ, nat_eq, is_some, option_map, slice_get, cond, IfNone, IfSome, OnOk, OnErr, None, Some, [], ◌∷◌, ◌++◌};
+ghost use Rattle.std.specs.Prelude.{◌≡◌, ◌≤◌, ◌<◌, ℕ, nat_eq, is_some, option_map, slice_get, cond, true, IfNone, IfSome, IfErr, OnErr, OnOk, None, Some, ◌⊎◌, [], ◌∷◌, ◌++◌};
 ghost use Rattle.std.specs.Map.{lookup, remove_entry, set_value};
 ghost use Rattle.relay_live.specs.Live.{with_one_more};
 
-use crate::order::JoiningOrder;
 use crate::seated::Seated;
+use c960_game::Refusal;
 use indexmap::IndexMap;
-use relay_core::Spectator;
-use std::alloc::{AllocError, Global};
+use indexmap::map::Entry;
+use relay_core::{JoiningOrder, Spectator};
+use std::alloc::Global;
 use std::marker::Model;
 
 /// Where each spectator follows. Contracts see a `SeatRecord`, with the spectators in the order of joining.
@@ -22,17 +23,18 @@ pub(crate) struct Seats {
 
 impl Model for Seats {
     ghost use Rattle.std.specs.HashMap.{spare};
-    ghost use Rattle.relay_live.specs.Seats.{SeatRecord, IsOrderOf};
+    ghost use Rattle.relay_core.specs.Held.Order.{IsOrderOf, in_order};
+    ghost use Rattle.relay_live.specs.Seats.{SeatRecord};
 
     ghost Value = { SeatRecord };
 
     ghost view = { λ s. record {
-      entries = s.order.entries;
+      entries = in_order s.order.spectators s.places.entries;
       places = s.places.entries;
       room = spare s.places;
     } };
 
-    ghost invariant = { λ s. IsOrderOf s.places.entries s.order.entries };
+    ghost invariant = { λ s. IsOrderOf s.order.spectators s.places.entries };
 }
 
 impl Seats {
@@ -72,19 +74,27 @@ impl Seats {
         if index >= self.places.len() {
             return;
         }
-        let (who, seated) = self.places.pair_mut(index);
+        let (_, seated) = self.places.pair_mut(index);
         seated.taken += 1;
-        self.order = self.order.with(who, seated);
     }
 
-    /// Seats a spectator that follows no board. It may allocate.
-    pub(crate) fn insert(&mut self, who: Spectator, seated: Seated) -> Result<(), AllocError>
-        requires new { lookup (nat_eq who) self.old.entries ≡ None }
-        ensures entries { OnOk result (self.new.entries ≡ self.old.entries ++ (who, seated) ∷ []) }
+    /// Seats a spectator. Refused: `FollowerExists` if it follows a board already, and `OutOfMemory`. It is looked up once.
+    pub(crate) fn insert(&mut self, who: Spectator, seated: Seated) -> Result<(), Refusal>
+        ensures ok { OnOk result ((lookup (nat_eq who) self.old.entries ≡ None) × (self.new.entries ≡ self.old.entries ++ (who, seated) ∷ [])) }
+        ensures ground { IfErr result (λ r. ((is_some (lookup (nat_eq who) self.old.entries) ≡ true) × (r ≡ Refusal.FollowerExists))
+            ⊎ ((lookup (nat_eq who) self.old.entries ≡ None) × (r ≡ Refusal.OutOfMemory))) }
         ensures err { OnErr result (self.new.entries ≡ self.old.entries) }
     {
-        self.places.insert(who, seated)?;
-        self.order = self.order.with(&who, &seated);
+        let Ok(entry) = self.places.entry(who) else {
+            return Err(Refusal::OutOfMemory);
+        };
+        match entry {
+            Entry::Occupied(_) => return Err(Refusal::FollowerExists),
+            Entry::Vacant(place) => {
+                place.insert(seated);
+            }
+        }
+        self.order = self.order.joined(&who);
         Ok(())
     }
 
@@ -98,7 +108,7 @@ impl Seats {
         ensures room { self.old.room ≤ self.new.room }
     {
         let seated = self.places.swap_remove(&who)?;
-        self.order = self.order.without(&who);
+        self.order = self.order.left(&who);
         Some(seated)
     }
 }

@@ -1,7 +1,7 @@
 -- What holds of the fields of the followers of a relay on one thread.
 use Rattle.std.specs.Prelude.{ℕ, ◌≡◌, List, map}
 use Rattle.relay_core.specs.Held.{HeldFollower}
-use Rattle.relay_core.specs.Inner.Order.{IsOrderOf}
+use Rattle.relay_core.specs.Held.Order.{IsOrderOf}
 use Rattle.relay_core.specs.Inner.Tag.{tag_of}
 
 -- the tag of each follower's board, in the order of the map

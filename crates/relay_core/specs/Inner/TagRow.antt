@@ -11,9 +11,9 @@ PassesOver tags tag from to = (k : ℕ) → from ≤ k → k < to → (slice_ind
 pub record IsSearch (tags : List ℕ) (tag : ℕ) (s : TagSearch) : Type 0 where
   pub ordered : s.block ≤ s.ahead
   pub inside : s.ahead ≤ length tags
-  pub reached : s.from ≤ s.ahead
-  pub passed : PassesOver tags tag s.from s.block
-  pub behind : (k : ℕ) → bit_at s.left k ≡ 1 → s.from ≤ s.block + k
+  pub reached : s.from.value ≤ s.ahead
+  pub passed : PassesOver tags tag s.from.value s.block
+  pub behind : (k : ℕ) → bit_at s.left k ≡ 1 → s.from.value ≤ s.block + k
   pub within : (k : ℕ) → bit_at s.left k ≡ 1 → s.block + k < s.ahead
   pub have_it : (k : ℕ) → bit_at s.left k ≡ 1 → (slice_index tags (s.block + k) == tag) ≡ true
-  pub others : (k : ℕ) → s.from ≤ s.block + k → s.block + k < s.ahead → bit_at s.left k ≡ 0 → (slice_index tags (s.block + k) == tag) ≡ false
+  pub others : (k : ℕ) → s.from.value ≤ s.block + k → s.block + k < s.ahead → bit_at s.left k ≡ 0 → (slice_index tags (s.block + k) == tag) ≡ false

@@ -2,9 +2,9 @@ use Rattle.std.proofs.Common.{◌≡◌, ◌∙◌, sym, ap, nat_eq, None, [], �
 use Rattle.std.specs.Map.{lookup}
 use Rattle.indexmap.proofs.CallerLemmas.{insert_entry-new}
 use Rattle.relay_core.specs.Held.{HeldFollower}
-use Rattle.relay_core.specs.Inner.Order.{in_order}
+use Rattle.relay_core.specs.Held.Order.{in_order}
 use Rattle.relay_core.specs.Inner.Seating.{tags_of}
-use Rattle.relay_core.proofs.Orders.{is_out, one_more, pushed, reads}
+use Rattle.relay_core.proofs.lemmas.Orders.{is_out, one_more, pushed, reads}
 use Rattle.relay_core.proofs.Seatings.{joined_tags}
 use Rattle.relay_core.proofs.followers.Followers.admit.Goals as goal
 

@@ -1,5 +1,5 @@
 use Rattle.std.proofs.Common.{is_some, sym, ap, ◌∙◌}
-use Rattle.relay_core.proofs.Orders.{reads}
+use Rattle.relay_core.proofs.lemmas.Orders.{reads}
 use Rattle.relay_core.proofs.followers.Followers.contains.Goals as goal
 
 pub returns : goal.returns

@@ -3,7 +3,7 @@ use Rattle.std.proofs.Math.Seq.{take_all}
 use Rattle.relay_core.specs.Held.{HeldFollower}
 use Rattle.relay_core.specs.Inner.Tag.{tag_of}
 use Rattle.relay_core.specs.Name.{same_name}
-use Rattle.relay_core.proofs.Orders.{counted}
+use Rattle.relay_core.proofs.lemmas.Orders.{counted}
 use Rattle.relay_core.proofs.Seatings.{as_many, one_more_counted, others_not_counted, read_not_counted}
 use Rattle.relay_core.proofs.TagRows.{passes_as, search_as}
 use Rattle.relay_core.proofs.followers.Followers.count.Goals.{then-follows, else-follows}
@@ -19,7 +19,7 @@ loop-i-init c =
       on = λ inside. c.next-i.ensures.on (omega (arith, inside, ap length c.deref.ensures.value));
       so_far = sym (others_not_counted c.args.board c.self.inside.tags.items c.self.inside.seats.entries 0 c.next-i.result (omega arith) bound
           c.self.invariant.tagged
-          (passes_as c.deref.result.now c.self.inside.tags.items c.tag.result (tag_of c.args.board) c.new-search.result.from 0 c.next-i.result
+          (passes_as c.deref.result.now c.self.inside.tags.items c.tag.result (tag_of c.args.board) c.new-search.result.from.value 0 c.next-i.result
           c.deref.ensures.value (c.tag.ensures ∙ ap tag_of c.new-tagged.ensures) c.new-search.ensures.from c.next-i.ensures.passed));
       few = omega arith;
     }
@@ -35,18 +35,18 @@ loop-i-preserved c =
     omega (arith, c.next-i-in-loop-i.ensures.bound, ap length c.deref-in-loop-i.ensures.value) in
     let many = as_many c.self.inside.tags.items entries c.self.invariant.tagged in
     let inside : c.loop-i.i < length entries = omega (arith, c.loop-i-test.true) in
-    let from : c.loop-i.search.from ≡ c.loop-i.i + 1 = c.loop-i.invariant.on (omega (arith, inside, many)) in
+    let from : c.loop-i.search.from.value ≡ c.loop-i.i + 1 = c.loop-i.invariant.on (omega (arith, inside, many)) in
     let behind : c.loop-i.i + 1 ≤ c.next-i-in-loop-i.result = omega (arith, c.next-i-in-loop-i.ensures.behind, from) in
     let search = search_as c.deref-in-loop-i.result.now c.self.inside.tags.items c.tag-in-loop-i.result (tag_of c.args.board)
     c.next-i-in-loop-i.new.self c.deref-in-loop-i.ensures.value (c.tag-in-loop-i.ensures ∙ ap tag_of c.new-tagged.ensures)
     c.next-i-in-loop-i.ensures.search in
-    let on : c.next-i-in-loop-i.result < length c.self.inside.tags.items → c.next-i-in-loop-i.new.self.from ≡ c.next-i-in-loop-i.result + 1 =
+    let on : c.next-i-in-loop-i.result < length c.self.inside.tags.items → c.next-i-in-loop-i.new.self.from.value ≡ c.next-i-in-loop-i.result + 1 =
     λ there. c.next-i-in-loop-i.ensures.on (omega (arith, there, ap length c.deref-in-loop-i.ensures.value)) in
     let counted_up_to : ℕ → ℕ = λ n. count_by (λ (e : ℕ × HeldFollower). same_name c.args.board e.1.board) (take n entries) in
     let passed : counted_up_to c.next-i-in-loop-i.result ≡ counted_up_to (c.loop-i.i + 1) =
     others_not_counted c.args.board c.self.inside.tags.items entries (c.loop-i.i + 1) c.next-i-in-loop-i.result behind bound
     c.self.invariant.tagged
-    (passes_as c.deref-in-loop-i.result.now c.self.inside.tags.items c.tag-in-loop-i.result (tag_of c.args.board) c.loop-i.search.from
+    (passes_as c.deref-in-loop-i.result.now c.self.inside.tags.items c.tag-in-loop-i.result (tag_of c.args.board) c.loop-i.search.from.value
     (c.loop-i.i + 1) c.next-i-in-loop-i.result c.deref-in-loop-i.ensures.value (c.tag-in-loop-i.ensures ∙ ap tag_of c.new-tagged.ensures)
     from c.next-i-in-loop-i.ensures.passed) in
     elim c.if-follows.branch [

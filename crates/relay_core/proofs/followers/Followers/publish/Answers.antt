@@ -1,11 +1,12 @@
 use Rattle.std.proofs.Common.{◌≡◌, ℕ, ◌+◌, suc, length, ap, refl, sym, ◌∙◌, arith}
 use Rattle.std.specs.Vec.{vec_len}
+use Rattle.indexmap.proofs.CallerLemmas.{keys-with_value_at}
 use Rattle.indexmap.specs.Layout.{length-set_value_at}
 use Rattle.relay_core.specs.Held.{HeldFollower}
 use Rattle.relay_core.specs.Held.Followers.{offered, published}
 use Rattle.relay_core.specs.Inner.Tag.{tag_of}
-use Rattle.relay_core.proofs.Orders.{keys_kept, shown-in_order}
-use Rattle.relay_core.proofs.Seatings.{as_many, keys_at, offered_board, others_as_they_are, tags_at}
+use Rattle.relay_core.proofs.lemmas.Orders.{keys_kept, shown-in_order}
+use Rattle.relay_core.proofs.Seatings.{as_many, offered_board, others_as_they_are, tags_at}
 use Rattle.relay_core.proofs.TagRows.{passes_as, search_as}
 use Rattle.relay_core.proofs.lemmas.Lists.{done_all, done_one_more, done_up_to}
 use Rattle.relay_core.proofs.followers.Followers.publish.Goals.{After-loop-i, After-next-i-in-loop-i}
@@ -22,7 +23,7 @@ loop-i-init c = record {
   on = λ inside. c.next-i.ensures.on (omega (arith, inside, ap length c.deref.ensures.value));
   done = others_as_they_are c.args.board c.args.place c.args.m c.self.inside.tags.items c.self.inside.seats.entries 0 c.next-i.result
       (omega arith) c.self.invariant.tagged
-      (passes_as c.deref.result.now c.self.inside.tags.items c.tag.result (tag_of c.args.board) c.new-search.result.from 0 c.next-i.result
+      (passes_as c.deref.result.now c.self.inside.tags.items c.tag.result (tag_of c.args.board) c.new-search.result.from.value 0 c.next-i.result
       c.deref.ensures.value (c.tag.ensures ∙ ap tag_of c.new-tagged.ensures) c.new-search.ensures.from c.next-i.ensures.passed);
   same = refl;
   tags = refl;
@@ -32,7 +33,7 @@ loop-i-init c = record {
 }
 
 -- the search went on behind the follower
-behind : (c : After-next-i-in-loop-i) → c.loop-i.search.from ≡ c.loop-i.i + 1
+behind : (c : After-next-i-in-loop-i) → c.loop-i.search.from.value ≡ c.loop-i.i + 1
 behind c = c.loop-i.invariant.on (omega (arith, c.loop-i-test.true, c.len.ensures))
 
 pub loop-i-preserved : goal.loop-i-preserved
@@ -49,14 +50,14 @@ loop-i-preserved c = record {
       ∙ others_as_they_are c.args.board c.args.place c.args.m c.loop-i.self-inside.tags.items c.self.inside.seats.entries (c.loop-i.i + 1)
       c.next-i-in-loop-i.result (omega (arith, c.next-i-in-loop-i.ensures.behind, behind c)) (rw (c.loop-i.invariant.tags) c.self.invariant.tagged)
       (passes_as c.deref-in-loop-i.result.now c.loop-i.self-inside.tags.items c.tag-in-loop-i.result (tag_of c.args.board)
-      c.loop-i.search.from (c.loop-i.i + 1) c.next-i-in-loop-i.result c.deref-in-loop-i.ensures.value
+      c.loop-i.search.from.value (c.loop-i.i + 1) c.next-i-in-loop-i.result c.deref-in-loop-i.ensures.value
       (c.tag-in-loop-i.ensures ∙ ap tag_of c.new-tagged.ensures) (behind c) c.next-i-in-loop-i.ensures.passed);
   same = length-set_value_at c.loop-i.self-inside.seats.entries c.loop-i.i c.offer.new.self ∙ c.loop-i.invariant.same;
   tags = c.loop-i.invariant.tags;
   order = c.loop-i.invariant.order;
   seating = record {
     ordered = keys_kept c.loop-i.self-inside.order.spectators c.loop-i.self-inside.seats.entries _ c.loop-i.invariant.seating.ordered
-        (keys_at c.loop-i.self-inside.seats.entries c.loop-i.i c.offer.new.self);
+        (keys-with_value_at c.loop-i.self-inside.seats c.loop-i.i c.offer.new.self);
     tagged = c.loop-i.invariant.seating.tagged
         ∙ sym (tags_at c.loop-i.self-inside.seats.entries c.loop-i.i c.pair_mut-follower.result.0.now c.pair_mut-follower.result.1.now
         c.offer.new.self c.pair_mut-follower.ensures.value
@@ -74,5 +75,5 @@ all c =
 
 pub returns-clause-entries : goal.returns-clause-entries
 returns-clause-entries c =
-    rw (← c.self.view_is, all c, c.loop-i.invariant.order)
+    rw (← c.self.view_is, all (goal.at.returns-clause-entries c).After-loop-i, c.loop-i.invariant.order)
     (sym (shown-in_order (offered c.args.board c.args.place c.args.m) c.self.inside.order.spectators c.self.inside.seats.entries))

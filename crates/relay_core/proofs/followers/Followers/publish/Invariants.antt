@@ -10,7 +10,7 @@ abbrev pub invariant-loop-i : goal.invariant-loop-i
 invariant-loop-i l = record {
   inside : l.i ≤ length l.self-inside.tags.items;
   search : IsSearch l.self-inside.tags.items (tag_of l.fn.board) l.search;
-  on : l.i < length l.self-inside.tags.items → l.search.from ≡ l.i + 1;
+  on : l.i < length l.self-inside.tags.items → l.search.from.value ≡ l.i + 1;
   done : l.self-inside.seats.entries
       ≡ published l.fn.board l.place l.m (take l.i l.initial.self-inside.seats.entries) ++ drop l.i l.initial.self-inside.seats.entries;
   same : length l.self-inside.seats.entries ≡ length l.initial.self-inside.seats.entries;

@@ -1,10 +1,10 @@
 use Rattle.std.proofs.Common.{◌≡◌, ◌∙◌, ℕ, sym, ap, cond, nat_eq, option_map, None, rules}
 use Rattle.std.specs.Map.{lookup}
 use Rattle.relay_core.specs.Held.{HeldFollower}
-use Rattle.relay_core.specs.Inner.Order.{in_order}
+use Rattle.relay_core.specs.Held.Order.{in_order}
 use Rattle.relay_core.specs.Inner.Seating.{tags_of}
 use Rattle.std.specs.Set.{remove_key}
-use Rattle.relay_core.proofs.Orders.{are_there, nobody_else, one_less, reads, removed, removed_nobody}
+use Rattle.relay_core.proofs.lemmas.Orders.{are_there, nobody_else, one_less, reads, removed, removed_nobody}
 use Rattle.relay_core.proofs.Seatings.{left_tags}
 use Rattle.relay_core.proofs.followers.Followers.remove.Goals.{After-from_residual}
 use Rattle.relay_core.proofs.followers.Followers.remove.Goals as goal

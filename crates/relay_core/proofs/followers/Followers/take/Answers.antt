@@ -4,9 +4,9 @@ use Rattle.std.specs.Option.{IfSome}
 use Rattle.relay_core.specs.Held.{HeldFollower}
 use Rattle.relay_core.specs.Held.Followers.{HasPlaces, popped}
 use Rattle.relay_core.specs.Inner.Maps.{HeldFollowers}
-use Rattle.relay_core.specs.Inner.Order.{in_order}
+use Rattle.relay_core.specs.Held.Order.{in_order}
 use Rattle.relay_core.proofs.BoardKept.{board_kept}
-use Rattle.relay_core.proofs.Orders.{nobody_else, one_written, reads, written}
+use Rattle.relay_core.proofs.lemmas.Orders.{nobody_else, one_written, reads, written}
 use Rattle.relay_core.proofs.Seatings.{seat_written}
 use Rattle.relay_core.proofs.followers.Followers.take.Goals.{After-from_residual, In_ok-follower}
 use Rattle.relay_core.proofs.followers.Followers.take.Goals as goal

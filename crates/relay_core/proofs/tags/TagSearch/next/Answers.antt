@@ -43,4 +43,4 @@ pub returns-clause-search : goal.returns-clause-search
 returns-clause-search c =
     goes_on c.args.tags.now c.args.tag c.loop-self.self c.loop-self.invariant.search (trailing_zeros w64 c.loop-self.self.left)
     (lowest_of c.loop-self.self.left (omega (arith, c.loop-self-test.false)) (search rules)) _
-    refl refl refl refl
+    c.of.ensures refl refl refl

@@ -5,7 +5,7 @@ use Rattle.relay_core.proofs.tags.TagSearch.next.Given as goal
 abbrev pub invariant-loop-self : goal.invariant-loop-self
 invariant-loop-self l = record {
   search : IsSearch l.tags l.tag l.self;
-  from : l.self.from ≡ l.fn.self.from;
+  from : l.self.from.value ≡ l.fn.self.from.value;
 }
 
 abbrev pub decreases-loop-self : goal.decreases-loop-self

@@ -13,7 +13,7 @@ use Rattle.std.proofs.lemmas.Map.Made.{is_some-lookup}
 use Rattle.std.proofs.lemmas.Map.Keys.{IsDistinct-cons, IsDistinct-head, IsDistinct-push, IsDistinct-tail}
 use Rattle.std.proofs.lemmas.Map.Lookups.{hash_map_IsPermutation_from_get, map_keys}
 use Rattle.indexmap.specs.IndexMap.{with_entries}
-use Rattle.relay_core.specs.Inner.Order.{IsOrderOf, in_front, in_order}
+use Rattle.relay_core.specs.Held.Order.{IsOrderOf, in_front, in_order}
 use Rattle.relay_core.proofs.lemmas.Lists.{lookup-map, set_value-map, shown}
 
 -- ---- Spectators in an order.
@@ -182,6 +182,39 @@ module _ {V : Type 0} where
           ∙ ap (λ t. (w, v) ∷ t) rest
           ∙ sym (ap (λ b. cond b (in_order ws es) ((w, v) ∷ remove_entry (nat_eq k) (in_order ws es))) e)
 
+  -- entries that hold the same for everybody are the same in an order
+  pub unchanged : (order : List ℕ) (es fs : List (ℕ × V)) → ((q : ℕ) → lookup (nat_eq q) fs ≡ lookup (nat_eq q) es) → in_order order fs ≡ in_order order es
+  unchanged order es fs same = agree order es fs (λ q _. same q)
+
+  -- one that is changed keeps its place
+  pub changed_there : (order : List ℕ) (es fs : List (ℕ × V)) (k : ℕ) (v w : V) → IsDistinct nat_eq order → lookup (nat_eq k) es ≡ Some v
+      → ((q : ℕ) → lookup (nat_eq q) fs ≡ cond (nat_eq k q) (Some w) (lookup (nat_eq q) es))
+      → in_order order fs ≡ set_value (nat_eq k) (in_order order es) w
+  changed_there [] es fs k v w once there updates = refl
+  changed_there (x ∷ xs) es fs k v w once there updates =
+      by (nat_eq k x) refl (lookup (nat_eq x) es) refl (changed_there xs es fs k v w (IsDistinct-tail nat_eq x xs once) there updates)
+    where
+      other : (q : ℕ) → k ≡ x → list_any (nat_eq q) xs ≡ true → (b : Bool) → nat_eq k q ≡ b → b ≡ false
+      other q is t false e = refl
+      other q is t true e =
+          let behind_itself : list_any (nat_eq x) xs ≡ true = ap (λ y. list_any (nat_eq y) xs) (sym is ∙ eqb-true k q e) ∙ t in
+          sym behind_itself ∙ not_behind x xs (IsDistinct-head nat_eq x xs once)
+
+      by : (b : Bool) → nat_eq k x ≡ b → (o : Option V) → lookup (nat_eq x) es ≡ o
+          → in_order xs fs ≡ set_value (nat_eq k) (in_order xs es) w
+          → in_front x (lookup (nat_eq x) fs) (in_order xs fs) ≡ set_value (nat_eq k) (in_front x o (in_order xs es)) w
+      by true e None h rest = let missing : Some v ≡ None = sym there ∙ ap (λ y. lookup (nat_eq y) es) (eqb-true k x e) ∙ h in cc
+      by true e (Some u) h rest =
+          ap (λ o. in_front x o (in_order xs fs)) (updates x ∙ ap (λ b. cond b (Some w) (lookup (nat_eq x) es)) e)
+          ∙ ap (λ t. (x, w) ∷ t) (agree xs es fs (λ q t. updates q ∙ ap (λ b. cond b (Some w) (lookup (nat_eq q) es)) (other q (eqb-true k x e) t (nat_eq k q) refl)))
+          ∙ sym (ap (λ b. cond b ((x, w) ∷ in_order xs es) ((x, u) ∷ set_value (nat_eq k) (in_order xs es) w)) e)
+      by false e None h rest =
+          ap (λ o. in_front x o (in_order xs fs)) (updates x ∙ ap (λ b. cond b (Some w) (lookup (nat_eq x) es)) e ∙ h) ∙ rest
+      by false e (Some u) h rest =
+          ap (λ o. in_front x o (in_order xs fs)) (updates x ∙ ap (λ b. cond b (Some w) (lookup (nat_eq x) es)) e ∙ h)
+          ∙ ap (λ t. (x, u) ∷ t) rest
+          ∙ sym (ap (λ b. cond b ((x, w) ∷ in_order xs es) ((x, u) ∷ set_value (nat_eq k) (in_order xs es) w)) e)
+
   -- nobody leaves who is not found
   pub removed_nobody : (es : List (ℕ × V)) (k : ℕ) → lookup (nat_eq k) es ≡ None → remove_entry (nat_eq k) es ≡ es
   removed_nobody [] k none = refl
@@ -220,7 +253,7 @@ module _ {V : Type 0} where
   -- ---- What keeps an order.
 
   module _ (order : List ℕ) (es fs : List (ℕ × V)) (was : IsOrderOf order es) where
-    changed : ((q : ℕ) → is_some (lookup (nat_eq q) fs) ≡ is_some (lookup (nat_eq q) es)) → IsOrderOf order fs
+    pub changed : ((q : ℕ) → is_some (lookup (nat_eq q) fs) ≡ is_some (lookup (nat_eq q) es)) → IsOrderOf order fs
     changed h = record { once = was.once; same = λ q. was.same q ∙ sym (h q) }
 
     pub keys_kept : keys_of fs ≡ keys_of es → IsOrderOf order fs
