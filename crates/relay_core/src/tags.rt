@@ -7,8 +7,8 @@ ghost use Rattle.relay_core.specs.Inner.TagRow.{PassesOver, IsSearch};
 use std::simd::prelude::*;
 use std::snapshot::Snapshot;
 
-/// How many tags are compared at once: as many as a mask has bits. The end of each mask is a branch that is often foretold wrongly, so there
-/// are few of them.
+/// How many tags are compared at once: as many as a mask has bits. The end of each mask is often a branch misprediction, so there are few
+/// of them.
 const LANES: usize = 64;
 
 /// Which of the sixty-four tags from a place on are this one: bit k of the answer is 1 if the tag at the k-th place after it is. They are
@@ -92,7 +92,7 @@ impl TagSearch {
     }
 
     /// The next place that has this tag, or the number of tags if none has. Whether a block has any is a branch of its own, which is mostly
-    /// foretold: one count that gives the block's length for an empty mask would make each block wait for the one before.
+    /// predicted: one count that gives the block's length for an empty mask would make each block wait for the one before.
     #[inline(always)]
     pub(crate) fn next(&mut self, tags: &[u32], tag: u32) -> usize
         requires { IsSearch tags.now tag self.old }
