@@ -1,4 +1,4 @@
--- The lowest member of a set that is a number: loops that go through a set take it first (src/fen/files.rt, and c960_rules on sets of squares).
+-- The lowest member of a set that is a number: loops that go through a set take it first (src/fen/files.rt, and c960_rules).
 use Rattle.std.specs.Prelude.{ℕ, ◌≡◌, ◌<◌}
 use Rattle.std.specs.Int.{bit_at}
 

@@ -6,8 +6,8 @@ use Rattle.c960_rules.specs.Legal.{Legal, Mate, Stale}
 use Rattle.c960_game.specs.Positions.{last_position}
 use Rattle.c960_game.specs.Times.{times}
 
--- The game with these moves is not over by itself. Its present position is neither mate nor stalemate, it has appeared fewer than five times, and
--- fewer than seventy-five moves of each side were made since the last capture or pawn move.
+-- The game with these moves is not over by itself. Its present position is neither mate nor stalemate, it has appeared fewer than five
+-- times, and fewer than seventy-five moves of each side were made since the last capture or pawn move.
 pub record GoesOn (n : ℕ) (l : List Triple) : Type 0 where
   pub no_mate : Mate (last_position n l) → ⊥
   pub no_stalemate : Stale (last_position n l) → ⊥

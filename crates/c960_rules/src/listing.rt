@@ -215,8 +215,8 @@ fn are_plain(position: &Position, goals: u64, from: Square) -> bool
     !stands(position, position.turn(), Kind::Pawn, from) || goals & special_goals(position) == 0
 }
 
-/// Whether each of the goals is one legal move: the piece can leave the square, and none of these moves is a promotion, which is four moves,
-/// or a capture en passant, which may expose the king all the same. So it is with most pieces, and none of their moves is tested.
+/// Whether each of the goals is one legal move: the piece can leave the square, and none of these moves is a promotion, which is four
+/// moves, or a capture en passant, which may expose the king all the same. So it is with most pieces, and none of their moves is tested.
 #[inline(always)]
 fn is_plain(position: &Position, unpinned: u64, goals: u64, from: Square) -> bool
     ensures { result ≡ (is_in unpinned from && are_plain position.now from goals) }

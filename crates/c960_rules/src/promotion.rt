@@ -17,8 +17,8 @@ fn is_on_last_rank(colour: Colour, square: Square) -> bool
     square.number() / 8 == home_rank(colour.other())
 }
 
-/// The first rank and the last, as a set. On one of them a side's pawns are promoted, and to the other they never go: so one constant serves
-/// both sides.
+/// The first rank and the last, as a set. On one of them a side's pawns are promoted, and to the other they never go: so one constant
+/// serves both sides.
 #[inline(always)]
 pub(crate) fn end_ranks() -> u64
     ensures { result ≡ where_set is_on_end_rank }

@@ -81,8 +81,8 @@ pub(crate) fn rights_of(position: &Position, colour: Colour) -> [bool; 8]
     }
 }
 
-/// Whether a side has no castling rights. The rights are compared where they are stored, by one test of eight bytes; of a copy in a register
-/// each byte would be shifted out.
+/// Whether a side has no castling rights. The rights are compared where they are stored, by one test of eight bytes; of a copy in a
+/// register each byte would be shifted out.
 #[inline(always)]
 pub(crate) fn has_none(position: &Position, colour: Colour) -> bool
     ensures { result ≡ pointwise beq (rights_of position.now.rights colour) (replicate 8 false) }

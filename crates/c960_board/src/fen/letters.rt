@@ -10,9 +10,9 @@ use crate::sets::Sets;
 /// the number 6 or 7.
 static LETTERS: [u8; 16] = *b"pnbrqkkkPNBRQKKK";
 
-/// The numbers of the kinds on the occupied squares, as sets of squares: those where the number has a 1 in its ones, its twos and its fours.
-/// What they say of a vacant square means nothing. Four bits of a square give its letter from a table. Tests for one kind after another would
-/// be up to six branches, with a branch misprediction for most letters.
+/// The numbers of the kinds on the occupied squares, as sets of squares: those where the number has a 1 in its ones, its twos and its
+/// fours. What they say of a vacant square means nothing. Four bits of a square give its letter from a table. Tests for one kind after
+/// another would be up to six branches, each a likely branch misprediction.
 #[derive(Drop)]
 pub(super) struct Letters {
     /// The squares of knights, rooks and kings.

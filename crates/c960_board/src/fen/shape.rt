@@ -1,5 +1,5 @@
 //! The text of a rank, by the files of its occupied squares: where its digits and its letters stand. There are 256 sets of files, so that
-//! is looked up, in place of a loop from one occupied square to the next, whose end is a branch misprediction. The tables take 3 KB.
+//! is looked up, in place of a loop from one occupied square to the next, whose end is a likely branch misprediction. The tables take 3 KB.
 
 ghost use Rattle.std.specs.Prelude.{◌≡◌, ◌≤◌, ◌<◌, ◌*◌, ◌/◌, ◌%◌, ◌^◌, length};
 ghost use Rattle.c960_board.specs.Inner.RankShape.{digits_text, marks, place_of};

@@ -48,7 +48,7 @@ fn write_digits(bytes: &mut [u8; PLACEMENT_ROOM], at: usize, files: u64)
 }
 
 /// Writes the letters of a rank's text at their places. For a vacant square there is no letter in the text: what is written for it stands
-/// behind the text, and means nothing. A test whether the square is occupied would often be a branch misprediction.
+/// behind the text, and means nothing. A test whether the square is occupied would be a likely branch misprediction.
 #[inline(always)]
 fn write_letters(bytes: &mut [u8; PLACEMENT_ROOM], at: usize, files: u64, pieces: &RankLetters)
     requires files { files < 256 }
