@@ -1,14 +1,14 @@
 -- What a follower has taken is a stretch of the log of a legal game.
-use Rattle.std.proofs.Common.{◌≡◌, ℕ, ◌+◌, ◌<◌, ◌≤◌, List, [], ◌∷◌, ◌++◌, length, take, drop, Option, Some, refl, sym, ap, ◌∙◌, subst, arith, length-append, length-drop}
-use Rattle.std.proofs.Math.Seq.{take-append_seam, drop-append_seam, get_or-append_seam}
-use Rattle.std.proofs.lemmas.List.{get_or-take, get_or-drop, drop-drop, length-take-le, take-append-le, take-append-drop, drop-append-le}
+use Rattle.std.proofs.Common.{◌≡◌, ℕ, ◌+◌, ◌<◌, List, [], ◌∷◌, ◌++◌, length, take, Option, Some, sym, ap, ◌∙◌, subst, arith, length-append}
+use Rattle.std.proofs.Math.Seq.{get_or-append_seam}
+use Rattle.std.proofs.lemmas.List.{get_or-take, get_or-drop}
 use Rattle.c960_board.specs.Moves.{Triple}
 use Rattle.relay_core.specs.declared.reply.Taken.{Taken}
 use Rattle.relay_core.specs.declared.reply.Taken.TheVariants.{Move, Nothing, Over, Cut}
 use Rattle.live_board.specs.SharedBoard.{no_move, move_at}
 use Rattle.live_board.specs.declared.view.Part.{Part}
 use Rattle.live_board.specs.Views.{next_of}
-use Rattle.live_board.specs.Sound.{BearsOut, IsSoundPart, end_of}
+use Rattle.live_board.specs.Sound.{BearsOut, IsSoundPart}
 use Rattle.live_board.specs.Seats.{FollowerSeat}
 use Rattle.live_board.specs.Takes.{Stays, Took, TookOfGame}
 use Rattle.live_board.proofs.lemmas.Headlines.{taken_stretch}

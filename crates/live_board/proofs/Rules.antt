@@ -1,5 +1,5 @@
 -- What the rule of a take says, by its answer.
-use Rattle.std.proofs.Common.{◌≡◌, ℕ, ◌+◌, ◌<◌, ◌≤◌, nat_lt, Bool, true, false, cond, eqb, eq-eqb, eqb-true, ltb-false, [], length, Option, Some, None, refl, sym, ap, ◌∙◌, subst, arith}
+use Rattle.std.proofs.Common.{◌≡◌, ℕ, ◌+◌, ◌<◌, ◌≤◌, nat_lt, Bool, true, false, cond, eqb, eq-eqb, eqb-true, ltb-false, [], Option, Some, None, refl, sym, ap, ◌∙◌, subst, arith}
 use Rattle.std.proofs.lemmas.Bool.Decides.{nat_tests}
 use Rattle.c960_game.specs.declared.outcome.Outcome.{Outcome}
 use Rattle.relay_core.specs.declared.reply.Taken.{Taken}

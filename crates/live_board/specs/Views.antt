@@ -5,7 +5,6 @@ use Rattle.c960_board.specs.Moves.{Triple}
 use Rattle.c960_game.specs.declared.outcome.Outcome.{Outcome}
 use Rattle.c960_game.specs.Ends.{own_outcome}
 use Rattle.live_board.specs.declared.setup.BoardSetup.{BoardSetup}
-use Rattle.live_board.specs.declared.note.Note.{Note}
 use Rattle.live_board.specs.declared.note.Note.TheVariants.{Vacant, Open, Closed}
 use Rattle.live_board.specs.declared.step.BoardStep.{BoardStep}
 use Rattle.live_board.specs.declared.step.BoardStep.TheVariants.{CursorLoaded, CursorExchanged, CursorOpened, MoveStored, StatusStored}

@@ -11,6 +11,7 @@ use Rattle.std.proofs.lemmas.Nat.Bits.{bit_at-zero, bit_at_above}
 use Rattle.std.proofs.lemmas.Simd.{bit_mask_l, get_or-chunk, length-chunk, mask_l-lt}
 use Rattle.c960_board.specs.Lowest.{IsLowest}
 use Rattle.c960_board.proofs.lemmas.LowestFacts.{lowest_gone, others_stay}
+use Rattle.c960_board.proofs.lemmas.Tests.{one_true, zero_false}
 use Rattle.relay_core.specs.declared.tags.TagSearch.{TagSearch}
 use Rattle.relay_core.specs.Inner.TagRow.{PassesOver, IsSearch}
 
@@ -58,14 +59,6 @@ bit_within tags tag at n k all set = elim (cases_lt k n) [
       ))
 ]
 
-is_one : (b : Bool) → ◌≡◌ {A = ℕ} (cond b 1 0) 1 → b ≡ true
-is_one true h = refl
-is_one false h = absurd (omega (arith, h))
-
-is_zero : (b : Bool) → ◌≡◌ {A = ℕ} (cond b 1 0) 0 → b ≡ false
-is_zero true h = absurd (omega (arith, h))
-is_zero false h = refl
-
 -- a test as a number
 pub bool_bit : (b : Bool) → bool_byte b ≡ cond b 1 0
 bool_bit true = refl
@@ -111,10 +104,10 @@ marked tags tag n s t is none all from block ahead left =
       behind = λ k set. omega (arith, from, block, is.reached);
       within = λ k set. omega (arith, block, ahead, on k set);
       have_it = λ k set.
-          ap (λ x. eqb x tag) (sym (at k)) ∙ is_one (slice_index tags (s.ahead + k) == tag) (sym (bit_of tags tag s.ahead n k all (on k set)) ∙ sym (bit k) ∙ set);
+          ap (λ x. eqb x tag) (sym (at k)) ∙ one_true (slice_index tags (s.ahead + k) == tag) (sym (bit_of tags tag s.ahead n k all (on k set)) ∙ sym (bit k) ∙ set);
       others = λ k not_before below clear.
           ap (λ x. eqb x tag) (sym (at k))
-          ∙ is_zero (slice_index tags (s.ahead + k) == tag)
+          ∙ zero_false (slice_index tags (s.ahead + k) == tag)
           (sym (bit_of tags tag s.ahead n k all (omega (arith, below, block, ahead))) ∙ sym (bit k) ∙ clear);
     }
 

@@ -6,7 +6,6 @@ use mathlib.Core.Logic.{dite}
 use mathlib.Core.Option.{some, some-injective}
 use native.Mathlib.Decide.{ℕ_discrete}
 use lib.ListN.{get_elem?}
-use Rattle.atomic_table.proofs.Lists.{set_here, set_else}
 use Rattle.live_board.specs.declared.words.TheConstants.{MARK}
 use Rattle.live_board.specs.declared.note.Note.{Note}
 use Rattle.live_board.specs.declared.note.Note.TheVariants.{Vacant, Open, Closed}

@@ -25,7 +25,8 @@ use Rattle.relay_core.specs.Refusals.{first_refusal, follow_grounds}
 use Rattle.relay_core.specs.Replies.{first_of, reply_to_follow}
 use Rattle.relay_core.specs.Stands.{game_of}
 use Rattle.relay_core.proofs.lemmas.Lists.{shown-push, lookup-push, first_some, none_below}
-use Rattle.relay_core.proofs.lemmas.Refusals.{followed_where, nothing, reply_accepted, reply_refused}
+use Rattle.c960_board.proofs.lemmas.Tests.{none_of}
+use Rattle.relay_core.proofs.lemmas.Refusals.{followed_where, reply_accepted, reply_refused}
 use Rattle.relay_core.proofs.lemmas.Refused.{goes_refused}
 use Rattle.std.proofs.Math.Seq.{take-length}
 
@@ -105,7 +106,7 @@ module _ (r : Held) (who : ℕ) (b : List ℕ) (from : Option ℕ) (game : GameR
         (w.0, w.1)
 
     none : lookup (nat_eq who) r.followers ≡ None
-    none = nothing (lookup (nat_eq who) r.followers) holds.0
+    none = none_of (lookup (nat_eq who) r.followers) holds.0
 
     low : place_in from game ≤ length game.log
     low = holds.1

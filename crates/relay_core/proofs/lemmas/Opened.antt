@@ -20,7 +20,8 @@ use Rattle.relay_core.proofs.Facts.{Facts}
 use Rattle.relay_core.proofs.Lawful.{facts}
 use Rattle.relay_core.proofs.lemmas.Lists.{lookup-push, first_some, none_below}
 use Rattle.relay_core.proofs.lemmas.Names.{same_name_is}
-use Rattle.relay_core.proofs.lemmas.Refusals.{nothing, opened_where, reply_accepted, reply_refused}
+use Rattle.c960_board.proofs.lemmas.Tests.{none_of}
+use Rattle.relay_core.proofs.lemmas.Refusals.{opened_where, reply_accepted, reply_refused}
 use Rattle.relay_core.proofs.lemmas.Refused.{goes_refused}
 use Rattle.c960_board.specs.declared.numbering.TheConstants.{STARTS}
 
@@ -52,7 +53,7 @@ module _ (r : Held) (b : List ℕ) (n : ℕ) where
 
   module _ (u : Unit {0}) (fine : Ok u ≡ first_refusal grounds) where
     none : lookup (same_name b) r.boards ≡ None
-    none = nothing (lookup (same_name b) r.boards) (opened_where _ n _ _ u fine).0
+    none = none_of (lookup (same_name b) r.boards) (opened_where _ n _ _ u fine).0
 
     low : n < STARTS
     low = (opened_where _ n _ _ u fine).1

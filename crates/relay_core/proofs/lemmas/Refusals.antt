@@ -7,6 +7,8 @@ use Rattle.relay_core.specs.declared.reply.Reply.{Reply}
 use Rattle.relay_core.specs.declared.reply.Reply.TheVariants.{Refused}
 use Rattle.relay_core.specs.Refusals.{first_refusal, follow_grounds, open_grounds}
 use Rattle.relay_core.specs.Replies.{first_of}
+-- what is not there is none, passed on under a name of its own
+pub use Rattle.c960_board.proofs.lemmas.Tests.{none_of as nothing}
 use Rattle.c960_board.specs.declared.numbering.TheConstants.{STARTS}
 
 -- a call that was refused: the reply names that refusal
@@ -60,8 +62,3 @@ followed_where false long place capacity full u e =
     by false true many a b g = cc
     by false false true a b g = cc
     by false false false a b g = (refl, ltb-false long place a, ltb-false capacity (long - place) b, refl)
-
--- what is not there is none
-pub nothing : {X : Type 0} (o : Option X) → is_some o ≡ false → o ≡ None
-nothing None e = refl
-nothing (Some x) e = cc

@@ -1,9 +1,9 @@
-use Rattle.std.proofs.Common.{◌≡◌, ◌∙◌, ℕ, nat_eq, cond, is_some, Option, Some, None, sym, refl, ap, inl, inr, subst, List, [], ◌∷◌, ◌++◌}
+use Rattle.std.proofs.Common.{◌≡◌, ◌∙◌, ℕ, nat_eq, cond, is_some, Some, None, sym, refl, ap, inl, inr, subst}
 use Rattle.std.specs.Map.{lookup}
 use Rattle.std.specs.Prelude.{IsSome}
 use Rattle.indexmap.specs.Entry.{MatchEntry, entry_key, entry_map_ref, entry_value, map_with_value}
 use Rattle.indexmap.specs.IndexMap.{get_key}
-use Rattle.relay_core.proofs.lemmas.Orders.{is_out, one_more, pushed, reads}
+use Rattle.relay_core.proofs.lemmas.Orders.{one_more, pushed, reads}
 use Rattle.relay_live.proofs.seats.Seats.insert.Goals.{After-self-2-1}
 use Rattle.relay_live.proofs.seats.Seats.insert.Goals as goal
 
