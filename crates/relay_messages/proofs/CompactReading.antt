@@ -13,7 +13,7 @@ use Rattle.serde_json.specs.Data.{Members, no_members, object, put}
 use Rattle.serde_json.specs.Read.{converted, of_json, of_members, read}
 use Rattle.relay_messages.proofs.Converted.{whole}
 use Rattle.relay_messages.proofs.PlainReading.{member_read, members_over, object_read, whole_read}
-use Rattle.relay_messages.specs.Compact.{AreWithin64Bits, IsMember, IsSpaced, IsWithin64Bits, field_token, member_tokens}
+use Rattle.relay_messages.specs.Compact.{AreWithin64Bits, IsClosed, IsMember, IsSpaced, IsWithin64Bits, field_token, member_tokens}
 use Rattle.relay_messages.specs.Members.{field_data, members_in, with_all}
 use Rattle.relay_messages.specs.declared.member.Field.{Field}
 use Rattle.relay_messages.specs.declared.member.Field.TheVariants.{Text, Number, Other}
@@ -75,13 +75,13 @@ next_written m before bytes rest ts divided is more =
     subst (λ bs. IsSpaced true bs (Token.key m.key.now ∷ field_token m.field ∷ ts)) (sym divided) (member_then m true bytes rest ts is more)
 
 -- at the end stands the other brace
-pub closed : (before rest : List ℕ) → before ≡ 125 ∷ rest → rest ≡ [] → IsSpaced true before (Token.end_object ∷ [])
+pub closed : (before : List ℕ) → IsClosed before → IsSpaced true before (Token.end_object ∷ [])
 unfolding print_spaced
-closed before rest e none = record {
-  spaced = ([], Token.end_object) ∷ [];
-  gaps = (tt, tt);
+closed before is = record {
+  spaced = (is.gap, Token.end_object) ∷ [];
+  gaps = (is.is_gap, tt);
   tokens = refl;
-  written = e ∙ ap (λ bs. 125 ∷ bs) none;
+  written = is.written;
 }
 
 -- ---- All tokens can be printed.

@@ -7,7 +7,7 @@ use Rattle.serde_json.proofs.Views.{get_member-put_other}
 use Rattle.relay_messages.specs.Fields.{number_at, text_at}
 use Rattle.relay_messages.specs.Members.{members_in}
 use Rattle.relay_messages.specs.Usual.{usual_data, usual_members}
-use Rattle.relay_messages.specs.declared.usual.Usual.TheVariants.{Spectator, Move, Follow, FollowFrom}
+use Rattle.relay_messages.specs.declared.object.usual.Usual.TheVariants.{Spectator, Move, Follow, FollowFrom}
 use Rattle.relay_messages.proofs.PlainFacts.{found_or_other}
 
 -- a text, and a number

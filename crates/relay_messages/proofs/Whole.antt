@@ -11,7 +11,7 @@ use Rattle.relay_messages.proofs.PlainReading.{whole_read}
 use Rattle.relay_messages.specs.Any.{IsFound, IsKept, IsNext}
 use Rattle.relay_messages.specs.KeptValues.{kept_members, kept_object}
 use Rattle.relay_messages.specs.Members.{members_in}
-use Rattle.relay_messages.specs.declared.any.KeptMembers.{KeptMembers}
+use Rattle.relay_messages.specs.declared.object.any.KeptMembers.{KeptMembers}
 
 module _ (text : List ℕ) (ts : List Token) (is : ts ≡ tokens text) where
   last : (r : List Token) (d : Data) → r ≡ [] → converted of_json (value 127 ts) ≡ Some (d, r) → read text ≡ Some d

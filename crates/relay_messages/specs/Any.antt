@@ -7,8 +7,8 @@ use Rattle.serde_json.specs.Find.{as_object}
 use Rattle.serde_json.specs.Read.{converted, of_json, read}
 use Rattle.relay_messages.specs.KeptValues.{kept_members}
 use Rattle.relay_messages.specs.Members.{members_in}
-use Rattle.relay_messages.specs.declared.any.AnyObject.{AnyObject}
-use Rattle.relay_messages.specs.declared.any.KeptMembers.{KeptMembers}
+use Rattle.relay_messages.specs.declared.object.any.AnyObject.{AnyObject}
+use Rattle.relay_messages.specs.declared.object.any.KeptMembers.{KeptMembers}
 
 -- what its text means
 abbrev pub any_data : AnyObject → Data

@@ -35,6 +35,10 @@ pub record IsBehindGap (text rest : List ℕ) : Type 0 where
   pub is_gap : IsGap gap
   pub written : text ≡ gap ++ rest
 
+-- behind a gap, the text is the brace that closes the object
+abbrev pub IsClosed : List ℕ → Type 0
+IsClosed text = IsBehindGap text (125 ∷ [])
+
 -- the text is this member, with a gap before its key and one before its value, and then the rest
 pub record IsMember (m : Member) (text rest : List ℕ) : Type 0 where
   pub within : IsWithin64Bits m.field
@@ -71,3 +75,9 @@ pub record IsBehindKey (key text rest : List ℕ) : Type 0 where
 -- the text is the member with the key that is written so and with this field, and then the rest
 abbrev pub IsMemberOf : List ℕ → Field → List ℕ → List ℕ → Type 0
 IsMemberOf key field text rest = (name : List ℕ) → key ≡ token_text (Token.key name) → IsMember (member_of name field) text rest
+
+-- the text is that member and the end of the object
+pub record IsLastOf (key : List ℕ) (field : Field) (text : List ℕ) : Type 0 where
+  pub end : List ℕ
+  pub member : IsMemberOf key field text end
+  pub closed : IsClosed end

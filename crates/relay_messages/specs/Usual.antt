@@ -5,8 +5,8 @@ use Rattle.relay_messages.specs.Compact.{member_of}
 use Rattle.relay_messages.specs.Members.{members_in}
 use Rattle.relay_messages.specs.declared.member.Field.TheVariants.{Text, Number}
 use Rattle.relay_messages.specs.declared.member.Member.{Member}
-use Rattle.relay_messages.specs.declared.usual.Usual.{Usual}
-use Rattle.relay_messages.specs.declared.usual.Usual.TheVariants.{Spectator, Move, Follow, FollowFrom}
+use Rattle.relay_messages.specs.declared.object.usual.Usual.{Usual}
+use Rattle.relay_messages.specs.declared.object.usual.Usual.TheVariants.{Spectator, Move, Follow, FollowFrom}
 
 -- the members, in the order in which they are written
 abbrev pub usual_members : Usual → List Member

@@ -3,11 +3,9 @@
 
 mod answer;
 mod answers;
-mod any;
 mod asking;
 mod board_summary;
 mod commands;
-mod compact;
 mod encoding;
 mod fault;
 mod fields;
@@ -16,10 +14,8 @@ mod member;
 mod object;
 mod passing;
 mod pieces;
-mod plain;
 mod reading;
 mod unread;
-mod usual;
 mod watch_command;
 
 pub use answer::Answer;

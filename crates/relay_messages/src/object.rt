@@ -5,10 +5,14 @@ ghost use Rattle.serde_json.specs.Data.{Data};
 ghost use Rattle.serde_json.specs.Find.{as_object, get};
 ghost use Rattle.relay_messages.specs.Fields.{member_count, number_at, text_at};
 
-use crate::any::AnyObject;
+pub mod any;
+pub mod plain;
+pub mod usual;
+
 use crate::member::Field;
-use crate::plain::PlainObject;
-use crate::usual::Usual;
+use any::AnyObject;
+use plain::PlainObject;
+use usual::Usual;
 
 /// A JSON value in which members are looked up. One that is not an object has none.
 pub trait Object {

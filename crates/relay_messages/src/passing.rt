@@ -1,14 +1,13 @@
 //! Values that are skipped: they are read as `serde_json` reads them, and nothing inside an array or an object is kept. One loop does this,
 //! and keeps only the kind of each open array or object. So a deeply nested value takes no more of the stack than others, and no memory.
 
-ghost use Rattle.std.specs.Prelude.{◌≡◌, ◌≤◌, ◌<◌, ℕ, true, false, None, Some, IfOk, OnOk, OnErr, cond, length, option_and_then, option_map};
+ghost use Rattle.std.specs.Prelude.{◌≡◌, ◌==◌, ◌≤◌, ◌<◌, ℕ, true, false, None, Some, IfOk, OnOk, OnErr, cond, length, option_and_then, option_map, slice_index};
 ghost use Rattle.json.specs.Json.{value};
 ghost use Rattle.serde_json.specs.Find.{as_u64};
 ghost use Rattle.serde_json.specs.Read.{converted, float_of, number_from, number_of, of_json};
 ghost use Rattle.relay_messages.specs.Beginnings.{Begins, opened_by};
 ghost use Rattle.relay_messages.specs.Passing.{passed, rest_passed, still_passed};
 
-use crate::plain::has_minus;
 use arrayvec::ArrayVec;
 use fast_float::Numeral;
 use json::{Invalid, Reader, Token};
@@ -57,6 +56,13 @@ impl Beginning<'_> {
             Beginning::Other => None,
         }
     }
+}
+
+/// Whether a number's text has a minus sign.
+pub fn has_minus(digits: &[u8]) -> bool
+    ensures value { result ≡ (slice_index digits.now 0 == 45) }
+{
+    !digits.is_empty() && digits[0] == b'-'
 }
 
 /// A number as a float: whether it is within the range of floats.

@@ -1,87 +1,41 @@
-//! Reading a text as its command.
+//! Reading a text as its command. Each way reads what `serde_json` reads, or gives up and says which is tried next (`next`). The numbers
+//! are instructions of a whole `decode`, with the ways that failed.
+//!
+//! 1. `usual`: the keys of `take`, `leave`, `submit` or `follow` in their usual order, or else as compact: 410 a take, 730 a move.
+//! 2. `compact`: at most 128 bytes, no escape, one space at most before a key, a value or the last brace, or else as plain: 1,150 to 1,900.
+//! 3. `plain`: four members at most, texts and unsigned whole numbers, no key twice: 1,500 to 2,100, and up to 2,700 with an escape.
+//! 4. `any`: any other text. Of an object, texts and unsigned whole numbers are kept, and the rest is skipped: 2,400 to 5,900.
 
-ghost use Rattle.std.specs.Prelude.{◌≡◌, ◌∷◌, Err, IfOk, IfSome, None};
-ghost use Rattle.json.specs.Json.{value};
-ghost use Rattle.serde_json.specs.Read.{converted, of_json, read};
-ghost use Rattle.relay_messages.specs.Any.{IsFound, IsNext};
-ghost use Rattle.relay_messages.specs.Beginnings.{opening};
-ghost use Rattle.relay_messages.specs.Decoding.{IsDecoding, IsReading, IsSaid, IsWatchDecoding, text_says, value_says};
+mod any;
+mod compact;
+mod next;
+mod plain;
+mod usual;
 
-use crate::any::{AnyObject, KeptMembers, read_members};
+ghost use Rattle.std.specs.Prelude.{◌≡◌};
+ghost use Rattle.serde_json.specs.Read.{read};
+ghost use Rattle.relay_messages.specs.Decoding.{IsDecoding, IsReading, IsSaid, IsWatchDecoding, text_says};
+
 use crate::asking::Asked;
-use crate::compact::read_compact;
 use crate::fault::MessageFault;
-use crate::passing::{Beginning, Nest, pass_rest, take_beginning};
-use crate::plain::{PlainObject, read_plain};
+use crate::object::plain::PlainObject;
 use crate::unread::Unread;
-use crate::usual::read_usual;
 use crate::watch_command::WatchCommand;
-use json::{Reader, Scratch};
+use any::read_object;
+use compact::read_compact;
+use json::Scratch;
+use next::Next;
+use plain::read_plain;
 use relay_core::Step;
 use std::alloc::Global;
 use std::str;
+use usual::read_usual;
 
 /// What a text asks of a relay.
 pub type Command = Step;
 
 /// How many bytes a text may have.
 pub const MOST_BYTES: usize = 1024;
-
-/// What is kept of an object that was opened, or none if an array was.
-fn read_opened<'a>(
-    alloc: Global,
-    reader: &mut Reader<'a>,
-    nest: Nest,
-) -> Result<Option<KeptMembers<'a>>, Unread>
-    ensures ok { IfOk result (λ found. IsNext found (opening nest ∷ reader.old) reader.new) }
-    ensures err { result ≡ Err Unread.NotJson → converted of_json (value 127 (opening nest ∷ reader.old)) ≡ None }
-{
-    match nest {
-        Nest::Object => {
-            let members = read_members(alloc, reader)?;
-            Ok(Some(members))
-        }
-        Nest::Array => {
-            pass_rest(reader, Nest::Array, 126)?;
-            Ok(None)
-        }
-    }
-}
-
-/// What is kept of the object that comes next, or none if another value does.
-fn read_next<'a>(alloc: Global, reader: &mut Reader<'a>) -> Result<Option<KeptMembers<'a>>, Unread>
-    ensures ok { IfOk result (λ found. IsNext found reader.old reader.new) }
-    ensures err { result ≡ Err Unread.NotJson → converted of_json (value 127 reader.old) ≡ None }
-{
-    let beginning = take_beginning(reader)?;
-    match beginning {
-        Beginning::Opens(nest) => read_opened(alloc, reader, nest),
-        Beginning::Text(_) => Ok(None),
-        Beginning::Whole(_) => Ok(None),
-        Beginning::Other => Ok(None),
-    }
-}
-
-/// The object that a text is, or none if it is another value.
-fn read_object<'a>(
-    alloc: Global,
-    text: &'a str,
-    scratch: &'a mut Scratch,
-) -> Result<Option<AnyObject<'a>>, Unread>
-    ensures ok { IfOk result (λ found. IsFound found (read text.now)) }
-    ensures err { result ≡ Err Unread.NotJson → read text.now ≡ None }
-{
-    let mut reader = Reader::new(text, scratch)?;
-    let found = read_next(alloc, &mut reader)?;
-    match reader.next() {
-        None => {}
-        Some(_) => return Err(Unread::NotJson),
-    }
-    match found {
-        Some(members) => Ok(Some(AnyObject::new(text, members))),
-        None => Ok(None),
-    }
-}
 
 /// What a text asks for that is not a plain object, or any other.
 fn read_any<A: Asked>(alloc: Global, scratch: &mut Scratch, text: &str) -> Result<A, MessageFault>
@@ -95,35 +49,34 @@ fn read_any<A: Asked>(alloc: Global, scratch: &mut Scratch, text: &str) -> Resul
     }
 }
 
-/// What a compact object asks for, or none for another text.
-fn read_if_compact<A: Asked>(text: &str) -> Option<Result<A, MessageFault>>
-    ensures { IfSome result (λ answer. answer ≡ value_says A.says (read text.now)) }
-{
-    let mut object = PlainObject::new();
-    read_compact(text, &mut object)?;
-    Some(A::of(&object))
-}
-
-/// What a text in UTF-8 asks for that is not a usual object, or any other. It is never inlined, so that the room for members is not cleared
-/// for a usual object.
+/// What a text in UTF-8 asks for that is not a usual object, or any other, and that is tried next in this way. It is never inlined, so that
+/// the room for members is not cleared for a usual object.
 #[inline(never)]
 fn read_unusual<A: Asked>(
     alloc: Global,
     scratch: &mut Scratch,
     text: &str,
+    next: Next,
 ) -> Result<A, MessageFault>
     ensures { IsReading A.says text.now result }
 {
-    if let Some(answer) = read_if_compact(text) {
-        return answer;
-    }
     let mut object = PlainObject::new();
-    match read_plain(text, scratch, &mut object) {
-        Ok(true) => return A::of(&object),
-        Ok(false) => {}
-        Err(_) => return Err(MessageFault::OutOfMemory),
+    let next = match next {
+        Next::Compact => match read_compact(text, &mut object) {
+            Ok(()) => return A::of(&object),
+            Err(next) => next,
+        },
+        Next::Plain | Next::Any => next,
+    };
+    if let Next::Any = next {
+        return read_any(alloc, scratch, text);
     }
-    read_any(alloc, scratch, text)
+    object.clear();
+    match read_plain(text, scratch, &mut object) {
+        Ok(true) => A::of(&object),
+        Ok(false) => read_any(alloc, scratch, text),
+        Err(_) => Err(MessageFault::OutOfMemory),
+    }
 }
 
 /// What a text in UTF-8 asks for.
@@ -131,8 +84,8 @@ fn read_text<A: Asked>(alloc: Global, scratch: &mut Scratch, text: &str) -> Resu
     ensures { IsReading A.says text.now result }
 {
     match read_usual(text) {
-        Some(usual) => A::of(&usual),
-        None => read_unusual(alloc, scratch, text),
+        Ok(usual) => A::of(&usual),
+        Err(next) => read_unusual(alloc, scratch, text, next),
     }
 }
 

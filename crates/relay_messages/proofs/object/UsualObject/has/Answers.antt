@@ -1,7 +1,7 @@
 use Rattle.std.proofs.Common.{is_some, ap, sym, ◌∙◌}
 use Rattle.serde_json.specs.Find.{get}
 use Rattle.relay_messages.specs.Usual.{usual_data}
-use Rattle.relay_messages.specs.declared.usual.Usual.{Usual}
+use Rattle.relay_messages.specs.declared.object.usual.Usual.{Usual}
 use Rattle.relay_messages.proofs.UsualFacts.{follow_keys, from_keys, move_keys, spectator_keys}
 use Rattle.relay_messages.proofs.object.UsualObject.has.Goals as goal
 

@@ -1,7 +1,7 @@
 use Rattle.std.proofs.Common.{ap, sym, ◌∙◌}
 use Rattle.relay_messages.specs.Fields.{number_at}
 use Rattle.relay_messages.specs.Usual.{usual_data}
-use Rattle.relay_messages.specs.declared.usual.Usual.{Usual}
+use Rattle.relay_messages.specs.declared.object.usual.Usual.{Usual}
 use Rattle.relay_messages.proofs.UsualFacts.{follow_numbers, from_numbers, spectator_numbers}
 use Rattle.relay_messages.proofs.object.UsualObject.number.Goals as goal
 

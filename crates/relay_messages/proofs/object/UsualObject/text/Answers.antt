@@ -1,7 +1,7 @@
 use Rattle.std.proofs.Common.{ap, sym, ◌∙◌}
 use Rattle.relay_messages.specs.Fields.{text_at}
 use Rattle.relay_messages.specs.Usual.{usual_data}
-use Rattle.relay_messages.specs.declared.usual.Usual.{Usual}
+use Rattle.relay_messages.specs.declared.object.usual.Usual.{Usual}
 use Rattle.relay_messages.proofs.UsualFacts.{follow_texts, from_texts, move_texts, spectator_texts}
 use Rattle.relay_messages.proofs.object.UsualObject.text.Goals as goal
 
