@@ -34,7 +34,7 @@ from refused_jobs import refuse_in_jobs, run_refused  # noqa: E402
 from refused_watching import refuse_in_watching  # noqa: E402
 from relay_client.frames import REQUEST, frame, read_frame  # noqa: E402
 from relay_client.program import PATIENCE  # noqa: E402
-from relay_client.server import NotListening, Server  # noqa: E402
+from relay_client.server import NotListening, Server, last_has_come  # noqa: E402
 
 TESTS = {
     "c960_tests": [
@@ -121,7 +121,8 @@ def met(refused, allocator):
         sys.exit(f"allocation {refused}: the server does not answer, or does not end: {fault}")
     if not ANSWERS.issuperset(itertools.chain(owner, *guests)):
         return None
-    if said not in (b"served 4, failed 0\n", TURNED_AWAY + b"served 3, failed 1\n"):
+    last = last_has_come(4).encode()
+    if said not in (last + b"served 4, failed 0\n", TURNED_AWAY + last + b"served 3, failed 1\n"):
         return None
     if owner == OWNED:
         return {3: "nothing", 2: "guest"}.get(guests.count(FOLLOWED))

@@ -9,6 +9,11 @@ from relay_client.program import PATIENCE, PROGRAM
 from relay_client.waiting import is_readable
 
 
+def last_has_come(count):
+    """The line that says that the last connection has come, where so many may."""
+    return f"the last connection has come, {count} of {count}: no more are accepted without --forever\n"
+
+
 def first_line(process):
     """The first line that it prints; an empty one where none comes."""
     return process.stdout.readline() if is_readable(process.stdout, PATIENCE) else b""
@@ -24,6 +29,7 @@ class Server:
     program."""
 
     def __init__(self, *words, port=None, watch=False, watch_at="127.0.0.1", before=(), **options):
+        self.words = words
         for _ in range(5):
             self.port = port or free_port()
             given = [*before, PROGRAM, "serve", "--port", str(self.port), *words]
@@ -66,9 +72,10 @@ class Server:
         return printed, complained, self.process.returncode
 
     def has_served(self, count, failed=0):
-        """Waits for its end: this many connections were served, and this many could not be accepted."""
+        """Waits for its end: this many connections were served, and this many could not be accepted. Where no more may come, it says so."""
         ended = self.ended()
-        assert ended == (b"", f"served {count}, failed {failed}\n".encode(), 0), ended
+        last = last_has_come(count + failed) if "--connections" in self.words else ""
+        assert ended == (b"", f"{last}served {count}, failed {failed}\n".encode(), 0), ended
 
     def data_kibibytes(self):
         """How much memory it has to itself, including its stacks."""

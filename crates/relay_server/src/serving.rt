@@ -75,8 +75,8 @@ struct Reception<'a, R, G> {
 
 /// Accepts `most` connections, or without that number as many as come. Numbers them from 1 in the order of accepting, gives
 /// each a thread, and waits until all sessions have ended. A connection that follows moves to a loop, and its thread ends. The listener is
-/// closed after the last accept, so that the system refuses later ones. A newcomer for which there is no descriptor or no thread is told so
-/// by the status 503; the first of several in a row is reported on standard error.
+/// closed after the last accept, so that the system refuses later ones, and standard error has a line that says so. A newcomer for which
+/// there is no descriptor or no thread is told so by the status 503; the first of several in a row is reported on standard error.
 ///
 /// If serving ends with standard input, it then accepts no more connections, and all boards end as abandoned. Followers get
 /// what they have not had, the other peers are told by the close code 1001, and four seconds later it stops waiting for anybody.
@@ -130,7 +130,7 @@ where
         Some(most) => reception.meet_all(most),
         None => reception.meet_forever(),
     }
-    reception.close(grace, scribe)
+    reception.close(most, grace, scribe)
 }
 
 impl<'a, R, G> Reception<'a, R, G>
@@ -279,9 +279,9 @@ where
         started
     }
 
-    /// Closes the listener, and waits until all sessions have ended; if serving is to end early, for a bounded time. The boards
-    /// that wait are ended first.
-    fn close(self, grace: Grace, scribe: Scribe) -> ServeEnd
+    /// Closes the listener, and says so if the last connection has come that may. Then waits until all sessions have ended; if serving is
+    /// to end early, for a bounded time. The boards that wait are ended first.
+    fn close(self, most: Option<u32>, grace: Grace, scribe: Scribe) -> ServeEnd
         requires counted { self.failed ≤ self.met }
         ensures { result.served + result.failed ≡ self.entry.met }
     {
@@ -299,6 +299,9 @@ where
         } = self;
         drop(door);
         grace.end(registry);
+        if most == Some(met) {
+            tell_of_the_last(rt, met);
+        }
         if until_input_ends {
             let running = join_until_ending(rt, registry, running);
             close_gallery(&gallery);
@@ -319,6 +322,14 @@ where
             failed,
         }
     }
+}
+
+/// Reports on standard error that the last of so many connections has come, since the system gives no reason when it refuses others.
+fn tell_of_the_last<R: Eprint>(rt: &R, most: u32) {
+    // The sessions go on even if standard error is closed.
+    let _ = eprintln!(rt;
+        "the last connection has come, {most} of {most}: no more are accepted without --forever"
+    );
 }
 
 /// From now on, no more followers move to the loops.

@@ -13,7 +13,7 @@ import unittest
 from relay_client.connection import Connection
 from relay_client.frames import request
 from relay_client.program import PATIENCE, PROGRAM
-from relay_client.server import Server
+from relay_client.server import Server, last_has_come
 from relay_client.texts import NOT_OBJECT
 from relay_client.waiting import is_readable
 
@@ -140,4 +140,4 @@ class Connections(unittest.TestCase):
             for connection in peer, later:
                 connection.close()
             complaint = b"no descriptor or thread for a connection: turned away\n"
-            self.assertEqual(server.ended(), (b"", complaint + b"served 2, failed 2\n", 0))
+            self.assertEqual(server.ended(), (b"", complaint + last_has_come(4).encode() + b"served 2, failed 2\n", 0))

@@ -6,7 +6,7 @@ import unittest
 from relay_client.connection import Connection
 from relay_client.frames import pong
 from relay_client.keys import new_key
-from relay_client.server import Server
+from relay_client.server import Server, last_has_come
 from relay_client.tests.sessions import ABANDONED, guest_of, moves_without_a_draw, owner_of
 from relay_client.texts import NOT_OBJECT, OPENED, ended, ends, opens, played, submits
 from relay_client.waiting import is_readable
@@ -38,11 +38,15 @@ class Reader:
         raise AssertionError(f"{words!r} did not come, but {self.lines[-20:]}")
 
     def ended(self):
-        """All lines up to the server's end, without the last, which reports it."""
+        """All lines up to the server's end, without the last, which reports it, and without the one on the last connection, which may come
+        between any two of the log."""
         printed, complained, status = self.server.ended()
         assert (printed, status) == (b"", 0), (printed, status)
         self.lines += complained.decode().splitlines()
         assert self.lines[-1].startswith("served "), self.lines[-1]
+        words = self.server.words
+        if "--connections" in words:
+            self.lines.remove(last_has_come(words[words.index("--connections") + 1]).rstrip("\n"))
         return self.lines[:-1]
 
 

@@ -13,9 +13,10 @@ from relay_client.connection import Connection
 from relay_client.frames import frame, pong
 from relay_client.keys import new_key
 from relay_client.program import PROGRAM, TOP
-from relay_client.server import Server
+from relay_client.server import Server, last_has_come
 from relay_client.tests.sessions import ABANDONED, guest_of, owner_of, play
 from relay_client.texts import NO_BOARD, NOT_OBJECT, ended, ends, follows, moved, over, played, refused, submits
+from relay_client.waiting import is_readable
 
 SOON = 10  # Seconds within which what happens at once has happened, on a machine that is busy with proofs too.
 IN_ORDER = 5  # Seconds within which an end in order has come; a busy machine has SOON more.
@@ -64,6 +65,32 @@ class HowLong(unittest.TestCase):
             guest.hears(ABANDONED, "close 1000")
             guest.close()
             server.has_served(2)
+
+
+    def test_the_last_connection_that_may_come_is_told_of_once_while_it_is_served(self):
+        """Before, a server that nobody reached any more said nothing. The line names the flag that helps."""
+        with Server("--connections", "2") as server:
+            owner = owner_of(server)
+            self.assertFalse(is_readable(server.process.stderr, 1))
+            guest = guest_of(server)
+            self.assertTrue(is_readable(server.process.stderr, SOON))
+            self.assertEqual(server.process.stderr.readline().decode(), last_has_come(2))
+            self.assertTrue(refuses(server.port))
+            owner.asks(submits("b1", "e2e4"), played(0))
+            guest.hears(moved("e2e4", 0))
+            for peer in owner, guest:
+                peer.close()
+            self.assertEqual(server.ended(), (b"", b"served 2, failed 0\n", 0))
+        self.assertIn(f"`{last_has_come(5).strip()}`", TOP.joinpath("docs/PROTOCOL.md").read_text())
+
+    def test_a_server_for_ever_says_of_no_connection_that_it_is_the_last(self):
+        with Server("--forever", "--until-input-ends", stdin=subprocess.PIPE) as server:
+            for _ in range(300):
+                Connection(server.port).close()
+            peer = Connection(server.port)
+            peer.asks("[]", NOT_OBJECT)
+            peer.close()
+            self.assertEqual(server.ended(), (b"", b"served 301, failed 0\n", 0))
 
 
 class Idle(unittest.TestCase):
@@ -274,6 +301,14 @@ class UntilInputEnds(unittest.TestCase):
             owner.asks(submits("b1", "e2e4"), played(0))
             began = self.end_input(server)
             guest.hears(moved("e2e4", 0), ABANDONED, AWAY)
+            self.all_close(owner, guest)
+            self.assertEqual(self.ends_in_order(server, began), f"{last_has_come(2)}served 2, failed 0\n".encode())
+
+    def test_before_the_last_connection_the_end_of_the_input_says_nothing_of_it(self):
+        with self.server("--connections", "3") as server:
+            owner, guest = owner_of(server), guest_of(server)
+            began = self.end_input(server)
+            guest.hears(ABANDONED, AWAY)
             self.all_close(owner, guest)
             self.assertEqual(self.ends_in_order(server, began), b"served 2, failed 0\n")
 
