@@ -47,8 +47,8 @@ s|/var/log/nginx/|$run/|g" \
 echo "ok      package"
 systemd-analyze verify --man=no "$root"/usr/lib/systemd/system/*.service
 echo "ok      units"
-mandoc -T lint -W style "$root/usr/share/man/man1/relay960.1.gz"
-echo "ok      manual page"
+mandoc -T lint -W style "$root"/usr/share/man/man1/*.1.gz
+echo "ok      manual pages"
 
 # A hall, from the package's own files.
 echo "b1 518 White – Black" > "$run/round"

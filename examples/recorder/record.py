@@ -38,29 +38,7 @@ sys.path.append(str(pathlib.Path(__file__).resolve().parent.parent.parent / "too
 from pgn import Round  # noqa: E402
 from relay_client.line import Line, Refused  # noqa: E402
 from relay_client.names import first_name  # noqa: E402
-
-KNIGHTS = [(0, 1), (0, 2), (0, 3), (0, 4), (1, 2), (1, 3), (1, 4), (2, 3), (2, 4), (3, 4)]
-
-
-def array(number):
-    """Scharnagl's array of a number, as the letters of rank 1."""
-    rank = [""] * 8
-    vacant = lambda: [file for file in range(8) if not rank[file]]
-    rank[1 + 2 * (number % 4)] = "B"
-    rank[2 * (number // 4 % 4)] = "B"
-    rank[vacant()[number // 16 % 6]] = "Q"
-    free = vacant()
-    for index in KNIGHTS[number // 96]:
-        rank[free[index]] = "N"
-    for file, piece in zip(vacant(), "RKR"):
-        rank[file] = piece
-    return "".join(rank)
-
-
-def start_number(fen):
-    """The number of the start whose FEN this is."""
-    rank = fen.split(" ")[0].split("/")[7]
-    return next(number for number in range(960) if array(number) == rank)
+from starts import start_number  # noqa: E402
 
 
 class Broken(Exception):

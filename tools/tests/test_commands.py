@@ -340,11 +340,12 @@ class Package(unittest.TestCase):
             subprocess.run(["dpkg-deb", "-x", package, room / "root"], check=True)
             root = room / "root"
             for path in ("usr/bin/relay960", "usr/share/relay960/pages/watch.html", "usr/share/man/man1/relay960.1.gz",
-                         "usr/lib/systemd/system/relay960.service", "usr/lib/relay960/feed.py", "etc/relay960/nginx/relay960-http.conf"):
+                         "usr/lib/systemd/system/relay960.service", "usr/lib/systemd/system/relay960-enter.service", "usr/lib/relay960/feed.py",
+                         "usr/lib/relay960/enter.py", "usr/share/man/man1/relay960-enter.1.gz", "etc/relay960/nginx/relay960-http.conf"):
                 self.assertTrue((root / path).is_file(), path)
             library = root / "usr/lib/relay960"
             there = {str(it.relative_to(library).with_suffix("")).replace("/", ".") for it in library.rglob("*.py")}
-            ours = {it.stem for folder in ("many_spectators", "recorder", "hall") for it in (TOP / "examples" / folder).glob("*.py")}
+            ours = {it.stem for folder in ("many_spectators", "recorder", "hall", "pgn_in") for it in (TOP / "examples" / folder).glob("*.py")}
             for path in library.rglob("*.py"):
                 for module in re.findall(r"^\s*(?:from|import) ([\w.]+)", path.read_text(), re.M):
                     if module in ours or module.startswith("relay_client."):

@@ -273,12 +273,18 @@ class Lengths(unittest.TestCase):
 
 
 class ManualPage(unittest.TestCase):
-    PAGE = ROOT / "docs/relay960.1"
+    PAGE, ENTER = ROOT / "docs/relay960.1", ROOT / "docs/relay960-enter.1"
 
     @unittest.skipUnless(shutil.which("mandoc"), "mandoc is missing")
     def test_mandoc_finds_nothing_to_say(self):
-        found = subprocess.run(["mandoc", "-T", "lint", "-W", "style", self.PAGE], capture_output=True, text=True)
+        found = subprocess.run(["mandoc", "-T", "lint", "-W", "style", self.PAGE, self.ENTER], capture_output=True, text=True)
         self.assertEqual((found.stdout + found.stderr, found.returncode), ("", 0))
+
+    def test_that_of_the_electronic_boards_has_each_option(self):
+        options = re.findall(r'add_argument\("--([a-z]+)"', (ROOT / "examples/pgn_in/enter.py").read_text())
+        self.assertGreater(len(options), 5)
+        for option in options:
+            self.assertRegex(self.ENTER.read_text(), rf"It Fl -{option}\b")
 
     def test_it_has_each_option_of_the_program(self):
         sources = "".join(it for name in ("relay960_words", "relay960") for it in CRATES[name].sources("*.rt"))

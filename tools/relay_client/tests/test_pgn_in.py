@@ -1,0 +1,237 @@
+"""enter.py of examples/pgn_in beside a relay: files that grow, corrections, ends, lost connections, and programs that are killed. The
+example's own test.sh, by hand, has more."""
+
+import asyncio
+import random
+import signal
+
+from relay_client.connection import Connection
+from relay_client.program import PATIENCE
+from relay_client.tests.entering import DUTCH, DUTCH_SENT, ITALIAN, ITALIAN_SENT, THERE_AND_BACK, THERE_AND_BACK_SENT, Entering, game
+from relay_client.texts import OPENED, ended, ends, opens, played, submits
+from relay_client.wire import Wire
+
+
+class Growing(Entering):
+    async def test_a_file_that_grows_by_a_move_at_a_time_in_every_way_is_at_the_relay_move_for_move(self):
+        """Replaced by a rename, written in place, and appended to."""
+        self.write()
+        await self.start()
+        await self.until(lambda: self.wrong() == "there is no game in the file\n")
+        for count in range(5):
+            self.write(game(ITALIAN[:count]), game(DUTCH, 2))
+            await self.has(r3_1=(518, ITALIAN_SENT[:count], None), r3_2=(518, DUTCH_SENT, None))
+        for count in range(5, 9):
+            self.file.write_text(game(ITALIAN[:count]) + game(DUTCH, 2))
+            await self.has(r3_1=(518, ITALIAN_SENT[:count], None), r3_2=(518, DUTCH_SENT, None))
+        self.write(game(DUTCH, 2), game(ITALIAN[:9], result=""))
+        for count in range(9, 12):
+            with open(self.file, "a", encoding="ascii") as file:
+                file.write(f"{ITALIAN[count]} ")
+            await self.has(r3_1=(518, ITALIAN_SENT[:count + 1], None), r3_2=(518, DUTCH_SENT, None))
+        self.assertIn("r3-1 White 1 – Black: 6... d6\n", self.said())
+        self.assertEqual(self.wrong(), "there is no game in the file\n")
+
+    async def test_a_game_of_another_start(self):
+        self.write(game(["O-O", "O-O"], FEN="bbqnnrkr/pppppppp/8/8/8/8/PPPPPPPP/BBQNNRKR w KQkq - 0 1"),
+                   game(["e4"], 2, FEN="8/8/8/8/8/8/8/8 w - - 0 1"))
+        self.assertEqual(await self.once(), 1)
+        self.assertIn("r3-1: 1. O-O is not legal", self.wrong())
+        self.assertIn("r3-2: its FEN is none of the 960 starts", self.wrong())
+        await self.has(r3_1=(0, [], None))
+        self.write(game(["f4", "f5"], FEN="bbqnnrkr/pppppppp/8/8/8/8/PPPPPPPP/BBQNNRKR w FHfh - 0 1"))
+        self.assertEqual(await self.once(), 0)
+        await self.has(r3_1=(0, ["f2f4", "f7f5"], None))
+
+    async def test_a_move_that_is_not_legal_is_named_once_and_the_others_go_on(self):
+        self.write(game(ITALIAN[:3] + ["Ke4"]), game(DUTCH[:1], 2))
+        await self.start("--quiet")
+        await self.has(r3_1=(518, ITALIAN_SENT[:3], None), r3_2=(518, DUTCH_SENT[:1], None))
+        for count in 2, 3, 4:
+            self.write(game(ITALIAN[:3] + ["Ke4"]), game(DUTCH[:count], 2))
+            await self.has(r3_1=(518, ITALIAN_SENT[:3], None), r3_2=(518, DUTCH_SENT[:count], None))
+        self.assertEqual(self.wrong(), "r3-1: 2... Ke4 is not legal in rnbqkbnr/pppp1ppp/8/4p3/4P3/5N2/PPPP1PPP/RNBQKB1R b HAha - 1 2\n")
+        self.write(game(ITALIAN[:5]), game(DUTCH, 2))
+        await self.has(r3_1=(518, ITALIAN_SENT[:5], None), r3_2=(518, DUTCH_SENT, None))
+        self.assertEqual(self.said(), "")
+
+
+class Ends(Entering):
+    async def test_each_end(self):
+        forfeit = {"Termination": "time forfeit"}
+        self.write(game(DUTCH, 1, "1-0"), game(DUTCH, 2, "0-1"), game(DUTCH, 3, "1/2-1/2"), game("f3 e5 g4 Qh4#".split(), 4, "0-1"),
+                   game(THERE_AND_BACK * 2, 5, "1/2-1/2"), game(DUTCH, 6, "0-1", **forfeit), game(DUTCH, 7), game([], 8, "1/2-1/2"))
+        self.assertEqual(await self.once(), 0)
+        drawn, mated = THERE_AND_BACK_SENT * 2, "f2f3 e7e5 g2g4 d8h4".split()
+        await self.has(r3_1=(518, DUTCH_SENT, "black resigns"), r3_2=(518, DUTCH_SENT, "white resigns"), r3_3=(518, DUTCH_SENT, "agreed"),
+                       r3_4=(518, mated, "black mates"), r3_5=(518, drawn, "threefold"), r3_6=(518, DUTCH_SENT, "abandoned"),
+                       r3_7=(518, DUTCH_SENT, None), r3_8=(518, [], "agreed"))
+        self.assertEqual(self.wrong(), "r3-6 abandoned: note the result 0-1 (time forfeit)\n")
+        self.assertEqual(await self.once(), 0)
+
+    async def test_where_the_relay_ends_a_game_and_the_file_goes_on_that_is_said(self):
+        """A position that has come five times ends it."""
+        self.write(game(THERE_AND_BACK * 5))
+        self.assertEqual(await self.once(), 1)
+        await self.has(r3_1=(518, THERE_AND_BACK_SENT * 4, "fivefold"))
+        self.assertEqual(self.wrong(), "r3-1 has ended: fivefold; the file has 20 plies and *\n")
+
+
+class Corrections(Entering):
+    async def test_moves_that_were_sent_and_are_others_now(self):
+        """Three moves back, then the first; then after the end."""
+        self.write(game(ITALIAN))
+        await self.start()
+        await self.has(r3_1=(518, ITALIAN_SENT, None))
+        self.write(game(ITALIAN[:9] + ["d6"]))
+        corrected = ITALIAN_SENT[:9] + ["d7d6"]
+        await self.has(r3_1=(518, ITALIAN_SENT, "abandoned"), r3_1__2=(518, corrected, None))
+        self.write(game(DUTCH))
+        await self.has(r3_1=(518, ITALIAN_SENT, "abandoned"), r3_1__2=(518, corrected, "abandoned"), r3_1__3=(518, DUTCH_SENT, None))
+        self.write(game(DUTCH, result="1-0"))
+        before = {"r3_1": (518, ITALIAN_SENT, "abandoned"), "r3_1__2": (518, corrected, "abandoned")}
+        await self.has(**before, r3_1__3=(518, DUTCH_SENT, "black resigns"))
+        self.write(game(DUTCH[:3], result="1/2-1/2"))
+        await self.has(**before, r3_1__3=(518, DUTCH_SENT, "black resigns"), r3_1__4=(518, DUTCH_SENT[:3], "agreed"))
+
+    async def test_a_file_that_is_cut_off_for_a_moment_corrects_nothing(self):
+        whole = game(ITALIAN) + game(DUTCH, 2)
+        self.file.write_text(whole)
+        await self.start("--every", "0.6")
+        await self.has(r3_1=(518, ITALIAN_SENT, None), r3_2=(518, DUTCH_SENT, None))
+        for end in range(0, len(whole), 17):
+            self.file.write_text(whole[:end])
+            await asyncio.sleep(0.1)
+            self.file.write_text(whole)
+            await asyncio.sleep(0.1)
+        await self.has(r3_1=(518, ITALIAN_SENT, None), r3_2=(518, DUTCH_SENT, None))
+
+
+class Losses(Entering):
+    async def test_a_connection_that_is_lost_comes_back_and_the_games_go_on(self):
+        wire = await Wire(self.relay.port).mend()
+        self.write(game(ITALIAN[:4]), game(DUTCH[:1], 2))
+        await self.start(address=wire.address)
+        await self.has(r3_1=(518, ITALIAN_SENT[:4], None), r3_2=(518, DUTCH_SENT[:1], None))
+        for count in 5, 7, 9:
+            await wire.cut()
+            self.write(game(ITALIAN[:count]), game(DUTCH[:2], 2))
+            await asyncio.sleep(0.5)
+            await wire.mend()
+            await self.has(r3_1=(518, ITALIAN_SENT[:count], None), r3_2=(518, DUTCH_SENT[:2], None))
+        await wire.cut()
+        self.assertIn("no connection to the relay", self.wrong())
+
+    async def test_a_relay_that_was_restarted_gets_the_games_again_under_their_next_names(self):
+        self.write(game(ITALIAN[:4]), game(DUTCH, 2, "1-0"))
+        await self.start()
+        await self.has(r3_1=(518, ITALIAN_SENT[:4], None), r3_2=(518, DUTCH_SENT, "black resigns"))
+        await self.relay.kill()
+        self.write(game(ITALIAN[:5]), game(DUTCH, 2, "1-0"))
+        await self.relay.start()
+        await self.has(r3_1__2=(518, ITALIAN_SENT[:5], None))
+        await self.relay.kill()
+        await self.relay.start()
+        await self.has(r3_1__3=(518, ITALIAN_SENT[:5], None))
+
+    async def test_a_program_that_is_killed_at_any_moment_goes_on_where_it_was(self):
+        chance = random.Random(55)
+        texts = ITALIAN + "Re1 a6 h3 h6 Bb3 Ba7 Nbd2 Re8 Nf1 Be6".split()
+        for count in range(1, len(texts) + 1):
+            self.write(game(texts[:count]), game(DUTCH[:count % 5] if count < 5 else DUTCH, 2, "1/2-1/2" if count > 8 else "*"))
+            program = await self.start()
+            await asyncio.sleep(chance.random())
+            program.kill()
+            await program.wait()
+        await self.start()
+        sent = ITALIAN_SENT + "f1e1 a7a6 h2h3 h7h6 c4b3 c5a7 b1d2 f8e8 d2f1 c8e6".split()
+        await self.has(r3_1=(518, sent, None), r3_2=(518, DUTCH_SENT, "agreed"))
+
+    async def test_it_ends_at_a_signal_without_ending_the_games(self):
+        self.write(game(DUTCH))
+        for number, words in (signal.SIGINT, "2... Nf6 (4 plies)"), (signal.SIGTERM, "is at the relay with 4 plies"):
+            program = await self.start()
+            await self.until(lambda: f"r3-1 White 1 – Black: {words}\n" in self.said())
+            program.send_signal(number)
+            self.assertEqual(await asyncio.wait_for(program.wait(), PATIENCE), 0)
+        await self.has(r3_1=(518, DUTCH_SENT, None))
+
+    async def test_a_game_whose_grace_was_over_goes_on_under_its_next_name(self):
+        await self.relay.kill()
+        self.relay.options["grace"] = 1
+        await self.relay.start()
+        self.write(game(DUTCH))
+        await self.once()
+        await self.has(r3_1=(518, DUTCH_SENT, "abandoned"))
+        await self.start()
+        await self.has(r3_1=(518, DUTCH_SENT, "abandoned"), r3_1__2=(518, DUTCH_SENT, None))
+
+
+class Neighbours(Entering):
+    async def test_two_programs_and_an_operator_do_not_play_into_each_others_boards(self):
+        operator = Connection(self.relay.port, key="an-operator_s-key-1234")
+        operator.asks(opens("r3-1"), OPENED)
+        operator.asks(submits("r3-1", "e2e4"), played(0))
+        other = self.room / "other.pgn"
+        self.write(game(ITALIAN[:4]), game(DUTCH, 2))
+        other.write_text(game(ITALIAN[:2], 2) + game(DUTCH, 3))
+        await self.start()
+        await self.has(r3_1=(518, ["e2e4"], None), r3_2=(518, DUTCH_SENT, None))
+        await self.start(file=other, state="other")
+        await self.has(r3_1=(518, ["e2e4"], None), r3_2=(518, DUTCH_SENT, None), r3_3=(518, DUTCH_SENT, None))
+        operator.asks(submits("r3-1", "e7e5"), played(1))
+        operator.asks(ends("r3-1", "abandoned"), ended("abandoned"))
+        await asyncio.sleep(1)
+        await self.has(r3_1=(518, ["e2e4", "e7e5"], "abandoned"), r3_2=(518, DUTCH_SENT, None), r3_3=(518, DUTCH_SENT, None))
+        operator.close()
+        for board in "r3-1", "r3-2":
+            self.assertEqual(self.wrong().count(f"{board}: this name is taken"), 1)
+
+    async def test_a_board_that_is_left_to_another_operator_goes_on_there_alone(self):
+        """Also where the program is started again and is not told so."""
+        self.write(game(ITALIAN[:4]), game(DUTCH, 2))
+        program = await self.start()
+        await self.has(r3_1=(518, ITALIAN_SENT[:4], None), r3_2=(518, DUTCH_SENT, None))
+        program.terminate()
+        await program.wait()
+        self.write(game(ITALIAN[:5]), game(DUTCH, 2, "1-0"))
+        program = await self.start("--without", "r3-1")
+        left = {"r3_1": (518, ITALIAN_SENT[:4], "abandoned"), "r3_2": (518, DUTCH_SENT, "black resigns")}
+        await self.has(**left)
+        operator = Connection(self.relay.port, key="an-operator_s-key-1234")
+        operator.asks(opens("r3-1_2"), OPENED)
+        operator.asks(submits("r3-1_2", "e2e4"), played(0))
+        program.terminate()
+        await program.wait()
+        await self.start()
+        await self.until(lambda: "r3-1_2: this name is taken: another operator has the board that goes on with r3-1\n" in self.wrong())
+        await self.has(**left, r3_1__2=(518, ["e2e4"], None))
+        operator.close()
+
+    async def test_a_second_program_on_the_same_file_is_refused(self):
+        self.write(game(DUTCH))
+        await self.start()
+        await self.has(r3_1=(518, DUTCH_SENT, None))
+        self.assertEqual(await self.once(), 2)
+        self.assertIn("another enter.py has", self.wrong())
+
+
+class Once(Entering):
+    async def test_the_status_tells_whether_all_games_are_there(self):
+        self.write(game(DUTCH), game(ITALIAN[:2], 2))
+        self.assertEqual(await self.once(), 0)
+        self.write(game(DUTCH), game(ITALIAN[:2] + ["Ke3"], 2))
+        self.assertEqual(await self.once(), 1)
+        self.write(game(ITALIAN[:2]), game(ITALIAN[:2], 2))
+        self.assertEqual(await self.once(), 1)
+        self.write(game(DUTCH))
+        self.file.write_text(self.file.read_text().rstrip().removesuffix("*").rstrip())
+        self.assertEqual(await self.once(), 1)
+        self.file.unlink()
+        self.assertEqual(await self.once(), 1)
+        await self.has(r3_1=(518, DUTCH_SENT, None), r3_2=(518, ITALIAN_SENT[:2], None))
+        await self.relay.kill()
+        self.write(game(DUTCH))
+        self.assertEqual(await self.once(), 1)
+        self.assertIn("no connection to the relay", self.wrong())
+        await self.relay.start()

@@ -1,0 +1,13 @@
+"""The tests of examples/pgn_in/tests, which need neither a relay nor a package of Debian."""
+import pathlib
+import sys
+import unittest
+
+TOP = pathlib.Path(__file__).resolve().parents[2]
+EXAMPLES = TOP / "examples"
+sys.path += [str(EXAMPLES / it) for it in ("pgn_in", "recorder", "hall")] + [str(TOP / "tools")]
+
+
+def load_tests(_loader, _tests, _pattern):
+    folder = str(EXAMPLES / "pgn_in/tests")
+    return unittest.TestLoader().discover(folder, top_level_dir=folder)
