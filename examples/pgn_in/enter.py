@@ -36,6 +36,7 @@ from round import Round  # noqa: E402
 from source import Unread, source_of  # noqa: E402
 
 PAUSE = 0.05  # Seconds between two looks whether there is something to do.
+WELL = {"relay": "the relay is there again", "source": "the file is there again"}
 
 
 class Reporter:
@@ -48,18 +49,18 @@ class Reporter:
         """What was done with a board. A result that is to be noted is said to a quiet one's reader, too."""
         if is_needed:
             print(f"{name} {words}", file=sys.stderr, flush=True)
-        if not self.is_quiet:
+        elif not self.is_quiet:
             print(": ".join(filter(None, [" ".join(filter(None, [name, want.players])), words])), flush=True)
 
     def complain(self, *sources):
-        """Says what has come to be wrong, and of what concerns all also when it is well again."""
-        faults = {key: words for it in sources for key, words in it.items()}
+        """Says what has come to be wrong, and of what concerns all boards also when it is well again."""
+        faults = {(at, key): words for at, it in enumerate(sources) for key, words in it.items()}
         for key, words in faults.items():
             if self.faults.get(key) != words:
                 print(words, file=sys.stderr, flush=True)
-        for key, well in ("relay", "the relay is there again"), ("source", "the file is there again"):
-            if key in self.faults and key not in faults:
-                print(well, file=sys.stderr, flush=True)
+        for key in set(self.faults) - set(faults):
+            if key[1] in WELL:
+                print(WELL[key[1]], file=sys.stderr, flush=True)
         self.faults = faults
 
 

@@ -10,7 +10,7 @@ from relay_client.keys import new_key
 
 
 class Taken(Exception):
-    """Another program has it."""
+    """Another program has it, or it is something else."""
 
 
 def folder():
@@ -27,34 +27,37 @@ def usual(server, source):
 
 
 class Kept:
+    """Its file is put in place as a whole, so a program that is killed leaves it whole. Another file beside it is locked."""
+
     def __init__(self, path):
         self.path = pathlib.Path(path)
         self.path.parent.mkdir(parents=True, exist_ok=True, mode=0o700)
-        self.file = os.fdopen(os.open(self.path, os.O_RDWR | os.O_CREAT, 0o600), "r+", encoding="ascii")
+        self.lock = os.open(f"{self.path}.lock", os.O_RDWR | os.O_CREAT, 0o600)
         try:
-            fcntl.flock(self.file, fcntl.LOCK_EX | fcntl.LOCK_NB)
+            fcntl.flock(self.lock, fcntl.LOCK_EX | fcntl.LOCK_NB)
         except BlockingIOError as fault:
             raise Taken(f"another enter.py has {self.path}: it takes the same file to the same relay") from fault
-        self.text = self.file.read()
         said = self.said()
         self.key, self.names = said.get("key") or new_key(), said.get("names", {})
+        self.text = None
         self.write()
 
     def said(self):
-        """What was kept; nothing where a machine went down before it was written through."""
         try:
-            said = json.loads(self.text)
-        except ValueError:
+            return json.loads(self.path.read_text(encoding="ascii"))
+        except FileNotFoundError:
             return {}
-        return said if isinstance(said, dict) else {}
+        except ValueError as fault:
+            raise Taken(f"{self.path} is no file of enter.py") from fault
 
     def write(self):
         """Writes it through, if it is another than before. A name is kept before its board is opened."""
         text = json.dumps({"key": self.key, "names": self.names}, indent=1) + "\n"
         if text != self.text:
-            self.file.seek(0)
-            self.file.write(text)
-            self.file.truncate()
-            self.file.flush()
-            os.fsync(self.file.fileno())
+            new = f"{self.path}.new"
+            with os.fdopen(os.open(new, os.O_WRONLY | os.O_CREAT | os.O_TRUNC, 0o600), "w", encoding="ascii") as file:
+                file.write(text)
+                file.flush()
+                os.fsync(file.fileno())
+            os.replace(new, self.path)
             self.text = text

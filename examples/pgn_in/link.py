@@ -57,7 +57,7 @@ class Link:
         self.reader = asyncio.create_task(self.read(self.socket))
 
     async def read(self, socket):
-        with contextlib.suppress(*FAULTS):
+        with contextlib.suppress(*FAULTS, ValueError, LookupError):  # The last two where it is no relay.
             async for message in socket:
                 answer = self.waiting.popleft()
                 if not answer.done():
@@ -86,6 +86,7 @@ class Link:
                 await self.socket.send(json.dumps(command))
             return await asyncio.wait_for(answer, PATIENCE)
         except FAULTS as fault:
+            answer.cancel()
             self.socket.transport.abort()
             raise Lost("the connection to the relay was lost") from fault
 

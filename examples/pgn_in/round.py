@@ -4,6 +4,8 @@ from games import read
 from setup import STANDARD, NoStart, number_of
 from wanted import READINGS, Want
 
+MOST = 256  # Games: a relay has no more boards.
+
 
 class Round:
     """Wants by their boards' names, but for those that it is `without`. `faults` has what is wrong with the file, by what it is wrong with.
@@ -20,8 +22,11 @@ class Round:
             self.data, self.games, self.stood = data, read(data), 1
         elif is_regular:
             self.stood += 1
-        named, self.faults = self.names.assign(self.settled())
-        if not named:
+        games = self.settled()
+        named, self.faults = self.names.assign(games[:MOST])
+        if len(games) > MOST:
+            self.faults["file"] = f"the file has {len(games)} games: those after the first {MOST} are left out"
+        if not self.games and (self.stood >= READINGS or not self.wants):
             self.faults["file"] = "there is no game in the file"
         for name, game in named.items():
             if name not in self.without:

@@ -34,7 +34,7 @@ class Seat:
                 if here is Step.REST:
                     return None
                 if here is Step.CORRECT and not want.is_settled:
-                    return f"{want.name}: the file has another game than was sent: it waits for three readings"
+                    return None if want.fault else f"{want.name}: the file has another game than was sent: it waits for three readings"
                 if here is Step.OTHERWISE:
                     has = f"the file has {len(want.moves)} plies and {want.game.result or 'no result'}"
                     raise Stuck(f"{self.have.name} has ended: {self.have.outcome}; {has}")
@@ -51,7 +51,7 @@ class Seat:
         elif here is Step.END:
             await self.end(want)
         else:
-            await self.reopen(want, here)
+            await self.reopen(want)
 
     # What is there.
 
@@ -173,7 +173,7 @@ class Seat:
             await self.find(want)
         return self.have.outcome is not None
 
-    async def reopen(self, want, why):
+    async def reopen(self, want):
         """Goes on under the next name that is free."""
         if self.have.outcome is None:
             await self.enter_end(want, "abandoned")

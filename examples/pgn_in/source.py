@@ -1,7 +1,9 @@
 """Where the games come from: a file of the machine, or an address, read again and again."""
 
 import asyncio
+import contextlib
 import os
+import threading
 import time
 import urllib.error
 import urllib.request
@@ -76,7 +78,24 @@ class Address(Source):
         self.address, self.data, self.marks = address, None, {}
 
     async def read(self):
-        return await asyncio.to_thread(self.fetch)
+        """Reads it beside the connection to the relay, in a thread for which the program's end does not wait."""
+        loop = asyncio.get_running_loop()
+        answer = loop.create_future()
+
+        def tell(data, fault):
+            if not answer.done():
+                answer.set_exception(fault) if fault else answer.set_result(data)
+
+        def work():
+            try:
+                data, fault = self.fetch(), None
+            except Exception as it:  # For the one who waits.
+                data, fault = None, it
+            with contextlib.suppress(RuntimeError):  # The program has ended.
+                loop.call_soon_threadsafe(tell, data, fault)
+
+        threading.Thread(target=work, daemon=True).start()
+        return await answer
 
     def fetch(self):
         request = urllib.request.Request(self.address, headers={"User-Agent": "relay960-enter", **self.marks})

@@ -2,14 +2,42 @@
 example's own test.sh, by hand, has more."""
 
 import asyncio
+import http.server
 import random
 import signal
+import threading
 
 from relay_client.connection import Connection
 from relay_client.program import PATIENCE
 from relay_client.tests.entering import DUTCH, DUTCH_SENT, ITALIAN, ITALIAN_SENT, THERE_AND_BACK, THERE_AND_BACK_SENT, Entering, game
 from relay_client.texts import OPENED, ended, ends, opens, played, submits
 from relay_client.wire import Wire
+
+
+class Site(http.server.ThreadingHTTPServer):
+    """A site on a free port that has one file, and answers with `status` or with a part of it."""
+
+    class Answer(http.server.BaseHTTPRequestHandler):
+        def do_GET(self):
+            site = self.server
+            tag = f'"{hash(site.body)}"'
+            status = 304 if site.status == 200 and self.headers["If-None-Match"] == tag else site.status
+            site.answered.append(status)
+            self.send_response(status)
+            self.send_header("ETag", tag)
+            if status == 200:
+                self.send_header("Content-Length", str(len(site.body)))
+            self.end_headers()
+            if status == 200:
+                self.wfile.write(site.body[:len(site.body) // 2] if site.is_half else site.body)
+
+        def log_message(self, *_):
+            pass
+
+    def __init__(self):
+        super().__init__(("127.0.0.1", 0), self.Answer)
+        self.body, self.status, self.is_half, self.answered = b"", 200, False, []
+        threading.Thread(target=self.serve_forever, daemon=True).start()
 
 
 class Growing(Entering):
@@ -31,6 +59,26 @@ class Growing(Entering):
             await self.has(r3_1=(518, ITALIAN_SENT[:count + 1], None), r3_2=(518, DUTCH_SENT, None))
         self.assertIn("r3-1 White 1 – Black: 6... d6\n", self.said())
         self.assertEqual(self.wrong(), "there is no game in the file\n")
+
+    async def test_an_address_is_read_like_a_file(self):
+        """While it is not there, or sends a half, nothing changes."""
+        site = Site()
+        self.addCleanup(site.server_close)
+        self.addCleanup(site.shutdown)
+        site.status = 404
+        await self.start(file=f"http://127.0.0.1:{site.server_port}/round.pgn")
+        await self.until(lambda: "answers 404" in self.wrong())
+        site.status, site.body = 200, (game(ITALIAN[:4]) + game(DUTCH, 2)).encode()
+        await self.has(r3_1=(518, ITALIAN_SENT[:4], None), r3_2=(518, DUTCH_SENT, None))
+        await self.until(lambda: site.answered.count(304) > 2)
+        site.status = 500
+        await self.until(lambda: "answers 500" in self.wrong())
+        site.status, site.is_half, site.body = 200, True, (game(ITALIAN[:6]) + game(DUTCH, 2)).encode()
+        await self.until(lambda: "sent a part only" in self.wrong())
+        await self.has(r3_1=(518, ITALIAN_SENT[:4], None), r3_2=(518, DUTCH_SENT, None))
+        site.is_half = False
+        await self.has(r3_1=(518, ITALIAN_SENT[:6], None), r3_2=(518, DUTCH_SENT, None))
+        self.assertEqual(self.wrong().splitlines()[-1], "the file is there again")
 
     async def test_a_game_of_another_start(self):
         self.write(game(["O-O", "O-O"], FEN="bbqnnrkr/pppppppp/8/8/8/8/PPPPPPPP/BBQNNRKR w KQkq - 0 1"),
@@ -54,6 +102,16 @@ class Growing(Entering):
         self.write(game(ITALIAN[:5]), game(DUTCH, 2))
         await self.has(r3_1=(518, ITALIAN_SENT[:5], None), r3_2=(518, DUTCH_SENT, None))
         self.assertEqual(self.said(), "")
+
+    async def test_a_move_that_is_not_legal_among_those_that_were_sent_corrects_nothing(self):
+        self.write(game(ITALIAN[:5]))
+        await self.start("--quiet")
+        await self.has(r3_1=(518, ITALIAN_SENT[:5], None))
+        self.write(game(ITALIAN[:1] + ["Ke4"] + ITALIAN[2:5]))
+        await self.until(lambda: "1... Ke4 is not legal" in self.wrong())
+        await asyncio.sleep(1.5)
+        await self.has(r3_1=(518, ITALIAN_SENT[:5], None))
+        self.assertEqual(len(self.wrong().splitlines()), 1)
 
 
 class Ends(Entering):
