@@ -1,7 +1,7 @@
 #!/usr/bin/env -S python3 -B
 """Refuses each allocation of the built program in turn, and looks at what is left.
 
-    benches/refusals.py [MOST]        those of its jobs, until a run meets no refusal; then 1 to MOST (600) of the server, its start included
+    benches/refusals.py [MOST]        those of its jobs, until a run meets no refusal; then 1 to MOST (600) of the server with its start
     benches/refusals.py --watching    those of the loop of a watch port, until nothing is refused any more
     benches/refusals.py --tests       those of each test that must hold then too, until a run meets no refusal
 
@@ -9,10 +9,10 @@ The gate does all of these. refused_jobs.py says what a job may do then, and ref
 
 The server has room for one board and one follower. In each run an owner opens the board, plays a move and closes; then three guests, one
 after another, follow from the first place. If the owner was answered in full, at least two guests get the move, the end as abandoned and
-the close 1000. Otherwise all three find the same: the board with the move, the board alone, or none. A server that cannot start says `fault 12
-OutOfMemory` and ends with status 4; every other run ends with all four connections accounted for, and nobody hears that what it asks for
-was done before. The last line counts what met the refusal. The status is 1 if a run was otherwise; one that does not end is the
-last. The tests are those that `rt test` built.
+the close 1000. Otherwise all three find the same: the board with the move, the board alone, or none. A server that cannot start says `fault
+12 OutOfMemory` and ends with status 4; every other run ends with all four connections accounted for, and nobody hears that what it asks for
+was done before. The last line counts what met the refusal. The status is 1 if a run was otherwise; one that does not end is the last. The
+tests are those that `rt test` built. One that meets no refusal shows nothing of want of memory: it fails, unless TAKE_NONE names it.
 """
 import collections
 import io
@@ -57,12 +57,28 @@ TESTS = {
         "tests::messages::answers::each_outcome_has_its_text",
         "tests::messages::answers::each_refusal_and_each_fault_has_its_text",
         "tests::messages::decoders::a_decoder_reads_texts_one_after_another",
-        "tests::messages::decoders::behind_want_of_memory_a_decoder_goes_on",
+        "tests::messages::ways::usual_and_compact_texts_take_no_memory",
+        "tests::messages::ways::texts_that_are_refused_at_once_take_no_memory",
+        "tests::messages::ways::behind_want_of_memory_a_decoder_goes_on",
+        "tests::messages::ways::behind_want_of_memory_for_members_a_decoder_goes_on",
+        "tests::messages::ways::behind_want_of_memory_a_decoder_goes_on_on_the_watch_port",
+        "tests::messages::ways::behind_want_of_memory_for_members_a_decoder_goes_on_on_the_watch_port",
     ],
     "relay_server_tests": [
         "tests::sessions::refusals::a_name_that_stands_takes_no_memory",
         "tests::sessions::refusals::a_refusal_ends_the_boards_and_leaves_no_seat_taken",
     ],
+}
+# What takes no memory: these meet no refusal at all.
+TAKE_NONE = {
+    "tests::messages::ways::usual_and_compact_texts_take_no_memory",
+    "tests::messages::ways::texts_that_are_refused_at_once_take_no_memory",
+}
+# How many refusals a test meets at least, where one may be another than its own. A text that is no plain object is first looked at as one,
+# and then takes memory for its members.
+LEAST = {
+    "tests::messages::ways::behind_want_of_memory_for_members_a_decoder_goes_on": 2,
+    "tests::messages::ways::behind_want_of_memory_for_members_a_decoder_goes_on_on_the_watch_port": 2,
 }
 OWNER = ['{"cmd":"open","board":"b1","start":518}', '{"cmd":"submit","board":"b1","move":"e2e4"}']
 GUEST = ['{"cmd":"follow","board":"b1","spectator":9,"from":0}']
@@ -85,8 +101,8 @@ def answer_of(data):
 
 
 def talk(port, texts, follows=False):
-    """What a connection receives that sends these texts and a close. One that asks to follow closes only if it is refused, since a close ends
-    it at once, whatever it is still due."""
+    """What a connection receives that sends these texts and a close. One that asks to follow closes only if it is refused, since a close
+    ends it at once, whatever it is still due."""
     told, data, closes = [], b"", not follows
     with socket.create_connection(("127.0.0.1", port), timeout=PATIENCE) as peer:
         try:
@@ -130,21 +146,39 @@ def met(refused, allocator):
     return "owner" if alike else None
 
 
-def refuse_in_tests(allocator, mark):
-    """Runs each test with each allocation refused; returns how many it asks for, and how many runs failed."""
+def complaint(name, met):
+    """What is wrong with a test that meets this many refusals: one that meets none shows nothing of them, whatever its name says."""
+    if name in TAKE_NONE:
+        return "it takes memory, though the list says that it takes none" if met else None
+    least = LEAST.get(name, 1)
+    return f"it meets fewer than {least}: what it calls takes no memory any more" if met < least else None
+
+
+def refuse_in_test(test, name, allocator, mark):
+    """Runs a test with each allocation refused; returns how many it asks for, and how many runs failed."""
     failed = 0
+    for refused in itertools.count(1):
+        run = run_refused(refused, [test, name], allocator, mark)
+        if run.returncode:
+            print(f"{name}, allocation {refused}: status {run.returncode} {run.stderr.decode().strip()}")
+            failed += 1
+        if not mark.exists():
+            return refused - 1, failed
+
+
+def refuse_in_tests(allocator, mark):
+    """Refuses each allocation of each test; returns the status: 0 if no run failed, and each test met as many refusals as it should."""
+    failed = wrong = 0
     for crate, names in TESTS.items():
         for name in names:
-            for refused in itertools.count(1):
-                run = run_refused(refused, [CRATES / crate / "out" / f"{crate}_tests", name], allocator, mark)
-                if run.returncode:
-                    print(f"{name}, allocation {refused}: status {run.returncode} {run.stderr.decode().strip()}")
-                    failed += 1
-                if not mark.exists():
-                    print(f"{name}: {refused - 1} allocations refused")
-                    break
-    print(f"{failed} runs failed")
-    return 1 if failed else 0
+            met, fails = refuse_in_test(CRATES / crate / "out" / f"{crate}_tests", name, allocator, mark)
+            print(f"{name}: {met} allocations refused")
+            failed += fails
+            if complained := complaint(name, met):
+                print(f"{name}: {complained}")
+                wrong += 1
+    print(f"{failed} runs failed" + (f", {wrong} tests met more or fewer refusals than they should" if wrong else ""))
+    return 1 if failed or wrong else 0
 
 
 def main():

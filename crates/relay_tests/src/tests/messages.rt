@@ -10,3 +10,4 @@ mod faults;
 mod round_trip;
 mod usual;
 mod watch_commands;
+mod ways;

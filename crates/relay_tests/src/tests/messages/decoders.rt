@@ -47,13 +47,3 @@ fn a_decoder_reads_texts_one_after_another(rt: HostRuntime) {
     let said = decoder.decode(take.as_bytes());
     assert!(rt; said == Ok(Step::Take(7)));
 }
-
-#[test]
-fn behind_want_of_memory_a_decoder_goes_on(rt: HostRuntime) {
-    let take = br#"{"cmd":"take","spectator":7}"#;
-    let mut decoder = Decoder::new(rt.alloc());
-    let said = decoder.decode(take);
-    assert!(rt; said == Ok(Step::Take(7)) || said == Err(MessageFault::OutOfMemory));
-    let again = decoder.decode(take);
-    assert!(rt; again == Ok(Step::Take(7)));
-}

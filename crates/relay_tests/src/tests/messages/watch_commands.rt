@@ -134,14 +134,3 @@ fn a_text_of_1024_bytes_is_read_on_the_watch_port_and_one_of_1025_is_not(rt: Hos
     assert!(rt; decoder.decode_watch(&text[..1024]) == Ok(WatchCommand::Boards));
     assert!(rt; decoder.decode_watch(&text) == Err(MessageFault::BadField));
 }
-
-/// It holds with each allocation refused in turn (`rt try --test --fail-alloc N`).
-#[test]
-fn behind_want_of_memory_a_decoder_goes_on_on_the_watch_port(rt: HostRuntime) {
-    let boards = br#"{"cmd":"boards"}"#;
-    let mut decoder = Decoder::new(rt.alloc());
-    let said = decoder.decode_watch(boards);
-    assert!(rt; said == Ok(WatchCommand::Boards) || said == Err(MessageFault::OutOfMemory));
-    let again = decoder.decode_watch(boards);
-    assert!(rt; again == Ok(WatchCommand::Boards));
-}

@@ -1,0 +1,129 @@
+//! The ways in which a text is read, with the memory that each takes. They are tried in this order: usual, compact and plain objects, and
+//! any other text. Where one allocation is refused, each in turn (`benches/refusals.py --tests`), a decoder answers the text that asked for
+//! it with 12, and goes on. That list says which of these tests meets no refusal, and which meets more than one.
+
+use crate::tests::values::{board_of, move_of};
+use c960_game::Ending;
+use relay_core::Step;
+use relay_messages::{Decoder, MessageFault, WatchCommand};
+
+/// A plain object, since it has two spaces where a compact one has one.
+const PLAIN: &str = r#"{"cmd":  "take",  "spectator":  7}"#;
+
+/// An object with a value that no plain one has, in the place of which a later one counts.
+const OTHER: &str = r#"{"cmd":"take","spectator":[1],"spectator":7}"#;
+
+/// The same two for a command of the watch port.
+const PLAIN_BOARDS: &str = r#"{"cmd":  "boards"}"#;
+
+const OTHER_BOARDS: &str = r#"{"cmd":[1],"cmd":"boards"}"#;
+
+/// What a text asks for on the main port. It is read again if there was no memory: one allocation is refused at the most.
+fn read(decoder: &mut Decoder, text: &str) -> Result<Step, MessageFault> {
+    match decoder.decode(text.as_bytes()) {
+        Err(MessageFault::OutOfMemory) => decoder.decode(text.as_bytes()),
+        said => said,
+    }
+}
+
+/// The same on the watch port.
+fn read_watch(decoder: &mut Decoder, text: &str) -> Result<WatchCommand, MessageFault> {
+    match decoder.decode_watch(text.as_bytes()) {
+        Err(MessageFault::OutOfMemory) => decoder.decode_watch(text.as_bytes()),
+        said => said,
+    }
+}
+
+/// A decoder that has never taken memory answers each, whatever is refused.
+#[test]
+fn usual_and_compact_texts_take_no_memory(rt: HostRuntime) {
+    let mut decoder = Decoder::new(rt.alloc());
+    let board = board_of(&rt, "b1");
+    for (text, step) in [
+        (r#"{"cmd":"take","spectator":7}"#, Step::Take(7)),
+        (r#"{"cmd": "leave", "spectator": 7}"#, Step::Leave(7)),
+        (
+            r#"{"cmd":"submit","board":"b1","move":"e2e4"}"#,
+            Step::Submit(board, move_of(&rt, "e2e4")),
+        ),
+        (
+            r#"{"cmd":"follow","board":"b1","spectator":7}"#,
+            Step::Follow(7, board, None),
+        ),
+        (
+            r#"{"cmd":"follow","board":"b1","spectator":7,"from":2}"#,
+            Step::Follow(7, board, Some(2)),
+        ),
+        // Compact alone: the keys stand in another order, or the command is another.
+        (r#"{"spectator":7,"cmd":"take"}"#, Step::Take(7)),
+        (
+            r#"{"cmd":"open","board":"b1","start":518}"#,
+            Step::Open(board, 518),
+        ),
+        (
+            r#"{"how": "agreed", "cmd": "end", "board": "b1"}"#,
+            Step::End(board, Ending::Agreed),
+        ),
+    ] {
+        let Ok(WatchCommand::Step(said)) = decoder.decode_watch(text.as_bytes()) else {
+            panic!(rt; "no command of the main port: {text}");
+        };
+        assert!(rt; said == step, "{text} on the watch port");
+        let said = decoder.decode(text.as_bytes());
+        assert!(rt; said == Ok(step), "{text}");
+    }
+    let said = decoder.decode_watch(br#"{"cmd":"boards"}"#);
+    assert!(rt; said == Ok(WatchCommand::Boards));
+}
+
+/// A text that is compact and no command takes none either, nor one of too many bytes.
+#[test]
+fn texts_that_are_refused_at_once_take_no_memory(rt: HostRuntime) {
+    let mut decoder = Decoder::new(rt.alloc());
+    for (text, fault) in [
+        (r#"{"cmd":"pass"}"#, MessageFault::UnknownCommand),
+        (
+            r#"{"cmd":"take","spectator":4294967296}"#,
+            MessageFault::BadField,
+        ),
+    ] {
+        let said = decoder.decode(text.as_bytes());
+        assert!(rt; said == Err(fault), "{text}");
+        let said = decoder.decode_watch(text.as_bytes());
+        assert!(rt; said == Err(fault), "{text} on the watch port");
+    }
+    let said = decoder.decode(&[b' '; 1025]);
+    assert!(rt; said == Err(MessageFault::BadField));
+    let said = decoder.decode_watch(&[b' '; 1025]);
+    assert!(rt; said == Err(MessageFault::BadField));
+}
+
+#[test]
+fn behind_want_of_memory_a_decoder_goes_on(rt: HostRuntime) {
+    let mut decoder = Decoder::new(rt.alloc());
+    assert!(rt; read(&mut decoder, PLAIN) == Ok(Step::Take(7)));
+    assert!(rt; decoder.decode(PLAIN.as_bytes()) == Ok(Step::Take(7)));
+}
+
+#[test]
+fn behind_want_of_memory_for_members_a_decoder_goes_on(rt: HostRuntime) {
+    let mut decoder = Decoder::new(rt.alloc());
+    assert!(rt; read(&mut decoder, OTHER) == Ok(Step::Take(7)));
+    assert!(rt; decoder.decode(PLAIN.as_bytes()) == Ok(Step::Take(7)));
+    assert!(rt; read(&mut decoder, "[") == Err(MessageFault::NotJson));
+}
+
+#[test]
+fn behind_want_of_memory_a_decoder_goes_on_on_the_watch_port(rt: HostRuntime) {
+    let mut decoder = Decoder::new(rt.alloc());
+    assert!(rt; read_watch(&mut decoder, PLAIN_BOARDS) == Ok(WatchCommand::Boards));
+    assert!(rt; decoder.decode_watch(PLAIN_BOARDS.as_bytes()) == Ok(WatchCommand::Boards));
+}
+
+#[test]
+fn behind_want_of_memory_for_members_a_decoder_goes_on_on_the_watch_port(rt: HostRuntime) {
+    let mut decoder = Decoder::new(rt.alloc());
+    assert!(rt; read_watch(&mut decoder, OTHER_BOARDS) == Ok(WatchCommand::Boards));
+    assert!(rt; decoder.decode_watch(PLAIN_BOARDS.as_bytes()) == Ok(WatchCommand::Boards));
+    assert!(rt; read_watch(&mut decoder, "[") == Err(MessageFault::NotJson));
+}
