@@ -13,6 +13,7 @@ mod places;
 mod plain;
 mod plies;
 mod random;
+mod rows;
 mod slots;
 mod table;
 mod threads;

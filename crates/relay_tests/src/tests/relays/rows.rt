@@ -1,0 +1,148 @@
+//! More followers than the sixty-four whose tags are compared at once. A relay is asked what a plain one is asked, which looks at its
+//! followers one by one.
+
+use crate::tests::relays::plain::Plain;
+use crate::tests::relays::table::limits_of;
+use crate::tests::values::{board_of, move_of};
+use relay_core::{BoardName, Relay, Reply, Step};
+use std::alloc::{AllocError, Global};
+use std::process::Abort;
+
+/// How many follow at a time: as many as one or two looks take, and up to two fewer or more.
+const FOLLOWERS: [u16; 10] = [62, 63, 64, 65, 66, 126, 127, 128, 129, 130];
+
+/// The boards, whose followers are mixed. Of one board, the first has them all.
+const BOARDS: [&str; 8] = ["a", "b", "c", "d", "e", "f", "g", "h"];
+
+/// The moves of each game.
+const LINE: [&str; 8] = [
+    "e2e4", "e7e5", "g1f3", "b8c6", "f1b5", "a7a6", "b5a4", "g8f6",
+];
+
+/// Both relays, how many boards they have, and how many follow these.
+#[derive(Drop)]
+struct Pair {
+    relay: Relay,
+    plain: Plain,
+    boards: u32,
+    followers: u32,
+}
+
+/// Relays without boards, which have room for these followers and no more if their boards have as many each.
+fn pair_of(
+    rt: &impl Abort,
+    alloc: Global,
+    boards: u16,
+    followers: u16,
+) -> Result<Pair, AllocError> {
+    let most = if boards == 1 {
+        followers
+    } else {
+        followers.div_ceil(8)
+    };
+    let limits = limits_of(rt, (boards, most, 3, 64));
+    Ok(Pair {
+        relay: Relay::new(alloc, limits)?,
+        plain: Plain::new(alloc, limits),
+        boards: u32::from(boards),
+        followers: u32::from(followers),
+    })
+}
+
+/// The board whose turn it is.
+fn board(rt: &impl Abort, pair: &Pair, turn: u32) -> BoardName {
+    let index = if pair.boards == 1 { 0 } else { turn % 8 };
+    board_of(rt, BOARDS[index as usize])
+}
+
+/// Asserts that both answer a step alike. Returns whether they accept it.
+fn ask(rt: &impl Abort, pair: &mut Pair, step: Step) -> Result<bool, AllocError> {
+    let reply = pair.relay.step(step);
+    let plain = pair.plain.step(step)?;
+    assert!(rt; reply == plain, "{step:?}");
+    Ok(!matches!(reply, Reply::Refused(_)))
+}
+
+/// The boards are opened, and the followers come, to each board by turns.
+fn gather(rt: &impl Abort, pair: &mut Pair) -> Result<(), AllocError> {
+    for turn in 0..pair.boards {
+        let opened = ask(rt, pair, Step::Open(board(rt, pair, turn), 518))?;
+        assert!(rt; opened);
+    }
+    for who in 0..pair.followers {
+        let follows = ask(rt, pair, Step::Follow(who, board(rt, pair, who), None))?;
+        assert!(rt; follows);
+    }
+    Ok(())
+}
+
+/// One more asks for a board, which may be full. Then a follower leaves, and asks for each board until one has room.
+fn change(rt: &impl Abort, pair: &mut Pair, who: u32, turn: u32) -> Result<(), AllocError> {
+    let more = pair.followers;
+    let _ = ask(rt, pair, Step::Follow(more, board(rt, pair, turn), None))?;
+    let _ = ask(rt, pair, Step::Leave(more))?;
+    let left = ask(rt, pair, Step::Leave(who))?;
+    assert!(rt; left);
+    for next in turn..turn.saturating_add(8) {
+        if ask(rt, pair, Step::Follow(who, board(rt, pair, next), None))? {
+            return Ok(());
+        }
+    }
+    panic!(rt; "no room for {who}");
+}
+
+/// The same move on each board by turns, behind which one of the first followers and one of the last change. Then four of five take.
+fn play(rt: &impl Abort, pair: &mut Pair, round: u32) -> Result<(), AllocError> {
+    let m = move_of(rt, LINE[(round % 8) as usize]);
+    for turn in 0..pair.boards {
+        let played = ask(rt, pair, Step::Submit(board(rt, pair, turn), m))?;
+        assert!(rt; played);
+        let first = round.saturating_add(turn.saturating_mul(7));
+        change(rt, pair, first, turn)?;
+        let last = pair.followers.saturating_sub(first.saturating_add(1));
+        change(rt, pair, last, turn)?;
+    }
+    for who in 0..pair.followers {
+        if who % 5 != 0 {
+            let _ = ask(rt, pair, Step::Take(who))?;
+        }
+    }
+    Ok(())
+}
+
+/// All take once more, and leave.
+fn disperse(rt: &impl Abort, pair: &mut Pair) -> Result<(), AllocError> {
+    for who in 0..pair.followers {
+        let took = ask(rt, pair, Step::Take(who))?;
+        let left = ask(rt, pair, Step::Leave(who))?;
+        assert!(rt; took && left);
+    }
+    Ok(())
+}
+
+/// Asserts that a relay with this many boards answers as the plain one, whatever the number of followers.
+fn assert_alike(rt: &impl Abort, alloc: Global, boards: u16) -> Result<(), AllocError> {
+    for followers in FOLLOWERS {
+        let mut pair = pair_of(rt, alloc, boards, followers)?;
+        gather(rt, &mut pair)?;
+        for round in 0..8 {
+            play(rt, &mut pair, round)?;
+        }
+        disperse(rt, &mut pair)?;
+    }
+    Ok(())
+}
+
+#[test]
+fn many_followers_of_one_board_are_answered_as_by_the_plain_relay(
+    rt: HostRuntime,
+) -> Result<(), AllocError> {
+    assert_alike(&rt, rt.alloc(), 1)
+}
+
+#[test]
+fn many_followers_of_eight_boards_are_answered_as_by_the_plain_relay(
+    rt: HostRuntime,
+) -> Result<(), AllocError> {
+    assert_alike(&rt, rt.alloc(), 8)
+}
