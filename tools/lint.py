@@ -1,6 +1,8 @@
 #!/usr/bin/env -S python3 -B
 """Runs the linters over the repository: lint.py. They are those of Python, shell and JavaScript, and the layout of Rattle, which the gate
-refuses a crate for. What is missing is named with its Debian package."""
+refuses a crate for. What is missing is named with its Debian package. Lines of code and comments have at most 140 characters; definitions,
+clauses and proofs may have more, since a clause is read as one sentence."""
+import re
 import shutil
 import subprocess
 import sys
@@ -16,6 +18,39 @@ LINTERS = {
     "JavaScript": (["node", "--check"], "nodejs", True),
 }
 ENDINGS = {".rt": "Rattle", ".antt": "Rattle", ".py": "Python", ".sh": "shell", ".js": "JavaScript", ".mjs": "JavaScript"}
+LONGEST = 140
+# What begins a clause or another ghost item of code.
+CLAUSE = re.compile(r"\s*(ghost|requires|ensures|invariant|decreases)\b")
+# What the layout of Rattle leaves whole: a literal that stands alone in its line, a row of numbers, and a row of two positions in a text.
+WHOLE = re.compile(r"""\s*(b?r?(#*)".*"\2[;,)]*|(0x[0-9a-f]{16}[ ,]*)+|[\w/]+ [wb] [^"]*\|[^"]*)$""")
+
+
+def in_clauses(lines):
+    """Whether each line of code is one of a clause, which goes on until its braces are closed."""
+    depth, inside = 0, False
+    for line in lines:
+        inside = depth > 0 or CLAUSE.match(line) is not None
+        yield inside
+        depth = max(depth + line.count("{") - line.count("}"), 0) if inside else 0
+
+
+def too_long(ending, text):
+    """The numbers of the lines that are too long, of a file with this ending."""
+    lines = text.splitlines()
+    aside = in_clauses(lines) if ending == ".rt" else (ending == ".antt" and not line.lstrip().startswith("--") for line in lines)
+    return [
+        number
+        for number, (line, is_aside) in enumerate(zip(lines, aside), 1)
+        if len(line) > LONGEST and not is_aside and not (ending == ".rt" and WHOLE.match(line))
+    ]
+
+
+def are_short(paths):
+    """Whether the lines of these files are short enough; each that is not is named."""
+    found = [(path, number) for path in paths for number in too_long((ROOT / path).suffix, (ROOT / path).read_text())]
+    for path, number in found:
+        print(f"{path}:{number}: more than {LONGEST} characters")
+    return not found
 
 
 def language_of(path):
@@ -52,6 +87,7 @@ def main():
         words, _, is_single = LINTERS[language]
         for given in ([it] for it in paths) if is_single else [paths]:
             well = subprocess.run([*words, *given], cwd=ROOT, check=False).returncode == 0 and well
+        well = are_short(paths) and well
         print(f"{language}: {len(paths)} files looked through", flush=True)
     return 0 if well else 1
 
