@@ -46,7 +46,8 @@ put 644 /usr/lib/relay960 examples/pgn_in/desk.py examples/pgn_in/entry.py examp
 put 644 /usr/lib/systemd/system examples/deployment/*.service
 put 644 /etc/relay960 examples/deployment/enter examples/deployment/feed examples/many_spectators/redis.conf
 put 644 /etc/relay960/nginx examples/deployment/relay960-*.conf
-put 644 /etc/relay960/nginx examples/many_spectators/channels.conf examples/many_spectators/publish.conf examples/many_spectators/subscribe.conf
+put 644 /etc/relay960/nginx examples/many_spectators/channels.conf examples/many_spectators/publish.conf \
+    examples/many_spectators/subscribe.conf
 
 mkdir "$root/DEBIAN"
 (cd "$root" && find etc -type f | sort | sed 's|^|/|') > "$root/DEBIAN/conffiles"

@@ -2,9 +2,9 @@
 """Writes the games that all.sh and plays.py play: games.py FOLDER PLIES.
 
 FOLDER/chance has games from random starts, each move drawn from the legal ones, of at most 120 plies. FOLDER/shuffle has games of 148 plies
-in which nothing is captured, no pawn moves and no position comes for the fifth time, so that neither rule on draws without a claim ends one.
-A file NUMBER.START holds a game's moves, a line each; each folder's games have PLIES plies together.
-Legal moves are those of Debian's Stockfish, so no part of this repository says what to expect of them.
+in which nothing is captured, no pawn moves and no position comes for the fifth time, so that neither rule on draws without a claim ends
+one. A file NUMBER.START holds a game's moves, a line each; each folder's games have PLIES plies together. Legal moves are those of Debian's
+Stockfish, so no part of this repository says what to expect of them.
 """
 import os
 import random
@@ -73,7 +73,8 @@ def by_chance(stockfish, start):
 def shuffled(stockfish, number):
     """A game of pieces that only go to empty squares, or none if it gets stuck; the cells are kept here to see which moves those are."""
     array = array_of(number)
-    cells = {f"{'abcdefgh'[at]}1": kind for at, kind in enumerate(array)} | {f"{'abcdefgh'[at]}8": kind.lower() for at, kind in enumerate(array)}
+    cells = {f"{'abcdefgh'[at]}1": kind for at, kind in enumerate(array)}
+    cells |= {f"{'abcdefgh'[at]}8": kind.lower() for at, kind in enumerate(array)}
     cells |= {f"{name}2": "P" for name in "abcdefgh"} | {f"{name}7": "p" for name in "abcdefgh"}
     seen, moves = {}, []
     while len(moves) < 148:
@@ -97,7 +98,8 @@ def shuffled(stockfish, number):
 def main(folder, plies):
     random.seed(960)
     stockfish = Stockfish()
-    for kind, make in (("chance", lambda number: by_chance(stockfish, start_of(number))), ("shuffle", lambda number: shuffled(stockfish, number))):
+    for kind, make in (("chance", lambda number: by_chance(stockfish, start_of(number))),
+                       ("shuffle", lambda number: shuffled(stockfish, number))):
         os.makedirs(f"{folder}/{kind}", exist_ok=True)
         written = games = 0
         while written < plies:

@@ -1,10 +1,10 @@
 #!/usr/bin/env python3
 """Times live boards beside tokio's `broadcast` and crossbeam's `bounded`: live.py [--boards 100] [--rounds 5] [--program ..].
 
-Builds live_peers.rs with rustc from the sources of Debian's packages librust-tokio-dev and librust-crossbeam-channel-dev, and fetches nothing.
-Then all programs run in turn, in rounds: each plays games of 1,000 moves, one board after the other, and reports what that took. The peers
-know no rules of chess: they send at once, and again at the pace at which a live board without followers was played in that round. The figures
-are the medians, with the least and the greatest. Memory is the most that a process had resident, in runs that only open boards.
+Builds live_peers.rs with rustc from the sources of Debian's packages librust-tokio-dev and librust-crossbeam-channel-dev, and fetches
+nothing. Then all programs run in turn, in rounds: each plays games of 1,000 moves, one board after the other, and reports what that took.
+The peers know no rules of chess: they send at once, and again at the pace at which a live board without followers was played in that round.
+The figures are the medians, with the least and the greatest. Memory is the most that a process had resident, in runs that only open boards.
 """
 import argparse
 import statistics

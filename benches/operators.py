@@ -6,11 +6,12 @@
     benches/operators.py --what answers --rounds 1
     benches/operators.py --busy 12                             how long an operator waits beside 12 programs that never rest
 
-answers  how long an operator waits for its answer to a move (operators.c), with followers and with a crowd beside them; the memory and the threads
-         of the server once the followers are there
+answers  how long an operator waits for its answer to a move (operators.c), with followers and with a crowd beside them; the memory and the
+         threads of the server once the followers are there
 turns    a move, all 100 followers have it, the next: processor time a delivery and deliveries a second (reader.c), beside nchan
 places   of a follower on a quiet board: from its ping to the pong, from its close to the answer, and until its place is free
-elsewhere how long an operator waits with nobody following, while another server of the same machine has the followers and the crowd: what is left
+elsewhere how long an operator waits with nobody following, while another server of the same machine has the followers and the crowd: what
+is left
          of that is the machine's own
 
 Prints the medians of the rounds with the least and greatest, and the load of the machine. Nothing else is to run on it.
@@ -79,7 +80,8 @@ def spread(values):
 @contextlib.contextmanager
 def running(program, room, followers=MOST_FOLLOWERS):
     port = free_port()
-    words = [program.path, "serve", "--port", str(port), "--forever", "--followers", str(followers), "--capacity", "1024", "--plies", "1024"]
+    words = [program.path, "serve", "--port", str(port), "--forever", "--followers", str(followers), "--capacity", "1024",
+             "--plies", "1024"]
     server = serving.Server("relay", words, room, port)
     try:
         yield server
@@ -197,7 +199,8 @@ def places(programs, room, figures):
                 figures.note(f"a place is free after: {way}", program.name, {"ms": milliseconds_to(lambda: place_is_free(asker))})
             if way == "close":
                 guest.stream.settimeout(0.1)
-                figures.note("a close is answered by then", program.name, {"is": milliseconds_to(lambda: guest.hears("close 1001")) is not None})
+                figures.note("a close is answered by then", program.name,
+                             {"is": milliseconds_to(lambda: guest.hears("close 1001")) is not None})
             owner.close()
 
 

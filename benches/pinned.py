@@ -1,5 +1,6 @@
 #!/usr/bin/env -S python3 -B
-"""How much memory of the server one peer pins: pinned.py [PEERS]. Peers of a kind connect, send and never read; then what is resident is compared.
+"""How much memory of the server one peer pins: pinned.py [PEERS]. Peers of a kind connect, send and never read; then what is resident is
+compared.
 
 A few peers of the kind come first, so that what all share is there. The program is the built one, or that of the environment's RELAY960.
 """

@@ -1,8 +1,8 @@
 #!/usr/bin/env python3
 """Times `relay960 play` without the starts of the program: plays.py FOLDER [--rounds 5] PROGRAM..
 
-FOLDER holds games/chance and games/shuffle, which `benches/games.py games 100000` makes there. Each game is played in a run of the program of its
-own, and then as many runs are made without a line; the figure is the processor time of the first less that of the second.
+FOLDER holds games/chance and games/shuffle, which `benches/games.py games 100000` makes there. Each game is played in a run of the program
+of its own, and then as many runs are made without a line; the figure is the processor time of the first less that of the second.
 """
 import argparse
 import resource
@@ -36,7 +36,8 @@ def main():
                 taken[program].append(spent(program, games, True) - spent(program, games, False))
         for program, seconds in taken.items():
             middle = statistics.median(seconds)
-            print(f"{kind} | {program} | {moves} moves | {middle:.3f} s ({min(seconds):.3f} to {max(seconds):.3f}) | {moves / middle:,.0f} a second")
+            between = f"{min(seconds):.3f} to {max(seconds):.3f}"
+            print(f"{kind} | {program} | {moves} moves | {middle:.3f} s ({between}) | {moves / middle:,.0f} a second")
 
 
 main()

@@ -1,8 +1,8 @@
-// An allocator for benches/refusals.py, by LD_PRELOAD: the allocation of the number REFUSED is refused once, all others are the C library's.
-// If that happens, the file MARK is made.
+// An allocator for benches/refusals.py, by LD_PRELOAD: the allocation of the number REFUSED is refused once, all others are the C
+// library's. If that happens, the file MARK is made.
 //
-// Where SHEET names a file, the numbers in it say which one is refused, and only the allocations of the watch port's loop count. So one server
-// may be refused one after another. The loop's thread is the one that has waited for epoll.
+// Where SHEET names a file, the numbers in it say which one is refused, and only the allocations of the watch port's loop count. So one
+// server may be refused one after another. The loop's thread is the one that has waited for epoll.
 #include <errno.h>
 #include <fcntl.h>
 #include <stdlib.h>

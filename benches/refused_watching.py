@@ -4,8 +4,8 @@ Before anything is refused one spectator follows the board b1, and another one w
 allocation of the loop is refused. The actor gets its usual answer, or 12 instead, or its connection ends. All others get all
 that they are due, and the operator's answers are as always. Then a move is made, and the actor comes again and is served.
 
-A move or a board for which there was no memory is reported at the next news or a second later. Someone who watches all boards may be lost if there was no
-memory for its own text.
+A move or a board for which there was no memory is reported at the next news or a second later. Someone who watches all boards may be lost
+if there was no memory for its own text.
 """
 import collections
 import contextlib
@@ -25,8 +25,8 @@ from relay_client.frames import PING, frame, masked
 from relay_client.program import fens
 from relay_client.server import NotListening, Server
 from relay_client.tests.sessions import moves_without_a_draw, owner_of
-from relay_client.texts import (BAD_FIELD, BOARDS, NO_BOARD, NO_MEMORY, NOT_JSON, OPENED, START_518, ended, ends, following, follows, moved, opens,
-                                over, played, refused, stands, submits)
+from relay_client.texts import (BAD_FIELD, BOARDS, NO_BOARD, NO_MEMORY, NOT_JSON, OPENED, START_518, ended, ends, following, follows, moved,
+                                opens, over, played, refused, stands, submits)
 
 NOT_YET, WRONG_MODE = refused(16, "NotYet"), refused(14, "WrongMode")
 DONE = "close 1000"
@@ -44,7 +44,8 @@ class Wrong(Exception):
 
 
 class Sheet:
-    """What the allocator reads and writes: which allocation of the loop is refused, how many it was asked for since, and whether the loop waits."""
+    """What the allocator reads and writes: which allocation of the loop is refused, how many it was asked for since, and whether the loop
+    waits."""
 
     FORM = "qqq"
 
@@ -93,8 +94,8 @@ def received(connection):
 
 
 def told(connection, wanted):
-    """How one received these texts, each of which may be one of a set: SERVED, TOLD_12 if that came instead of one, or LOST if the connection
-    ended before."""
+    """How one received these texts, each of which may be one of a set: SERVED, TOLD_12 if that came instead of one, or LOST if the
+    connection ended before."""
     for text in wanted:
         heard = received(connection)
         if heard is None:
@@ -107,8 +108,8 @@ def told(connection, wanted):
 
 
 class Observer:
-    """One who watches all boards. Each text is right, and says more than the one before. For each board it keeps how much was reported, its plies
-    and its end."""
+    """One who watches all boards. Each text is right, and says more than the one before. For each board it keeps how much was reported, its
+    plies and its end."""
 
     def __init__(self, house):
         self.house = house
@@ -244,7 +245,8 @@ ACTS = [
     Act("comes", always(b""), always([]), comes=True),
     Act("follows from now on", always(frame(follows("b1"))), House.from_now_on, follows=True),
     Act("follows from the first place", always(frame(follows("b1", place=0))), House.from_the_first, follows=True),
-    Act("follows in two fragments", always(masked(0x01, FROM_THE_FIRST[:9]) + masked(0x80, FROM_THE_FIRST[9:])), House.from_the_first, follows=True),
+    Act("follows in two fragments", always(masked(0x01, FROM_THE_FIRST[:9]) + masked(0x80, FROM_THE_FIRST[9:])), House.from_the_first,
+        follows=True),
     asks("follows a board that nobody else follows", follows("b2", place=0), following()),
     Act("asks for all boards", always(frame(BOARDS)), House.all_boards),
     asks("is refused for its board", follows("b3"), NO_BOARD),
@@ -390,7 +392,8 @@ def start_is_refused(allocator, mark, number):
 
 
 def until_nothing_is_refused(name, refuse):
-    """Refuses each allocation, until there is none of the number, or too much was wrong. Returns whether something was wrong, or nothing was refused."""
+    """Refuses each allocation, until there is none of the number, or too much was wrong. Returns whether something was wrong, or nothing
+    was refused."""
     counts = collections.Counter()
     for number in itertools.count(1):
         try:

@@ -8,9 +8,9 @@ the same reading client (reader.c, built by cc). Prints a table's rows: the medi
     benches/serving.py --what arrives --only relay-watch-8,nchan-8 --followers 100000 --moves 5 --rounds 1 --tables
     benches/serving.py --only relay-watch-2 --rounds 1 --under "strace -c -f -o calls"
 
-A relay-watch-N is the relay's watch port with N loops. A connection takes a descriptor of the server and one of the reading client. If the hard limit
-on descriptors is too low for the followers asked for, nothing is measured. With --tables each loop has a table of descriptors of its own (tables.c), and
-that many followers only have to fit into all of them together.
+A relay-watch-N is the relay's watch port with N loops. A connection takes a descriptor of the server and one of the reading client. If the
+hard limit on descriptors is too low for the followers asked for, nothing is measured. With --tables each loop has a table of descriptors of
+its own (tables.c), and that many followers only have to fit into all of them together.
 """
 import argparse
 import json
@@ -37,7 +37,8 @@ daemon off; master_process on; worker_processes {workers}; worker_rlimit_nofile 
 load_module /usr/share/nginx/modules/ngx_nchan_module.so;
 events {{ worker_connections {most}; }}
 http {{
-    access_log off; client_body_temp_path {room}/a; proxy_temp_path {room}/b; fastcgi_temp_path {room}/c; uwsgi_temp_path {room}/d; scgi_temp_path {room}/e;
+    access_log off; client_body_temp_path {room}/a; proxy_temp_path {room}/b; fastcgi_temp_path {room}/c;
+    uwsgi_temp_path {room}/d; scgi_temp_path {room}/e;
     nchan_shared_memory_size 256M;
     server {{
         {listens}
@@ -63,7 +64,8 @@ def children(pid):
 
 
 def raised_limit(followers):
-    """Raises the limit on descriptors of a process, which must hold so many followers; servers and the reading client inherit it. Returns it."""
+    """Raises the limit on descriptors of a process, which must hold so many followers; servers and the reading client inherit it. Returns
+    it."""
     _, most = resource.getrlimit(resource.RLIMIT_NOFILE)
     if most < followers + 100:
         raise SystemExit(f"a process may have {most} descriptors here: raise the hard limit first (ulimit -Hn)")
@@ -121,7 +123,8 @@ def servers(names, given, room, most):
 def main():
     words = argparse.ArgumentParser(description=__doc__, formatter_class=argparse.RawDescriptionHelpFormatter)
     words.add_argument("--what", default="burst", choices=["burst", "turns", "arrives", "connects", "rush", "joins", "idle"])
-    words.add_argument("--only", default="relay,relay-watch-2,nchan-1,nchan-4,mosquitto", help="which, parted by commas; the number is that of its workers or loops")
+    words.add_argument("--only", default="relay,relay-watch-2,nchan-1,nchan-4,mosquitto",
+                       help="which, parted by commas; the number is that of its workers or loops")
     words.add_argument("--followers", type=int, default=100, help="of connects, rush and joins: how many connections")
     words.add_argument("--moves", type=int, default=1000)
     words.add_argument("--rounds", type=int, default=7)
@@ -139,7 +142,8 @@ def main():
             try:
                 for _ in range(given.rounds):
                     pids = ",".join(children(server.process.pid))
-                    said = subprocess.run([reader, given.what, server.kind, server.ports, str(given.followers), str(given.moves), pids], capture_output=True, text=True)
+                    said = subprocess.run([reader, given.what, server.kind, server.ports, str(given.followers), str(given.moves), pids],
+                                          capture_output=True, text=True)
                     if said.returncode:
                         print(name, "round lost:", said.stderr.strip())
                         continue

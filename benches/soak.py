@@ -4,11 +4,11 @@
     benches/soak.py                                   ten minutes, 2,000 spectators of 20 boards
     benches/soak.py --seconds 120 --spectators 300
 
-The spectators are those of spectators.c (built by cc), which compare all texts. One more watches all boards. Beside them there are, all the time:
-endless pings of peers that read and of peers that do not, halves of frames and of requests, peers that come and go or reset, and random
-bytes. The operator of each board plays the same game. It reports the longest that one waited for an answer.
-At the end the server must have as few descriptors as before. Its memory is reported on the way. The program is the built one, or that of the
-environment's RELAY960. The status is 1 if anything was not as it should be.
+The spectators are those of spectators.c (built by cc), which compare all texts. One more watches all boards. Beside them there are, all the
+time: endless pings of peers that read and of peers that do not, halves of frames and of requests, peers that come and go or reset, and
+random bytes. The operator of each board plays the same game. It reports the longest that one waited for an answer. At the end the server
+must have as few descriptors as before. Its memory is reported on the way. The program is the built one, or that of the environment's
+RELAY960. The status is 1 if anything was not as it should be.
 """
 import argparse
 import concurrent.futures
@@ -179,7 +179,8 @@ def play(owners, at):
 
 
 def play_all(server, owners, spectators, given):
-    """Plays on, this many moves a second, for this many seconds; how many moves were made in all, and the longest that an operator waited."""
+    """Plays on, this many moves a second, for this many seconds; how many moves were made in all, and the longest that an operator
+    waited."""
     began, longest, shown = time.monotonic(), 0, 0
     for at in range(FIRST, len(MOVES)):
         time.sleep(max(0, began + (at - FIRST) / given.pace - time.monotonic()))
@@ -222,7 +223,8 @@ def soak(server, given, room, reader):
         play(owners, at)
     held = descriptors(server)
     words = [reader, str(server.watch_port), str(given.boards), str(given.spectators), str(game)]
-    with subprocess.Popen(words, stdin=subprocess.PIPE, stdout=subprocess.PIPE, text=True) as spectators, concurrent.futures.ThreadPoolExecutor(1) as pool:
+    spectating = subprocess.Popen(words, stdin=subprocess.PIPE, stdout=subprocess.PIPE, text=True)
+    with spectating as spectators, concurrent.futures.ThreadPoolExecutor(1) as pool:
         started = []
         try:
             assert spectators.stdout.readline() == "there\n", "not all joined"
@@ -259,7 +261,8 @@ def main():
     words.add_argument("--boards", type=int, default=20)
     words.add_argument("--pace", type=float, default=4.8, help="moves a second of each board")
     words.add_argument("--threads", default="2", help="the loops of the port")
-    words.add_argument("--floods", nargs="*", default=list(FLOODS), choices=list(FLOODS), metavar="FLOOD", help=f"of {', '.join(FLOODS)}; all")
+    words.add_argument("--floods", nargs="*", default=list(FLOODS), choices=list(FLOODS), metavar="FLOOD",
+                       help=f"of {', '.join(FLOODS)}; all")
     given = words.parse_args()
     _, most = resource.getrlimit(resource.RLIMIT_NOFILE)
     resource.setrlimit(resource.RLIMIT_NOFILE, (most, most))

@@ -1,6 +1,6 @@
 #!/usr/bin/env -S python3 -B
-"""How long it takes until an operator that vanished is noticed: a follower gets the end of its board. The peer's system drops everything that comes
-for it, and acknowledges nothing. The program is the built one, or that of the environment's RELAY960.
+"""How long it takes until an operator that vanished is noticed: a follower gets the end of its board. The peer's system drops everything
+that comes for it, and acknowledges nothing. The program is the built one, or that of the environment's RELAY960.
 """
 import concurrent.futures
 import pathlib

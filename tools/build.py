@@ -180,7 +180,8 @@ class Build:
 
     def go(self):
         known = f", {len(self.done)} of them proved before" if self.done else ""
-        say(f"{self.clock()}  {len(self.plan.below)} crates{known}; about {minutes(self.expected)} on four idle processors, less where little has changed")
+        about = f"about {minutes(self.expected)} on four idle processors, less where little has changed"
+        say(f"{self.clock()}  {len(self.plan.below)} crates{known}; {about}")
         try:
             while len(self.done) < len(self.plan.below):
                 for name in self.plan.ready(self.done, self.running)[: self.plan.width - len(self.running)]:

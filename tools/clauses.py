@@ -18,7 +18,8 @@ import tarfile
 from crates import ROOT, TESTS
 
 QUOTED = re.compile(r"""//[^\n]*|/\*.*?\*/|b?r(#*)".*?"\1|b?"(?:\\.|[^"\\])*"|b?'(?:\\[^']*|[^\\'\n])'""", re.S)
-HEAD = re.compile(r"(?P<pub>pub\s+|pub\([^)]*\)\s*)?(?:(?:const|unsafe|async)\s+)*\b(?P<what>fn|impl|trait|mod|ghost|struct|enum|macro_rules)\b")
+HEAD = re.compile(r"(?P<pub>pub\s+|pub\([^)]*\)\s*)?(?:(?:const|unsafe|async)\s+)*"
+                  r"\b(?P<what>fn|impl|trait|mod|ghost|struct|enum|macro_rules)\b")
 CLAUSE = re.compile(r"\b(requires|ensures|ghost)\b|[{;]")
 MEMBER = re.compile(r"\s*(\w+)\s*([=:])")
 # What a type says of its own private fields.

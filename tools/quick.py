@@ -1,8 +1,8 @@
 #!/usr/bin/env -S python3 -B
 """What a change needs, cheap things first: quick.py [BASE]
 
-First it says what it will do and about how long that takes. Then come the linters and the tests of the tools; the proofs of the program, and
-the replays on it; the proofs of the other crates that differ from BASE and of all above them; and the tests of these crates. BASE is a
+First it says what it will do and about how long that takes. Then come the linters and the tests of the tools; the proofs of the program,
+and the replays on it; the proofs of the other crates that differ from BASE and of all above them; and the tests of these crates. BASE is a
 commit, by default where this branch left main, or else the commit before the last.
 """
 import subprocess

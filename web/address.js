@@ -72,6 +72,6 @@ const Address = (() => {
     channel: given.get("channel"), watch: given.get("watch"), server: given.get("server"), board, players: Players.written(players) || null,
   });
 
-  return { RELAY, IS_OF_SITE, source, saysSource: () => sourceKey() !== undefined, keysOf, ofChannel, boards, named, wrongNames, isName, link, ofBoard,
-    get: (key) => given.get(key), has: (key) => given.has(key) };
+  return { RELAY, IS_OF_SITE, source, saysSource: () => sourceKey() !== undefined, keysOf, ofChannel, boards, named, wrongNames, isName,
+    link, ofBoard, get: (key) => given.get(key), has: (key) => given.has(key) };
 })();

@@ -4,7 +4,7 @@
  * under its name, `open(board, game, count)` reopens it under this name with so many of its moves.
  */
 const createAnew = ({ at, back, open }) => {
-  /* The game that is offered: { board, start, players, moves, outcome }, and its `id` and the date when it was `saved` where it was kept. */
+  /* The game that is offered: { board, start, players, moves, outcome }, and its `id` and the date when it was `saved` if it was kept. */
   let chosen = null;
   let isShown = true;
 
@@ -35,7 +35,8 @@ const createAnew = ({ at, back, open }) => {
     at("going-on").hidden = !isOne;
     if (isOne) {
       const { board, players, moves, saved } = chosen;
-      const words = [board, Players.written(players), moves.length === 1 ? "1 move" : `${moves.length} moves`, saved ? `saved ${day(saved)}` : ""];
+      const count = moves.length === 1 ? "1 move" : `${moves.length} moves`;
+      const words = [board, Players.written(players), count, saved ? `saved ${day(saved)}` : ""];
       at("interrupted").textContent = `Not finished: ${words.filter(Boolean).join(", ")}.`;
       at("go-on").textContent = `Continue ${board}`;
     }

@@ -158,11 +158,12 @@ const createBoard = (holder, { chosen = null, goals = () => [], put = Pieces.put
 
   const squareOfCell = (cell) => (cell ? Position.squareOf(cell.dataset.square) : null);
   const squareUnder = (event) => {
-    const found = document.elementsFromPoint(event.clientX, event.clientY).find((it) => it.classList.contains("square") && grid.contains(it));
+    const there = document.elementsFromPoint(event.clientX, event.clientY);
+    const found = there.find((it) => it.classList.contains("square") && grid.contains(it));
     return squareOfCell(found);
   };
 
-  /* A press picks up; a release on another square drops there. A press and release on one square is a click. A second finger does neither. */
+  /* A press picks up; a release on another square drops there. A press and release on one square is a click. A second finger does none. */
   const hand = { from: null, man: null, x: 0, y: 0, wasPicked: false, pointer: null };
 
   function press(event) {

@@ -27,10 +27,10 @@ const createFollower = (view) => {
   const SETTLED = 100; // Milliseconds after which no other text follows that a channel kept,
   const PASSED = 500; // and behind the name of the next board.
 
-  /* What is wanted, whether it is had of a watch port, the waits between tries to connect, how often a board was asked for in a row, and why
-   * it was refused or the connection lost, as it was said last. */
-  const wish = { server: "", instead: null, board: "", from: "first", kind: "relay", isPatient: false, isAtWatchPort: false, waits: Link.waits(),
-    asks: 0, said: null };
+  /* What is wanted, whether it is had of a watch port, the waits between tries to connect, how often a board was asked for in a row, and
+   * why it was refused or the connection lost, as it was said last. */
+  const wish = { server: "", instead: null, board: "", from: "first", kind: "relay", isPatient: false, isAtWatchPort: false,
+    waits: Link.waits(), asks: 0, said: null };
 
   /*
    * The states, and what belongs to each. `behind` says that the relay closed the connection because this follower fell behind.
@@ -66,7 +66,8 @@ const createFollower = (view) => {
   }, view.entered);
 
   const isChannel = () => wish.kind === "channel";
-  const addresses = () => (isChannel() ? [Address.ofChannel(wish.server, wish.board)] : [wish.server, wish.instead].filter((it) => it !== null));
+  const addresses = () =>
+    isChannel() ? [Address.ofChannel(wish.server, wish.board)] : [wish.server, wish.instead].filter((it) => it !== null);
 
   /** Says how the connection is, unless the end of the game is what is to be said. */
   function pill(name, text, short) {
@@ -111,7 +112,8 @@ const createFollower = (view) => {
     const why = WHY[code] || "No connection to the server.";
     const seconds = wish.waits.next(() => phase.take("retry"));
     if (view.record().outcome === null && (behind || wish.said !== why)) {
-      view.notice(behind ? `The relay closed the connection after ${view.record().next} half-moves, because this page fell behind (4001).` : why);
+      const fell = `The relay closed the connection after ${view.record().next} half-moves, because this page fell behind (4001).`;
+      view.notice(behind ? fell : why);
     }
     wish.said = why;
     if (seconds === null) {
@@ -197,7 +199,7 @@ const createFollower = (view) => {
     link.send(from === null ? command : { ...command, from });
   }
 
-  /** The relay tells the position from which its moves come. Where it is none of the game that is shown, the other one is, from its start. */
+  /** The relay tells the position from which its moves come. Where it is none of the game that is shown, the other is, from its start. */
   function joined({ link, names: [board] }, text) {
     if (board !== wish.board) {
       rename(board);

@@ -1,5 +1,5 @@
 "use strict";
-/* The boards of a round as a list has them, one a line: a name, perhaps the number of the start, perhaps the players. r1-1 518 Carlsen – Caruana */
+/* The boards of a round as a list has them, one a line: a name, perhaps the start's number, perhaps players. r1-1 518 Carlsen – Caruana */
 const Lines = (() => {
   function readLine(line) {
     const [, name, start, players] = /^(\S+)(?:\s+(\d{1,3})(?=\s|$))?\s*(.*)$/.exec(line);
@@ -13,7 +13,8 @@ const Lines = (() => {
     const names = boards.map((it) => it.name);
     const wrong = names.find((it, index) => !Address.isName(it) || names.indexOf(it) !== index);
     if (wrong !== undefined) {
-      return Address.isName(wrong) ? `${wrong} stands here twice.` : `${wrong} is no board's name: it has 1 to 32 of A–Z, a–z, 0–9, _ and -.`;
+      const isTwice = Address.isName(wrong);
+      return isTwice ? `${wrong} stands here twice.` : `${wrong} is no board's name: it has 1 to 32 of A–Z, a–z, 0–9, _ and -.`;
     }
     const far = boards.find((it) => it.start !== null && !Position.isStart(it.start));
     return far ? `${far.name}: the start number is from 0 to 959.` : "";

@@ -60,10 +60,10 @@ const Link = (() => {
   const inOrder = (addresses) => [...addresses].sort((a, b) => (b === answering) - (a === answering));
 
   /**
-   * Opens a connection to an address, or to the first of several that answers. `opened` gets that. `heard` gets each text of the relay as an
-   * object and answers whether it was to be expected; after one that was not the connection is closed. `closed` gets the `code` of the close,
-   * or a `fault` in words where no other try can mend it. The answer has `send`, `close`, and `keepAlive` for a watch port that has accepted
-   * what it was asked for.
+   * Opens a connection to an address, or to the first of several that answers. `opened` gets that. `heard` gets each text of the relay as
+   * an object and answers whether it was to be expected; after one that was not the connection is closed. `closed` gets the `code` of the
+   * close, or a `fault` in words where no other try can mend it. The answer has `send`, `close`, and `keepAlive` for a watch port that has
+   * accepted what it was asked for.
    */
   function open(given, { opened, heard, closed }) {
     const own = { socket: null, left: [], turn: null, limit: null, isKept: false, isAnswered: false, pulse: null, ended: false };

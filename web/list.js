@@ -1,8 +1,8 @@
 "use strict";
 /*
- * The list of a relay's boards, on one connection: its watch port tells it, or a feed keeps it in the channel _boards. Each text tells of one
- * board all that there is to be shown; the last of a board counts. What a connection hands out at first is the whole list. So it is taken
- * together, and boards that are not in it are gone: the relay was restarted.
+ * The list of a relay's boards, on one connection: its watch port tells it, or a feed keeps it in the channel _boards. Each text tells of
+ * one board all that there is to be shown; the last of a board counts. What a connection hands out at first is the whole list. So it is
+ * taken together, and boards that are not in it are gone: the relay was restarted.
  *
  * `view` is what shows the list:
  *   listed()                     the whole list is another
@@ -92,7 +92,10 @@ const createList = (view) => {
 
   function closed(value, code) {
     const isFull = code === Link.NO_ROOM;
-    again(value, isFull ? "The relay has no room for another spectator." : "No connection to the server.", isFull ? "No room" : "No connection");
+    const [text, short] = isFull
+      ? ["The relay has no room for another spectator.", "No room"]
+      : ["No connection to the server.", "No connection"];
+    again(value, text, short);
   }
 
   function broken({ timer }, fault) {
@@ -108,7 +111,8 @@ const createList = (view) => {
       value.link.keepAlive();
       phase.go("gathering", { ...value, first: value.first || Date.now(), timer: after(value.kept.size === 0 ? NONE : SETTLED, "settle") });
     } else {
-      again(value, answer.name === "UnknownCommand" ? "This is not a watch port, so it has no list of boards." : Words.refusal(answer), "No list");
+      const isOther = answer.name === "UnknownCommand";
+      again(value, isOther ? "This is not a watch port, so it has no list of boards." : Words.refusal(answer), "No list");
     }
   }
 

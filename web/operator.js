@@ -352,7 +352,8 @@ const createOperator = (view) => {
     } else if (isOver) {
       tryAgain(value);
     } else if (doubt !== null) {
-      resume(link, attempt, [{ reply: "move", place: view.record().next, move: pending.move }].filter((it) => view.record().take(it) === "moved"));
+      const made = { reply: "move", place: view.record().next, move: pending.move };
+      resume(link, attempt, view.record().take(made) === "moved" ? [made] : []);
     } else {
       resume(link, attempt, []);
     }

@@ -1,9 +1,11 @@
 "use strict";
-/* What both pages show of a game: the board, whose turn it is, the list of moves, what is new, the outcome, and words for a screen reader. */
+/* What both pages show of a game: the board, whose turn it is, the moves, what is new, the outcome, and words for a screen reader. */
 const createPage = ({ browsed = () => {}, ...hand } = {}) => {
   const at = (id) => document.getElementById(id);
   const board = createBoard(at("board"), hand);
-  const page = { record: createRecord(), players: Players.NONE, origin: null, told: 0, timer: null, seen: 0, missed: 0, usable: () => false };
+  const page = {
+    record: createRecord(), players: Players.NONE, origin: null, told: 0, timer: null, seen: 0, missed: 0, usable: () => false,
+  };
   const moves = createMoves(at("moves"), { shown });
   const sounds = createSounds(at);
 
@@ -230,6 +232,7 @@ const createPage = ({ browsed = () => {}, ...hand } = {}) => {
   draw(false);
   return {
     at, board, start, goOn, named, refresh, state, notice, savePgn,
-    redraw: () => draw(false), record: () => page.record, players: () => page.players, cursor: moves.cursor, usableWhen: (test) => { page.usable = test; },
+    redraw: () => draw(false), record: () => page.record, players: () => page.players, cursor: moves.cursor,
+    usableWhen: (test) => { page.usable = test; },
   };
 };

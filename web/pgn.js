@@ -96,13 +96,17 @@ const Pgn = (() => {
     return `${date.getFullYear()}.${two(date.getMonth() + 1)}.${two(date.getDate())}`;
   }
 
-  /** The PGN of a record that has a position, of a game that was played at this date. `labels` has what the relay does not know: Event, White and so on. */
+  /**
+   * The PGN of a record that has a position, of a game that was played at this date. `labels` has what the relay does not know: Event,
+   * White and so on.
+   */
   function write(board, record, labels = {}, date = new Date()) {
     const { position, moves } = known(record);
     const [score, said, termination] = ENDS[record.outcome] || GOING_ON;
     const words = [...numbered(position, moves), ...(said ? `{${said}}`.split(" ") : []), score];
     const head = tags({
-      Date: day(date), Result: score, BoardName: board, FEN: fen(position), SetUp: "1", Termination: termination, Variant: "Chess960", ...labels,
+      Date: day(date), Result: score, BoardName: board, FEN: fen(position), SetUp: "1", Termination: termination, Variant: "Chess960",
+      ...labels,
     });
     return `${head}\n${filled(words)}\n`;
   }

@@ -8,8 +8,8 @@
  *             begins with this text: also one that
  *             begins behind an end
  *   "lost"    a move that has no position before it, or moves no man there (only where texts are missing)
- * Its file is one text a line: first {"board":..,"record":1,"start":..}, perhaps with the players ("white", "black"), then the relay's texts
- * as they came.
+ * Its file is one text a line: first {"board":..,"record":1,"start":..}, perhaps with the players ("white", "black"), then the relay's
+ * texts as they came.
  */
 const createRecord = () => {
   const record = { origin: null, plies: [], next: 0, outcome: null };
@@ -102,7 +102,8 @@ const createRecord = () => {
 
   /** Whether another record has the same game from the same place on, and at least as far. */
   function isPartOf(other) {
-    const isSame = (it, index) => index < other.plies.length && it.place === other.plies[index].place && it.text === other.plies[index].text;
+    const isSame = (it, index) =>
+      index < other.plies.length && it.place === other.plies[index].place && it.text === other.plies[index].text;
     return record.origin !== null && other.origin.place === record.origin.place
       && Position.write(other.origin.position) === Position.write(record.origin.position) && record.plies.every(isSame);
   }
@@ -161,7 +162,8 @@ const RecordFile = (() => {
     if (!Position.isStart(start)) {
       return { fault: "The record does not begin with a starting position." };
     }
-    return { board: String(head.board), start, players: Players.of(head), moves: record.plies.map((it) => it.text), outcome: record.outcome };
+    const moves = record.plies.map((it) => it.text);
+    return { board: String(head.board), start, players: Players.of(head), moves, outcome: record.outcome };
   }
 
   /** The content of a file for a game from its start. */

@@ -108,7 +108,8 @@
   }
 
   const watches = new Map();
-  const sight = new IntersectionObserver((entries) => entries.forEach((it) => watches.get(it.target).sighted(it.isIntersecting)), { threshold: 0.6 });
+  const noteSight = (entries) => entries.forEach((it) => watches.get(it.target).sighted(it.isIntersecting));
+  const sight = new IntersectionObserver(noteSight, { threshold: 0.6 });
 
   /* The whole round: in words, and as a file. */
 
@@ -127,7 +128,8 @@
     const over = those((it) => it.record().outcome !== null);
     const live = those((it) => it.record().outcome === null && it.stateName() === "live");
     const rest = tiles.length - over - live;
-    const words = [[live, "live"], [over, "over"], [rest, "waiting"]].filter(([number]) => number > 0).map(([number, word]) => `${number} ${word}`);
+    const words = [[live, "live"], [over, "over"], [rest, "waiting"]]
+      .filter(([number]) => number > 0).map(([number, word]) => `${number} ${word}`);
     if (link.name !== "live") {
       say(link.name, link.text);
     } else if (tiles.length === 0) {

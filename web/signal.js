@@ -1,7 +1,7 @@
 "use strict";
 /*
- * What a channel shows of being fed: { since, sign, beat }. It has been read since a time, `sign` is when it showed last that it is fed, and
- * `beat` is what its last beat says, both null before the first. A feed gives a sign every 15 s.
+ * What a channel shows of being fed: { since, sign, beat }. It has been read since a time, `sign` is when it showed last that it is fed,
+ * and `beat` is what its last beat says, both null before the first. A feed gives a sign every 15 s.
  */
 const Signal = (() => {
   const SILENT = 45; // Seconds.

@@ -15,7 +15,8 @@ const Summary = (() => {
 
   /** Whether the last move of a text leads from the present position of a record to that of the text. */
   function leads(before, { plies, last, fen }) {
-    return before.next + 1 === plies && last !== null && Position.movesMan(before.present(), last) && isAt(Position.after(before.present(), last), fen);
+    return before.next + 1 === plies && last !== null && Position.movesMan(before.present(), last)
+      && isAt(Position.after(before.present(), last), fen);
   }
 
   /** The record of a text; `before` is that of the text before it of the same game, or null. */

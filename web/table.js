@@ -1,5 +1,5 @@
 "use strict";
-/* The page of a board's operator: the board and its operator (operator.js), the endings, the games that the browser keeps, and its controls. */
+/* The page of a board's operator: the board and its operator (operator.js), the endings, the games that the browser keeps, its controls. */
 (() => {
   const page = createPage({
     chosen: (from, to) => entry.play(Position.nameOf(from) + Position.nameOf(to)),
@@ -7,15 +7,18 @@
     browsed,
   });
   const { at, state } = page;
-  const operator = createOperator({ ...page, begin, say, keep, opened, over, offer, entered: controls, server, isAlone: () => at("alone").checked });
+  const isAlone = () => at("alone").checked;
+  const operator = createOperator({ ...page, begin, say, keep, opened, over, offer, entered: controls, server, isAlone });
   const questions = createQuestions(at);
   const start = createStart(page);
   const report = createReport(stand);
-  const entry = createEntry({ page, questions, ready: operator.isReady, game: operator.game, say, submit: (move) => operator.enter({ cmd: "submit", move }) });
+  const submit = (move) => operator.enter({ cmd: "submit", move });
+  const entry = createEntry({ page, questions, ready: operator.isReady, game: operator.game, say, submit });
   const anew = createAnew({
     at,
     back: operator.back,
-    open: (board, { start: from, players, moves }, count) => operator.open({ board, start: from, players, anew: true }, moves.slice(0, count)),
+    open: (board, { start: from, players, moves }, count) =>
+      operator.open({ board, start: from, players, anew: true }, moves.slice(0, count)),
   });
 
   let proposed = null; // The name that stands in the field behind an end.
@@ -129,7 +132,10 @@
   function spectators() {
     const game = operator.game();
     at("watch").hidden = game === null || Address.IS_OF_SITE;
-    at("watch").href = game === null ? "" : Address.link("watch.html", { server: server() === Address.RELAY ? null : server(), board: game.board, players: Players.written(game.players) || null });
+    const source = server() === Address.RELAY ? null : server();
+    at("watch").href = game === null
+      ? ""
+      : Address.link("watch.html", { server: source, board: game.board, players: Players.written(game.players) || null });
   }
 
   function controls() {

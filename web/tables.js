@@ -119,7 +119,8 @@
     const button = make("button", "tab", "");
     const panel = make("div", "", "");
     const frame = document.createElement("iframe");
-    const words = { name: make("b", "", name), players: make("span", "players", Players.written(players)), stand: make("span", "stand", "") };
+    const names = make("span", "players", Players.written(players));
+    const words = { name: make("b", "", name), players: names, stand: make("span", "stand", "") };
     const tab = { button, panel, frame, ...words, told: null, games: [] };
     button.type = "button";
     button.id = `tab-${tabs.length}`;
@@ -171,7 +172,8 @@
     const opens = isAsked();
     boards.forEach((board, index) => add(board, starts[index] || "518", opens));
     at("server").value = server;
-    at("lines").value = boards.map((it, index) => `${it.name} ${starts[index] || ""} ${Players.written(it.players)}`.replace(/ +/g, " ").trim()).join("\n");
+    const line = (it, index) => `${it.name} ${starts[index] || ""} ${Players.written(it.players)}`.replace(/ +/g, " ").trim();
+    at("lines").value = boards.map(line).join("\n");
     at("settings").open = boards.length === 0;
     at("watch").hidden = boards.length === 0 || Address.IS_OF_SITE; // A site's spectators have its channels, at another address.
     at("watch").href = Address.link("round.html", {

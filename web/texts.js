@@ -22,7 +22,9 @@ const Texts = (() => {
     ["move", { place: isPlace, move: isMove }],
     ["over", { outcome: isText }],
     ["cut", {}],
-    ["board", { board: isName, fen: isFen, last: orNull(isMove), outcome: orNull(isText), plies: isPlace, start: (it) => Position.isStart(it) }],
+    ["board", {
+      board: isName, fen: isFen, last: orNull(isMove), outcome: orNull(isText), plies: isPlace, start: (it) => Position.isStart(it),
+    }],
     ["beat", { time: isPlace }],
     ["next", { board: isName }],
   ]);

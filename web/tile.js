@@ -1,10 +1,13 @@
 "use strict";
 /*
  * A board of a round, small: its name, players, start number, position, last move, and whose move it is or the result. It is the view of a
- * follower, or shows what a list of boards tells of it. `href(board)` is where a click leads, or null in a hall, where nothing can be clicked. `shown()` is called when it was drawn.
+ * follower, or shows what a list of boards tells of it. `href(board)` is where a click leads, or null in a hall, where nothing can be
+ * clicked. `shown()` is called when it was drawn.
  */
 const createTile = ({ name, players, href, shown }) => {
-  const tile = { name, record: createRecord(), told: null, state: "connecting", text: "", short: "", origin: null, start: null, ply: null, move: "" };
+  const tile = {
+    name, record: createRecord(), told: null, state: "connecting", text: "", short: "", origin: null, start: null, ply: null, move: "",
+  };
 
   function make(tag, className, ...children) {
     const it = document.createElement(tag);
@@ -24,8 +27,8 @@ const createTile = ({ name, players, href, shown }) => {
   const foot = { move: make("span", "last-move"), stand: make("span", "stand") };
   const plates = { white: makePlate("white"), black: makePlate("black") };
   const holder = make("div", "holder images");
-  const inner = make(href(name) === null ? "div" : "a", "inner", make("div", "head", head.name, head.start, head.fresh), plates.black.element, holder,
-    plates.white.element, make("div", "foot", foot.move, foot.stand));
+  const inner = make(href(name) === null ? "div" : "a", "inner", make("div", "head", head.name, head.start, head.fresh),
+    plates.black.element, holder, plates.white.element, make("div", "foot", foot.move, foot.stand));
   const element = make("li", "tile", inner);
   const board = createBoard(holder, { put: Pieces.putImage });
   holder.setAttribute("aria-hidden", "true");

@@ -50,7 +50,7 @@ const Words = (() => {
   const colour = (letter) => COLOURS[letter];
   const piece = (letter) => `${letter === letter.toUpperCase() ? "white" : "black"} ${kind(letter)}`;
 
-  /** A move in the long form, with both squares: Ng1-f3, e5xd6 e.p., a7-a8=Q, O-O. It has the sign of a check where it is said to be one. */
+  /** A move in the long form, with both squares: Ng1-f3, e5xd6 e.p., a7-a8=Q, O-O. It has the sign of a check where it is said to be. */
   function sheet(deed, check = false) {
     const sign = check ? "+" : "";
     if (deed.castling) {
@@ -103,7 +103,8 @@ const Words = (() => {
       return [];
     }
     const count = `This position has occurred ${isWhole ? "" : "at least "}${TIMES[times]}`;
-    return [times < 3 ? `${count}. At the third time a draw can be claimed.` : `${count}. A draw can be claimed. At the fifth time the game is drawn.`];
+    const claim = "A draw can be claimed. At the fifth time the game is drawn.";
+    return [times < 3 ? `${count}. At the third time a draw can be claimed.` : `${count}. ${claim}`];
   }
 
   /** What is to be said of draws that come near, a sentence or two for each. */
@@ -149,5 +150,7 @@ const Words = (() => {
   /** Whether the game of a board may go on under this name. Most names are told by their first letters, of which next names keep 27. */
   const isHeir = (name, board) => name.startsWith(board.replace(/_\d{1,3}$/, "").slice(0, 27)) && nextNames(board, HEIRS).includes(name);
 
-  return { ILLEGAL, outcome, score, refusal, coded, kind, colour, piece, sheet, spoken, missed, near, placement, nextName, nextNames, isHeir };
+  return {
+    ILLEGAL, outcome, score, refusal, coded, kind, colour, piece, sheet, spoken, missed, near, placement, nextName, nextNames, isHeir,
+  };
 })();

@@ -22,7 +22,8 @@ function play(move) {
 
 function follow() {
   const socket = new WebSocket(server);
-  const leave = (seconds) => { socket.onmessage = socket.onclose = socket.onerror = null; socket.close(); setTimeout(follow, 1000 * seconds); };
+  const leave = (seconds) => {
+    socket.onmessage = socket.onclose = socket.onerror = null; socket.close(); setTimeout(follow, 1000 * seconds); };
   socket.onopen = () => socket.send(JSON.stringify({ cmd: "follow", board, spectator: 0, ...place }));
   socket.onclose = socket.onerror = () => leave(1);  // No connection.
   socket.onmessage = ({ data }) => {

@@ -238,12 +238,14 @@ def start_relay(given, room):
 
 def start_nginx(given, room):
     subprocess.run(["openssl", "req", "-x509", "-newkey", "ec", "-pkeyopt", "ec_paramgen_curve:prime256v1", "-nodes", "-days", "1",
-                    "-subj", "/CN=localhost", "-keyout", f"{room}/key.pem", "-out", f"{room}/certificate.pem"], check=True, capture_output=True)
+                    "-subj", "/CN=localhost", "-keyout", f"{room}/key.pem", "-out", f"{room}/certificate.pem"], check=True,
+                    capture_output=True)
     # The kernel shares connections out among the workers by their addresses, so there is some play.
-    shares = " ".join(f"{100 // given.addresses}% 127.0.0.{2 + at};" for at in range(given.addresses - 1)) + f" * 127.0.0.{1 + given.addresses};"
+    shares = " ".join(f"{100 // given.addresses}% 127.0.0.{2 + at};"
+                      for at in range(given.addresses - 1)) + f" * 127.0.0.{1 + given.addresses};"
     file = pathlib.Path(room, "nginx.conf")
-    file.write_text(SITE_CONF.format(room=room, workers=given.workers, descriptors=given.worker_descriptors, connections=given.worker_connections,
-                                     shares=shares, tls="ssl" if given.tls else ""), encoding="ascii")
+    file.write_text(SITE_CONF.format(room=room, workers=given.workers, descriptors=given.worker_descriptors,
+                                     connections=given.worker_connections, shares=shares, tls="ssl" if given.tls else ""), encoding="ascii")
     nginx = subprocess.Popen(["nginx", "-p", room, "-c", str(file)], stderr=subprocess.DEVNULL)
     assert come_up({SITE})
     return nginx
@@ -273,9 +275,11 @@ def run(given, room):
         began = time.monotonic()
         crowd.come()
         took = time.monotonic() - began
-        print(f"{given.spectators:,} came in {took:.1f} s:", dict(collections.Counter(one.fate or "nothing" for one in crowd.all)), flush=True)
+        print(f"{given.spectators:,} came in {took:.1f} s:", dict(collections.Counter(one.fate or "nothing" for one in crowd.all)),
+              flush=True)
         watching = max(1, len(crowd.watching()))
-        print(f"descriptors: relay {descriptors(relay.pid):,}, nginx {[descriptors(pid) for pid in workers]}; sockets and their inodes, all ends: "
+        print(f"descriptors: relay {descriptors(relay.pid):,}, nginx {[descriptors(pid) for pid in workers]}; "
+              "sockets and their inodes, all ends: "
               f"{sum(slab(name) - had for name, had in slabs.items()) / watching / 1024:.1f} KB for each spectator; nginx "
               f"{(sum(map(resident, workers)) - before) * 1024 / watching:.1f} KB for each; tcp {counters()}", flush=True)
         waits = []
@@ -285,7 +289,8 @@ def run(given, room):
         if None in waits:
             print("moves did not reach all:", waits)
         else:
-            print(f"a move reached all {len(crowd.watching()):,} in {1000 * statistics.median(waits):.0f} ms; load {os.getloadavg()[0]:.1f}; tcp {counters()}")
+            print(f"a move reached all {len(crowd.watching()):,} in {1000 * statistics.median(waits):.0f} ms; "
+                  f"load {os.getloadavg()[0]:.1f}; tcp {counters()}")
         for kind, count in complaints(room).most_common(4):
             print(f"{count:,} times: {kind}")
         if given.firewall:
@@ -319,7 +324,8 @@ def words():
 def main():
     given = words()
     if not given.inside:
-        os.execvp("unshare", ["unshare", "--net", "--pid", "--fork", "--mount-proc", "--kill-child", sys.executable, "-B", __file__, *sys.argv[1:], "--inside"])
+        os.execvp("unshare", ["unshare", "--net", "--pid", "--fork", "--mount-proc", "--kill-child", sys.executable, "-B", __file__,
+                              *sys.argv[1:], "--inside"])
     subprocess.run(["ip", "link", "set", "lo", "up"], check=True)
     pathlib.Path("/proc/sys/net/ipv4/ip_local_port_range").write_text(f"32768 {32767 + given.ports}")
     pathlib.Path("/proc/sys/net/core/somaxconn").write_text(str(given.waiting))

@@ -6,7 +6,8 @@
 Each line is one run, as a row of a table: the boards, the followers of each, `--capacity` and `--plies`; the memory that is resident when
 nothing is connected, when all are, and when a hundred moves were played on every board; threads and descriptors when all are connected;
 and how long it took until a move that was sent on every board at once had reached every follower, the median and the maximum. The
-next move is sent when the one before has arrived everywhere, so nobody is cut. Arguments choose runs: `./measure.py 64x64` does only that one.
+next move is sent when the one before has arrived everywhere, so nobody is cut. Arguments choose runs: `./measure.py 64x64` does only that
+one.
 """
 import asyncio
 import json
@@ -127,8 +128,8 @@ async def measure(boards, followers, capacity, plies):
 async def main():
     most = resource.getrlimit(resource.RLIMIT_NOFILE)[1]
     resource.setrlimit(resource.RLIMIT_NOFILE, (min(most, 16384), most))
-    print("| Boards | Followers each | `--capacity` | `--plies` | Nothing connected | All connected | After 100 moves | Threads | Descriptors"
-          " | A move to all |\n|---|---|---|---|---|---|---|---|---|---|")
+    print("| Boards | Followers each | `--capacity` | `--plies` | Nothing connected | All connected | After 100 moves | Threads "
+          "| Descriptors | A move to all |\n|---|---|---|---|---|---|---|---|---|---|")
     for run in RUNS:
         if not sys.argv[1:] or f"{run[0]}x{run[1]}" in sys.argv[1:]:
             await measure(*run)

@@ -1,9 +1,9 @@
 #!/bin/sh
 # Tries the Debian package and what a site does with it, on loopback: the package is made, installed under a folder of the trial, and run
 # from there; the units and the manual page are looked at; a site's nginx with TLS includes the two files for it, with a certificate and a
-# password made for the trial; spectators come to the watch port; a renewed certificate is taken over, and the relay is restarted in the middle
-# of a game. RELAY960 names another program than the built one. Its last line says what came.
-# Words are the names of tests of the site: ./test.sh game watch
+# password made for the trial; spectators come to the watch port; a renewed certificate is taken over, and the relay is restarted in the
+# middle of a game. RELAY960 names another program than the built one. Its last line says what came. Words are the names of tests of the
+# site: ./test.sh game watch
 set -eu
 cd "$(dirname "$0")"
 top=$(cd ../.. && pwd)
@@ -80,7 +80,8 @@ ports wait 9379
 nginx -p "$site" -c "$site/nginx.conf" > "$run/nginx.log" 2>&1 &
 pids="$pids $!"
 
-# What a site and the hook for renewed certificates call: systemctl, here on the processes of the trial. They are started by their units' own words.
+# What a site and the hook for renewed certificates call: systemctl, here on the processes of the trial. They are started by their units'
+# own words.
 mkdir "$run/bin"
 cat > "$run/bin/systemctl" <<END
 #!/bin/sh

@@ -38,14 +38,17 @@ def status(path, headers=None, method="GET"):
 def try_paths():
     """What each path answers, without and with the password."""
     expected = {
-        ("/pages/watch.html", "GET", False): 200, ("/pages/round.html", "GET", False): 200, ("/own", "GET", False): 200, ("/pages/style.css", "GET", False): 200, ("/pages/table.html", "GET", False): 404,
-        ("/pages/tables.html", "GET", False): 404, ("/operators/tables.html", "GET", False): 401, ("/operators/tables.html", "GET", True): 200,
+        ("/pages/watch.html", "GET", False): 200, ("/pages/round.html", "GET", False): 200, ("/own", "GET", False): 200,
+        ("/pages/style.css", "GET", False): 200, ("/pages/table.html", "GET", False): 404,
+        ("/pages/tables.html", "GET", False): 404, ("/operators/tables.html", "GET", False): 401,
+        ("/operators/tables.html", "GET", True): 200,
         ("/pages/../operators", "GET", False): 404, ("/operators/table.html", "GET", False): 401,
         ("/operators/table.html", "GET", True): 200, ("/operators/relay", "GET", False): 401, ("/relay", "GET", False): 404,
         ("/pages/tests/pages.py", "GET", False): 404, ("/operators/tests/pages.py", "GET", True): 404,
         ("/watch", "GET", False): 400, ("/watch", "POST", False): 400, ("/watch", "GET", True): 400, ("/watch/", "GET", False): 404,
         ("/watch/relay", "GET", False): 404, ("/watches", "GET", False): 404,
-        ("/", "GET", False): 200, ("/publish/hall", "POST", False): 404, ("/sub/hall", "POST", False): 403, ("/kept/hall", "GET", False): 404,
+        ("/", "GET", False): 200, ("/publish/hall", "POST", False): 404, ("/sub/hall", "POST", False): 403,
+        ("/kept/hall", "GET", False): 404,
     }
     for (path, method, login), wanted in expected.items():
         had = status(path, LOGIN if login else None, method)
@@ -53,7 +56,8 @@ def try_paths():
 
 
 def try_front():
-    """Who asks for the site itself is led to the page of the round, under the site's own name and port; a page of the site's own stays what it was."""
+    """Who asks for the site itself is led to the page of the round, under the site's own name and port; a page of the site's own stays what
+    it was."""
     for path, wanted in (("/", f"{SITE}/pages/round.html?boards=hall&players=Carlsen%20-%20Caruana"), ("/own", f"{SITE}/own")):
         with urllib.request.urlopen(SITE + path, timeout=10, context=TLS) as answer:
             assert answer.url == wanted, answer.url
@@ -74,9 +78,10 @@ async def try_strangers():
 async def try_origins():
     """With the password, programs and the site's own pages reach the relay, and pages from elsewhere do not."""
     own = [None, SITE, "HTTPS://LocalHost:9443"]
-    foreign = ["https://localhost", "http://localhost:9443", "https://localhost:9444", "https://elsewhere.example", "https://elsewhere.example:9443",
-               "https://localhost:9443.elsewhere.example", "https://elsewhere.localhost:9443", "https://elsewhere.example/localhost:9443",
-               "https://localhost:9443/", f"{SITE} {SITE}", "https://127.0.0.1:9443", "null", "file://"]
+    foreign = ["https://localhost", "http://localhost:9443", "https://localhost:9444", "https://elsewhere.example",
+               "https://elsewhere.example:9443", "https://localhost:9443.elsewhere.example", "https://elsewhere.localhost:9443",
+               "https://elsewhere.example/localhost:9443", "https://localhost:9443/", f"{SITE} {SITE}", "https://127.0.0.1:9443", "null",
+               "file://"]
     for origin in [*own, *foreign]:
         try:
             async with websockets.connect(f"{WIRE}/operators/relay", ssl=TLS, extra_headers=LOGIN, origin=origin, compression=None):
@@ -257,8 +262,8 @@ async def try_all():
 
 
 async def try_browser():
-    """The pages in a browser, under the site's content policy: the table's with the password, a round's and the spectator's from the channel,
-    to which the site's own address leads."""
+    """The pages in a browser, under the site's content policy: the table's with the password, a round's and the spectator's from the
+    channel, to which the site's own address leads."""
     browser = await Browser().start("--ignore-certificate-errors")
     try:
         seer = await browser.open(f"{SITE}/")
@@ -288,8 +293,9 @@ async def try_browser():
 def make_certificate():
     """A new certificate for the site, as a renewal brings it. Answers its number."""
     folder = pathlib.Path(os.environ["SITE_FOLDER"])
-    words = ["openssl", "req", "-x509", "-newkey", "ec", "-pkeyopt", "ec_paramgen_curve:prime256v1", "-nodes", "-days", "2", "-subj", "/CN=localhost",
-             "-addext", "subjectAltName=DNS:localhost,IP:127.0.0.1", "-keyout", str(folder / "key.pem"), "-out", str(folder / "certificate.pem")]
+    words = ["openssl", "req", "-x509", "-newkey", "ec", "-pkeyopt", "ec_paramgen_curve:prime256v1", "-nodes", "-days", "2",
+             "-subj", "/CN=localhost", "-addext", "subjectAltName=DNS:localhost,IP:127.0.0.1",
+             "-keyout", str(folder / "key.pem"), "-out", str(folder / "certificate.pem")]
     subprocess.run(words, check=True, capture_output=True)
     return (folder / "certificate.pem").read_text()
 
@@ -413,8 +419,8 @@ async def try_key():
 async def main():
     """All tests in their order, or those whose names are given after the certificate."""
     wanted = sys.argv[2:]
-    for each in (try_paths, try_front, try_strangers, try_origins, try_game, try_watch, try_watch_requests, try_browser, try_renewal, try_restart,
-                 try_handshakes, try_end, try_connections, try_all, try_key):
+    for each in (try_paths, try_front, try_strangers, try_origins, try_game, try_watch, try_watch_requests, try_browser, try_renewal,
+                 try_restart, try_handshakes, try_end, try_connections, try_all, try_key):
         name = each.__name__[4:]
         if not wanted or name in wanted:
             done = each()

@@ -211,8 +211,8 @@ class Serving:
     def start(self):
         with open(self.folder / "nginx.log", "wb") as log:
             # Ctrl-C reaches only this program, which ends the other.
-            self.nginx = subprocess.Popen(["nginx", "-p", self.folder, "-c", self.folder / "hall.conf", "-e", "stderr"], stdout=log, stderr=log,
-                                          stdin=subprocess.DEVNULL, start_new_session=True)
+            self.nginx = subprocess.Popen(["nginx", "-p", self.folder, "-c", self.folder / "hall.conf", "-e", "stderr"], stdout=log,
+                                          stderr=log, stdin=subprocess.DEVNULL, start_new_session=True)
         until = time.monotonic() + 30
         while self.given.port not in listened():
             self.look()

@@ -23,13 +23,13 @@ from relay_client.texts import ends, follows, leaves, opens, submits, takes
 
 WATCHING = {"/": 200, "/screen": 200, "/pages/round.html": 200, "/pages/watch.html": 200, "/pages/style.css": 200, "/pages/round.js": 200}
 NOTHING = {
-    ("GET", "/pages/table.html"): 404, ("GET", "/pages/table.js"): 404, ("GET", "/pages/operator.js"): 404, ("GET", "/pages/tables.html"): 404,
-    ("GET", "/table.html"): 404, ("GET", "/pages/tests/pages.py"): 404,
+    ("GET", "/pages/table.html"): 404, ("GET", "/pages/table.js"): 404, ("GET", "/pages/operator.js"): 404,
+    ("GET", "/pages/tables.html"): 404, ("GET", "/table.html"): 404, ("GET", "/pages/tests/pages.py"): 404,
     ("GET", "/pages/../names"): 404, ("GET", "/pages/%2e%2e/names"): 404, ("GET", "/names"): 404, ("GET", "/hall.conf"): 404,
     ("GET", "/nginx.log"): 404, ("GET", "/front/round.html"): 404, ("GET", "/pages/"): 403, ("GET", "/operators/relay"): 404,
     ("GET", "/relay"): 404, ("GET", "/kept/r3-1"): 404, ("POST", "/publish/r3-1"): 404, ("GET", "/sub/r3-1"): 404,
-    ("GET", "/watch/"): 404, ("GET", "/watch/relay"): 404, ("GET", "/watch/../relay"): 404, ("GET", "/watches"): 404, ("GET", "/watch"): 400,
-    ("POST", "/watch"): 403, ("PUT", "/watch"): 403, ("DELETE", "/watch"): 403,
+    ("GET", "/watch/"): 404, ("GET", "/watch/relay"): 404, ("GET", "/watch/../relay"): 404, ("GET", "/watches"): 404,
+    ("GET", "/watch"): 400, ("POST", "/watch"): 403, ("PUT", "/watch"): 403, ("DELETE", "/watch"): 403,
     ("POST", "/"): 403, ("PUT", "/pages/round.html"): 403, ("DELETE", "/pages/round.html"): 403,
 }
 
@@ -135,7 +135,8 @@ async def see(address, *boards):
     async with browser_for(address) as led:
         page = await led("/")
         await page.until(f'[...document.querySelectorAll(".tile .name")].map((it) => it.textContent).join() === "{",".join(boards)}"')
-        assert set(await page.run('[...document.querySelectorAll(".side")].map((it) => it.textContent)')) == {"White", "Black"} and not page.faults, page.faults
+        sides = await page.run('[...document.querySelectorAll(".side")].map((it) => it.textContent)')
+        assert set(sides) == {"White", "Black"} and not page.faults, page.faults
 
 
 async def stay(address):

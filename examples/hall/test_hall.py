@@ -65,7 +65,8 @@ class Hall:
     """hall.py as an arbiter starts it; it finds the laptop's address by itself if there is only one."""
 
     def __init__(self, phone, relay, folder):
-        self.words = [PYTHON, HERE / "hall.py", "--watch", f"127.0.0.1:{relay.watch_port}", *([] if phone.keeper else ["--address", phone.laptop])]
+        self.words = [PYTHON, HERE / "hall.py", "--watch", f"127.0.0.1:{relay.watch_port}",
+                      *([] if phone.keeper else ["--address", phone.laptop])]
         self.folder = folder
         self.process = None
         self.printed = []

@@ -9,20 +9,20 @@ It follows each board from its first move and publishes the relay's texts, as th
 another for each board, each answered before the next, so their places come in order. It begins by reading what the channel has
 had and publishes only what is missing there, so it can be killed and restarted at any moment. It adds three texts of its own:
 
-    {"reply":"beat","time":SECONDS}                  the board is followed at this time (since 1970); every --beat seconds without another text
+    {"reply":"beat","time":SECONDS}                  the board is followed at this time (since 1970); each --beat seconds with no other text
     {"outcome":"abandoned","reply":"over"}           also if the relay no longer has a board that had a game: it was restarted
     {"board":"b1_2","reply":"next"}                  the game that was lost or abandoned goes on under this name
 
 It follows b1_2, b1_3 and so on by itself, if b1 is one of its names and its game was lost or abandoned. It waits for boards that are
-not open yet, without limit, and asks for each again on the same connection, since the relay accepts a limited number (--connections). It ends when
-the games of all its boards have ended other than as abandoned. With --names it does not end: on SIGHUP it reads the file again, begins
-with the names that are new there or whose games have ended, leaves those that are gone, and disturbs no other. A board that the relay
-refuses for good, as for its name, and one for which --tries tries in a row brought nothing, is given up with a line on standard error;
-the others go on, and the status is 1. What a board waits for is reported there too, once and when it changes.
+not open yet, without limit, and asks for each again on the same connection, since the relay accepts a limited number (--connections). It
+ends when the games of all its boards have ended other than as abandoned. With --names it does not end: on SIGHUP it reads the file again,
+begins with the names that are new there or whose games have ended, leaves those that are gone, and disturbs no other. A board that the
+relay refuses for good, as for its name, and one for which --tries tries in a row brought nothing, is given up with a line on standard
+error; the others go on, and the status is 1. What a board waits for is reported there too, once and when it changes.
 
 With --all it asks the relay's watch port, follows each board that this reports, and does not end. It publishes the texts of the list on a
-channel of its own, _boards, where a board that is gone ends as abandoned too. That channel keeps texts only for minutes, so the last text of
-a board is published again every --repeat seconds.
+channel of its own, _boards, where a board that is gone ends as abandoned too. That channel keeps texts only for minutes, so the last text
+of a board is published again every --repeat seconds.
 """
 import argparse
 import asyncio

@@ -9,8 +9,8 @@ KEPT = 6 * 3600  # Seconds that the last known list outlasts the relay, as the g
 
 
 class ListChannel(Channel):
-    """What the relay reported of its boards, each text published once, and again after --repeat seconds without another one of its board. The
-    channel keeps texts for some minutes (publish.conf). So a reader of these has the list, however long a board is silent."""
+    """What the relay reported of its boards, each text published once, and again after --repeat seconds without another one of its board.
+    The channel keeps texts for some minutes (publish.conf). So a reader of these has the list, however long a board is silent."""
 
     def __init__(self, server, beat, repeat):
         self.repeat = repeat
@@ -52,8 +52,8 @@ class ListChannel(Channel):
                 await self.publish(message)
 
     async def gone(self, board, known):
-        """The relay does not have the board, of which it had reported `known`, or None: publishes its end. Returns False, and does nothing, if the
-        relay has reported something else since."""
+        """The relay does not have the board, of which it had reported `known`, or None: publishes its end. Returns False, and does nothing,
+        if the relay has reported something else since."""
         async with self.turn:
             if self.told.get(board) is not known:
                 return False

@@ -45,5 +45,6 @@ if [ $# -gt 0 ]; then
 else
     begin feed ./feed.py --all --watch "ws://127.0.0.1:$WATCH_PORT"
 fi
-echo "relay at ws://127.0.0.1:$RELAY_PORT, channels at ws://127.0.0.1:9100/sub/ and ws://127.0.0.1:9101/sub/ for ${*:-all boards}; logs in $run"
+channels="ws://127.0.0.1:9100/sub/ and ws://127.0.0.1:9101/sub/"
+echo "relay at ws://127.0.0.1:$RELAY_PORT, channels at $channels for ${*:-all boards}; logs in $run"
 wait

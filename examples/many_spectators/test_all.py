@@ -23,8 +23,8 @@ def every(relay, *words, **options):
 
 def stand(board, moves=(), outcome=None, start=518):
     """How a board stands after these moves, as the watch port says it."""
-    return {"board": board, "fen": fens(start, moves)[-1] if moves else start_fen(start), "last": moves[-1] if moves else None, "outcome": outcome,
-            "plies": len(moves), "reply": "board", "start": start}
+    return {"board": board, "fen": fens(start, moves)[-1] if moves else start_fen(start), "last": moves[-1] if moves else None,
+            "outcome": outcome, "plies": len(moves), "reply": "board", "start": start}
 
 
 async def handed_out(address, *commands, silence=SILENCE):
@@ -100,7 +100,8 @@ async def try_opened(relay):
     port says."""
     first = await game(relay, "all-e1", FIRST)
     await game(relay, "all-e2")
-    async with ListReader(["all-e1", "all-e2", "all-e3"]) as heard, Reader("all-e1") as one, Reader("all-e2") as two, Reader("all-e3") as three:
+    everyone = ListReader(["all-e1", "all-e2", "all-e3"])
+    async with everyone as heard, Reader("all-e1") as one, Reader("all-e2") as two, Reader("all-e3") as three:
         async with every(relay):
             await one.has(following(), *moved(FIRST))
             await two.has(following())
@@ -156,8 +157,8 @@ async def try_games(relay):
 
 
 async def try_restarted(relay):
-    """The relay is restarted beside the feed: one of its boards has another game, one had ended, and one is gone, whose end is in the list and
-    its channel."""
+    """The relay is restarted beside the feed: one of its boards has another game, one had ended, and one is gone, whose end is in the list
+    and its channel."""
     await game(relay, "all-r1", FIRST)
     await game(relay, "all-r2", FIRST)
     ended = await game(relay, "all-r3", OTHER)
@@ -257,7 +258,8 @@ async def try_repeats(relay):
     async with ListReader(["all-s1", "all-s2"]) as heard:
         async with every(relay, *repeats):
             await until(lambda: len(heard.of("all-s1")) >= 3 and len(heard.of("all-s2")) >= 3)
-            assert heard.of("all-s1") == [first] * len(heard.of("all-s1")) and heard.of("all-s2") == [second] * len(heard.of("all-s2")), heard.texts
+            for board, text in (("all-s1", first), ("all-s2", second)):
+                assert heard.of(board) == [text] * len(heard.of(board)), heard.texts
             await client.submit("all-s1", "c2c4")
             await until(lambda: heard.of("all-s1").count(moved_on) >= 2)
         had = len(heard.texts)

@@ -29,8 +29,8 @@ async def try_vanished(relay):
 
 
 async def try_abandoned(relay):
-    """A lost connection of the operator: the next names are fed in turn, also by a feed that was restarted in between. Before, a feed knew no
-    name but those that it was given."""
+    """A lost connection of the operator: the next names are fed in turn, also by a feed that was restarted in between. Before, a feed knew
+    no name but those that it was given."""
     client = await game(relay, "a1", FIRST)
     async with Reader("a1") as first, Reader("a1_2") as second, Reader("a1_3") as third:
         async with feed("a1", *QUICK, relay=relay.address, **QUIET):
@@ -51,7 +51,8 @@ async def try_abandoned(relay):
 
 
 async def try_late(relay):
-    """A name that the relay never had in this run, since its game went on under another: the channel names that one. Before, it had nothing."""
+    """A name that the relay never had in this run, since its game went on under another: the channel names that one. Before, it had
+    nothing."""
     await game(relay, "l1_2", OTHER)
     async with feed("l1", *QUICK, relay=relay.address, **QUIET), Reader("l1") as first, Reader("l1_2") as second:
         await first.has(follow_on("l1_2"))
@@ -59,9 +60,9 @@ async def try_late(relay):
 
 
 async def try_another(relay):
-    """Another game of the name, opened before the feed is back: a shorter one of the same moves, and one of other moves. The channel has the
-    end of the first, and the other from its start. Before, the feed joined both into one if the other had more moves, and published nothing if
-    it had not."""
+    """Another game of the name, opened before the feed is back: a shorter one of the same moves, and one of other moves. The channel has
+    the end of the first, and the other from its start. Before, the feed joined both into one if the other had more moves, and published
+    nothing if it had not."""
     for board, other in (("o1", FIRST[:1]), ("o2", OTHER), ("o3", [])):
         await game(relay, board, FIRST)
         async with Reader(board) as reader:
@@ -76,8 +77,8 @@ async def try_another(relay):
 
 
 async def try_middle(relay):
-    """Another game of which the relay no longer gives the first moves: its position is compared, and it begins at the first place given. Before, its
-    moves were published after those of the first game."""
+    """Another game of which the relay no longer gives the first moves: its position is compared, and it begins at the first place given.
+    Before, its moves were published after those of the first game."""
     small = await Relay(capacity=2).start()
     moves = [*OTHER, "g1f3"]
     await game(small, "m1", FIRST)
@@ -91,8 +92,8 @@ async def try_middle(relay):
 
 
 async def try_beats(relay):
-    """While a board is followed, its channel has a beat as often as asked for, with the time; it has none once the relay or the game is gone.
-    Before, there were none, so that a game in which nobody moved looked like one that is gone."""
+    """While a board is followed, its channel has a beat as often as asked for, with the time; it has none once the relay or the game is
+    gone. Before, there were none, so that a game in which nobody moved looked like one that is gone."""
     client = await game(relay, "p1", FIRST)
     async with feed("p1", *QUICK, "--beat", "0.3", relay=relay.address, **QUIET), Reader("p1") as reader:
         await until(lambda: len(reader.beats) >= 4)
@@ -118,13 +119,14 @@ async def try_beats(relay):
 
 
 async def try_names(relay):
-    """At SIGHUP the names are read again: a new one is fed, one that is gone is left, and another is not disturbed. Before, a feed had to be
-    restarted for each name."""
+    """At SIGHUP the names are read again: a new one is fed, one that is gone is left, and another is not disturbed. Before, a feed had to
+    be restarted for each name."""
     stays, goes = await game(relay, "n1", FIRST), await game(relay, "n2", FIRST)
     with tempfile.TemporaryDirectory() as folder:
         file = pathlib.Path(folder, "names")
         file.write_text("n1 n2\n")
-        async with feed("--names", str(file), *QUICK, "--beat", "60", relay=relay.address, stdout=subprocess.PIPE, stderr=subprocess.PIPE) as process:
+        async with feed("--names", str(file), *QUICK, "--beat", "60", relay=relay.address, stdout=subprocess.PIPE,
+                        stderr=subprocess.PIPE) as process:
             async with Reader("n1") as first, Reader("n2") as second, Reader("n3") as third:
                 await first.has(following(), *moved(FIRST))
                 await second.has(following(), *moved(FIRST))

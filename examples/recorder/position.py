@@ -129,7 +129,8 @@ class Position:
     def is_attacked(self, square, by_white):
         """Whether a side attacks a square."""
         below = -1 if by_white else 1
-        looks = ((STRAIGHT, 7, "rq"), (DIAGONAL, 7, "bq"), (LEAPS, 1, "n"), (STRAIGHT + DIAGONAL, 1, "k"), (((1, below), (-1, below)), 1, "p"))
+        looks = ((STRAIGHT, 7, "rq"), (DIAGONAL, 7, "bq"), (LEAPS, 1, "n"), (STRAIGHT + DIAGONAL, 1, "k"),
+                 (((1, below), (-1, below)), 1, "p"))
         for ways, most, kinds in looks:
             attackers = kinds.upper() if by_white else kinds
             if any(seen and seen in attackers for seen in (self.first_seen(square, way, most) for way in ways)):

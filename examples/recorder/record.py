@@ -203,8 +203,8 @@ class Every:
                 self.tasks[board] = self.group.create_task(self.keep(board))
 
     async def keep(self, board):
-        """Records a board until its game is over or the relay no longer has it. One that is reported on a new connection is compared with its
-        record, and gets another record if its game is another."""
+        """Records a board until its game is over or the relay no longer has it. One that is reported on a new connection is compared with
+        its record, and gets another record if its game is another."""
         while board in self.again:
             self.again.discard(board)
             if board not in self.records:
@@ -227,7 +227,8 @@ def arguments():
     words.add_argument("--pgn", metavar="FILE", help="a new file for the games of all boards as PGN")
     for name in ("event", "site", "round"):
         words.add_argument(f"--{name}", metavar="TEXT", default="?", help=f"the {name} that the PGN tells")
-    words.add_argument("--players", nargs=3, action="append", default=[], metavar=("BOARD", "WHITE", "BLACK"), help="a board's players, in its record and in the PGN")
+    words.add_argument("--players", nargs=3, action="append", default=[], metavar=("BOARD", "WHITE", "BLACK"),
+                       help="a board's players, in its record and in the PGN")
     given = words.parse_intermixed_args()
     if bool(given.boards) == bool(given.all):
         words.error("give either boards and their files or --all FOLDER")
@@ -253,7 +254,8 @@ def players_of(given, board):
 def labels(given, board):
     """What the PGN says of a board's game that the relay does not know."""
     players = players_of(given, board)
-    return {"Event": given.event, "Site": given.site, "Round": given.round, "White": players.get("white", "?"), "Black": players.get("black", "?")}
+    return {"Event": given.event, "Site": given.site, "Round": given.round, "White": players.get("white", "?"),
+            "Black": players.get("black", "?")}
 
 
 class Maker:

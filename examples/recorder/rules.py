@@ -1,4 +1,5 @@
-"""The legal moves of a position, as the relay writes them. The relay decides what is played; they are wanted to write a move as players do."""
+"""The legal moves of a position, as the relay writes them. The relay decides what is played; they are wanted to write a move as players
+do."""
 
 from position import DIAGONAL, LEAPS, STRAIGHT, away, name_of
 
@@ -42,7 +43,9 @@ def may_castle(position, king, rook):
     home = king - king % 8
     king_goal, rook_goal = (home + 6, home + 5) if rook > king else (home + 2, home + 3)
     ways = {*row(king, king_goal), *row(rook, rook_goal)} - {king, rook}
-    return not any(position.squares[it] for it in ways) and not any(position.is_attacked(it, not position.white) for it in row(king, king_goal))
+    if any(position.squares[it] for it in ways):
+        return False
+    return not any(position.is_attacked(it, not position.white) for it in row(king, king_goal))
 
 
 def goals(position, square):

@@ -37,7 +37,8 @@ def extract(file, *words):
 
 
 def games_of(text):
-    """The tags and the words of each game of a text of pgn-extract, which sets the comment of a game without a move apart from its result."""
+    """The tags and the words of each game of a text of pgn-extract, which sets the comment of a game without a move apart from its
+    result."""
     games = []
     for part in filter(str.strip, text.split("\n\n")):
         if part.lstrip().startswith("["):

@@ -315,8 +315,8 @@ async def opened(relay, board, start, moves, outcome=None):
 
 
 async def try_all(folder):
-    """All boards, some there before and some opened later, each in its file, and in one PGN. A game that goes on under its next name has the
-    players of the first. A recorder that is started again begins new files with the whole games."""
+    """All boards, some there before and some opened later, each in its file, and in one PGN. A game that goes on under its next name has
+    the players of the first. A recorder that is started again begins new files with the whole games."""
     relay = await Relay(watch=True).start()
     first = await opened(relay, "a1", 518, MOVES[:2])
     await opened(relay, "a2", 0, [], "agreed")
@@ -334,7 +334,8 @@ async def try_all(folder):
         if len(recorder.had("a3_2.record")) == 3:
             break
         await asyncio.sleep(0.05)
-    assert recorder.had("a3_2.record")[0] == {"black": "Baker", "board": "a3_2", "record": 1, "start": 518, "white": "Adams"}, recorder.had("a3_2.record")
+    had = recorder.had("a3_2.record")
+    assert had[0] == {"black": "Baker", "board": "a3_2", "record": 1, "start": 518, "white": "Adams"}, had
     await heir.close()
     await first.submit("a1", *MOVES[2:])
     await recorder.has("a1.record", "a1", 518, MOVES)

@@ -47,7 +47,8 @@ class Browser:
         """A new page at an address, of that size."""
         request = urllib.request.Request(f"http://127.0.0.1:{self.port}/json/new?about:blank", method="PUT")
         made = json.loads(await asyncio.to_thread(lambda: urllib.request.urlopen(request, timeout=ANSWER).read()))
-        socket = await websockets.connect(made["webSocketDebuggerUrl"], max_size=None, ping_interval=None, compression=None, open_timeout=ANSWER)
+        socket = await websockets.connect(made["webSocketDebuggerUrl"], max_size=None, ping_interval=None, compression=None,
+                                          open_timeout=ANSWER)
         page = Page(socket)
         self.pages.append(page)
         await page.call("Page.enable")

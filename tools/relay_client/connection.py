@@ -14,9 +14,9 @@ TAKE_NOTHING = struct.pack("HBBI", 6, 0, 0, 0)  # A filter of sockets in one ste
 
 class Connection:
     def __init__(self, port, room=None, key=None, target=None, segment=None, host="127.0.0.1", patience=PATIENCE):
-        """A connection; with little room for what it receives, with a key, with another target of its request, in segments of this many bytes, or to
-        another address, if given. With small segments the system keeps far fewer bytes for a peer that reads nothing. What it sends and receives
-        may each take so many seconds."""
+        """A connection; with little room for what it receives, with a key, with another target of its request, in segments of this many
+        bytes, or to another address, if given. With small segments the system keeps far fewer bytes for a peer that reads nothing. What it
+        sends and receives may each take so many seconds."""
         self.stream = socket.socket(socket.AF_INET6 if ":" in host else socket.AF_INET)
         if segment:
             self.stream.setsockopt(socket.IPPROTO_TCP, socket.TCP_MAXSEG, segment)
@@ -76,6 +76,7 @@ class Connection:
         self.stream.close()
 
     def vanish(self):
-        """From now on its machine is as one that is switched off: what comes is dropped by the system, which acknowledges and answers nothing."""
+        """From now on its machine is as one that is switched off: what comes is dropped by the system, which acknowledges and answers
+        nothing."""
         steps = ctypes.create_string_buffer(TAKE_NOTHING, len(TAKE_NOTHING))
         self.stream.setsockopt(socket.SOL_SOCKET, SO_ATTACH_FILTER, struct.pack("HP", 1, ctypes.addressof(steps)))

@@ -60,7 +60,8 @@ class Firefox:
                 raise RuntimeError("Firefox ended before it listened")
             found = re.search(rb"WebDriver BiDi listening on ws://127\.0\.0\.1:(\d+)", line)
         self.drain = asyncio.create_task(self.process.stderr.read())
-        self.socket = await websockets.connect(f"ws://127.0.0.1:{int(found[1])}/session", max_size=None, ping_interval=None, compression=None, open_timeout=ANSWER)
+        self.socket = await websockets.connect(f"ws://127.0.0.1:{int(found[1])}/session", max_size=None, ping_interval=None,
+                                               compression=None, open_timeout=ANSWER)
         self.reader = asyncio.create_task(self.read())
         accept = {"acceptInsecureCerts": True, "unhandledPromptBehavior": {"default": "accept", "beforeUnload": "accept"}}
         await self.call("session.new", capabilities={"alwaysMatch": accept})

@@ -1,5 +1,5 @@
-"""A connection that follows boards, or hears how all boards stand. One on which a board was refused is kept and may be asked again, since the relay
-accepts a limited number (--connections); any other is closed when the following has ended, and a new one is made."""
+"""A connection that follows boards, or hears how all boards stand. One on which a board was refused is kept and may be asked again, since
+the relay accepts a limited number (--connections); any other is closed when the following has ended, and a new one is made."""
 
 import asyncio
 import contextlib

@@ -60,6 +60,7 @@ def games_in(file):
 
 
 def read_by_pychess(text):
-    """How many moves PyChess reads in a game's PGN, and the men and the side to move after them. It raises an error at one that it cannot play."""
+    """How many moves PyChess reads in a game's PGN, and the men and the side to move after them. It raises an error at one that it cannot
+    play."""
     model = pgn.load(io.StringIO(text)).loadToModel(None)
     return len(model.moves), model.boards[-1].asFen().split(" ")[:2]

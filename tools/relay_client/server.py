@@ -24,9 +24,9 @@ class NotListening(Exception):
 
 
 class Server:
-    """A server that listens on a free port, or on the port that is said, until the block that it is made for ends; and with `watch` on another
-    free one, or on the one that it says, for those who only watch, at the address `watch_at`. Words before the program's name run it by another
-    program."""
+    """A server that listens on a free port, or on the port that is said, until the block that it is made for ends; and with `watch` on
+    another free one, or on the one that it says, for those who only watch, at the address `watch_at`. Words before the program's name run
+    it by another program."""
 
     def __init__(self, *words, port=None, watch=False, watch_at="127.0.0.1", before=(), **options):
         self.words = words

@@ -123,7 +123,8 @@ class Comparing(unittest.TestCase):
 
     def test_of_two_functions_with_one_name_the_one_that_changed_is_told(self):
         both = "impl A { " + step("ensures { 1 }") + " } impl B { " + step("ensures { 1 }") + " }"
-        lines, _, _ = compare(read("low", both), read("low", both.replace("impl B { pub fn step(n: u64) -> u64 ensures { 1 }", "impl B { pub fn step(n: u64) -> u64")))
+        other = both.replace("impl B { pub fn step(n: u64) -> u64 ensures { 1 }", "impl B { pub fn step(n: u64) -> u64")
+        lines, _, _ = compare(read("low", both), read("low", other))
         self.assertEqual(lines, ["changed in low: impl B: pub fn step(n: u64) -> u64", "  - ensures { 1 }"])
 
 

@@ -86,7 +86,8 @@ class Commands(unittest.TestCase):
         self.env = {**os.environ, "PATH": f"{self.state}/bin:{os.environ['PATH']}", "RT_STAND_IN": str(self.state)}
 
     def run_it(self, *words):
-        return subprocess.run([self.top / words[0], *words[1:]], env=self.env, capture_output=True, text=True, timeout=600, stdin=subprocess.DEVNULL)
+        return subprocess.run([self.top / words[0], *words[1:]], env=self.env, capture_output=True, text=True, timeout=600,
+                              stdin=subprocess.DEVNULL)
 
     def is_wrong(self, *names):
         write(self.state / "wrong", " ".join(names))
@@ -222,7 +223,8 @@ class Quick(Commands):
         for linter in ("rattle", "pyflakes3", "shellcheck", "node"):
             write(self.state / "bin" / linter, "#!/bin/sh\n", 0o755)
         shutil.rmtree(self.top / "tools/tests")
-        write(self.top / "tools/tests/test_one.py", "import unittest\nclass One(unittest.TestCase):\n    def test_it(self):\n        pass\n")
+        write(self.top / "tools/tests/test_one.py",
+              "import unittest\nclass One(unittest.TestCase):\n    def test_it(self):\n        pass\n")
         for replay in (".ci/replay", "crates/relay960/replays/all.py"):
             write(self.top / replay, f"#!/bin/sh\necho 0 replay: {replay} >> \"$RT_STAND_IN/calls\"\n", 0o755)
         (self.top / ".ci").mkdir(exist_ok=True)
@@ -261,11 +263,13 @@ class Gate(Commands):
     def setUp(self):
         super().setUp()
         shutil.rmtree(self.top / "tools/tests")
-        write(self.top / "tools/tests/test_one.py", "import unittest\nclass One(unittest.TestCase):\n    def test_it(self):\n        pass\n")
+        write(self.top / "tools/tests/test_one.py",
+              "import unittest\nclass One(unittest.TestCase):\n    def test_it(self):\n        pass\n")
         write(self.state / "bin/cc", "#!/bin/sh\n", 0o755)
         write(self.state / "bin/rt", """#!/bin/sh
             sleep 0.5; mkdir -p crates/relay960/out; cp /bin/true crates/relay960/out/relay960
-            echo "rt: relay960 proved"; sleep "${RT_SLEEP:-3}"; echo 0 proofs: $* >> "$RT_STAND_IN/calls"; ! grep -q proofs "$RT_STAND_IN/wrong"
+            echo "rt: relay960 proved"; sleep "${RT_SLEEP:-3}"; echo 0 proofs: $* >> "$RT_STAND_IN/calls"
+            ! grep -q proofs "$RT_STAND_IN/wrong"
             """, 0o755)
         for called in (".ci/replay", "crates/relay960/replays/all.py", ".ci/replay-sessions", "benches/refusals.py"):
             write(self.top / called, f"#!/bin/sh\necho 0 replay: {called} >> \"$RT_STAND_IN/calls\"\n"
@@ -318,8 +322,9 @@ class Trials(unittest.TestCase):
                 os.symlink(shutil.which(tool), pathlib.Path(name, tool))
             for script in self.SCRIPTS:
                 text = script.read_text()
-                wanted = re.search(r"begin_trial (.*)", text)[1].split()
-                done = subprocess.run(["/bin/sh", script], env={"PATH": name, "RELAY960": f"{name}/relay960"}, capture_output=True, text=True, timeout=60, stdin=subprocess.DEVNULL)
+                wanted = re.search(r"begin_trial ((?:.*\\\n)*.*)", text)[1].split()
+                done = subprocess.run(["/bin/sh", script], env={"PATH": name, "RELAY960": f"{name}/relay960"}, capture_output=True,
+                                      text=True, timeout=60, stdin=subprocess.DEVNULL)
                 self.assertEqual((len(done.stdout.splitlines()), done.returncode, done.stderr), (1, 1, ""), f"{script}: {done}")
                 packages, _, rest = done.stdout.removeprefix("missing:").removeprefix(" apt-get install").rpartition(";")
                 self.assertLessEqual(set(packages.split()), set(wanted), script)
@@ -333,19 +338,22 @@ class Package(unittest.TestCase):
         with tempfile.TemporaryDirectory() as name:
             room = pathlib.Path(name)
             write(room / "relay960", "#!/bin/sh\necho relay960 0.0.1\n", 0o755)
-            made = subprocess.run([TOP / "package.sh", room], env={**os.environ, "RELAY960": str(room / "relay960")}, capture_output=True, text=True)
+            made = subprocess.run([TOP / "package.sh", room], env={**os.environ, "RELAY960": str(room / "relay960")}, capture_output=True,
+                                  text=True)
             self.assertEqual(made.returncode, 0, made.stderr)
             package = made.stdout.splitlines()[-1]
             self.assertRegex(package, r"/relay960_0\.0\.1_\w+\.deb$")
             subprocess.run(["dpkg-deb", "-x", package, room / "root"], check=True)
             root = room / "root"
             for path in ("usr/bin/relay960", "usr/share/relay960/pages/watch.html", "usr/share/man/man1/relay960.1.gz",
-                         "usr/lib/systemd/system/relay960.service", "usr/lib/systemd/system/relay960-enter.service", "usr/lib/relay960/feed.py",
-                         "usr/lib/relay960/enter.py", "usr/share/man/man1/relay960-enter.1.gz", "etc/relay960/nginx/relay960-http.conf"):
+                         "usr/lib/systemd/system/relay960.service", "usr/lib/systemd/system/relay960-enter.service",
+                         "usr/lib/relay960/feed.py", "usr/lib/relay960/enter.py", "usr/share/man/man1/relay960-enter.1.gz",
+                         "etc/relay960/nginx/relay960-http.conf"):
                 self.assertTrue((root / path).is_file(), path)
             library = root / "usr/lib/relay960"
             there = {str(it.relative_to(library).with_suffix("")).replace("/", ".") for it in library.rglob("*.py")}
-            ours = {it.stem for folder in ("many_spectators", "recorder", "hall", "pgn_in") for it in (TOP / "examples" / folder).glob("*.py")}
+            examples = [TOP / "examples" / folder for folder in ("many_spectators", "recorder", "hall", "pgn_in")]
+            ours = {it.stem for folder in examples for it in folder.glob("*.py")}
             for path in library.rglob("*.py"):
                 for module in re.findall(r"^\s*(?:from|import) ([\w.]+)", path.read_text(), re.M):
                     if module in ours or module.startswith("relay_client."):

@@ -16,8 +16,8 @@ ELSEWHERE = {"NAME.edit", "Early.antt", "round3.txt", "nginx.conf", "code.png", 
 ENDINGS = "rt|antt|py|sh|js|mjs|html|css|conf|service|md|edit|txt|c|rs|svg|png"
 FOLDERS = r"(?:crates|web|tools|docs|examples|benches|\.ci)"
 # Documents in which nearly all sentences are short.
-PLAIN = ("README.md", "CONTRIBUTING.md", "CHANGELOG.md", "docs/TERMS.md", "docs/PROTOCOL.md", "docs/SCRIPTS.md", "docs/DEPLOYMENT.md", "docs/DECISIONS.md",
-         "docs/HEADLINE.md", "docs/LIVE.md", "docs/PROVED.md", "docs/TRUST.md")
+PLAIN = ("README.md", "CONTRIBUTING.md", "CHANGELOG.md", "docs/TERMS.md", "docs/PROTOCOL.md", "docs/SCRIPTS.md", "docs/DEPLOYMENT.md",
+         "docs/DECISIONS.md", "docs/HEADLINE.md", "docs/LIVE.md", "docs/PROVED.md", "docs/TRUST.md")
 
 
 def files():
@@ -170,7 +170,8 @@ class Refusals(unittest.TestCase):
 
     def test_the_orders_are_those_of_the_protocol_and_of_scripts(self):
         """Of a session the rows of one command stand one below the other, so only scripts and single rows are compared."""
-        scripts = {row[0]: row[1] for row in rows(section(DOCUMENTS["docs/SCRIPTS.md"], "Refusals of a script").partition("| Command")[2].join(["| Command", ""]))}
+        scripts = {row[0]: row[1] for row in rows(section(DOCUMENTS["docs/SCRIPTS.md"],
+                                                          "Refusals of a script").partition("| Command")[2].join(["| Command", ""]))}
         started = False
         for row in rows(section(DOCUMENTS["docs/ARCHITECTURE.md"], "Where a command is refused")):
             started = started or row[0] == "**in a script**"

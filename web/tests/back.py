@@ -90,8 +90,8 @@ async def try_cut(browser):
 
 
 async def try_on_its_way(browser):
-    """A connection that is lost while a move is on its way, before or behind the relay: the move is played once, under the same name. Before, it
-    went on under another name."""
+    """A connection that is lost while a move is on its way, before or behind the relay: the move is played once, under the same name.
+    Before, it went on under another name."""
     relay = await Relay(grace=GRACE).start()
     for board, way in (("up", UP), ("down", DOWN)):
         table, wire = await table_of(browser, relay, board)
@@ -106,9 +106,9 @@ async def try_on_its_way(browser):
 
 
 async def try_pulled(browser):
-    """A cable that is pulled tells nothing, whether it is pulled before a move is sent or before it is answered. A move without an answer for 10 s
-    counts as lost on its way, and the page comes back. Before, a page waited for the answer for as long as the browser took the connection for
-    alive."""
+    """A cable that is pulled tells nothing, whether it is pulled before a move is sent or before it is answered. A move without an answer
+    for 10 s counts as lost on its way, and the page comes back. Before, a page waited for the answer for as long as the browser took the
+    connection for alive."""
     relay = await Relay(grace=GRACE).start()
     for board, ways in (("sent", [UP, DOWN]), ("answered", [DOWN])):
         table, wire = await table_of(browser, relay, board)
@@ -248,7 +248,8 @@ async def try_grace_over(browser):
     await asyncio.sleep(2.5)
     await wire.mend()
     await table.until('document.querySelector("#state").textContent === "The relay no longer has the game of b1_2"')
-    assert await table.run('document.querySelector("#new-name").value') == "b1_3" and await table.run('document.querySelector("#going-on").hidden')
+    assert await table.run('document.querySelector("#new-name").value') == "b1_3"
+    assert await table.run('document.querySelector("#going-on").hidden')
     await table.click("#anew button[type=submit]")
     await goes_on(table, relay, "b1_3", [*MOVES, "a7a6"])
     await close(table, wire)
@@ -287,7 +288,8 @@ async def try_page_gone(browser):
     await table.close()
     wire.drop()
     table = await browser.open(url("table.html", server=wire.address))
-    kept = await table.run('[...document.querySelector("#kept").options].find((it) => it.textContent.startsWith("b1, start 518, 3 moves")).value')
+    kept = await table.run('[...document.querySelector("#kept").options]'
+                           '.find((it) => it.textContent.startsWith("b1, start 518, 3 moves")).value')
     count = await table.run('document.querySelector("#kept").options.length')
     assert await table.run('document.querySelector("#kept").value') == kept, "the last game without an end is offered"
     assert await text(table, "#go-on") == "Continue b1"
@@ -298,7 +300,8 @@ async def try_page_gone(browser):
 
 
 async def try_key(browser):
-    """The key is made by chance, kept by the browser, and goes to the relay alone: no text, link, field, title or file of the page has it."""
+    """The key is made by chance, kept by the browser, and goes to the relay alone: no text, link, field, title or file of the page has
+    it."""
     relay = await Relay(grace=GRACE).start()
     table, wire = await table_of(browser, relay)
     key = await key_of(table, wire)
@@ -306,7 +309,8 @@ async def try_key(browser):
     other = await Client.to(relay.address, key)
     await other.submit("b1", "b8c6")
     await other.close()
-    await table.run('HTMLAnchorElement.prototype.click = function () { window.files = [...(window.files || []), fetch(this.href).then((it) => it.text())]; }')
+    await table.run('HTMLAnchorElement.prototype.click = function () { '
+                    'window.files = [...(window.files || []), fetch(this.href).then((it) => it.text())]; }')
     wire.drop()
     await until_state(table, "lost")
     await until_open(table, "b1")
@@ -314,10 +318,12 @@ async def try_key(browser):
     await table.click("#save-pgn")
     files = await table.run("Promise.all(files)")
     assert len(files) == 2 and "e2e4" in files[0] and "b8c6" in files[0] and not any(key in it for it in files), files
-    seen = await table.run('[document.documentElement.outerHTML, document.title, location.href, JSON.stringify(localStorage.getItem("sirvandu.games")),'
+    seen = await table.run('[document.documentElement.outerHTML, document.title, location.href, '
+                           'JSON.stringify(localStorage.getItem("sirvandu.games")),'
                            ' ...[...document.querySelectorAll("input, select")].map((it) => it.value)]')
     assert not any(key in it for it in seen)
-    keys = await table.run('[1, 2, 3].map(() => { localStorage.removeItem("sirvandu.key a"); Key.into("ws://a/"); return localStorage.getItem("sirvandu.key a"); })')
+    keys = await table.run('[1, 2, 3].map(() => { localStorage.removeItem("sirvandu.key a"); Key.into("ws://a/"); '
+                           'return localStorage.getItem("sirvandu.key a"); })')
     assert len(set(keys)) == 1 and key not in keys, "a page has one key for a relay for as long as it is open, and another for another"
     await table.run('localStorage.setItem("sirvandu.key a", "too short")')
     await table.go(url("table.html"))
@@ -355,7 +361,8 @@ async def correct(table, place):
 
 
 async def try_correct(browser):
-    """A game is corrected in one act with one question: it goes on under the next name from the position that is shown, and spectators with it."""
+    """A game is corrected in one act with one question: it goes on under the next name from the position that is shown, and spectators with
+    it."""
     relay = await Relay().start()
     table, wire = await table_of(browser, relay)
     seer = await watch(browser, relay, "b1")
@@ -363,8 +370,9 @@ async def try_correct(browser):
     assert await table.run('document.querySelector("#correct").hidden'), "the present needs no correction"
     await correct(table, 2)
     assert await text(table, "#sure-head") == "Correct the game?"
-    assert await text(table, "#sure-text") == ("b1 ends as abandoned and goes on as b1_2, with the first 2 moves. The last move will be lost. "
-                                               "The spectators' pages follow automatically.")
+    assert await text(table, "#sure-text") == (
+        "b1 ends as abandoned and goes on as b1_2, with the first 2 moves. The last move will be lost. "
+        "The spectators' pages follow automatically.")
     await table.press("Enter")
     await table.until('!document.querySelector("#sure").open')
     assert await log_of(relay, "b1") == (MOVES, None), "the button that has the focus goes back"

@@ -46,7 +46,8 @@ async def crowd():
 
 
 async def try_broadcast(browser):
-    """Behind nginx with nchan the round takes its boards from the feed's list, with positions, last moves and ends; one that is opened later comes by itself, also after a lost connection, and from a feed that was killed."""
+    """Behind nginx with nchan the round takes its boards from the feed's list, with positions, last moves and ends; one that is opened
+    later comes by itself, also after a lost connection, and from a feed that was killed."""
     async with crowd() as relay:
         wire = await Wire(CHANNELS).mend()
         address = url("round.html", channel=f"{wire.address}/sub")
@@ -61,7 +62,8 @@ async def try_broadcast(browser):
             await it.front()  # A page out of sight draws when it is seen again.
             tiles = await until_tiles(it, lambda them: [tile["men"] for tile in them] == wanted)
             had = [(tile["name"], tile["start"], tile["stand"], tile["turn"], tile["state"]) for tile in tiles]
-            assert had == [("n3", "no. 387", "", ["White"], "live"), ("n1", "no. 518", "0–1", [], "over"), ("n2", "no. 0", "", ["White"], "live")], had
+            assert had == [("n3", "no. 387", "", ["White"], "live"), ("n1", "no. 518", "0–1", [], "over"),
+                           ("n2", "no. 0", "", ["White"], "live")], had
         # A page that came late knows no position before the last move, so it has that in its two squares.
         assert [it["move"] for it in tiles] == ["3… c7–c5", "2… d8–h4", ""] and tiles[0]["marked"] == ["c5", "c7"], tiles
         assert await text(late, "#state") == "2 live, 1 over"
@@ -71,7 +73,8 @@ async def try_broadcast(browser):
         await client.submit("n2", "f2f4")
         for it in (page, late):
             await it.front()
-            tiles = await until_tiles(it, lambda them: [tile["move"] for tile in them][::2] == ["4. Nd3", "1. f4"] and them[-1]["start"] == "no. 959")
+            tiles = await until_tiles(it, lambda them: [tile["move"] for tile in them][::2] == ["4. Nd3", "1. f4"]
+                                      and them[-1]["start"] == "no. 959")
             assert tiles[0]["men"] == men(fens(START, [*MOVES, "e1d3"])[-1]) and tiles[0]["marked"] == ["d3", "e1"], tiles
             assert (tiles[3]["name"], tiles[3]["men"], tiles[3]["state"]) == ("n4", men(start_fen(959)), "live"), tiles
         await client.end("n2")
@@ -84,7 +87,8 @@ async def try_broadcast(browser):
         await client.submit("n4", "a2a3", "h7h6")
         await client.open("n5", 100)
         await wire.mend()
-        tiles = await until_tiles(page, lambda them: names_of(them) == ["n3", "n1", "n2", "n4", "n5"] and them[3]["men"] == men(fens(959, ["a2a3", "h7h6"])[-1]))
+        tiles = await until_tiles(page, lambda them: names_of(them) == ["n3", "n1", "n2", "n4", "n5"]
+                                  and them[3]["men"] == men(fens(959, ["a2a3", "h7h6"])[-1]))
         await until_state(page, "live", BEAT)
         os.kill(relay.feed, signal.SIGKILL)
         await client.submit("n4", "b2b3")
@@ -95,8 +99,10 @@ async def try_broadcast(browser):
         assert tiles[3]["stand"].startswith("No signal since ") and await state(page) == "silent", tiles
         await page.run("Date.now = now")
         async with running("./feed.py", "--all", "--watch", relay.watch_address, stdout=subprocess.DEVNULL):
-            tiles = await until_tiles(page, lambda them: names_of(them) == ["n3", "n1", "n2", "n4", "n5_2"] and them[3]["move"] == "2. b3" and them[4]["state"] == "live")
-            assert [it["state"] for it in tiles] == ["live", "over", "over", "live", "live"] and tiles[4]["men"] == men(start_fen(100)), tiles
+            tiles = await until_tiles(page, lambda them: names_of(them) == ["n3", "n1", "n2", "n4", "n5_2"] and them[3]["move"] == "2. b3"
+                                      and them[4]["state"] == "live")
+            assert [it["state"] for it in tiles] == ["live", "over", "over", "live", "live"], tiles
+            assert tiles[4]["men"] == men(start_fen(100)), tiles
             await page.click(".tile:nth-child(1) .inner")
             await page.until('location.pathname.endsWith("watch.html") && document.readyState === "complete"')
             await shows(page, 7, fens(START, [*MOVES, "e1d3"])[-1], "the channel of a board")

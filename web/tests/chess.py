@@ -1,4 +1,5 @@
-"""The tests of what the pages know of chess, without a browser; test.sh starts them. rules.js is compared with Stockfish, san.js with PyChess."""
+"""The tests of what the pages know of chess, without a browser; test.sh starts them. rules.js is compared with Stockfish, san.js with
+PyChess."""
 import collections
 import json
 import random
@@ -99,7 +100,8 @@ def try_counts():
             had, expected = pages.call("counts", fen, depth), stockfish.counts(fen, depth)
             assert had == expected, (fen, depth, set(had.items()) ^ set(expected.items()))
             lines += sum(had.values())
-            castled += depth == 1 and any(fen.split("/")[7].split(" ")[0][ord(it[2]) - 97] == "R" and it[3] == "1" for it in had if it[1] == "1")
+            castled += depth == 1 and any(fen.split("/")[7].split(" ")[0][ord(it[2]) - 97] == "R" and it[3] == "1" for it in had
+                                          if it[1] == "1")
     print(f"    {lines} lines of play; {len(by_chance)} positions by chance, castling legal in {castled}")
     assert lines > 300_000 and len(by_chance) > 200 and 50 < castled < len(by_chance) - 50
 
@@ -198,7 +200,8 @@ class Script:
 
 def following(fen, moves, joined=0):
     """What a follower is told of a game from a position on."""
-    return [{"reply": "following", "joined": joined, "fen": fen}] + [{"reply": "move", "place": place, "move": move} for place, move in enumerate(moves, joined)]
+    greeting = {"reply": "following", "joined": joined, "fen": fen}
+    return [greeting] + [{"reply": "move", "place": place, "move": move} for place, move in enumerate(moves, joined)]
 
 
 def to_and_fro(legal, moves, chance):
@@ -247,7 +250,8 @@ SCORES = {"white mates": "1-0", "black mates": "0-1", "white resigns": "0-1", "b
 
 
 def extracted(file):
-    """The tags and the moves of each game that pgn-extract reads in a file, of which it may not complain; the moves in the relay's words."""
+    """The tags and the moves of each game that pgn-extract reads in a file, of which it may not complain; the moves in the relay's
+    words."""
     path = shutil.which("pgn-extract") or "/usr/games/pgn-extract"
     ran = subprocess.run([path, "-s", "-w100000", "-Wuci"], input=file, capture_output=True, text=True, check=True)
     assert ran.stderr == "", ran.stderr
@@ -312,8 +316,8 @@ def rare_in(text):
 
 
 def is_mistaken(fen):
-    """Whether PyChess 1.0 takes another square for the rook of a right to castle: it looks for that of K and Q in the rank as it is written,
-    with vacant squares as one digit. docs/PAGES.md has an example. A start has no vacant squares there."""
+    """Whether PyChess 1.0 takes another square for the rook of a right to castle: it looks for that of K and Q in the rank as it is
+    written, with vacant squares as one digit. docs/PAGES.md has an example. A start has no vacant squares there."""
     placement, _, rights, *_ = fen.split(" ")
     rows = placement.split("/")
     for right, row, rook in (("K", rows[7], "R"), ("Q", rows[7], "R"), ("k", rows[0], "r"), ("q", rows[0], "r")):
@@ -324,7 +328,8 @@ def is_mistaken(fen):
 
 
 def try_pgn():
-    """Others read a round of 200 games by chance: pgn-extract finds their moves and results, Stockfish their last positions, and PyChess those whose FEN it does not mistake."""
+    """Others read a round of 200 games by chance: pgn-extract finds their moves and results, Stockfish their last positions, and PyChess
+    those whose FEN it does not mistake."""
     chance = random.Random(SEED + 3)
     ends = [None, *SCORES, "agreed", "threefold", "fifty moves", "fivefold", "seventy-five moves"]
     ends = [it for it in ends if it not in ("white mates", "black mates")]
@@ -334,7 +339,8 @@ def try_pgn():
         file = pages.call(ROUND, [(f"b{number}", {"white": 'A "B"', "black": ""}, texts) for number, (texts, *_) in enumerate(games)])
     mistaken = 0
     with Stockfish() as stockfish:
-        for number, ((texts, moves, end, final), text, (tags, words)) in enumerate(zip(games, games_in(file), extracted(file), strict=True)):
+        found = zip(games, games_in(file), extracted(file), strict=True)
+        for number, ((texts, moves, end, final), text, (tags, words)) in enumerate(found):
             score = SCORES.get(end, "1/2-1/2")
             assert words == [*moves, score] and tags["Result"] == score, (texts, words)
             assert (tags["White"], tags["Black"], tags["Variant"], tags["SetUp"]) == ('A \\"B\\"', "?", "Chess960", "1"), tags
@@ -344,8 +350,8 @@ def try_pgn():
             assert is_mistaken(tags["FEN"]) or read_by_pychess(text) == (len(moves), final.split(" ")[:2]), text
     rare = collections.Counter(it for text in games_in(file) for it in rare_in(text))
     late, whole = sum(" b " in texts[0]["fen"] for texts, *_ in games), sum(not texts[0]["joined"] for texts, *_ in games)
-    print(f"    {len(games)} games of {sum(len(moves) for _, moves, *_ in games)} moves, {whole} games whole, {late} from a move of Black on, "
-          f"{mistaken} with a rook that PyChess mistakes")
+    print(f"    {len(games)} games of {sum(len(moves) for _, moves, *_ in games)} moves, {whole} games whole, "
+          f"{late} from a move of Black on, {mistaken} with a rook that PyChess mistakes")
     print(f"    {', '.join(f'{name}: {times}' for name, times in sorted(rare.items()))}")
     assert late > 25 and whole > 50 and mistaken < 20 and set(rare) == RARE, RARE - set(rare)
     assert {end for *_, end, _ in games} == {*ends, "stalemate", "white mates", "black mates"}, {end for *_, end, _ in games}
@@ -449,14 +455,16 @@ READ = [
 ]
 
 # Words with a space in them.
-SPACED = [(PASSING, "exd6 e.p.", ["e5d6"]), (PASSING, "e5xd6 e.p.+", ["e5d6"]), (START, " e4 ", ["e2e4"]), (START, "", None), (START, "e4 e5", None)]
+SPACED = [(PASSING, "exd6 e.p.", ["e5d6"]), (PASSING, "e5xd6 e.p.+", ["e5d6"]), (START, " e4 ", ["e2e4"]), (START, "", None),
+          (START, "e4 e5", None)]
 
 # A position, a move, and how it is written.
 WRITTEN = [
-    (START, "e2e4", "e4"), (START, "g1f3", "Nf3"), (BOTH, "e1a1", "O-O-O"), (BOTH, "e1h1", "O-O"), (BOTH, "h1h8", "Rxh8+"), (PASSING, "e5d6", "exd6"),
+    (START, "e2e4", "e4"), (START, "g1f3", "Nf3"), (BOTH, "e1a1", "O-O-O"), (BOTH, "e1h1", "O-O"), (BOTH, "h1h8", "Rxh8+"),
+    (PASSING, "e5d6", "exd6"),
     (KNIGHTS, "b1d2", "Nbd2"), (KNIGHTS, "f3d2", "Nfd2"), (PINNED, "b1d2", "Nd2"), (ROOKS, "b1b3", "R1b3"), (ROOKS, "b5b3", "R5b3"),
-    (QUEENS, "h4e1", "Qh4e1"), (QUEENS, "h1e1", "Q1e1"), (QUEENS, "e4e1", "Qee1"), (LAST_STEP, "a7b8n", "axb8=N"), (LAST_STEP, "a7a8r", "a8=R"),
-    ("4k3/P7/8/8/8/8/8/4K3 w - - 0 1", "a7a8q", "a8=Q+"),
+    (QUEENS, "h4e1", "Qh4e1"), (QUEENS, "h1e1", "Q1e1"), (QUEENS, "e4e1", "Qee1"), (LAST_STEP, "a7b8n", "axb8=N"),
+    (LAST_STEP, "a7a8r", "a8=R"), ("4k3/P7/8/8/8/8/8/4K3 w - - 0 1", "a7a8q", "a8=Q+"),
     ("5k2/8/8/8/8/8/8/4K2R w H - 0 1", "e1h1", "O-O+"),
     ("rnbqkbnr/pppp1ppp/8/4p3/6P1/5P2/PPPPP2P/RNBQKBNR b HAha g3 0 2", "d8h4", "Qh4#"),
     ("7k/8/6K1/8/8/8/8/5Q2 w - - 0 1", "f1f7", "Qf7"),
@@ -482,15 +490,17 @@ APPEARED = [
 
 
 def try_appearances():
-    """How often a position has appeared, by the Laws: the men, the side to move, rights to castle, and captures en passant that can be made."""
+    """How often a position has appeared, by the Laws: the men, the side to move, rights to castle, and captures en passant that can be
+    made."""
     with chess() as pages:
         for fen, moves, times in APPEARED:
             told = pages.call("draws", following(fen, moves.split()))
             assert told["times"] == times and told["isWhole"], (fen, moves, told)
         late = "4k2r/8/8/8/8/8/4P3/R3K3 w - - 7 30"
         gap = [*following(late.replace(" 7 ", " 0 "), ["a1b1"], 4), *following("4k2r/8/8/8/8/8/4P3/2R1K3 b - - 3 31", [], 7)]
-        for texts, is_whole in ((following(late, [], 4), False), (following(late, ["a1b1", "h8g8"], 4), False), (following(late, ["e2e4"], 4), True),
-                                (gap, False), ([*gap, *following("", ["h8h1"], 7)[1:]], False), ([*gap, *following("", ["h8h7", "e2e3"], 7)[1:]], True)):
+        for texts, is_whole in ((following(late, [], 4), False), (following(late, ["a1b1", "h8g8"], 4), False),
+                                (following(late, ["e2e4"], 4), True), (gap, False), ([*gap, *following("", ["h8h1"], 7)[1:]], False),
+                                ([*gap, *following("", ["h8h7", "e2e3"], 7)[1:]], True)):
             told = pages.call("draws", texts)
             assert told["isWhole"] == is_whole and told["times"] == 1, (texts, told)
 

@@ -1,4 +1,5 @@
-"""Tests of how well the pages can be seen and gone through: contrasts and the focus, by scripts over each page's own tree; pages.py runs them with its own."""
+"""Tests of how well the pages can be seen and gone through: contrasts and the focus, by scripts over each page's own tree; pages.py runs
+them with its own."""
 import json
 
 from relay_client.client import Client
@@ -14,14 +15,20 @@ SCRIPT = """(() => {
     const [r, g, b, a = 1] = text.startsWith("color(srgb") ? [...numbers.slice(0, 3).map((it) => 255 * it), ...numbers.slice(3)] : numbers;
     return {r, g, b, a};
   };
-  const over = (top, low) => Object.fromEntries(["r", "g", "b"].map((it) => [it, top.a * top[it] + (1 - top.a) * low[it]]).concat([["a", 1]]));
+  const over = (top, low) =>
+    Object.fromEntries(["r", "g", "b"].map((it) => [it, top.a * top[it] + (1 - top.a) * low[it]]).concat([["a", 1]]));
   const light = ({r, g, b}) => {
     const part = (it) => (it / 255 <= 0.04045 ? it / 255 / 12.92 : ((it / 255 + 0.055) / 1.055) ** 2.4);
     return 0.2126 * part(r) + 0.7152 * part(g) + 0.0722 * part(b);
   };
-  const ratio = (one, other) => { const [low, high] = [light(one), light(other)].sort((a, b) => a - b); return (high + 0.05) / (low + 0.05); };
-  const ground = (it) => (it === null ? {r: 255, g: 255, b: 255, a: 1} : over(parsed(getComputedStyle(it).backgroundColor), ground(it.parentElement)));
-  const isSeen = (it) => it.checkVisibility({checkVisibilityCSS: true, checkOpacity: true}) && it.getClientRects().length > 0 && !it.closest(".unseen, .blank");
+  const ratio = (one, other) => {
+    const [low, high] = [light(one), light(other)].sort((a, b) => a - b);
+    return (high + 0.05) / (low + 0.05);
+  };
+  const ground = (it) =>
+    it === null ? {r: 255, g: 255, b: 255, a: 1} : over(parsed(getComputedStyle(it).backgroundColor), ground(it.parentElement));
+  const isSeen = (it) => it.checkVisibility({checkVisibilityCSS: true, checkOpacity: true}) && it.getClientRects().length > 0
+    && !it.closest(".unseen, .blank");
   const isOff = (it) => it.closest(":disabled, [aria-disabled=true]") !== null;
   const name = (it) => `${it.tagName.toLowerCase()}${it.id && "#" + it.id}${[...it.classList].map((one) => "." + one).join("")}`;
   const opacity = (it) => (it === null ? 1 : Number(getComputedStyle(it).opacity) * opacity(it.parentElement));
@@ -58,7 +65,8 @@ SCRIPT = """(() => {
   }
 
   /* The men on their squares by their bodies or their outlines, and the edge of the last move on its squares and beside plain ones. */
-  const plain = ["light", "dark"].map((it) => document.querySelector(`.square.${it}:not(.last, .check, .picked)`)).filter(Boolean).map(ground);
+  const plain = ["light", "dark"].map((it) => document.querySelector(`.square.${it}:not(.last, .check, .picked)`))
+    .filter(Boolean).map(ground);
   function man(letter, cell, {fill, stroke}) {
     const isWhite = letter === letter.toUpperCase();
     const had = Math.max(ratio(parsed(fill), ground(cell)), isWhite ? ratio(parsed(stroke), ground(cell)) : 0);
@@ -71,7 +79,8 @@ SCRIPT = """(() => {
   }
   /* Those of a round are images, which have their colours in them. */
   for (const it of document.querySelectorAll(".images .square")) {
-    const [, fill, stroke] = /class="body" fill="([^"]+)" stroke="([^"]+)"/.exec(decodeURIComponent(getComputedStyle(it).backgroundImage)) || [];
+    const image = decodeURIComponent(getComputedStyle(it).backgroundImage);
+    const [, fill, stroke] = /class="body" fill="([^"]+)" stroke="([^"]+)"/.exec(image) || [];
     if (fill !== undefined) man(it.dataset.man, it, {fill, stroke});
   }
   for (const it of document.querySelectorAll(".square.last")) {
@@ -128,7 +137,8 @@ async def try_contrast(browser):
     round_page = await look_at_round(browser, relay, client)
     await look_at_tabs(browser, relay)
     print(f"    {Count.texts} texts, {Count.edges} edges and {Count.men} men")
-    for style, fault in (("--soft: #999", "text "), ("--field: #ccc", "edge "), ("--last-edge: #8a8", "last move "), ("--dark: #445", "man ")):
+    for style, fault in (("--soft: #999", "text "), ("--field: #ccc", "edge "), ("--last-edge: #8a8", "last move "),
+                         ("--dark: #445", "man ")):
         await seer.scheme("light")
         await seer.run(f'document.documentElement.style = "{style}"')
         assert any(it.startswith(fault) for it in (await seer.run(SCRIPT))["faults"]), f"{style} was not noticed"
@@ -142,7 +152,8 @@ async def try_contrast(browser):
 
 
 async def look_at_round(browser, relay, client):
-    """The page of a round, with a board that is over, one that has a new move, and one that is not open yet; without a connection; and in a hall."""
+    """The page of a round, with a board that is over, one that has a new move, and one that is not open yet; without a connection; and in a
+    hall."""
     await client.open("b2")
     await client.submit("b2", "e2e4")
     wire = await Wire(relay.port).mend()
@@ -202,11 +213,13 @@ async def look_at_tabs(browser, relay):
         await page.close()
 
 
-NAMED = ["button", "textbox", "spinbutton", "combobox", "checkbox", "grid", "table", "gridcell", "cell", "region", "tab", "tablist", "tabpanel", "Iframe"]
+NAMED = ["button", "textbox", "spinbutton", "combobox", "checkbox", "grid", "table", "gridcell", "cell", "region", "tab", "tablist",
+         "tabpanel", "Iframe"]
 
 
 async def names(page, **which):
-    """The roles and names of the controls that a screen reader is told of, and of what holds them; of a frame, where its number is given."""
+    """The roles and names of the controls that a screen reader is told of, and of what holds them; of a frame, where its number is
+    given."""
     nodes = (await page.call("Accessibility.getFullAXTree", **which))["nodes"]
     return [(it["role"]["value"], it["name"]["value"]) for it in nodes if it.get("role", {}).get("value") in NAMED and not it["ignored"]]
 
@@ -221,7 +234,8 @@ async def try_tabs_names(browser):
         had = await names(page)
         assert all(name for _, name in had), had
         assert [name for role, name in had if role == "tab"] == [
-            "t1 Carlsen, Magnus–Caruana White to move. This position has occurred twice", "t2 So–Ding 0–1: Black wins by checkmate.", "t3 White to move"], had
+            "t1 Carlsen, Magnus–Caruana White to move. This position has occurred twice", "t2 So–Ding 0–1: Black wins by checkmate.",
+            "t3 White to move"], had
         assert [it for it in had if it[0] in ("tablist", "tabpanel", "Iframe")] == [
             ("tablist", "Boards of the round"), ("tabpanel", "t2 So–Ding 0–1: Black wins by checkmate."), ("Iframe", "t2")], had
         assert [name for role, name in had if role == "button"] == ["Save PGN", "Open the boards"], had
@@ -248,7 +262,8 @@ FOCUSED = f"""(() => {{
 CONTROLS = f"""(() => {{
   {ELEMENTS}
   return elements(document).map((it, place) => [it, place]).filter(([it]) => it.tabIndex >= 0 && !it.disabled
-    && it.matches("button, input, select, textarea, summary, a[href], [tabindex]") && it.checkVisibility({{checkVisibilityCSS: true}})).map(([, place]) => place);
+    && it.matches("button, input, select, textarea, summary, a[href], [tabindex]") && it.checkVisibility({{checkVisibilityCSS: true}}))
+    .map(([, place]) => place);
 }})()"""
 
 
@@ -305,11 +320,13 @@ async def try_focus(browser):
 PLANTED_NAMES = [
     ('document.querySelector("#sounds").closest("label").replaceWith(document.querySelector("#sounds"))', "checkbox"),
     ('document.querySelector("#flip").replaceChildren(); document.querySelector("#flip").removeAttribute("title")', "button"),
-    ('document.querySelector("[data-square=e4]").removeAttribute("aria-label"); document.querySelector("[data-square=e4]").replaceChildren()', "cell"),
+    ('document.querySelector("[data-square=e4]").removeAttribute("aria-label"); '
+     'document.querySelector("[data-square=e4]").replaceChildren()', "cell"),
 ]
 PLANTED_FOCUS = [
     ('document.querySelector("#sounds").tabIndex = 1', "the Tab key goes to "),
-    ('document.querySelector("#long").parentNode.style = "display: flex"; document.querySelector("#long").tabIndex = 2', "the Tab key goes to "),
+    ('document.querySelector("#long").parentNode.style = "display: flex"; document.querySelector("#long").tabIndex = 2',
+     "the Tab key goes to "),
     ('document.querySelector("#save-pgn").style.outline = "none"', "no ring on BUTTON save-pgn"),
 ]
 

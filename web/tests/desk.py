@@ -1,4 +1,5 @@
-"""Tests of what an operator has in sight: the field and the buttons beside the board, what is said, and a game that was interrupted; pages.py runs them with its own."""
+"""Tests of what an operator has in sight: the field and the buttons beside the board, what is said, and a game that was interrupted;
+pages.py runs them with its own."""
 import json
 
 from back import close, table_of, until_open
@@ -10,7 +11,8 @@ DESKS = ((1280, 900), (1366, 768))
 MEDIA = ({}, {"prefers_color_scheme": "dark", "prefers_reduced_motion": "reduce"})
 # What an operator needs from move to move.
 NEEDED = ["#move", "#typed button", "#said", "#near", "#correct", *(f"#{it}" for it in ("first", "back", "on", "last", "flip")),
-          *(f"#ending [data-how={how}]" for how in ("agreed", "threefold", "fifty", "abandoned")), "#ending [data-side=white]", "#ending [data-side=black]"]
+          *(f"#ending [data-how={how}]" for how in ("agreed", "threefold", "fifty", "abandoned")), "#ending [data-side=white]",
+          "#ending [data-side=black]"]
 
 # Those of some parts that are not wholly in sight in their window, whose lower edge may be higher than the frame's.
 OUTSIDE = """(document, bottom, wanted) => wanted.filter((it) => {
@@ -21,7 +23,8 @@ OUTSIDE = """(document, bottom, wanted) => wanted.filter((it) => {
 
 
 async def at_a_draw(table):
-    """Plays until a position has come twice, enters a move that is not legal, and goes back a move: all that may stand on the page stands there."""
+    """Plays until a position has come twice, enters a move that is not legal, and goes back a move: all that may stand on the page stands
+    there."""
     for ply, move in enumerate(["Nf3", "Nf6", "Ng1", "Ng8"], 1):
         await enter(table, move, "type")
         await until_moves(table, ply)
@@ -32,7 +35,8 @@ async def at_a_draw(table):
 
 
 async def try_desk(browser):
-    """On a desk's screens the field for a move stands beside the board, and every button that a game needs is in sight, with a message, a draw that comes near and a correction."""
+    """On a desk's screens the field for a move stands beside the board, and every button that a game needs is in sight, with a message, a
+    draw that comes near and a correction."""
     relay = await Relay().start()
     table = await open_table(browser, relay, "b1", 518)
     await at_a_draw(table)
@@ -43,11 +47,13 @@ async def try_desk(browser):
             await table.run("scrollTo(0, 0)")
             outside = await table.run(f'({OUTSIDE})(document, innerHeight, {json.dumps([*NEEDED, ".board"])})')
             assert outside == [], (size, outside)
-            beside = await table.run('document.querySelector("#move").getBoundingClientRect().left - document.querySelector(".board").getBoundingClientRect().right')
+            beside = await table.run('document.querySelector("#move").getBoundingClientRect().left'
+                                     ' - document.querySelector(".board").getBoundingClientRect().right')
             assert beside > 0, (size, beside)
             part = await table.run('document.querySelector(".board").getBoundingClientRect().width / innerHeight')
             assert part > 0.7, (size, part)
-    groups = await table.run('[...document.querySelectorAll(".endings")].map((it) => [...it.querySelectorAll("button")].map((one) => one.dataset.how))')
+    groups = await table.run('[...document.querySelectorAll(".endings")]'
+                             '.map((it) => [...it.querySelectorAll("button")].map((one) => one.dataset.how))')
     assert groups == [["resign", "resign", "agreed"], ["threefold", "fifty"], ["abandoned"]], groups
     assert not table.faults, table.faults
     await table.close()
@@ -83,7 +89,8 @@ PARTS = """(() => {
 
 
 async def try_phone_form(browser):
-    """On a phone what begins a game stands before the board, and what has nothing to show yet behind it; on its side the board stands beside the form."""
+    """On a phone what begins a game stands before the board, and what has nothing to show yet behind it; on its side the board stands
+    beside the form."""
     relay = await Relay().start()
     for name, form in (("table.html", "#opening"), ("watch.html", "#settings")):
         page = await browser.open(url(name, server=relay.address))
@@ -93,7 +100,8 @@ async def try_phone_form(browser):
         assert await page.run(PARTS) == [form, ".board", "#moves"], await page.run(PARTS)
         await page.resize(844, 390)
         low = await page.run('document.querySelector(".board").getBoundingClientRect().bottom - innerHeight')
-        right = await page.run(f'document.querySelector("{form}").getBoundingClientRect().left - document.querySelector(".board").getBoundingClientRect().right')
+        right = await page.run(f'document.querySelector("{form}").getBoundingClientRect().left'
+                               ' - document.querySelector(".board").getBoundingClientRect().right')
         assert low <= 0 < right, (low, right)
         assert not page.faults, page.faults
         await page.close()
@@ -103,7 +111,8 @@ OFFERED = 'document.querySelector("#going-on").hidden ? "" : document.querySelec
 
 
 async def try_interrupted(browser):
-    """A game that was interrupted is offered at the head of the page when that is loaded again; one that has ended is not, nor while another is played."""
+    """A game that was interrupted is offered at the head of the page when that is loaded again; one that has ended is not, nor while
+    another is played."""
     relay = await Relay(grace=GRACE).start()
     address = url("table.html", server=relay.address, board="b1", players="Adams–Baker")
     table = await browser.open(address)

@@ -79,8 +79,8 @@ async def another_game(browser, first, other, **options):
 
 
 async def try_another(browser):
-    """Another game of the name that is as long, longer or shorter is shown from its start, and the page says so; no move of the first stays.
-    Before, it said nothing, and joined the two games into one."""
+    """Another game of the name that is as long, longer or shorter is shown from its start, and the page says so; no move of the first
+    stays. Before, it said nothing, and joined the two games into one."""
     for other, words in ((OTHER, "reopened with another game"), ([*OTHER, "g1f3", "b8c6"], "reopened with another game"),
                          (OTHER[:1], "fewer moves than before")):
         seer, client, wire = await another_game(browser, FIRST, other)
@@ -97,8 +97,8 @@ async def try_another(browser):
 
 
 async def try_uncompared(browser):
-    """Where the relay gives no place at which the games could be compared, the page shows the present and nothing of the game before. Before, it
-    said nothing of another game."""
+    """Where the relay gives no place at which the games could be compared, the page shows the present and nothing of the game before.
+    Before, it said nothing of another game."""
     moves = [*OTHER, "g1f3", "b8c6", "f1b5"]
     relay = await Relay(capacity=2).start()
     wire = await Wire(relay.port).mend()
@@ -119,8 +119,8 @@ async def try_uncompared(browser):
 
 
 async def try_heir(browser):
-    """A board that the relay no longer has, or never had in this run: the page goes to the next name by itself, and says so. Before, it showed
-    the game that was gone, and stayed."""
+    """A board that the relay no longer has, or never had in this run: the page goes to the next name by itself, and says so. Before, it
+    showed the game that was gone, and stayed."""
     relay = await Relay().start()
     client = await game_of(relay, FIRST, "r1")
     seer = await watch(browser, relay, "r1")
@@ -151,8 +151,8 @@ async def try_heir(browser):
 
 
 async def try_moved(browser):
-    """A channel whose game has ended as abandoned: no green is left, and the page goes to the name that the feed tells, and says so. Before, it
-    stayed where it was, with a button for the next name."""
+    """A channel whose game has ended as abandoned: no green is left, and the page goes to the name that the feed tells, and says so.
+    Before, it stayed where it was, with a button for the next name."""
     async with Channels() as channels:
         await channels.says("b1", following(), beat(), *moved(FIRST))
         seer = await browser.open(url("watch.html", channel=channels.address, board="b1"))
@@ -179,7 +179,8 @@ async def try_moved(browser):
 
 
 async def try_again(browser):
-    """A channel's lost connection: all is told again, nothing is shown twice, the move that is looked at stays, and nothing is said to be new."""
+    """A channel's lost connection: all is told again, nothing is shown twice, the move that is looked at stays, and nothing is said to be
+    new."""
     async with Channels() as channels:
         await channels.says("b1", following(), beat(), *moved(FIRST), over(), following(), beat(), *moved(OTHER))
         seer = await browser.open(url("watch.html", channel=channels.address, board="b1"))
@@ -236,8 +237,8 @@ CLOCK = "new Date({time} * 1000).toLocaleTimeString([], {{hour: '2-digit', minut
 
 
 async def try_silent(browser):
-    """A channel without a beat and a move for 45 seconds: `No signal since`, and no green until the next sign. Before, it was green for as long
-    as one waited."""
+    """A channel without a beat and a move for 45 seconds: `No signal since`, and no green until the next sign. Before, it was green for as
+    long as one waited."""
     async with Channels() as channels:
         await channels.says("b1", following(), beat(), *moved(FIRST))
         seer = await browser.open(url("watch.html", channel=channels.address, board="b1"))
@@ -261,8 +262,8 @@ async def try_silent(browser):
 
 
 async def try_dead(browser):
-    """Who opens the page of a channel whose feed has gone sees its last position and no green; the time is that of the last beat. Before, it was
-    green."""
+    """Who opens the page of a channel whose feed has gone sees its last position and no green; the time is that of the last beat. Before,
+    it was green."""
     async with Channels() as channels:
         old = beat(3600)
         await channels.says("b1", following(), old, *moved(FIRST))
@@ -303,8 +304,8 @@ def site():
 
 
 async def try_policy(browser):
-    """An address that the page's own policy blocks: both pages say that there is no connection, and can be stopped. Before, the spectator's page
-    said for ever that it connects: a browser tells of a policy by `error` alone."""
+    """An address that the page's own policy blocks: both pages say that there is no connection, and can be stopped. Before, the spectator's
+    page said for ever that it connects: a browser tells of a policy by `error` alone."""
     with site() as address:
         seer = await browser.open(f"{address}/watch.html?server=ws://127.0.0.1:9&board=b1")
         table = await browser.open(f"{address}/table.html?server=ws://127.0.0.1:9&board=b1")
@@ -320,7 +321,8 @@ async def try_policy(browser):
 
 
 async def try_unanswered(browser):
-    """A server that takes the connection and says nothing: the page gives up after ten seconds, and tries again. Before, it waited without end."""
+    """A server that takes the connection and says nothing: the page gives up after ten seconds, and tries again. Before, it waited without
+    end."""
     accepted = []
     server = await asyncio.start_server(lambda *streams: accepted.append(streams), "127.0.0.1", 0)
     address = f"ws://127.0.0.1:{server.sockets[0].getsockname()[1]}"
@@ -336,8 +338,8 @@ async def try_unanswered(browser):
 
 
 async def try_late(browser):
-    """A spectator that comes after 80 moves sees the whole game, at a relay that is started as the unit starts it. Before, the documents' own
-    commands kept 64 moves, and it began at the present."""
+    """A spectator that comes after 80 moves sees the whole game, at a relay that is started as the unit starts it. Before, the documents'
+    own commands kept 64 moves, and it began at the present."""
     words = re.search(r"^ExecStart=.* serve (.*)$", UNIT.read_text(), re.M)[1].split()
     # The tests' relay counts its connections, and ends with them.
     for word in "--forever", "--until-input-ends":
@@ -358,8 +360,8 @@ async def try_late(browser):
 
 
 async def try_phases(browser):
-    """A state accepts what its table says, and nothing else changes it. One with a limit is told when it is late, and no other. Before, what a
-    page accepted followed from nine fields."""
+    """A state accepts what its table says, and nothing else changes it. One with a limit is told when it is late, and no other. Before,
+    what a page accepted followed from nine fields."""
     page = await browser.open(url("watch.html"))
     had = await page.run("""(() => {
       const entered = [];
@@ -373,7 +375,8 @@ async def try_phases(browser):
       return [answers, entered];
     })()""")
     late = await page.run("""new Promise((resolve) => {
-      const phase = createPhase({ idle: { late: () => resolve("never") }, asked: { late: ({ command }) => resolve(command) } }, () => {}, { asked: 0.2 });
+      const states = { idle: { late: () => resolve("never") }, asked: { late: ({ command }) => resolve(command) } };
+      const phase = createPhase(states, () => {}, { asked: 0.2 });
       phase.go("asked", { command: "first" });
       phase.go("idle");
       phase.go("asked", { command: "second" });

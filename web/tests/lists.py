@@ -17,7 +17,8 @@ PATIENCE = 40  # Seconds: a watch port that says nothing is asked after 20, and 
 def told(board, start=518, moves=(), outcome=None):
     """A text of the list."""
     fen = fens(start, moves)[-1] if moves else start_fen(start)
-    return {"board": board, "fen": fen, "last": moves[-1] if moves else None, "outcome": outcome, "plies": len(moves), "reply": "board", "start": start}
+    return {"board": board, "fen": fen, "last": moves[-1] if moves else None, "outcome": outcome, "plies": len(moves), "reply": "board",
+            "start": start}
 
 
 async def open_round(browser, address, size=(1280, 900), **more):
@@ -41,7 +42,8 @@ async def until_names(page, *names):
 
 
 async def try_listed(browser):
-    """Without names in its address the round shows every board, in the order of opening, from one connection: also those that are opened later."""
+    """Without names in its address the round shows every board, in the order of opening, from one connection: also those that are opened
+    later."""
     relay = await Relay(watch=True, boards=64).start()
     wire = await Wire(relay.watch_port).mend()
     page = await open_round(browser, wire.address)
@@ -69,7 +71,8 @@ async def try_listed(browser):
     for it in (page, late):
         await it.front()  # A page out of sight draws when it is seen again.
         tiles = await until_tiles(it, lambda them: [tile["move"] for tile in them][::2] == ["4. Nd3", "1. f4"])
-        assert tiles[0]["men"] == men(fens(START, [*MOVES, "e1d3"])[-1]) and tiles[0]["turn"] == ["Black"] and tiles[0]["marked"] == ["d3", "e1"]
+        assert tiles[0]["men"] == men(fens(START, [*MOVES, "e1d3"])[-1]) and tiles[0]["turn"] == ["Black"]
+        assert tiles[0]["marked"] == ["d3", "e1"]
     await client.end("r1-2")
     await page.front()
     tiles = await until_tiles(page, lambda them: them[2]["stand"] == "½–½")
@@ -119,9 +122,11 @@ async def try_listed_many(browser):
 
 
 async def try_listed_anew(browser):
-    """The relay is restarted: each game is another one of its name, whether it has another start, fewer moves or the same place, and what is gone is not shown."""
+    """The relay is restarted: each game is another one of its name, whether it has another start, fewer moves or the same place, and what
+    is gone is not shown."""
     relay = await Relay(watch=True).start()
-    await boards_of(relay, ("a", START, MOVES), ("b", 518, MATE[:2]), ("c", 518, MATE[:2]), ("d", 518, MATE[:3]), ("e", 518, MATE), ("f", 0, []))
+    await boards_of(relay, ("a", START, MOVES), ("b", 518, MATE[:2]), ("c", 518, MATE[:2]), ("d", 518, MATE[:3]), ("e", 518, MATE),
+                    ("f", 0, []))
     page = await open_round(browser, relay.watch_address)
     await until_names(page, *"abcdef")
     for number in range(1, 7):
@@ -176,7 +181,8 @@ async def try_listed_wire(browser):
 
 
 async def try_dead_wire(browser):
-    """A connection that is dead without a word, as where a laptop lost its network: the pages at a watch port say so and come back; a silent board stays live."""
+    """A connection that is dead without a word, as where a laptop lost its network: the pages at a watch port say so and come back; a
+    silent board stays live."""
     relay = await Relay(watch=True).start()
     wire = await Wire(relay.watch_port).mend()
     client = await boards_of(relay, ("a", 518, MATE[:1]))
@@ -202,7 +208,8 @@ async def try_listed_heirs(browser):
     client = await boards_of(relay, ("r1", 518, MATE[:2]), ("r2", 518, MATE), ("r3", 518, []))
     page = await open_round(browser, relay.watch_address, players="r1%20Carlsen–Caruana;r2%20So;r3%20Ding%20-%20Nepo;r4%20Adams–Baker;r5")
     tiles = await until_names(page, "r1", "r2", "r3", "r4", "r5")
-    assert [it["sides"] for it in tiles] == [["Caruana", "Carlsen"], ["Black", "So"], ["Nepo", "Ding"], ["Baker", "Adams"], ["Black", "White"]], tiles
+    assert [it["sides"] for it in tiles] == [["Caruana", "Carlsen"], ["Black", "So"], ["Nepo", "Ding"], ["Baker", "Adams"],
+                                             ["Black", "White"]], tiles
     assert [it["stand"] for it in tiles[3:]] == ["Not open yet"] * 2 and tiles[3]["label"] == "r4, Adams – Baker, Not open yet", tiles[3]
     assert await text(page, "#state") == "2 live, 1 over, 2 waiting"
     for old in ("r1", "r1_2"):
@@ -213,8 +220,8 @@ async def try_listed_heirs(browser):
     await client.open("x")
     await client.open("r5", 959)
     tiles = await until_names(page, "r1_3", "r2", "r3", "r2_2", "x", "r5", "r4")
-    assert [it["sides"] for it in tiles] == [["Caruana", "Carlsen"], ["Black", "So"], ["Nepo", "Ding"], ["Black", "So"], ["Black", "White"], ["Black", "White"],
-                                             ["Baker", "Adams"]], tiles
+    assert [it["sides"] for it in tiles] == [["Caruana", "Carlsen"], ["Black", "So"], ["Nepo", "Ding"], ["Black", "So"], ["Black", "White"],
+                                             ["Black", "White"], ["Baker", "Adams"]], tiles
     assert tiles[0]["href"].endswith("&board=r1_3&players=Carlsen–Caruana") or "r1_3" in tiles[0]["href"], tiles[0]
     await relay.kill()
     await relay.start()
@@ -226,13 +233,15 @@ async def try_listed_heirs(browser):
 
 
 async def try_listed_channel(browser):
-    """The list in a channel: of what was kept the last of each board counts, and no old beat is a sign; silence, a lost connection and other games are shown."""
+    """The list in a channel: of what was kept the last of each board counts, and no old beat is a sign; silence, a lost connection and
+    other games are shown."""
     async with Channels() as channels:
-        await channels.says("_boards", told("a"), beat(7200), told("b", 0), told("a", moves=MATE[:1]), told("c", 959), told("b", 0, ["f2f4"]), beat(3600),
-                            told("a", moves=MATE[:2]))
+        await channels.says("_boards", told("a"), beat(7200), told("b", 0), told("a", moves=MATE[:1]), told("c", 959),
+                            told("b", 0, ["f2f4"]), beat(3600), told("a", moves=MATE[:2]))
         page = await browser.open(url("round.html", channel=channels.address))
         tiles = await until_names(page, "a", "b", "c")
-        assert [it["state"] for it in tiles] == ["connecting"] * 3 and await text(page, "#state") == "Connected. Waiting for a signal …", tiles
+        assert [it["state"] for it in tiles] == ["connecting"] * 3, tiles
+        assert await text(page, "#state") == "Connected. Waiting for a signal …", tiles
         assert [it["move"] for it in tiles] == ["1… e7–e5", "1. f2–f4", ""]
         await channels.says("_boards", beat())
         await until_tiles(page, lambda them: [it["state"] for it in them] == ["live"] * 3)
@@ -263,12 +272,15 @@ async def try_listed_pgn(browser):
     client = await boards_of(relay, ("r1", START, MOVES), ("r2", 518, MATE), ("r3", 0, []), ("r4", 518, MATE[:1]))
     await client.end("r4", "abandoned")
     await boards_of(relay, ("r4_2", 518, MATE[:2]))
-    games = [("r1", START, "1. Ne3 Nd6 2. O-O O-O 3. f4 c5 *", ("A", "B")), ("r2", 518, "1. f3 e5 2. g4 Qh4# {Black mates.} 0-1", ("?", "?")),
+    games = [("r1", START, "1. Ne3 Nd6 2. O-O O-O 3. f4 c5 *", ("A", "B")),
+             ("r2", 518, "1. f3 e5 2. g4 Qh4# {Black mates.} 0-1", ("?", "?")),
              ("r3", 0, "*", ("?", "?")), ("r4_2", 518, "1. f3 e5 *", ("?", "?"))]
     async with Channels() as channels:
-        for board, start, moves, outcome in (("r1", START, MOVES, None), ("r2", 518, MATE, "black mates"), ("r3", 0, [], None), ("r4_2", 518, MATE[:2], None)):
+        for board, start, moves, outcome in (("r1", START, MOVES, None), ("r2", 518, MATE, "black mates"), ("r3", 0, [], None),
+                                             ("r4_2", 518, MATE[:2], None)):
             await channels.says(board, {"fen": start_fen(518), "joined": 0, "reply": "following"}, *moved(["d2d4", "d7d5", "c2c4"]), over(),
-                                {"fen": start_fen(start), "joined": 0, "reply": "following"}, *moved(moves), *([over(outcome)] if outcome else []), beat())
+                                {"fen": start_fen(start), "joined": 0, "reply": "following"}, *moved(moves),
+                                *([over(outcome)] if outcome else []), beat())
             await channels.says("_boards", told(board, start, moves, outcome))
         await channels.says("_boards", told("lost", 518, MATE), beat())
         for given, missing in (({"watch": relay.watch_address}, []), ({"channel": channels.address}, ["lost"])):
@@ -279,7 +291,8 @@ async def try_listed_pgn(browser):
             await page.until('document.querySelector("#save-round").disabled')
             await page.until('!document.querySelector("#save-round").disabled', PATIENCE)
             day = await today(page)
-            wanted = [pgn(board, start, words, day, players, "normal" if "mates" in words else "unterminated") for board, start, words, players in games]
+            wanted = [pgn(board, start, words, day, players, "normal" if "mates" in words else "unterminated")
+                      for board, start, words, players in games]
             assert await page.run("saved") == ["round.pgn", "\n".join(wanted), "application/vnd.chess-pgn"], await page.run("saved")
             said = await page.run('document.querySelector("#said").hidden ? "" : document.querySelector("#said").textContent')
             assert said == ("Not saved, since their moves did not come: lost." if missing else ""), said
@@ -289,7 +302,8 @@ async def try_listed_pgn(browser):
 
 
 async def try_listed_smooth(browser):
-    """64 boards of the list on one screen, each with a move a second for a minute: no task of the page takes 50 ms, but for one that the machine may have disturbed."""
+    """64 boards of the list on one screen, each with a move a second for a minute: no task of the page takes 50 ms, but for one that the
+    machine may have disturbed."""
     relay = await Relay(watch=True, boards=64).start()
     names = [f"m{number}" for number in range(64)]
     await smooth_for(browser, relay, names, url("round.html", watch=relay.watch_address))
@@ -301,7 +315,8 @@ async def try_no_list(browser):
     client = await boards_of(relay, ("a", 518, MATE[:1]))
     wire = await Wire(relay.port).mend()
     page = await browser.open(url("round.html", server=wire.address))
-    await page.until('document.querySelector("#state").textContent.startsWith("This is not a watch port, so it has no list of boards. Trying again in ")')
+    await page.until('document.querySelector("#state").textContent'
+                     '.startsWith("This is not a watch port, so it has no list of boards. Trying again in ")')
     await client.close()
     await wire.cut()
     other = await Relay(watch=True).start()
@@ -316,7 +331,8 @@ async def try_no_list(browser):
 
 
 async def try_watch_port(browser):
-    """At the watch port a page has the whole game at once, whatever the relay's queues hold, and is neither cut nor refused; at the relay's own port it is as before."""
+    """At the watch port a page has the whole game at once, whatever the relay's queues hold, and is neither cut nor refused; at the relay's
+    own port it is as before."""
     relay = await Relay(watch=True, capacity=1, followers=1, plies=16384).start()
     client = await boards_of(relay, ("b1", 518, QUIET[:40]))
     pages = [await browser.open(url("watch.html", watch=relay.watch_address, board="b1")) for _ in range(3)]
@@ -353,7 +369,8 @@ async def try_full(browser):
     await until_moves(first, 2)
     for name, given in (("watch.html", {"board": "b1"}), ("round.html", {})):
         page = await browser.open(url(name, watch=relay.watch_address, **given))
-        await page.until('document.querySelector("#state").textContent.startsWith("The relay has no room for another spectator. Trying again in ")')
+        await page.until('document.querySelector("#state").textContent'
+                         '.startsWith("The relay has no room for another spectator. Trying again in ")')
         await first.close()
         await until_state(page, "live")
         assert not page.faults, page.faults
@@ -395,7 +412,8 @@ async def from_disk(browser, relay, name, **given):
 
 
 async def try_default(browser):
-    """A page from disk takes its machine's relay: at its watch port, and where it has none at its own, asked for in vain by the first connections alone."""
+    """A page from disk takes its machine's relay: at its watch port, and where it has none at its own, asked for in vain by the first
+    connections alone."""
     for has_port in (True, False):
         relay = await Relay(watch=has_port).start()
         client = await boards_of(relay, *((f"b{number}", 518, MATE[:2]) for number in range(12)))
@@ -441,7 +459,8 @@ async def try_form_of_list(browser):
     assert [it["sides"] for it in tiles] == [["Black", "White"], ["Caruana", "Carlsen, Magnus"], ["Black", "White"]], tiles
     assert await page.run("decodeURIComponent(location.search)") == f"?watch={relay.watch_address}&players=f2 Carlsen, Magnus–Caruana;f3"
     await unfold(page)
-    assert await page.run('[document.querySelector("#lines").value, document.querySelector("#every").checked]') == ["f2 Carlsen, Magnus–Caruana\nf3", True]
+    entered = await page.run('[document.querySelector("#lines").value, document.querySelector("#every").checked]')
+    assert entered == ["f2 Carlsen, Magnus–Caruana\nf3", True]
     await page.click("#hall")
     await page.click("#source .main")
     await page.until('document.body && document.body.classList.contains("hall")')
@@ -449,6 +468,7 @@ async def try_form_of_list(browser):
     assert not page.faults, page.faults
     await page.close()
     hall = await browser.open(url("round.html", watch="ws://127.0.0.1:9", hall=""), (1280, 720))
-    await hall.until('document.querySelector("#none").checkVisibility() && document.querySelector("#none").textContent.startsWith("No connection")')
+    await hall.until('document.querySelector("#none").checkVisibility()'
+                     ' && document.querySelector("#none").textContent.startsWith("No connection")')
     await hall.close()
     await client.close()

@@ -1,4 +1,5 @@
-"""The tests of chess as it is written on the pages: what is typed, where a man may go, and what the pages show of moves and of draws that come near."""
+"""The tests of chess as it is written on the pages: what is typed, where a man may go, and what the pages show of moves and of draws that
+come near."""
 import asyncio
 import json
 import pathlib
@@ -7,7 +8,8 @@ import tempfile
 from relay_client.client import Client
 from relay_client.program import fens, start_fen
 from relay_client.relay import Relay
-from steps import catch_files, enter, listed, open_table, pgn, said, say_end, shows, state, text, today, until_moves, until_state, url, watch
+from steps import (catch_files, enter, listed, open_table, pgn, said, say_end, shows, state, text, today, until_moves, until_state, url,
+                   watch)
 from told import Told
 
 # What is typed, move by move, and the relay's text that it is; where it is ambiguous, the candidates as they are offered.
@@ -20,7 +22,8 @@ TYPED = [
 
 
 async def try_typed(browser):
-    """Moves typed as players write them reach the relay as its own texts; an ambiguous one is asked back, and is not sent where one goes back."""
+    """Moves typed as players write them reach the relay as its own texts; an ambiguous one is asked back, and is not sent where one goes
+    back."""
     relay = await Relay().start()
     table = await open_table(browser, relay, "typed", 518)
     moves = [move for _, move, _ in TYPED]
@@ -46,7 +49,8 @@ SIDES = '["lower", "upper"].map((it) => document.querySelector(`#${it} .side`).t
 
 
 async def try_pgn(browser):
-    """Both pages save the game that they show as PGN with its players, while it goes on and when it has ended, and nothing before there is one."""
+    """Both pages save the game that they show as PGN with its players, while it goes on and when it has ended, and nothing before there is
+    one."""
     relay = await Relay().start()
     players = ("Müller, A", "O'Neil")
     table = await browser.open(url("table.html", server=relay.address, board="pgn", start=0))
@@ -105,11 +109,13 @@ async def try_kept_pgn(browser):
         again = await browser.open(url("table.html", server=relay.address))
         await catch_files(again)
         assert await again.run('document.querySelector("#kept-pgn").hidden')
-        kept = await again.run('[...document.querySelector("#kept").options].find((it) => it.textContent.startsWith("pgn, Adams–O\'Neil, start 0, 1 moves")).value')
+        kept = await again.run('[...document.querySelector("#kept").options]'
+                               '.find((it) => it.textContent.startsWith("pgn, Adams–O\'Neil, start 0, 1 moves")).value')
         for day, act in ((await today(again), lambda: again.choose("#kept", kept)), ("????.??.??", lambda: again.give_file("#file", file))):
             await again.run('document.querySelector("#anew-said").textContent = ""')
             await act()
-            await again.until('document.querySelector("#anew-said").textContent !== "" && !document.querySelector("#kept-pgn").hidden')  # A file is read in its own time.
+            # A file is read in its own time.
+            await again.until('document.querySelector("#anew-said").textContent !== "" && !document.querySelector("#kept-pgn").hidden')
             await again.until(f'document.querySelector("#kept").value === {json.dumps(kept if day[0] != "?" else "")}')
             await again.click("#kept-pgn")
             words = pgn("pgn", 0, "1. g3 {Draw agreed.} 1/2-1/2", day, ("Adams", "O'Neil"), "normal")
@@ -223,13 +229,14 @@ async def try_goals(browser):
 
 
 SAN = "Nf3 d5 d4 Nf6 Nbd2 g6 g3 Bg7 Bg2 O-O O-O c5 dxc5 b5 cxb6 Bd7 b7 a6 bxa8=N".split()
-LONG = ["Ng1-f3", "d7-d5", "d2-d4", "Ng8-f6", "Nb1-d2", "g7-g6", "g2-g3", "Bf8-g7", "Bf1-g2", "O-O", "O-O", "c7-c5", "d4xc5", "b7-b5", "c5xb6 e.p.",
-        "Bc8-d7", "b6-b7", "a7-a6", "b7xa8=N"]
+LONG = ["Ng1-f3", "d7-d5", "d2-d4", "Ng8-f6", "Nb1-d2", "g7-g6", "g2-g3", "Bf8-g7", "Bf1-g2", "O-O", "O-O", "c7-c5", "d4xc5", "b7-b5",
+        "c5xb6 e.p.", "Bc8-d7", "b6-b7", "a7-a6", "b7xa8=N"]
 WRITTEN = '[...document.querySelectorAll(".move[data-place]")].map((it) => it.firstElementChild.textContent)'
 
 
 async def try_list(browser):
-    """The list of moves is in SAN, or in the long form where that was chosen, on both pages and after a reload; the start's number stands by it."""
+    """The list of moves is in SAN, or in the long form where that was chosen, on both pages and after a reload; the start's number stands
+    by it."""
     relay = await Relay().start()
     client = await Client.to(relay.address)
     await client.open("b1")
@@ -263,7 +270,8 @@ async def try_list(browser):
 
 
 async def try_newer(browser):
-    """Who looks at an earlier position is told how many moves came meanwhile, and gets to them by a press; a move of the list has its place in its tooltip alone."""
+    """Who looks at an earlier position is told how many moves came meanwhile, and gets to them by a press; a move of the list has its place
+    in its tooltip alone."""
     relay = await Relay().start()
     client = await Client.to(relay.address)
     await client.open("b1")
@@ -284,7 +292,8 @@ async def try_newer(browser):
     await client.submit("b1", "f1b5")
     await until_moves(seer, 5)
     assert await seer.run('document.querySelector("#newer").hidden')
-    assert await seer.run('[...document.querySelectorAll(".move[data-place]")].map((it) => it.textContent)') == ["e4", "e5", "Nf3", "Nc6", "Bb5"]
+    written = await seer.run('[...document.querySelectorAll(".move[data-place]")].map((it) => it.textContent)')
+    assert written == ["e4", "e5", "Nf3", "Nc6", "Bb5"]
     assert await seer.run('document.querySelector(".move[data-place]").title') == "e2e4, place 0"
     assert not seer.faults, seer.faults
     await seer.close()
@@ -301,7 +310,8 @@ TOLD = {1: "", 2: "This position has occurred twice. At the third time a draw ca
 
 
 async def try_near(browser):
-    """Both pages say how often the present position has appeared, from the second time on; who came in the middle is told the least number."""
+    """Both pages say how often the present position has appeared, from the second time on; who came in the middle is told the least
+    number."""
     relay = await Relay().start()
     table = await open_table(browser, relay, "b1", 518)
     seer = await watch(browser, relay, "b1")
@@ -330,7 +340,8 @@ async def try_near(browser):
 
 
 async def try_clock(browser):
-    """The half-move clock is told from 80 on, that a draw can be claimed from 100 on; a capture, a pawn move and the game's end take it away."""
+    """The half-move clock is told from 80 on, that a draw can be claimed from 100 on; a capture, a pawn move and the game's end take it
+    away."""
     count = "half-moves without a capture or a pawn move"
     soon, now = "At 100 a draw can be claimed.", "A draw can be claimed. At 150 the game is drawn."
     for half_moves, moves in ((78, [("e1e2", ""), ("e8e7", f"80 {count}. {soon}"), ("e2e1", f"81 {count}. {soon}"), ("h7h6", "")]),

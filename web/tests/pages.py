@@ -26,7 +26,8 @@ from relay_client.program import Player, fens, start_fen
 from relay_client.relay import Relay
 from relay_client.webkit import WebKit
 from relay_client.wire import Wire
-from steps import WEB, enter, listed, open_table, placement, said, say_end, shows, state, text, to_square, unfold, until_moves, until_state, url, watch
+from steps import (WEB, enter, listed, open_table, placement, said, say_end, shows, state, text, to_square, unfold, until_moves,
+                   until_state, url, watch)
 from told import Told
 
 RECORDER = WEB.parent / "examples" / "recorder" / "record.py"
@@ -186,9 +187,9 @@ async def try_names(browser):
     while len(chain) < 120:
         chain.append(await page.run(f"Words.nextName({json.dumps(chain[-1])})"))
     assert chain == ["r1-1"] + [f"r1-1_{count}" for count in range(2, 121)], chain
-    for name, following in [("b", "b_2"), ("b-9", "b-9_2"), ("b_9", "b_10"), ("b_x", "b_x_2"), ("_2", "_2_2"), ("b_", "b__2"), ("b_999", "b_1000"),
-                            (28 * "n", 28 * "n" + "_2"), (32 * "n", 30 * "n" + "_2"), (30 * "n" + "_2", 30 * "n" + "_3"),
-                            (30 * "n" + "_9", 29 * "n" + "_10")]:
+    for name, following in [("b", "b_2"), ("b-9", "b-9_2"), ("b_9", "b_10"), ("b_x", "b_x_2"), ("_2", "_2_2"), ("b_", "b__2"),
+                            ("b_999", "b_1000"), (28 * "n", 28 * "n" + "_2"), (32 * "n", 30 * "n" + "_2"),
+                            (30 * "n" + "_2", 30 * "n" + "_3"), (30 * "n" + "_9", 29 * "n" + "_10")]:
         had = await page.run(f"Words.nextName({json.dumps(name)})")
         assert had == following, (name, had)
     assert not page.faults, page.faults
@@ -217,7 +218,8 @@ async def try_access(browser):
 
 
 async def try_seen_whole(browser):
-    """The whole board is in sight on screens of several sizes, also beside a message, in the dark, and with less motion; a list of moves is one stop for the Tab key; a title has the result."""
+    """The whole board is in sight on screens of several sizes, also beside a message, in the dark, and with less motion; a list of moves is
+    one stop for the Tab key; a title has the result."""
     relay = await Relay().start()
     table = await open_table(browser, relay, "b1", 518)
     seer = await watch(browser, relay, "b1")
@@ -233,9 +235,11 @@ async def try_seen_whole(browser):
             for width, height in ((844, 390), (390, 800), (1366, 768), (1280, 900)):
                 await page.resize(width, height)
                 await page.run("scrollTo(0, 0)")
-                low, wide = await page.run('[document.querySelector(".board").getBoundingClientRect().bottom - innerHeight, document.documentElement.scrollWidth - innerWidth]')
+                low, wide = await page.run('[document.querySelector(".board").getBoundingClientRect().bottom - innerHeight, '
+                                           'document.documentElement.scrollWidth - innerWidth]')
                 assert low <= 0 and wide <= 0, (await text(page, "h1"), width, height, low, wide)
-        assert await page.run('[...document.querySelectorAll("#moves, #moves *")].filter((it) => it.tabIndex >= 0).map((it) => it.id)') == ["moves"]
+        stops = await page.run('[...document.querySelectorAll("#moves, #moves *")].filter((it) => it.tabIndex >= 0).map((it) => it.id)')
+        assert stops == ["moves"]
     await enter(table, "d8h4", "type")
     for page, words in ((table, "0–1, b1 – Operate a board"), (seer, "0–1, b1 – Watch a board")):
         await until_state(page, "over")
@@ -310,7 +314,8 @@ async def try_refused_claim(browser):
 
 
 async def try_next_name(browser):
-    """Behind an end the page proposes the board's next name, and one press opens it; where it is taken, the one behind it. A name that was typed is opened or refused."""
+    """Behind an end the page proposes the board's next name, and one press opens it; where it is taken, the one behind it. A name that was
+    typed is opened or refused."""
     relay = await Relay().start()
     other = await Client.to(relay.address)
     await other.open("b1_3")
@@ -385,7 +390,8 @@ def quiet_game(start, plies, chance):
         while len(moves) < plies:
             squares = board_of(player.fen)
             near = "123" if len(moves) % 2 == 0 else "678"
-            moves.append(chance.choice([it for it in player.legal() if squares[it[:2]] in "nNrR" and it[2:4] not in squares and it[3] in near]))
+            moves.append(chance.choice([it for it in player.legal() if squares[it[:2]] in "nNrR" and it[2:4] not in squares
+                                        and it[3] in near]))
             player.play(moves[-1])
         return moves
     finally:
@@ -423,14 +429,16 @@ async def try_order(browser):
         await relay.hears(cmd="open", board="b1_2", start=518)
         await relay.says(reply="opened")
         await relay.hears(cmd="submit", board="b1_2", move="e2e4")
-        assert await table.run('[...document.querySelectorAll("#ending button")].every((it) => it.getAttribute("aria-disabled") === "true")')
+        assert await table.run('[...document.querySelectorAll("#ending button")]'
+                               '.every((it) => it.getAttribute("aria-disabled") === "true")')
         for how in ("threefold", "agreed"):
             await table.click(f"#ending [data-how={how}]")
             assert not await table.run('document.querySelector("#sure").open')
         await relay.plays(0)
         await until_moves(table, 1)
         await until_state(table, "live")
-        assert await table.run('[...document.querySelectorAll("#ending button")].every((it) => it.getAttribute("aria-disabled") === "false")')
+        assert await table.run('[...document.querySelectorAll("#ending button")]'
+                               '.every((it) => it.getAttribute("aria-disabled") === "false")')
         assert relay.asked.empty() and not table.faults, table.faults
         await table.close()
 
@@ -486,7 +494,8 @@ async def try_strangers(browser):
         await seer.fill("#name", "b1")
         for page, press, question, more in (
                 (table, "#opening .main", {"cmd": "open", "board": "b1", "start": 518}, [*others, json.dumps({"reply": "cut"})]),
-                (seer, "#source .main", {"cmd": "follow", "board": "b1", "spectator": 0, "from": 0}, [*others, json.dumps({"reply": "opened"})])):
+                (seer, "#source .main", {"cmd": "follow", "board": "b1", "spectator": 0, "from": 0},
+                 [*others, json.dumps({"reply": "opened"})])):
             for strange in [*STRANGE, *more]:
                 await page.click(press)
                 await relay.hears(**question)
@@ -788,7 +797,8 @@ async def try_crash(browser):
 
 
 async def try_table_wire(browser):
-    """A table's lost connection while the relay goes on: its game ends as abandoned, and it opens a new board by itself, to which a spectator goes."""
+    """A table's lost connection while the relay goes on: its game ends as abandoned, and it opens a new board by itself, to which a
+    spectator goes."""
     relay = await Relay().start()
     wire = await Wire(relay.port).mend()
     table = await open_table(browser, relay, "b1", 200, address=wire.address)
@@ -877,7 +887,8 @@ async def try_records(browser):
         await table.close()
         await relay.start()
         again = await browser.open(url("table.html", server=relay.address))
-        kept = await again.run('[...document.querySelector("#kept").options].find((it) => it.textContent.startsWith("hall, start 518, 5 moves")).value')
+        kept = await again.run('[...document.querySelector("#kept").options]'
+                               '.find((it) => it.textContent.startsWith("hall, start 518, 5 moves")).value')
         await again.choose("#kept", kept)
         await again.click("#anew button[type=submit]")
         await until_moves(again, 5)
@@ -954,9 +965,9 @@ async def try_next(browser):
 
 OTHERS = {"firefox": Firefox, "webkit": WebKit}
 # What is tried in these too: what a person does most. Without a device for sound it makes none, so sounds are not among it.
-OFTEN = ["games", "castling", "mate", "typed", "goals", "refused_claim", "next_name", "next", "wire", "cut", "on_its_way", "ending_lost", "correct", "crash",
-         "interrupted", "freed", "kept_pgn", "records", "list", "newer", "round", "round_pgn", "listed", "broadcast", "watch_port", "tabs", "tabs_pgn", "tabs_attention", "tabs_from_disk",
-         "tabs_desk"]
+OFTEN = ["games", "castling", "mate", "typed", "goals", "refused_claim", "next_name", "next", "wire", "cut", "on_its_way", "ending_lost",
+         "correct", "crash", "interrupted", "freed", "kept_pgn", "records", "list", "newer", "round", "round_pgn", "listed",
+         "broadcast", "watch_port", "tabs", "tabs_pgn", "tabs_attention", "tabs_from_disk", "tabs_desk"]
 
 
 async def main():

@@ -43,7 +43,8 @@ async def take_round(browser, relay, folder):
 
 
 # Four boards of a round: the line that opens each, and its moves. One comes near a draw, and one is over.
-TABLES = [("r1-1 387 Steinitz – Zukertort", "Ne3 Nd6 O-O O-O f4 c5 Nd3".split()), ("r1-2 518 Lasker – Capablanca", "e4 e5 Nf3 Nc6 Bb5".split()),
+TABLES = [("r1-1 387 Steinitz – Zukertort", "Ne3 Nd6 O-O O-O f4 c5 Nd3".split()),
+          ("r1-2 518 Lasker – Capablanca", "e4 e5 Nf3 Nc6 Bb5".split()),
           ("r1-3 518 Alekhine – Euwe", "Nf3 Nf6 Ng1 Ng8".split()), ("r1-4 518 Morphy – Anderssen", "f3 e5 g4 Qh4#".split())]
 
 
@@ -59,7 +60,8 @@ async def take_tables(browser, folder):
             for count, move in enumerate(moves, 1):
                 await play(page, index, move)
                 await page.until(frame(index, f'return document_.querySelectorAll(".move[data-place]").length === {count}'))
-        await page.until('document.querySelectorAll(".tab[data-wants=near]").length === 1 && document.querySelectorAll(".tab[data-wants=over]").length === 1')
+        await page.until('document.querySelectorAll(".tab[data-wants=near]").length === 1'
+                         ' && document.querySelectorAll(".tab[data-wants=over]").length === 1')
         await page.run("document.activeElement.blur()")
         await asyncio.sleep(0.5)
         await page.picture(folder / "tables.png")

@@ -34,7 +34,8 @@ TILES = """[...document.querySelectorAll(".tile")].map((it) => {
   }).join(""));
   return {name: said(".name"), start: said(".head .number"), fresh: said(".fresh"), state: it.dataset.state, men, move: said(".last-move"),
           stand: said(".stand"), turn: [...it.querySelectorAll(".plate.turn .side")].map((side) => side.textContent),
-          sides: [...it.querySelectorAll(".side")].map((side) => side.textContent), parts: [...it.querySelectorAll(".part")].map((part) => part.textContent),
+          sides: [...it.querySelectorAll(".side")].map((side) => side.textContent),
+          parts: [...it.querySelectorAll(".part")].map((part) => part.textContent),
           label: it.querySelector(".inner").getAttribute("aria-label"), href: it.querySelector(".inner").getAttribute("href"),
           marked: [...it.querySelectorAll(".square.last")].map((square) => square.dataset.square).sort()};
 })"""
@@ -79,12 +80,14 @@ async def boards_of(relay, *games):
 async def try_round(browser):
     """The boards of a round: names, players, starts, positions, last moves, who has the move, and results; a click opens the board."""
     relay = await Relay().start()
-    client = await boards_of(relay, ("r1-1", START, MOVES), ("r1-2", 518, MATE), ("r1-3", START, MOVES[:3]), ("r1-4", 0, []), ("r1-5", 959, []))
+    client = await boards_of(relay, ("r1-1", START, MOVES), ("r1-2", 518, MATE), ("r1-3", START, MOVES[:3]), ("r1-4", 0, []),
+                             ("r1-5", 959, []))
     await client.ask(cmd="end", board="r1-3", how="resign", side="white")
     await client.end("r1-5", "abandoned")
     page = await browser.open(url("round.html", server=relay.address, boards="r1-1,r1-2,r1-3,r1-4,r1-5,r1-6",
                                   players="Carlsen, Magnus–Caruana;Vachier-Lagrave%20-%20So;;Ding"))
-    tiles = await until_tiles(page, lambda them: len(them) == 6 and [it["state"] for it in them] == ["live", "over", "over", "live", "over", "refused"])
+    tiles = await until_tiles(page, lambda them: len(them) == 6
+                              and [it["state"] for it in them] == ["live", "over", "over", "live", "over", "refused"])
     await asyncio.sleep(0.5)
     tiles = await tiles_of(page)
     had = [(it["name"], it["start"], it["sides"], it["parts"], it["move"], it["stand"], it["turn"]) for it in tiles]
@@ -120,9 +123,11 @@ async def try_round(browser):
 
 
 async def try_round_pgn(browser):
-    """The games of a round are saved as one file, one of each board that is or was open, in their order; a board that goes on has its next name."""
+    """The games of a round are saved as one file, one of each board that is or was open, in their order; a board that goes on has its next
+    name."""
     relay = await Relay().start()
-    page = await browser.open(url("round.html", server=relay.address, boards="r1-1,r1-2,r1-3,r1-4,r1-5", players="Carlsen, Magnus–Caruana;Ding"))
+    page = await browser.open(url("round.html", server=relay.address, boards="r1-1,r1-2,r1-3,r1-4,r1-5",
+                                  players="Carlsen, Magnus–Caruana;Ding"))
     await until_tiles(page, lambda them: [it["state"] for it in them] == ["refused"] * 5)
     await catch_files(page)
     assert await page.run('document.querySelector("#save-round").hidden'), "there is nothing to be saved yet"
@@ -130,7 +135,8 @@ async def try_round_pgn(browser):
     await client.end("r1-5", "abandoned")
     await client.open("r1-5_2", 518)
     await client.submit("r1-5_2", MATE[0])
-    await until_tiles(page, lambda them: [it["move"] for it in them] == ["3… c5", "2… Qh4#", "", "", "1. f3"] and them[3]["state"] == "live")
+    await until_tiles(page, lambda them: [it["move"] for it in them] == ["3… c5", "2… Qh4#", "", "", "1. f3"]
+                      and them[3]["state"] == "live")
     day = await today(page)
     others = [pgn("r1-2", 518, "1. f3 e5 2. g4 Qh4# {Black mates.} 0-1", day, ("Ding", "?"), "normal"), pgn("r1-4", 0, "*", day)]
     await page.click("#save-round")
@@ -162,7 +168,8 @@ async def try_check(browser):
 
 
 async def try_new(browser):
-    """What came since the visitor looked last is marked, also in a later visit: until it was in sight for some seconds, or was pointed at."""
+    """What came since the visitor looked last is marked, also in a later visit: until it was in sight for some seconds, or was pointed
+    at."""
     relay = await Relay().start()
     names = [f"n{number}" for number in range(1, 9)]
     client = await boards_of(relay, *((name, START, MOVES[:1]) for name in names))
@@ -205,7 +212,8 @@ async def try_new(browser):
 
 
 async def try_heirs(browser):
-    """Boards of channels: one that goes on under its next name leads there, one that is silent says so, and one that comes back shows no move twice."""
+    """Boards of channels: one that goes on under its next name leads there, one that is silent says so, and one that comes back shows no
+    move twice."""
     async with Channels() as channels:
         for board in ("c1", "c2"):
             await channels.says(board, following(), beat(), *moved(["d2d4", "d7d5"]))
@@ -241,7 +249,8 @@ SIZES = """(() => {
           meeting: tiles.some((a, index) => tiles.slice(index + 1).some((b) => meets(a, b))),
           square: boards.every((it) => Math.abs(it.width - it.height) < 1),
           cut: [...document.querySelectorAll(".inner")].filter((it) => it.scrollHeight > it.clientHeight + 1).length,
-          controls: [...document.querySelectorAll("a, button, input, select, textarea, summary, [tabindex]")].filter((it) => it.checkVisibility()).length};
+          controls: [...document.querySelectorAll("a, button, input, select, textarea, summary, [tabindex]")]
+            .filter((it) => it.checkVisibility()).length};
 })()"""
 
 
@@ -253,13 +262,15 @@ async def sizes(page, size):
 
 
 async def try_room(browser):
-    """From a phone to a projector: nothing beside the window and no tile on another; in a hall all boards are in sight, and nothing is a control."""
+    """From a phone to a projector: nothing beside the window and no tile on another; in a hall all boards are in sight, and nothing is a
+    control."""
     relay = await Relay(boards=64).start()
     names = [f"s{number}" for number in range(1, 65)]
     client = await boards_of(relay, *((name, START, MOVES[:number % 7]) for number, name in enumerate(names)))
     await client.end("s2")
     for count in (1, 6, 64):
-        address = url("round.html", server=relay.address, boards=",".join(names[:count]), players=";".join(["Vachier-Lagrave, Maxime–So"] * count))
+        address = url("round.html", server=relay.address, boards=",".join(names[:count]),
+                      players=";".join(["Vachier-Lagrave, Maxime–So"] * count))
         page = await browser.open(address)
         await until_settled(page, count)
         if count == 6:
@@ -338,7 +349,8 @@ async def try_turns(browser):
         address = f"ws://127.0.0.1:{server.sockets[0].getsockname()[1]}"
         names = [f"t{number}" for number in range(24)]
         page = await browser.open(url("round.html", channel=address, boards=",".join(names)))
-        await page.run("""window.losses = 0; new MutationObserver((them) => { losses += them.filter((it) => it.target.dataset.state === "lost").length; })
+        await page.run("""window.losses = 0;
+          new MutationObserver((them) => { losses += them.filter((it) => it.target.dataset.state === "lost").length; })
           .observe(document.querySelector("#boards"), {attributes: true, subtree: true, attributeFilter: ["data-state"]})""")
         await page.until('document.querySelectorAll(".square[data-man=p]").length === 24 * 8', 40)
         assert count == 24 and not lost and await page.run("losses") == 0, (count, len(lost), await page.run("losses"))
@@ -351,7 +363,8 @@ QUIET = [move for step in (("2", "3", "7", "6"), ("3", "4", "6", "5")) for file 
 
 
 async def traced(page, act):
-    """The tasks of a page while something is done: for each its second, its time by the clock, and that of the processor, in milliseconds."""
+    """The tasks of a page while something is done: for each its second, its time by the clock, and that of the processor, in
+    milliseconds."""
     page.kept.update({"Tracing.dataCollected": [], "Tracing.tracingComplete": []})
     await page.call("Tracing.start", categories="-*,toplevel,disabled-by-default-devtools.timeline,__metadata", transferMode="ReportEvents")
     await act()
@@ -360,7 +373,8 @@ async def traced(page, act):
         await asyncio.sleep(0.05)
     events = [event for params in page.kept["Tracing.dataCollected"] for event in params["value"]]
     mains = {(it["pid"], it["tid"]) for it in events if it["name"] == "thread_name" and it["args"]["name"] == "CrRendererMain"}
-    return [(it["ts"] // 1000000, it["dur"] / 1000, it["tdur"] / 1000) for it in events if it["name"] == "RunTask" and (it["pid"], it["tid"]) in mains and "tdur" in it]
+    return [(it["ts"] // 1000000, it["dur"] / 1000, it["tdur"] / 1000) for it in events if it["name"] == "RunTask"
+            and (it["pid"], it["tid"]) in mains and "tdur" in it]
 
 
 def longest_of(tasks):
@@ -377,7 +391,8 @@ HARDLY = 0.02  # The part of the time that tasks worked for which they wait wher
 
 
 async def try_smooth(browser):
-    """64 boards on one screen, each with a move a second for a minute: no task of the page takes 50 ms, but for one that the machine may have disturbed."""
+    """64 boards on one screen, each with a move a second for a minute: no task of the page takes 50 ms, but for one that the machine may
+    have disturbed."""
     relay = await Relay(boards=64, connections=100).start()
     names = [f"m{number}" for number in range(64)]
     await smooth_for(browser, relay, names, url("round.html", server=relay.address, boards=",".join(names)))
@@ -388,7 +403,8 @@ async def smooth_for(browser, relay, names, address):
     client = await boards_of(relay, *((name, 518, []) for name in names))
     page = await browser.open(address, (1920, 1080))
     await until_settled(page, 64)
-    await page.run('window.long = []; new PerformanceObserver((list) => list.getEntries().forEach((it) => long.push(Math.round(it.duration))))'
+    await page.run('window.long = []; '
+                   'new PerformanceObserver((list) => list.getEntries().forEach((it) => long.push(Math.round(it.duration))))'
                    '.observe({entryTypes: ["longtask"]})')
 
     async def play():
@@ -414,7 +430,8 @@ async def smooth_for(browser, relay, names, address):
     # processor; where tasks hardly wait, the clock counts too.
     waited, worked = sum(taken - own for _, taken, own in tasks), sum(own for _, _, own in tasks)
     longest = longest_of(tasks)
-    print(f"    {len(tasks)} tasks in {len(longest)} s, which waited {waited / worked:.0%} of the time that they worked; the longest of each second, in ms of the "
+    print(f"    {len(tasks)} tasks in {len(longest)} s, which waited {waited / worked:.0%} of the time that they worked; "
+          "the longest of each second, in ms of the "
           f"processor: {statistics.median(longest):.0f} in the median, {', '.join(f'{it:.0f}' for it in sorted(longest)[-3:])} at most; "
           f"{len(seen)} over {LONG} ms by the clock")
     assert len(longest) >= SECONDS, len(longest)
@@ -432,8 +449,8 @@ def tls():
     """What a server behind TLS is given, with a new certificate."""
     with tempfile.TemporaryDirectory() as folder:
         key, certificate = pathlib.Path(folder, "key.pem"), pathlib.Path(folder, "certificate.pem")
-        subprocess.run(["openssl", "req", "-x509", "-newkey", "ec", "-pkeyopt", "ec_paramgen_curve:prime256v1", "-nodes", "-days", "2", "-subj",
-                        "/CN=localhost", "-keyout", str(key), "-out", str(certificate)], check=True, capture_output=True)
+        subprocess.run(["openssl", "req", "-x509", "-newkey", "ec", "-pkeyopt", "ec_paramgen_curve:prime256v1", "-nodes", "-days", "2",
+                        "-subj", "/CN=localhost", "-keyout", str(key), "-out", str(certificate)], check=True, capture_output=True)
         context = ssl.SSLContext(ssl.PROTOCOL_TLS_SERVER)
         context.load_cert_chain(certificate, key)
         return context
@@ -450,7 +467,8 @@ async def site(channels, context):
         policy = "default-src 'self'; img-src 'self' data:"
         return http.HTTPStatus.OK, {"Content-Type": kind, "Content-Security-Policy": policy}, file.read_bytes()
 
-    async with websockets.serve(channels.read, "127.0.0.1", 0, ssl=context, compression=None, ping_interval=None, process_request=serve_page) as server:
+    async with websockets.serve(channels.read, "127.0.0.1", 0, ssl=context, compression=None, ping_interval=None,
+                                process_request=serve_page) as server:
         yield server.sockets[0].getsockname()[1]
 
 
@@ -458,7 +476,8 @@ SETTINGS = '[document.querySelector("#server").value, document.querySelector("#k
 
 
 async def try_front(browser):
-    """A site's front, behind TLS and without: both pages take the channels of their own host, and fold the form away where the address says what to watch."""
+    """A site's front, behind TLS and without: both pages take the channels of their own host, and fold the form away where the address says
+    what to watch."""
     for scheme, host in (("https", "127.0.0.1"), ("http", OTHER_HOST)):
         async with Channels() as channels, site(channels, tls() if scheme == "https" else None) as port:
             await look_at_front(browser, channels, scheme, f"{host}:{port}")

@@ -15,7 +15,8 @@ async def until_tones(page, count):
 
 
 async def try_sounds(browser):
-    """Sounds are off until they are switched on; then a move, a capture, a check and the end have each its own, and moves of before have none."""
+    """Sounds are off until they are switched on; then a move, a capture, a check and the end have each its own, and moves of before have
+    none."""
     relay = await Relay().start()
     table = await open_table(browser, relay, "b1", 518)
     await table.run('localStorage.removeItem("sirvandu.settings")')

@@ -18,7 +18,8 @@ PLACEMENT = """(() => {
   const lines = new Map();
   rows.forEach((it) => { const key = Math.round(it.y); lines.set(key, [...(lines.get(key) || []), it]); });
   const ordered = [...lines.entries()].sort((a, b) => a[0] - b[0]).map(([, it]) => it.sort((a, b) => a.x - b.x));
-  return {names: ordered.flat().map((it) => it.name), men: ordered.map((it) => it.map((cell) => cell.man).join("")), drawn: rows.every((it) => it.drawn)};
+  return {names: ordered.flat().map((it) => it.name), men: ordered.map((it) => it.map((cell) => cell.man).join("")),
+          drawn: rows.every((it) => it.drawn)};
 })()"""
 
 
@@ -69,7 +70,8 @@ async def until_moves(page, count, seconds=PATIENCE):
 
 async def listed(page):
     """The places and moves of the list, in its order."""
-    return await page.run('[...document.querySelectorAll(".move[data-place]")].map((it) => [Number(it.dataset.place), it.title.split(",")[0]])')
+    return await page.run('[...document.querySelectorAll(".move[data-place]")]'
+                          '.map((it) => [Number(it.dataset.place), it.title.split(",")[0]])')
 
 
 async def open_table(browser, relay, board, start, address=None):
@@ -153,8 +155,8 @@ PGN = """[Event "?"]
 def pgn(board, start, words, day, players=("?", "?"), termination="unterminated"):
     """The PGN of a game from a start, whose words end with the score."""
     placement_, turn, _, *others = start_fen(start).split(" ")
-    return PGN.format(day=day, white=players[0], black=players[1], score=words.split()[-1], board=board, termination=termination, words=words,
-                      fen=" ".join([placement_, turn, "KQkq", *others]))
+    return PGN.format(day=day, white=players[0], black=players[1], score=words.split()[-1], board=board, termination=termination,
+                      words=words, fen=" ".join([placement_, turn, "KQkq", *others]))
 
 
 async def catch_files(page):

@@ -13,7 +13,8 @@ from relay_client.wire import Wire
 from steps import GRACE, WEB, catch_files, pgn, text, today, url
 
 LINES = "t1 387 Carlsen, Magnus – Caruana\n\nt2 So - Ding\nt3 0"
-TABS = """[...document.querySelectorAll(".tab")].map((it) => ({name: it.querySelector("b").textContent, players: it.querySelector(".players").textContent,
+TABS = """[...document.querySelectorAll(".tab")].map((it) => ({name: it.querySelector("b").textContent,
+    players: it.querySelector(".players").textContent,
     stand: it.querySelector(".stand").textContent, wants: it.dataset.wants, isShown: it.getAttribute("aria-selected")}))"""
 
 
@@ -111,7 +112,8 @@ async def try_tabs_attention(browser):
         await asyncio.sleep(0.5)
         assert (await log_of(relay, "a2")) == ([], None)
         # A game that went on under its next name is offered too.
-        await page.run(frame(0, 'const games = JSON.parse(localStorage.getItem("sirvandu.games")); games.find((it) => it.board === "a1").board = "a1_2"; '
+        await page.run(frame(0, 'const games = JSON.parse(localStorage.getItem("sirvandu.games")); '
+                                'games.find((it) => it.board === "a1").board = "a1_2"; '
                                 'localStorage.setItem("sirvandu.games", JSON.stringify(games));'))
         await page.go(await page.run("location.href"))
         await until_stand(page, "No board open", "No board open")
@@ -129,15 +131,20 @@ ROOM = """(() => {
   const {documentElement: inner} = frame.contentDocument;
   const board = inner.querySelector(".board").getBoundingClientRect();
   return {over: document.documentElement.scrollWidth - innerWidth, beside: inner.scrollWidth - inner.clientWidth,
-          inside: boxes.every((it) => it.left >= 0 && it.right <= innerWidth), meeting: boxes.some((a, index) => boxes.slice(index + 1).some((b) => meets(a, b))),
-          cut: tabs.flatMap((it) => [it, it.querySelector(".stand")]).filter((it) => it.scrollWidth > it.clientWidth + 1 || it.scrollHeight > it.clientHeight + 1).length,
-          tall: frame.getBoundingClientRect().height - innerHeight, board: board.width, low: frame.getBoundingClientRect().top + board.bottom - innerHeight};
+          inside: boxes.every((it) => it.left >= 0 && it.right <= innerWidth),
+          meeting: boxes.some((a, index) => boxes.slice(index + 1).some((b) => meets(a, b))),
+          cut: tabs.flatMap((it) => [it, it.querySelector(".stand")])
+            .filter((it) => it.scrollWidth > it.clientWidth + 1 || it.scrollHeight > it.clientHeight + 1).length,
+          tall: frame.getBoundingClientRect().height - innerHeight, board: board.width,
+          low: frame.getBoundingClientRect().top + board.bottom - innerHeight};
 })()"""
-NAMES = ["r1-1 518 Vachier-Lagrave, Maxime – Nepomniachtchi, Ian", "r1-2 518 So – Ding", "r1-3", "a_long_name_of_thirty_two_letter 0 Vachier-Lagrave, Maxime – Ding"]
+NAMES = ["r1-1 518 Vachier-Lagrave, Maxime – Nepomniachtchi, Ian", "r1-2 518 So – Ding", "r1-3",
+         "a_long_name_of_thirty_two_letter 0 Vachier-Lagrave, Maxime – Ding"]
 
 
 async def try_tabs_room(browser):
-    """On a desk nothing has to be scrolled to see tabs and board; on a phone a frame is no higher than the screen, and its whole board is in sight there."""
+    """On a desk nothing has to be scrolled to see tabs and board; on a phone a frame is no higher than the screen, and its whole board is
+    in sight there."""
     relay = await Relay(grace=GRACE).start()
     with site() as address:
         page = await browser.open(f"{address}/tables.html?server={relay.address}")
@@ -159,7 +166,8 @@ async def try_tabs_room(browser):
                         await page.run('document.querySelector("#frames").scrollIntoView()')
                     await page.run("new Promise((done) => requestAnimationFrame(() => requestAnimationFrame(done)))")
                     had = await page.run(ROOM)
-                    assert had["over"] <= 0 and had["beside"] <= 0 and had["inside"] and not had["meeting"] and not had["cut"], (size, index, had)
+                    seen = size, index, had
+                    assert had["over"] <= 0 and had["beside"] <= 0 and had["inside"] and not had["meeting"] and not had["cut"], seen
                     assert had["tall"] <= 0 and had["low"] <= 0 and had["board"] >= 240, (size, index, had)
         assert not page.faults, page.faults
         await page.close()
@@ -169,7 +177,8 @@ ROUND = [["Ne3"], ["f3", "e5", "g4", "Qh4#"], ["g3", "g6"]]
 
 
 async def try_tabs_pgn(browser):
-    """All games of the window are saved as one file: a corrected one is in it under its next name alone, and one with a result stays beside the next of its tab."""
+    """All games of the window are saved as one file: a corrected one is in it under its next name alone, and one with a result stays beside
+    the next of its tab."""
     relay = await Relay(grace=GRACE).start()
     with site() as address:
         page = await browser.open(f"{address}/tables.html?server={relay.address}")
@@ -207,7 +216,8 @@ async def try_tabs_from_disk(browser):
     """The page of tabs works from disk, too, and saves the round."""
     relay = await Relay(grace=GRACE).start()
     page = await browser.open(url("tables.html", server=relay.address))
-    for lines, words in (("f1\nf/2", "f/2 is no board's name"), ("f1\nf2\nf1", "f1 stands here twice"), ("f1 960", "f1: the start number is from 0 to 959")):
+    for lines, words in (("f1\nf/2", "f/2 is no board's name"), ("f1\nf2\nf1", "f1 stands here twice"),
+                         ("f1 960", "f1: the start number is from 0 to 959")):
         await page.fill("#lines", lines)
         await page.click("#source .main")
         assert words in await page.run('document.querySelector("#lines").validationMessage')

@@ -1,5 +1,5 @@
-//! Crowds over a script: a thousand spectators come to each board, some take what is played, and all leave, in the order in which they came. Some
-//! of them come again, and leave in the other order.
+//! Crowds over a script: a thousand spectators come to each board, some take what is played, and all leave, in the order in which they
+//! came. Some of them come again, and leave in the other order.
 
 use crate::chance::Chance;
 use crate::digest::Digest;

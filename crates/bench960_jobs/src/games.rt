@@ -1,5 +1,5 @@
-//! Games over lines, as an importer or an arbiter's program plays them: each line is a move, and its answer the position after it. One line in
-//! fifty is refused. In one game of four the pieces are shuffled, so that each position is compared with up to 150 others.
+//! Games over lines, as an importer or an arbiter's program plays them: each line is a move, and its answer the position after it. One line
+//! in fifty is refused. In one game of four the pieces are shuffled, so that each position is compared with up to 150 others.
 
 use crate::chance::Chance;
 use crate::digest::Digest;

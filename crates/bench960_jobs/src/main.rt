@@ -1,5 +1,5 @@
-//! The jobs that users wait for, to be timed from outside: `bench960_jobs JOB SEED SIZE` makes the input of a job from a seed, does the job, and
-//! prints a digest of all its results. `bench960_jobs each SEED SIZE` does all of them, each of this small size.
+//! The jobs that users wait for, to be timed from outside: `bench960_jobs JOB SEED SIZE` makes the input of a job from a seed, does the
+//! job, and prints a digest of all its results. `bench960_jobs each SEED SIZE` does all of them, each of this small size.
 #![tactic(auto)]
 
 mod chance;

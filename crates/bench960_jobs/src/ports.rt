@@ -1,5 +1,5 @@
-//! What a server does for a board besides its sockets: an operator's frames come in pieces and are answered, a hundred followers are pushed each
-//! move, and two hundred more watch the board's tape, which they join at each place and read in pieces.
+//! What a server does for a board besides its sockets: an operator's frames come in pieces and are answered, a hundred followers are pushed
+//! each move, and two hundred more watch the board's tape, which they join at each place and read in pieces.
 
 use crate::chance::Chance;
 use crate::digest::Digest;

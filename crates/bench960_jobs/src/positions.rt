@@ -1,5 +1,5 @@
-//! Positions, as a page that lists legal moves or a checker of games asks for them: along random games from the numbered starts each position
-//! is looked at that a legal move leads to, and so are some positions full of queens.
+//! Positions, as a page that lists legal moves or a checker of games asks for them: along random games from the numbered starts each
+//! position is looked at that a legal move leads to, and so are some positions full of queens.
 
 use crate::chance::Chance;
 use crate::digest::Digest;

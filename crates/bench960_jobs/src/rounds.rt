@@ -1,5 +1,5 @@
-//! A round's boards over a script, as a site replays them: JSON lines in, lines out. The boards play by turns, each with up to three spectators
-//! who take each move; spectators come and go, and some lines are refused.
+//! A round's boards over a script, as a site replays them: JSON lines in, lines out. The boards play by turns, each with up to three
+//! spectators who take each move; spectators come and go, and some lines are refused.
 
 use crate::chance::Chance;
 use crate::digest::Digest;

@@ -103,8 +103,8 @@ pub(crate) fn tape_at<B>(audiences: &Slab<Audience<B>>, at: Option<usize>) -> Op
     Some(&audiences.get(at?)?.tape)
 }
 
-/// Drops the audiences that have been empty for about a second, and their tapes with them. If an audience were dropped at once, its tape would
-/// be made again for each guest of a board whose guests come and go one after another.
+/// Drops the audiences that have been empty for about a second, and their tapes with them. If an audience were dropped at once, its tape
+/// would be made again for each guest of a board whose guests come and go one after another.
 pub(crate) fn drop_empty<B: Drop>(audiences: &mut Slab<Audience<B>>, now: u64) {
     for at in 0..audiences.capacity() {
         let is_dropped = match audiences.get(at) {

@@ -67,7 +67,8 @@ TEXTS = {
 LONG = {
     **{f"a text of {size} bytes": masked(TEXT, bytes(size)) for size in (65_537, 100_000, 1_000_000)},
     "a text of 100,000 bytes in two fragments": masked(FIRST_OF_TEXT, bytes(50_000)) + masked(LAST, bytes(50_000)),
-    **{f"a last fragment of {size} bytes behind 32,768": masked(FIRST_OF_TEXT, bytes(32_768)) + head(LAST, size) for size in (32_769, 50_000)},
+    **{f"a last fragment of {size} bytes behind 32,768": masked(FIRST_OF_TEXT, bytes(32_768)) + head(LAST, size)
+       for size in (32_769, 50_000)},
 }
 
 # Each is told once the head is there.

@@ -141,8 +141,8 @@ class Clients:
         return game
 
     async def test_a_client_notices_another_game_of_the_name_and_follows_it_from_its_first_move(self):
-        """The other game is as long, so its place alone says nothing. Before, PROTOCOL said to count places, so that a client made one game of
-        two."""
+        """The other game is as long, so its place alone says nothing. Before, PROTOCOL said to count places, so that a client made one game
+        of two."""
         first = Game(self.relay, ["d2d4", "d7d5"])
         await self.follow()
         await self.hears(following(), *self.moves(["d2d4", "d7d5"]))

@@ -1,5 +1,6 @@
-"""Whether comparing keys takes as long wherever they differ. No contract speaks of time, and a clock shows it by luck. So valgrind counts the
-instructions that the built program runs for a stranger, whose key differs from those of the boards in the first, a middle or the last byte."""
+"""Whether comparing keys takes as long wherever they differ. No contract speaks of time, and a clock shows it by luck. So valgrind counts
+the instructions that the built program runs for a stranger, whose key differs from those of the boards in the first, a middle or the last
+byte."""
 
 import concurrent.futures
 import pathlib
@@ -58,8 +59,8 @@ def instructions_of_a_stranger(place, boards):
 
 class Comparing(unittest.TestCase):
     def test_a_strangers_key_takes_as_long_wherever_it_differs(self):
-        """Less than an instruction for each two keys that are compared, where any other number of bytes would take more. That they are compared at
-        all is seen by how many instructions more boards take."""
+        """Less than an instruction for each two keys that are compared, where any other number of bytes would take more. That they are
+        compared at all is seen by how many instructions more boards take."""
         if not shutil.which("valgrind"):
             self.skipTest("valgrind is missing: that comparing keys takes as long wherever they differ is not tried")
         with concurrent.futures.ThreadPoolExecutor() as pool:

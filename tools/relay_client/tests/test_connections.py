@@ -77,8 +77,8 @@ class Connections(unittest.TestCase):
             server.has_served(131)
 
     def test_more_newcomers_wait_to_be_accepted_than_128(self):
-        """The server is stopped meanwhile, so it accepts none. The system answers as many as the backlog has room for. Before, that was 128, and
-        all others were left without an answer."""
+        """The server is stopped meanwhile, so it accepts none. The system answers as many as the backlog has room for. Before, that was
+        128, and all others were left without an answer."""
         if somaxconn() < WAITING:
             self.skipTest(f"the system lets {somaxconn()} wait")
         with Server("--connections", str(WAITING)) as server:
@@ -109,8 +109,8 @@ class Connections(unittest.TestCase):
             server.has_served(501)
 
     def test_newcomers_without_a_descriptor_are_told_so_and_later_ones_are_served(self):
-        """The server has no descriptor left for some of its peers. Each of them counts as failed, so 60 would be used up in no time if the server
-        tried again at once. Once its peers are gone, it still accepts. Before, nobody was told anything."""
+        """The server has no descriptor left for some of its peers. Each of them counts as failed, so 60 would be used up in no time if the
+        server tried again at once. Once its peers are gone, it still accepts. Before, nobody was told anything."""
         with Server("--connections", "60") as server:
             resource.prlimit(server.process.pid, resource.RLIMIT_NOFILE, (16, 16))
             peers = [socket.create_connection(("127.0.0.1", server.port), timeout=PATIENCE) for _ in range(16)]
@@ -124,8 +124,8 @@ class Connections(unittest.TestCase):
             Connection(server.port).asks("[]", NOT_OBJECT)
 
     def test_a_newcomer_without_a_thread_is_told_so_and_later_ones_are_served(self):
-        """There is memory for all but the thread's stack. Who is connected stays, and standard error has one line. Before, the connection ended
-        without a word, and there was no line."""
+        """There is memory for all but the thread's stack. Who is connected stays, and standard error has one line. Before, the connection
+        ended without a word, and there was no line."""
         with Server("--connections", "4") as server:
             peer = Connection(server.port)
             peer.asks("[]", NOT_OBJECT)

@@ -80,8 +80,8 @@ class Conversations(unittest.TestCase):
             server.has_served(3)
 
     def a_follower_that_sends(self):
-        """The server has closed when the follower reads on, and a reset would have destroyed its texts. Its pings are answered between them, if a
-        loop tells it."""
+        """The server has closed when the follower reads on, and a reset would have destroyed its texts. Its pings are answered between
+        them, if a loop tells it."""
         with self.server("--connections", "2") as server:
             owner, guest = owner_of(server), guest_of(server)
             guest.stream.sendall(masked(PING, bytes(100)) * PINGS)
@@ -98,8 +98,8 @@ class Conversations(unittest.TestCase):
                 conversation()
 
     def test_two_at_once(self):
-        """The first connection has half of its command on its way until the second is answered. A server that serves one after the other would
-        not answer the second, and would have given up the first. Then both open one name at once, and one of them succeeds."""
+        """The first connection has half of its command on its way until the second is answered. A server that serves one after the other
+        would not answer the second, and would have given up the first. Then both open one name at once, and one of them succeeds."""
         with self.server("--connections", "2", "--boards", str(2 + ROUNDS)) as server:
             first, opening = Connection(server.port), frame(opens("b1"))
             first.stream.sendall(opening[:9])
@@ -116,7 +116,8 @@ class Conversations(unittest.TestCase):
             server.has_served(2)
 
     def test_all_who_sleep_are_woken(self):
-        """One wake is for all of them. After its last text a follower is told at once that no more will come, although it has not closed."""
+        """One wake is for all of them. After its last text a follower is told at once that no more will come, although it has not
+        closed."""
         with self.server("--connections", "4") as server:
             owner, guests = owner_of(server), [guest_of(server) for _ in range(3)]
             for guest in guests:
@@ -138,8 +139,8 @@ class Conversations(unittest.TestCase):
             server.has_served(4)
 
     def test_a_follower_that_was_about_to_sleep_hears_the_end(self):
-        """Its connection takes no more than some hundreds of moves, so it is still being sent a move that it was told of before the others were
-        played and the game ended. Nobody wakes it behind that."""
+        """Its connection takes no more than some hundreds of moves, so it is still being sent a move that it was told of before the others
+        were played and the game ended. Nobody wakes it behind that."""
         moves = long_game(LONG)
         with self.server("--connections", "2", "--capacity", "1024", "--plies", "1500") as server:
             owner, guest = owner_of(server), guest_of(server, **SLOW)
@@ -153,7 +154,8 @@ class Conversations(unittest.TestCase):
             server.has_served(2)
 
     def test_a_full_queue_is_cut_off_and_serving_ends_behind_the_last_session(self):
-        """The follower's connection takes no more than some hundreds of moves. It is cut off, and the server goes on until it has read all."""
+        """The follower's connection takes no more than some hundreds of moves. It is cut off, and the server goes on until it has read
+        all."""
         moves = long_game(LONG)
         with self.server("--connections", "2", "--capacity", "2", "--plies", "1500") as server:
             owner, guest = owner_of(server), guest_of(server, **SLOW)

@@ -205,8 +205,8 @@ class Deadlines(unittest.TestCase):
             server.has_served(3)
 
     def test_an_operator_that_answers_no_ping_has_gone_after_ninety_seconds_and_one_that_does_stays(self):
-        """One that answers the second stays too, and from then on it is waited for as before. Before, none was sent a ping, and a board stayed
-        open as long as its operator's connection did."""
+        """One that answers the second stays too, and from then on it is waited for as before. Before, none was sent a ping, and a board
+        stayed open as long as its operator's connection did."""
         with Server("--connections", "5") as server:
             began, heard = time.monotonic(), {}
             vanished, guest = owner_of(server), guest_of(server)

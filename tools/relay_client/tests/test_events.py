@@ -87,7 +87,8 @@ class Events(unittest.TestCase):
         """Each text is UTF-8, and of the second JSON knows the characters."""
         self.get(
             (masked(FIRST_OF_TEXT, b"\xe2") + masked(MIDDLE, b"\x82") + masked(LAST, b"\xac!") + GOES, told(NOT_JSON) + GONE),
-            (masked(FIRST_OF_TEXT, b'{"cmd":"\xe2') + masked(MIDDLE, b"\x82") + masked(LAST, b'\xac"}') + GOES, told(UNKNOWN_COMMAND) + GONE),
+            (masked(FIRST_OF_TEXT, b'{"cmd":"\xe2') + masked(MIDDLE, b"\x82") + masked(LAST, b'\xac"}') + GOES,
+             told(UNKNOWN_COMMAND) + GONE),
         )
 
     def test_a_stream_in_two_pieces_says_the_same_wherever_it_is_cut(self):

@@ -1,5 +1,5 @@
-"""The feed of examples/many_spectators over a stand-in for the channels of nginx: what it publishes of boards that are gone or go on elsewhere, its
-beats, and its names. Its own tests, by hand, try it over nginx itself. It needs Debian's python3-websockets."""
+"""The feed of examples/many_spectators over a stand-in for the channels of nginx: what it publishes of boards that are gone or go on
+elsewhere, its beats, and its names. Its own tests, by hand, try it over nginx itself. It needs Debian's python3-websockets."""
 
 import base64
 import contextlib
@@ -70,7 +70,8 @@ class Asked(http.server.BaseHTTPRequestHandler):
 
     def hand_out(self):
         accept = base64.b64encode(hashlib.sha1(self.headers["Sec-WebSocket-Key"].encode() + ACCEPTS).digest()).decode()
-        self.wfile.write(f"HTTP/1.1 101 Switching Protocols\r\nUpgrade: websocket\r\nConnection: Upgrade\r\nSec-WebSocket-Accept: {accept}\r\n"
+        self.wfile.write("HTTP/1.1 101 Switching Protocols\r\nUpgrade: websocket\r\nConnection: Upgrade\r\n"
+                         f"Sec-WebSocket-Accept: {accept}\r\n"
                          "Sec-WebSocket-Protocol: ws+meta.nchan\r\n\r\n".encode())
         for number, told in enumerate(self.texts(), 1):
             payload = f"id: {number}:0\n\n{told}".encode()

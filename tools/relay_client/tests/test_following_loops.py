@@ -198,8 +198,8 @@ class Slow(unittest.TestCase):
             close_all(owner, *slow, *guests)
 
     def test_pings_without_end_are_answered_as_the_pongs_are_taken(self):
-        """Behind some of them it is not read, in the middle of one and for longer than half a message may take. No frame is broken, and it hears of a
-        move that came meanwhile."""
+        """Behind some of them it is not read, in the middle of one and for longer than half a message may take. No frame is broken, and it
+        hears of a move that came meanwhile."""
         count = 2000
         with Server("--forever") as server, concurrent.futures.ThreadPoolExecutor(1) as pool:
             owner, guest = owner_of(server), guest_of(server, **SLOW)

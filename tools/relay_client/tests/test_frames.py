@@ -10,8 +10,8 @@ from relay_client.program import PATIENCE
 from relay_client.server import Server
 from relay_client.tests.sessions import ABANDONED, guest_of, owner_of
 from relay_client.tests.test_events import BINARY, FIRST_OF_TEXT, GOES, GONE, LAST, heard, told
-from relay_client.texts import (BAD_FIELD, NOT_JSON, NOT_OBJECT, OPENED, ended, ends, following, follows, moved, opens, over, played, refused,
-                                submits, takes)
+from relay_client.texts import (BAD_FIELD, NOT_JSON, NOT_OBJECT, OPENED, ended, ends, following, follows, moved, opens, over, played,
+                                refused, submits, takes)
 
 NO_KIND = b"\x83\x80" + MASK
 WRONG_MODE = refused(14, "WrongMode")
@@ -62,7 +62,8 @@ class BrokenFrames(unittest.TestCase):
 class LongTexts(unittest.TestCase):
     def test_a_text_of_65536_bytes_is_refused_and_one_byte_more_ends_the_session(self):
         """It is refused too, and the session ends with 1009, whether the frame says so, before its bytes have come, or a second one makes
-        the message that long. Before, the connection ended without an answer and without a close: someone who pasted too much did not learn why."""
+        the message that long. Before, the connection ended without an answer and without a close: someone who pasted too much did not learn
+        why."""
         with Server("--connections", "4") as server:
             longer = head(0x81, 65537)
             in_two = head(0x01, 65536) + bytes(65536) + head(0x80, 1) + bytes(1)

@@ -1,5 +1,5 @@
-"""Operators that lose their connection and come back with their key: `serve --grace SECONDS`. Before, no key was looked at. A board was abandoned
-as soon as the connection that had opened it ended, and every other connection was a stranger to it."""
+"""Operators that lose their connection and come back with their key: `serve --grace SECONDS`. Before, no key was looked at. A board was
+abandoned as soon as the connection that had opened it ended, and every other connection was a stranger to it."""
 
 import pathlib
 import socket
@@ -277,7 +277,8 @@ class TheGrace(Keys):
                 back.asks(submits(name, "e7e5"), GAME_OVER if answer == GAME_OVER else played(1))
 
     def test_of_many_boards_that_run_out_those_that_had_not_ended_stay_with_who_came_back(self):
-        """The boards of one key, each with a follower, end one after another. Connections come back meanwhile, and play on the last board."""
+        """The boards of one key, each with a follower, end one after another. Connections come back meanwhile, and play on the last
+        board."""
         boards = [f"b{number}" for number in range(250)]
         for late in range(6):
             with Server("--grace", "1", "--connections", "1000", "--boards", "256") as server:

@@ -18,6 +18,7 @@ class Men(unittest.TestCase):
             self.assertEqual(men_after(f"8/8/8/8/8/8/8/{before} w - - 0 1", [move]), men_of(f"8/8/8/8/8/8/8/{after} b - - 1 1"))
 
     def test_a_name_is_counted_behind_its_last_underscore_and_never_longer_than_32(self):
-        for name, expected in (("r1-1", "r1-1_2"), ("r1-1_2", "r1-1_3"), ("b-9", "b-9_2"), ("b_9", "b_10"), ("b_x", "b_x_2"), ("_2", "_2_2"),
-                               ("b_999", "b_1000"), (28 * "n", 28 * "n" + "_2"), (32 * "n", 30 * "n" + "_2"), (30 * "n" + "_9", 29 * "n" + "_10")):
+        for name, expected in (("r1-1", "r1-1_2"), ("r1-1_2", "r1-1_3"), ("b-9", "b-9_2"), ("b_9", "b_10"), ("b_x", "b_x_2"),
+                               ("_2", "_2_2"), ("b_999", "b_1000"), (28 * "n", 28 * "n" + "_2"), (32 * "n", 30 * "n" + "_2"),
+                               (30 * "n" + "_9", 29 * "n" + "_10")):
             self.assertEqual(next_name(name), expected)

@@ -41,7 +41,8 @@ def refuses(port):
 
 class HowLong(unittest.TestCase):
     def test_a_server_for_ever_counts_no_connections(self):
-        """Before, each had a number of connections, of at most 1,000,000, and ended after them. One peer that connects and goes could spend them."""
+        """Before, each had a number of connections, of at most 1,000,000, and ended after them. One peer that connects and goes could spend
+        them."""
         with Server("--forever") as server:
             for _ in range(300):
                 Connection(server.port).close()

@@ -136,8 +136,8 @@ class Places(unittest.TestCase):
 
 
     def test_one_whose_connection_takes_nothing_is_cut_all_the_same_and_sent_the_rest_once_it_takes_it(self):
-        """Pongs fill its connection before the moves come: the server keeps some, or so many that it hears no more. Once it is cut it says that it
-        sends no more, and still is sent all."""
+        """Pongs fill its connection before the moves come: the server keeps some, or so many that it hears no more. Once it is cut it says
+        that it sends no more, and still is sent all."""
         moves = list(moves_without_a_draw())[:10]
         for flood in FLOODS:
             with self.subTest(flood), Server("--forever", "--followers", "1", "--capacity", "4") as server:

@@ -51,8 +51,8 @@ class Wakes(unittest.TestCase):
     server = staticmethod(Server)
 
     def is_early(self, owner, guests, *burst):
-        """Plays moves in one piece while all sleep, and says whether the system had a follower's text before the operator's answers. Each is a
-        board, a place and a move, and the followers are those of b1."""
+        """Plays moves in one piece while all sleep, and says whether the system had a follower's text before the operator's answers. Each
+        is a board, a place and a move, and the followers are those of b1."""
         time.sleep(0.05)
         owner.send(*(submits(board, move) for board, _, move in burst))
         answered, told = came_at(owner), min(map(came_at, guests))

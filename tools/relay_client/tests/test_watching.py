@@ -92,8 +92,8 @@ def newcomers(server, comes):
 
 
 def passers_by(server, chance, is_over):
-    """Newcomers who come and go, one after another, until that is set, and no fewer than the least; how many they were. They go with half a request,
-    when they have asked, while they are answered or after that, by an end or a reset."""
+    """Newcomers who come and go, one after another, until that is set, and no fewer than the least; how many they were. They go with half a
+    request, when they have asked, while they are answered or after that, by an end or a reset."""
     count = 0
     while count < LEAST_PASSING or not is_over.is_set():
         with socket.create_connection(("127.0.0.1", server.watch_port), timeout=PATIENCE) as newcomer:
@@ -418,7 +418,8 @@ class Limits(unittest.TestCase):
     def test_newcomers_without_a_descriptor_are_told_so_and_nobody_else_feels_it(self):
         with Server("--forever", "--watch-threads", "1", watch=True) as server:
             owner, watcher = owner_of(server), watcher_of(server)
-            # The main port's accept has the number of its next descriptor, though none is open there yet. So it is the greatest that counts.
+            # The main port's accept has the number of its next descriptor, though none is open there yet. So it is the greatest that
+            # counts.
             held = 1 + max(int(it.name) for it in open_descriptors(server))
             _, most = resource.prlimit(server.process.pid, resource.RLIMIT_NOFILE)
             resource.prlimit(server.process.pid, resource.RLIMIT_NOFILE, (held, most))
@@ -612,7 +613,8 @@ class Ending(unittest.TestCase):
                 self.assertEqual((second.returncode, second.stdout, second.stderr), (3, b"", b"fault 41 Device\n"))
 
     def test_any_address_of_the_machine_may_be_watched_at(self):
-        for address, host in ("0.0.0.0", "127.0.0.1"), ("0.0.0.0", "127.0.0.2"), ("127.0.0.2", "127.0.0.2"), ("[::1]", "::1"), ("[::]", "::1"):
+        addresses = ("0.0.0.0", "127.0.0.1"), ("0.0.0.0", "127.0.0.2"), ("127.0.0.2", "127.0.0.2"), ("[::1]", "::1"), ("[::]", "::1")
+        for address, host in addresses:
             port = free_port()
             words = [PROGRAM, "serve", "--port", str(free_port()), "--forever", "--watch", f"{address}:{port}"]
             with self.subTest(address=address, host=host), subprocess.Popen(words, stdout=subprocess.PIPE) as process:

@@ -1,4 +1,5 @@
-"""What the loops of the port for those who only watch keep of their guests: who hears at once, whatever guests come, go, flood or stop reading."""
+"""What the loops of the port for those who only watch keep of their guests: who hears at once, whatever guests come, go, flood or stop
+reading."""
 
 import concurrent.futures
 import contextlib
@@ -20,10 +21,10 @@ from relay_client.program import PATIENCE, fens
 from relay_client.server import Server
 from relay_client.tests.sessions import ABANDONED, moves_without_a_draw, owner_of, play
 from relay_client.tests.test_deadlines import HALVES, seconds_of_half, seconds_until_given_up
-from relay_client.tests.test_watching import (AGAIN, CROWD, DONE, MOVES, SOON, WRONG_MODE, all_until_close, answered, close_all, open_descriptors,
-                                               spectator_of, watcher_of)
-from relay_client.texts import (BAD_FIELD, BOARDS, NOT_JSON, NOT_OBJECT, OPENED, START_518, ended, ends, following, follows, moved, opens, over,
-                                played, stands, submits)
+from relay_client.tests.test_watching import (AGAIN, CROWD, DONE, MOVES, SOON, WRONG_MODE, all_until_close, answered, close_all,
+                                              open_descriptors, spectator_of, watcher_of)
+from relay_client.texts import (BAD_FIELD, BOARDS, NOT_JSON, NOT_OBJECT, OPENED, START_518, ended, ends, following, follows, moved, opens,
+                                over, played, stands, submits)
 
 AT_ONCE = 0.5  # Seconds. A loop that nobody wakes looks for news each second.
 BEFORE_A_PING = 20  # Seconds. A ping, which comes after thirty, brings news too.
@@ -76,7 +77,8 @@ def processor_seconds(server):
 
 class AtOnce(unittest.TestCase):
     def is_told_at_once(self, act, least=3):
-        """At least this many of ten hear at once; on a busy machine others are late. The act returns when that happened which it heard of."""
+        """At least this many of ten hear at once; on a busy machine others are late. The act returns when that happened which it heard
+        of."""
         took = []
         for number in range(ROUNDS):
             time.sleep(0.1)  # The loops wait again.
@@ -535,7 +537,8 @@ class Floods(unittest.TestCase):
             peer.close()
 
     def test_a_message_that_is_not_read_to_its_end_is_not_half(self):
-        """A loop that reads no more stops in the middle of what one sends. It is the loop that the rest waits for, and not the other way round."""
+        """A loop that reads no more stops in the middle of what one sends. It is the loop that the rest waits for, and not the other way
+        round."""
         with Server("--forever", "--watch-threads", "1", watch=True) as server:
             peer = Connection(server.watch_port, **SLOW)
             peer.stream.sendall(ONE_PING * 2000)
@@ -602,7 +605,8 @@ class Full(unittest.TestCase):
             close_all(owner, slow)
 
     def test_one_that_takes_a_little_in_thirty_seconds_stays_and_who_does_so_in_ten_more_is_told_why_it_goes(self):
-        """Each takes less than what the system would tell the loop of, and some seconds later all. Whoever comes later than that is lost."""
+        """Each takes less than what the system would tell the loop of, and some seconds later all. Whoever comes later than that is
+        lost."""
         with (Server("--forever", "--watch-threads", "1", "--plies", "8192", watch=True) as server,
               concurrent.futures.ThreadPoolExecutor(len(TAKEN_AFTER)) as pool):
             owner = owner_of(server)

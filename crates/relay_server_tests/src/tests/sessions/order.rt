@@ -27,9 +27,9 @@ const OF_AN_OWNER: &str =
 const OF_A_FOLLOWER: &str =
     "bounded\nread\nbounded by half a minute\nwritten 129\nread\nbefore 7\nwritten 99\nafter 7\nwritten 128\nended\nbounded\nread\n";
 
-/// An owner sends its request; then, in one piece, two commands and a frame that breaks the rules. Both are answered: the move's answer leaves
-/// before those who follow are woken, and after that a close of four bytes. Then the output is ended and the rest is read, for at most ten
-/// seconds.
+/// An owner sends its request; then, in one piece, two commands and a frame that breaks the rules. Both are answered: the move's answer
+/// leaves before those who follow are woken, and after that a close of four bytes. Then the output is ended and the rest is read, for at
+/// most ten seconds.
 const OF_A_BREACH: &str =
     "bounded\nread\nbounded by half a minute\nwritten 129\nread\nbefore 7\nwritten 20\nafter 7\nwritten 45\nwritten 4\nended\nbounded\nread\n";
 

@@ -1,5 +1,5 @@
-//! Compact objects, without escapes and with few spaces, which are read apart from all other texts. Behind a space a text means the same, and
-//! is read in the general way: on texts on both sides of the form, the two ways agree.
+//! Compact objects, without escapes and with few spaces, which are read apart from all other texts. Behind a space a text means the same,
+//! and is read in the general way: on texts on both sides of the form, the two ways agree.
 
 use crate::tests::chance::Dice;
 use relay_messages::{Decoder, MessageFault};

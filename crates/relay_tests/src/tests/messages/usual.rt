@@ -1,5 +1,5 @@
-//! Usual objects, whose keys stand in the order in which nearly all clients write them, are read apart from all other texts. On texts on both
-//! sides of the form, that way and the general one agree.
+//! Usual objects, whose keys stand in the order in which nearly all clients write them, are read apart from all other texts. On texts on
+//! both sides of the form, that way and the general one agree.
 
 use crate::tests::messages::compact::agrees;
 use relay_messages::Decoder;
