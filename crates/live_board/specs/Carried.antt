@@ -62,7 +62,8 @@ Looked Nothing v p q = HasLooked v p q × (q.closing ≡ p.closing)
 Looked (Over outcome) v p q = HasLooked v p q × (q.closing ≡ p.closing)
 Looked Cut v p q = q ≡ p
 
--- a take in the slot: only parts have changed, what the one in the slot has taken grew by what was answered, and what it has seen is the board's
+-- a take in the slot: only parts have changed, what the one in the slot has taken grew by what was answered, and what it has seen is the
+-- board's
 pub record TookAt (slot : ℕ) (answer : Taken) (v w : View) : Type 0 where
   pub owns : w.owns ≡ v.owns
   pub setup : w.setup ≡ v.setup

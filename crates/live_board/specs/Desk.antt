@@ -56,8 +56,9 @@ abbrev pub TriedBelow : ℕ → View → View → Type 0
 TriedBelow zero v w = w ≡ v
 TriedBelow (suc n) v w = (u : View) × TriedBelow n v u × Tried u n w
 
--- A submit: each follower that may be full is asked, in the order of the cursors, then the move is stored, then published. Only an exchange that closes a follower adds to the
--- closings that the view lists (`closed_off`); each step is one more of those that it lists as made, so that they were made in this order (`Order`).
+-- A submit: each follower that may be full is asked, in the order of the cursors, then the move is stored, then published. Only an exchange
+-- that closes a follower adds to the closings that the view lists (`closed_off`); each step is one more of those that it lists as made, so
+-- that they were made in this order (`Order`).
 abbrev pub Submitted : Triple → View → View → Type 0
 Submitted m v w = (u : View) × TriedBelow v.setup.limits.followers v u × (w ≡ published m (storing m u))
 

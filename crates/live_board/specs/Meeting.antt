@@ -16,8 +16,8 @@ closing_noted (Closed c) = Some c
 closing_noted (Open joined least) = None
 closing_noted Vacant = None
 
--- The follower had loaded the status and learned what its cursor said; it has taken nothing, and has seen no less than before. Start, log, outcome and closings of the
--- board's view are unchanged.
+-- The follower had loaded the status and learned what its cursor said; it has taken nothing, and has seen no less than before. Start, log,
+-- outcome and closings of the board's view are unchanged.
 -- Its list is the stretch of the board's log from where it joined, it has seen the board's length and outcome, and it knows the closing
 -- that the board notes of it, if there is one.
 pub record Met (v : View) (p : Part) (w : View) (q : Part) : Type 0 where

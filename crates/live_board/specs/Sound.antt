@@ -27,7 +27,8 @@ pub record BearsOut (log : List Triple) (closing : Option ℕ) (p : Part) : Type
   -- the log is a legal game from its numbered start
   pub game : Game960 p.setup.start log
   pub room : length log ≤ p.setup.limits.plies
-  -- the moves taken, then those due, are, each once and in order, the stretch of the log from the joining place to the closing or the present
+  -- the moves taken, then those due, are, each once and in order, the stretch of the log from the joining place to the closing or the
+  -- present
   pub whole : p.taken ++ stretch (next_of p) (end_of log closing) log ≡ stretch p.joined (end_of log closing) log
   pub before : p.before ≡ take p.joined log
   -- that end lies in the log, not before the next place, and no more moves are due than a queue holds

@@ -65,7 +65,8 @@ MOST_BYTES = 1 << 30
 LONG_TIME = struct.pack("ll", PATIENCE, 0)
 LONG, SHORT, OBJECT = lines([BAD_FIELD]), lines([NOT_JSON]), lines([NOT_OBJECT])
 
-# What an input begins with, how many bytes it has, zeros but for its beginning and its end, and what it ends with; the answers and the complaint.
+# What an input begins with, how many bytes it has, zeros but for its beginning and its end, and what it ends with; the answers and the
+# complaint.
 LENGTHS = [
     (SCRIPT, b"[]\n", MOST_BYTES, b"\n", OBJECT + LONG, GOOD),
     # The last byte within the bound may open a line.
@@ -213,7 +214,8 @@ def in_writes():
 
 
 def broken_at(words, steps, count):
-    """What a run leaves whose output breaks behind this many writes. A step is the pieces that are sent, and the write that they lead to."""
+    """What a run leaves whose output breaks behind this many writes. A step is the pieces that are sent, and the write that they lead
+    to."""
     with in_pieces(words) as (process, given, taken):
         for number, (pieces, answer) in enumerate(steps):
             if number == count:

@@ -31,7 +31,8 @@ RUNS = [
     Run(("script",), reads=b"\n" * MOST_LINES, prints=lines([NOT_JSON]) * MOST_LINES),
     Run(("script",), reads=b"\n" * (MOST_LINES + 1), prints=lines([NOT_JSON]) * MOST_LINES, complains=b"fault 33 TooLong\n", status=3),
     Run(("play", "518"), reads=b"\n" * MOST_LINES, prints=b"fault 1 Length\n" * MOST_LINES),
-    Run(("play", "518"), reads=b"\n" * (MOST_LINES + 1), prints=b"fault 1 Length\n" * MOST_LINES, complains=b"fault 33 TooLong\n", status=3),
+    Run(("play", "518"), reads=b"\n" * (MOST_LINES + 1), prints=b"fault 1 Length\n" * MOST_LINES, complains=b"fault 33 TooLong\n",
+        status=3),
 ]
 
 

@@ -76,7 +76,8 @@ Options:
       --forever                        Accept connections without an end, in place of --connections
       --until-input-ends               End in order when standard input ends
       --grace <grace>                  How many seconds a board waits for an operator with a key to come back [default: 0]
-      --idle <idle>                    How many seconds a peer that owns and follows nothing may send nothing; 0: without an end [default: 600]
+      --idle <idle>                    How many seconds a peer that owns and follows nothing may send nothing; 0: without an end \
+[default: 600]
       --log                            Write a line to standard error for what happens to each board, and counts once a minute
       --watch <ADDRESS:PORT>           The address and port on which spectators may only watch; without it there is none
       --watch-threads <watch-threads>  How many threads serve the spectators of --watch [default: 2]
@@ -139,9 +140,11 @@ TEXTS = [
       for name, most in (("watch-threads", 64), ("watch-most", 1000000)) for value in ("0", str(most + 1), "4294967298")],
     (("serve", "--watch"), error("a value is required for '--watch <ADDRESS:PORT>' but none was supplied")),
     *[(("serve", "--watch", value), no_address(value))
-      for value in ("x", "", "9601", "127.0.0.1", "localhost:9601", "127.0.0.1:65536", "127.0.0.01:9601", "256.0.0.1:9601", "::1:9601", "[::1]")],
+      for value in ("x", "", "9601", "127.0.0.1", "localhost:9601", "127.0.0.1:65536", "127.0.0.01:9601", "256.0.0.1:9601", "::1:9601",
+                    "[::1]")],
     *[(("serve", "--watch=*:9601", *more), no_address("*:9601")) for more in ((), ("--watch-threads", "64"), ("--watch-most", "1000000"))],
-    *[(("serve", "--forever", *given), error("the argument '--connections <connections>' cannot be used with '--forever'", "serve [OPTIONS]"))
+    *[(("serve", "--forever", *given),
+       error("the argument '--connections <connections>' cannot be used with '--forever'", "serve [OPTIONS]"))
       for given in (("--connections", "5"), ("--connections=1000000",))],
     *[((job, f"--{name}", value), out_of_range(value, f"--{name} <{name}>", 1, most))
       for job in ("script", "serve")

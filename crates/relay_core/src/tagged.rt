@@ -60,8 +60,8 @@ impl TaggedName {
     }
 }
 
-/// The tag of a name: its bytes as the digits of a number to the base 257, of which 32 bits are kept. Names of one length that differ in their
-/// last three bytes alone have different tags.
+/// The tag of a name: its bytes as the digits of a number to the base 257, of which 32 bits are kept. Names of one length that differ in
+/// their last three bytes alone have different tags.
 fn tag_of(name: &BoardName) -> u32
     ensures { result ≡ tag_of name.now }
 {

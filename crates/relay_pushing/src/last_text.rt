@@ -9,8 +9,8 @@ use relay_messages::{Answer, encode};
 use std::alloc::{AllocError, Global};
 use std::marker::Model;
 
-/// The text of a take's answer, kept until another one is asked for. Followers of a board are mostly sent the same one after another: it is made
-/// once for all of them. To a contract it is the answer that it has the text of, if there is one.
+/// The text of a take's answer, kept until another one is asked for. Followers of a board are mostly sent the same one after another: it is
+/// made once for all of them. To a contract it is the answer that it has the text of, if there is one.
 #[derive(Drop)]
 pub struct LastText {
     alloc: Global,

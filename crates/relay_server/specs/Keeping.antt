@@ -74,8 +74,8 @@ pub record KeeperState : Type 0 where
   pub follower : Option FollowerSeat
   pub key : Option (List ℕ)
 
--- The keeper may give this answer to a connection with this key, or with none. Other connections open boards too, so this much is known: the
--- boards that were found at one look say so. Without a key no board belongs to a connection except those that it opened.
+-- The keeper may give this answer to a connection with this key, or with none. Other connections open boards too, so this much is known:
+-- the boards that were found at one look say so. Without a key no board belongs to a connection except those that it opened.
 abbrev pub Tells : Option (List ℕ) → asks.Question → Bool → Type 0
 Tells key (asks.Knows name) known = IsTold name known
 Tells key (asks.Owns name) owned = IsToldOwned key name owned

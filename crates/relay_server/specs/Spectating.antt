@@ -96,8 +96,8 @@ Followed None has old new ended = (ended ≡ ends.Failed) × (new ≡ old) × (h
 
 -- ---- From the reply on.
 
--- The last of the texts tells the connection that it follows: the place from which this follower takes, where it joined and has taken nothing
--- yet, and the position there, which is the one after the moves before that place.
+-- The last of the texts tells the connection that it follows: the place from which this follower takes, where it joined and has taken
+-- nothing yet, and the position there, which is the one after the moves before that place.
 pub record IsToldOf (f : FollowerSeat) (texts : List (List ℕ)) : Type 0 where
   pub earlier : List (List ℕ)
   pub position : Parts

@@ -54,8 +54,8 @@ impl Key {
     }
 }
 
-/// Whether the bytes are the same. The loop always goes over all of them, so that its time says nothing about where they differ. No contract says
-/// so: `test_comparing.py` counts the instructions.
+/// Whether the bytes are the same. The loop always goes over all of them, so that its time says nothing about where they differ. No
+/// contract says so: `test_comparing.py` counts the instructions.
 #[tactic(auto, using(crate::proofs::Owned::same_next, crate::proofs::Owned::all_of))]
 fn are_same(mine: &[u8; 64], theirs: &[u8; 64]) -> bool
     ensures { result ≡ same_key mine.now theirs.now }

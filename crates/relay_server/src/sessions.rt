@@ -64,9 +64,9 @@ const GOING_AWAY: u16 = 1001;
 pub(crate) const CUT_OFF: u16 = 4001;
 
 /// One connection from its handshake to its end. It answers commands. Once it follows a board, it pushes that board's moves and is
-/// no longer read; a server with loops hands it over to one of them, which reads it. The request's head may have 8,192 bytes and take 10 seconds; a request that is refused is answered with its status.
-/// At most 1,000,000 messages are read. A peer that is silent
-/// for 30 seconds is sent a ping, and after 30 more another one; 30 seconds after that it is taken to have gone. A message that has partly
+/// no longer read; a server with loops hands it over to one of them, which reads it. The request's head may have 8,192 bytes and take 10
+/// seconds; a request that is refused is answered with its status. At most 1,000,000 messages are read. A peer that is silent for 30
+/// seconds is sent a ping, and after 30 more another one; 30 seconds after that it is taken to have gone. A message that has partly
 /// arrived has 10 seconds. At its end each board that it opened is ended as abandoned, unless its game is over, and its follower leaves.
 /// If the connection has a key, its boards are not ended while another one with that key exists, nor while they wait for one. If
 /// serving is to end early, the peer is told so by the close code 1001.

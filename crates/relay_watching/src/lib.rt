@@ -9,8 +9,8 @@
 //! - The moves given to a tape are the board's log, from the tape's length on, and the outcome is the board's.
 //! - The position given to `Tape::join` is the one at that place of the log.
 //! - A watcher is called only with the tape that it joined.
-//! - The bytes counted by `Watcher::wrote` are the first of those that `due` gave, and were written to the watcher's own connection. Nothing
-//!   else is written there except whole frames, and those only if `Watcher::is_between_frames` says so.
+//! - The bytes counted by `Watcher::wrote` are the first of those that `due` gave, and were written to the watcher's own connection.
+//!   Nothing else is written there except whole frames, and those only if `Watcher::is_between_frames` says so.
 //! - If there was no memory for a move or an end, it is passed again later: `Tape::len` and `Tape::is_over` say what the tape has.
 #![tactic(auto)]
 

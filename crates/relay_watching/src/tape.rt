@@ -165,8 +165,8 @@ impl Tape {
         if length == 0 { rest } else { &rest[..length] }
     }
 
-    /// Whether a frame ends after `at` bytes, or the first one begins there. The last end is looked at before the others are searched, since most
-    /// spectators were written all that there is.
+    /// Whether a frame ends after `at` bytes, or the first one begins there. The last end is looked at before the others are searched,
+    /// since most spectators were written all that there is.
     pub(crate) fn is_end(&self, at: usize) -> bool
         ensures { result ≡ is_end self.now at }
     {
