@@ -19,8 +19,8 @@ TOKEN = re.compile(r"""
   | (?P<word>[^\s{}()\[\];$]+)
   | (?P<open>.)
 """, re.X | re.M | re.S)
-# Beside moves: glyphs that stand alone, and words for a capture in passing.
-NO_MOVE = re.compile(r"[!?+#=~∓±⩲⩱∞□]{1,3}|[-+=/]{2,3}|e\.?p\.?")
+# Beside moves: glyphs that stand alone, and words for a capture in passing. A null move is none of them: a game has no such move.
+NO_MOVE = re.compile(r"(?!--$)(?:[!?+#=~∓±⩲⩱∞□]{1,3}|[-+=/]{2,3}|e\.?p\.?)")
 QUOTED = re.compile(r'\[\s*(\w+)\s*"(.*)"\s*\]\s*')
 
 

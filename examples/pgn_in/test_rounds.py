@@ -2,10 +2,11 @@
 default. test.sh starts it.
 
 The moves are drawn from Debian's Stockfish's, the words for them are Debian's PyChess's. Files are written by pgn-extract in each of its
-notations, and by a writer that uses every form and everything that may stand beside moves. Each game must come into its record move for
-move. What pgn-extract reads in the files is compared, too. At last come all 960 starts, with rights written in both ways.
+notations, by PyChess, and by a writer that uses every form and everything that may stand beside moves. Each game must come into its record
+move for move. What pgn-extract reads in the files is compared, too. At last come all 960 starts, with rights written in both ways.
 """
 import asyncio
+import io
 import json
 import pathlib
 import random
@@ -17,6 +18,7 @@ import warnings
 warnings.simplefilter("ignore")
 
 from position import Position  # noqa: E402
+from pychess.Savers import pgn as pychess_pgn  # noqa: E402
 from pychess.Utils.const import FISCHERRANDOMCHESS  # noqa: E402
 from pychess.Utils.lutils.LBoard import LBoard  # noqa: E402
 from pychess.Utils.lutils.lmove import parseAny, toSAN  # noqa: E402
@@ -112,6 +114,20 @@ def extracted(folder, text, notation):
     return ran.stdout
 
 
+class Saved(io.StringIO):
+    """A file for PyChess's saver, which is read when that has closed it."""
+
+    def close(self):
+        pass
+
+
+def saved_by_pychess(text):
+    """A game as PyChess saves it, once it has loaded it."""
+    saved = Saved()
+    pychess_pgn.save(saved, pychess_pgn.load(io.StringIO(text)).loadToModel(None))
+    return saved.getvalue()
+
+
 def seen_by_extract(folder, text):
     """The moves that pgn-extract reads."""
     file = folder / "seen.pgn"
@@ -164,6 +180,7 @@ async def by_writers(games, chance):
             seen = seen_by_extract(folder, text)
             assert seen == [it.moves for it in games], [(a, b.moves) for a, b in zip(seen, games) if a != b.moves][:1]
     formed = "".join(it.formed(chance) for it in games)
+    written += ["".join(saved_by_pychess(it.plain()) for it in games).encode()]
     written += [plain.encode(), beside.encode(), formed.encode("latin-1"), formed.replace("\n", "\r\n").encode("utf-8-sig")]
     for data in written:
         await in_room(data, games)

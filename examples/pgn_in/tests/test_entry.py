@@ -84,6 +84,7 @@ class Cases(unittest.TestCase):
 
     def test_castling_where_nobody_or_only_the_rook_moves(self):
         self.means("6k1/8/8/8/8/8/8/6KR w H - 0 1", g1h1="O-O g1h1")
+        self.is_none("6k1/8/8/8/8/8/8/6KR w H - 0 1", "not legal", "g1g1")
         self.means("2k5/8/8/8/8/8/8/R1K5 w A - 0 1", c1a1="O-O-O c1a1")
         self.means("2k5/8/8/8/8/8/8/R1KR4 w DA - 0 1", c1d1="O-O c1d1 c1g1")
         self.is_none("2k5/8/8/8/8/8/8/R1KR4 w DA - 0 1", "not legal", "O-O-O c1a1")
@@ -92,6 +93,11 @@ class Cases(unittest.TestCase):
         self.is_none("4k3/8/8/8/8/8/8/R3K2R w A - 0 1", "not legal", "O-O 0-0 e1g1 e1h1")
         self.is_none("4kr2/8/8/8/8/8/8/R3K2R w HA - 0 1", "not legal", "O-O e1g1")
         self.is_none("4k3/8/8/8/8/8/8/RN2K2R w HA - 0 1", "not legal", "O-O-O e1c1")
+        self.is_none("r3k2r/8/8/8/8/8/8/R3K2R w HAha - 0 1", "not legal", "Kh1 Ka1 Kxh1 Rxe1 h1e1")
+
+    def test_a_rook_that_shields_its_king_does_not_castle(self):
+        """It would go from b1 to d1, and the king on c1 would be in check from a1."""
+        self.is_none("4k3/8/8/8/8/8/8/rRK5 w B - 0 1", "not legal", "O-O-O c1b1")
 
     def test_promotions(self):
         self.means("3nk3/4P3/8/8/8/8/8/4K3 w - - 0 1", e7d8n="exd8=N edN e7d8n",

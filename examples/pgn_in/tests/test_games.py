@@ -37,7 +37,10 @@ class Words(unittest.TestCase):
 
     def test_words_stand_as_they_are(self):
         text = "1. e2-e4 e7e5 2. 0-0 O-O-O 3. Ngf3!? ed 4. e8Q+ e8=Q# 5. N1f3 -- *"
-        self.assertEqual(words_of(text), "e2-e4 e7e5 0-0 O-O-O Ngf3!? ed e8Q+ e8=Q# N1f3")
+        self.assertEqual(words_of(text), "e2-e4 e7e5 0-0 O-O-O Ngf3!? ed e8Q+ e8=Q# N1f3 --")
+
+    def test_a_percent_sign_within_a_line_begins_nothing(self):
+        self.assertEqual(words_of("1. e4 %x e5 2. Nf3 *"), "e4 %x e5 Nf3")
 
     def test_a_number_is_no_castling_and_no_result(self):
         (game,) = read(b"1. 0-0 0-0-0 2. e4 0-1")

@@ -136,7 +136,8 @@ class Readings(unittest.TestCase):
 
     def test_a_game_that_is_gone_from_the_file_is_said_after_three_readings_and_waits(self):
         other = game("1. d4 *", 2)
-        want = self.read(game("1. e4 e5 2. Nf3 *"), other)
+        want = self.read(game("1. e4 e5 2. Nf3 *"), other, times=3)
+        self.assertTrue(want.is_settled)
         self.read(other, times=2)
         self.assertEqual((self.round.faults, want.is_missing), ({}, True))
         self.read(other, times=3)

@@ -30,7 +30,8 @@ class Starts(unittest.TestCase):
     def test_what_is_no_start(self):
         for fen, reason in {
             "x": "none", CLASSIC.format("KQkq").replace(" w ", " b "): "none of the 960", CLASSIC.format("-"): "castlings",
-            CLASSIC.format("KQk"): "castlings", CLASSIC.format("KKkq"): "castlings", CLASSIC.format("GAga"): "castlings",
+            CLASSIC.format("KQkq-"): "castlings", CLASSIC.format("KQk"): "castlings",
+            CLASSIC.format("KKkq"): "castlings", CLASSIC.format("GAga"): "castlings",
             CLASSIC.format("KQkq")[:-1] + "2": "behind", CLASSIC.format("KQkq").replace(" - 0", " e3 0"): "behind",
             "rnbqkbnr/pppppppp/8/8/4P3/8/PPPP1PPP/RNBQKBNR w KQkq - 0 1": "none of the 960",
             "rnbkqbnr/pppppppp/8/8/8/8/PPPPPPPP/RNBQKBNR w KQkq - 0 1": "none of the 960",
