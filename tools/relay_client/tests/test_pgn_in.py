@@ -11,7 +11,7 @@ from relay_client.connection import Connection
 from relay_client.program import PATIENCE
 from relay_client.tests.entering import DUTCH, DUTCH_SENT, ITALIAN, ITALIAN_SENT, THERE_AND_BACK, THERE_AND_BACK_SENT, Entering, game
 from relay_client.texts import OPENED, ended, ends, opens, played, submits
-from relay_client.wire import Wire
+from relay_client.wire import DOWN, Wire
 
 
 class Site(http.server.ThreadingHTTPServer):
@@ -179,6 +179,29 @@ class Losses(Entering):
             await self.has(r3_1=(518, ITALIAN_SENT[:count], None), r3_2=(518, DUTCH_SENT[:2], None))
         await wire.cut()
         self.assertIn("no connection to the relay", self.wrong())
+
+    async def test_what_the_relay_did_is_not_done_again_if_its_answer_is_lost(self):
+        """The answers to the opening, to a move, to the opening of a corrected game, and to its end."""
+        wire = await Wire(self.relay.port).mend()
+
+        async def loses(word, *games):
+            wire.lose(DOWN, word=word)
+            self.write(*games)
+            await asyncio.wait_for(wire.has_lost.wait(), PATIENCE)
+            wire.drop()
+
+        self.write()
+        await self.start(address=wire.address)
+        await self.until(lambda: "no game in the file" in self.wrong())
+        await loses(b'"opened"', game(ITALIAN[:2]))
+        await self.has(r3_1=(518, ITALIAN_SENT[:2], None))
+        await loses(b'"place":3,', game(ITALIAN[:6]))
+        await self.has(r3_1=(518, ITALIAN_SENT[:6], None))
+        await loses(b'"opened"', game(DUTCH))
+        await self.has(r3_1=(518, ITALIAN_SENT[:6], "abandoned"), r3_1__2=(518, DUTCH_SENT, None))
+        await loses(b'"ended"', game(DUTCH, result="1-0"))
+        await self.has(r3_1=(518, ITALIAN_SENT[:6], "abandoned"), r3_1__2=(518, DUTCH_SENT, "black resigns"))
+        await wire.cut()
 
     async def test_a_relay_that_was_restarted_gets_the_games_again_under_their_next_names(self):
         self.write(game(ITALIAN[:4]), game(DUTCH, 2, "1-0"))
