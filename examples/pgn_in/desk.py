@@ -7,6 +7,7 @@ from link import Link, Lost
 from seat import Seat
 
 WAITS = (0.2, 0.5, 1, 2)  # Seconds between two tries to connect; the last goes on.
+BESIDE = 16  # Boards that are at work at a time, so that no answer waits behind thousands.
 
 
 class Desk:
@@ -15,7 +16,7 @@ class Desk:
     def __init__(self, server, key, say, leaving=()):
         self.link, self.say = Link(server, key), say
         self.leaving = list(leaving)  # Boards whose games are left to other operators.
-        self.seats, self.faults = {}, {}
+        self.seats, self.faults, self.places = {}, {}, asyncio.Semaphore(BESIDE)
         self.tried, self.next_try = 0, 0
 
     def is_due(self):
@@ -60,7 +61,8 @@ class Desk:
 
     async def settle_one(self, want):
         seat = self.seats.setdefault(want.name, Seat(self.link, self.say))
-        return await seat.settle(want)
+        async with self.places:
+            return await seat.settle(want)
 
     async def close(self):
         await self.link.close()
