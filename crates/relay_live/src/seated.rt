@@ -3,39 +3,13 @@
 ghost use Rattle.std.specs.Prelude.{◌≡◌, ℕ, ◌<◌, Some, is_some, unwrap_or};
 
 use relay_core::{Account, BoardKey};
-use std::marker::Model;
-use std::snapshot::Snapshot;
-
-/// The name of the board that a spectator follows. Only clauses read it, and see its bytes: it takes no memory.
-#[derive(Drop)]
-pub(crate) struct Followed {
-    name: Snapshot<BoardKey>,
-}
-
-impl Model for Followed {
-    ghost use Rattle.std.specs.Prelude.{ℕ, List};
-
-    ghost Value = { List ℕ };
-
-    ghost view = { λ f. f.name.value };
-}
-
-impl Followed {
-    /// That of this board.
-    pub(crate) fn of(board: &BoardKey) -> Followed
-        ensures { result ≡ board.now }
-    {
-        Followed {
-            name: Snapshot::of(board),
-        }
-    }
-}
 
 /// Where a spectator follows, and how far it has got. Everything else about it is in what the board knows.
 #[derive(Drop)]
 pub(crate) struct Seated {
-    /// The board that it follows, which only contracts read.
-    pub(crate) board: Followed,
+    /// The board that it follows. Only contracts read it. Were it a ghost value, the prover would not find that a relay may go to another
+    /// thread.
+    pub(crate) board: BoardKey,
     /// The index of that board in the map of boards. It stays, since a board is removed only when the relay ends.
     pub(crate) index: usize,
     /// Its slot there.
