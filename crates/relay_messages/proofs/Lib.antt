@@ -1,6 +1,7 @@
 pub mod lemmas
 mod Ascii
 mod Names
+mod WordLengths
 mod PlainFacts
 mod PlainReading
 mod CompactBytes

@@ -13,3 +13,4 @@ pub mod Commands
 pub mod Others
 pub mod Decoding
 pub mod Answers
+pub mod Rooms

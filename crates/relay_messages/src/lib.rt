@@ -20,7 +20,7 @@ mod watch_command;
 
 pub use answer::Answer;
 pub use board_summary::{BoardSummary, encode_board};
-pub use encoding::encode;
+pub use encoding::{encode, encode_within};
 pub use fault::MessageFault;
 pub use reading::{Command, Decoder, MOST_BYTES, decode};
 pub use watch_command::WatchCommand;

@@ -1,7 +1,0 @@
-use Rattle.std.proofs.Common.{◌≡◌, ◌+◌, length, min, take}
-use Rattle.std.specs.List.{flat_map}
-use Rattle.relay_messages.proofs.pieces.room_for.Given as goal
-
--- the room is that for the pieces before this one
-abbrev pub invariant-loop-piece : goal.invariant-loop-piece
-invariant-loop-piece l = l.room ≡ min (length (flat_map (λ piece. piece.now) (take l.piece-index l.pieces)) + 1) 18446744073709551615
