@@ -18,6 +18,7 @@ mod play;
 mod play_texts;
 mod progress;
 mod script;
+mod speaker;
 mod start;
 mod version;
 mod writing;

@@ -12,26 +12,27 @@ use crate::bounds::Bounds;
 use crate::devices::{ReadDevice, WriteDevice};
 use crate::due::Due;
 use crate::fault::RunFault;
-use crate::progress::{Progress, answer_line, take_chunk};
+use crate::progress::{Progress, take_chunk};
+use crate::speaker::Speaker;
 use std::alloc::Global;
 
 /// How many bytes one read asks for.
 const CHUNK: usize = 4096;
 
 /// Takes all bytes of the reader. Any error of a read is the fault; no read is retried.
-fn take_all<R: ReadDevice, A: Answerer, W: WriteDevice>(
+fn take_all<R: ReadDevice, A: Speaker, W: WriteDevice>(
     alloc: Global,
     reader: &mut R,
-    answerer: &mut A,
+    speaker: &mut A,
     writer: &mut W,
     progress: &mut Progress,
     bounds: Bounds,
 ) -> Result<(), RunFault>
     requires { Within bounds progress.old }
     ensures within { OnOk result (Within bounds progress.new) }
-    ensures took { OnOk result (TakenAll A.gives answerer.old answerer.new progress.old progress.new
+    ensures took { OnOk result (TakenAll A.gives speaker.old speaker.new progress.old progress.new
         (R.remaining reader.old) (R.remaining reader.new) (W.contents writer.old) (W.contents writer.new)) }
-    ensures failed { IfErr result (λ fault. StopsReading A.gives answerer.old answerer.new progress.old bounds
+    ensures failed { IfErr result (λ fault. StopsReading A.gives speaker.old speaker.new progress.old bounds
         (R.remaining reader.old) (R.remaining reader.new) (W.contents writer.old) (W.contents writer.new) fault) }
     ensures reads_counted { R.failures reader.new ≡ reads_failed result (R.failures reader.old) }
     ensures writes_counted { W.failures writer.new ≡ writes_failed result (W.failures writer.old) }
@@ -44,26 +45,26 @@ fn take_all<R: ReadDevice, A: Answerer, W: WriteDevice>(
             Ok(0) => return Ok(()),
             Ok(count) => {
                 let chunk = &buffer[..count];
-                take_chunk(alloc, answerer, &mut due, writer, progress, bounds, chunk)?;
+                take_chunk(alloc, speaker, &mut due, writer, progress, bounds, chunk)?;
             }
         }
     }
 }
 
 /// Answers the last line, which has no line feed, if there is one, and returns the number of all lines.
-fn answer_last<A: Answerer, W: WriteDevice>(
+fn answer_last<A: Speaker, W: WriteDevice>(
     alloc: Global,
-    answerer: &mut A,
+    speaker: &mut A,
     writer: &mut W,
     progress: &Progress,
     bounds: Bounds,
 ) -> Result<u64, RunFault>
     requires { Within bounds progress.now }
-    ensures wrote { OnOk result (Wrote (Between A.gives answerer.old answerer.new) (last_line progress.now.line)
+    ensures wrote { OnOk result (Wrote (Between A.gives speaker.old speaker.new) (last_line progress.now.line)
         (W.contents writer.old) (W.contents writer.new)) }
     ensures count { IfOk result (λ n. n ≡ progress.now.answered + length (last_line progress.now.line)) }
     ensures within { IfOk result (λ n. n ≤ bounds.lines) }
-    ensures failed { IfErr result (λ fault. Unwritten A.gives answerer.old answerer.new (last_line progress.now.line)
+    ensures failed { IfErr result (λ fault. Unwritten A.gives speaker.old speaker.new (last_line progress.now.line)
         (settled (W.contents writer.old)) (settled (W.contents writer.new)) fault) }
     ensures writes_counted { W.failures writer.new ≡ writes_failed result (W.failures writer.old) }
 {
@@ -71,9 +72,31 @@ fn answer_last<A: Answerer, W: WriteDevice>(
         return Ok(progress.answered);
     }
     let mut due = Due::new();
-    answer_line(alloc, answerer, &mut due, writer, progress.line.as_slice())?;
+    speaker.speak(alloc, &mut due, writer, progress.line.as_slice())?;
     due.send(writer)?;
     Ok(progress.answered + 1)
+}
+
+/// `run_lines`, for any speaker.
+pub fn run_speaker<R: ReadDevice, A: Speaker, W: WriteDevice>(
+    alloc: Global,
+    reader: &mut R,
+    speaker: &mut A,
+    writer: &mut W,
+    bounds: Bounds,
+) -> Result<u64, RunFault>
+    ensures done { IfOk result (λ n. Done (Between A.gives speaker.old speaker.new) bounds (R.remaining reader.old)
+        (R.remaining reader.new) (W.contents writer.old) (W.contents writer.new) n) }
+    ensures failed { IfErr result (λ fault. RunStopped (Between A.gives speaker.old speaker.new)
+        (Before A.gives speaker.old speaker.new) bounds (R.remaining reader.old) (R.remaining reader.new) (W.contents writer.old) (W.contents writer.new) fault) }
+    ensures reads_counted { R.failures reader.new ≡ reads_failed result (R.failures reader.old) }
+    ensures writes_counted { W.failures writer.new ≡ writes_failed result (W.failures writer.old) }
+{
+    let Ok(mut progress) = Progress::new(alloc) else {
+        return Err(RunFault::OutOfMemory);
+    };
+    take_all(alloc, reader, speaker, writer, &mut progress, bounds)?;
+    answer_last(alloc, speaker, writer, &progress, bounds)
 }
 
 /// Answers each line of the reader on the writer, and returns the number of lines. A line ends with a line feed; a last
@@ -100,9 +123,5 @@ pub fn run_lines<R: ReadDevice, A: Answerer, W: WriteDevice>(
     ensures reads_counted { R.failures reader.new ≡ reads_failed result (R.failures reader.old) }
     ensures writes_counted { W.failures writer.new ≡ writes_failed result (W.failures writer.old) }
 {
-    let Ok(mut progress) = Progress::new(alloc) else {
-        return Err(RunFault::OutOfMemory);
-    };
-    take_all(alloc, reader, answerer, writer, &mut progress, bounds)?;
-    answer_last(alloc, answerer, writer, &progress, bounds)
+    run_speaker(alloc, reader, answerer, writer, bounds)
 }

@@ -7,13 +7,13 @@ ghost use Rattle.relay960_engines.specs.Lines.{Between};
 ghost use Rattle.relay960_engines.specs.Inner.Sending.{SentAnswers, output_of, settled};
 ghost use Rattle.relay960_engines.specs.Inner.Taking.{StopsIn, TookBytes, Unwritten, Within, kept_behind};
 
-use crate::answerer::Answerer;
 use crate::bounds::Bounds;
 use crate::devices::WriteDevice;
 use crate::due::Due;
 use crate::fault::RunFault;
 use crate::kept_line::{KEPT, KeptLine};
 use crate::pieces::{front, line_end};
+use crate::speaker::Speaker;
 use std::alloc::{AllocError, Global};
 
 /// How far a run has got.
@@ -46,60 +46,37 @@ impl Progress {
     }
 }
 
-/// Adds the answer to a line after what is due. If there is no memory for it, what was due is written.
-pub fn answer_line<A: Answerer, W: WriteDevice>(
-    alloc: Global,
-    answerer: &mut A,
-    due: &mut Due,
-    writer: &mut W,
-    line: &[u8],
-) -> Result<(), RunFault>
-    ensures sent { OnOk result (SentAnswers (Between A.gives answerer.old answerer.new) (line.now ∷ [])
-        (output_of (W.contents writer.old) due.old) (output_of (W.contents writer.new) due.new)) }
-    ensures failed { IfErr result (λ fault. Unwritten A.gives answerer.old answerer.new (line.now ∷ [])
-        (output_of (W.contents writer.old) due.old) (settled (W.contents writer.new)) fault) }
-    ensures writes_counted { W.failures writer.new ≡ writes_failed result (W.failures writer.old) }
-{
-    match answerer.answer(alloc, line) {
-        Ok(answer) => due.add(writer, answer.as_slice()),
-        Err(_) => {
-            due.send(writer)?;
-            Err(RunFault::OutOfMemory)
-        }
-    }
-}
-
 /// Adds the answer to the line that was begun and that the piece ends, and begins the next line. A line of which nothing was begun is
 /// answered in place, without a copy.
-fn answer_ended<A: Answerer, W: WriteDevice>(
+fn answer_ended<A: Speaker, W: WriteDevice>(
     alloc: Global,
-    answerer: &mut A,
+    speaker: &mut A,
     due: &mut Due,
     writer: &mut W,
     begun: &mut KeptLine,
     piece: &[u8],
 ) -> Result<(), RunFault>
     ensures none { OnOk result (begun.new ≡ []) }
-    ensures sent { OnOk result (SentAnswers (Between A.gives answerer.old answerer.new) (kept_behind begun.old piece.now ∷ [])
+    ensures sent { OnOk result (SentAnswers (Between A.gives speaker.old speaker.new) (kept_behind begun.old piece.now ∷ [])
         (output_of (W.contents writer.old) due.old) (output_of (W.contents writer.new) due.new)) }
-    ensures failed { IfErr result (λ fault. Unwritten A.gives answerer.old answerer.new (kept_behind begun.old piece.now ∷ [])
+    ensures failed { IfErr result (λ fault. Unwritten A.gives speaker.old speaker.new (kept_behind begun.old piece.now ∷ [])
         (output_of (W.contents writer.old) due.old) (settled (W.contents writer.new)) fault) }
     ensures writes_counted { W.failures writer.new ≡ writes_failed result (W.failures writer.old) }
 {
     if begun.is_empty() {
-        return answer_line(alloc, answerer, due, writer, front(piece, KEPT));
+        return speaker.speak(alloc, due, writer, front(piece, KEPT));
     }
     begun.extend(piece);
-    answer_line(alloc, answerer, due, writer, begun.as_slice())?;
+    speaker.speak(alloc, due, writer, begun.as_slice())?;
     begun.clear();
     Ok(())
 }
 
 /// Takes the front of the bytes, up to and including the first line feed, as far as both bounds allow, and returns the number of its bytes.
 /// A line feed ends the line, which is answered; the other bytes belong to it. Before any fault what was due is written.
-fn take_front<A: Answerer, W: WriteDevice>(
+fn take_front<A: Speaker, W: WriteDevice>(
     alloc: Global,
-    answerer: &mut A,
+    speaker: &mut A,
     due: &mut Due,
     writer: &mut W,
     progress: &mut Progress,
@@ -110,9 +87,9 @@ fn take_front<A: Answerer, W: WriteDevice>(
     requires some { 0 < length bytes.now }
     ensures count { IfOk result (λ n. (0 < n) × (n ≤ length bytes.now)) }
     ensures within { OnOk result (Within bounds progress.new) }
-    ensures took { IfOk result (λ n. TookBytes A.gives answerer.old answerer.new progress.old progress.new (take n bytes.now)
+    ensures took { IfOk result (λ n. TookBytes A.gives speaker.old speaker.new progress.old progress.new (take n bytes.now)
         (output_of (W.contents writer.old) due.old) (output_of (W.contents writer.new) due.new)) }
-    ensures failed { IfErr result (λ fault. StopsIn A.gives answerer.old answerer.new progress.old bounds
+    ensures failed { IfErr result (λ fault. StopsIn A.gives speaker.old speaker.new progress.old bounds
         bytes.now (output_of (W.contents writer.old) due.old) (settled (W.contents writer.new)) fault) }
     ensures writes_counted { W.failures writer.new ≡ writes_failed result (W.failures writer.old) }
 {
@@ -126,7 +103,7 @@ fn take_front<A: Answerer, W: WriteDevice>(
     if end < bytes.len() {
         answer_ended(
             alloc,
-            answerer,
+            speaker,
             due,
             writer,
             &mut progress.line,
@@ -140,9 +117,9 @@ fn take_front<A: Answerer, W: WriteDevice>(
 }
 
 /// Takes the bytes, as far as both bounds allow. Before any fault what was due is written.
-fn take_bytes<A: Answerer, W: WriteDevice>(
+fn take_bytes<A: Speaker, W: WriteDevice>(
     alloc: Global,
-    answerer: &mut A,
+    speaker: &mut A,
     due: &mut Due,
     writer: &mut W,
     progress: &mut Progress,
@@ -151,9 +128,9 @@ fn take_bytes<A: Answerer, W: WriteDevice>(
 ) -> Result<(), RunFault>
     requires { Within bounds progress.old }
     ensures within { OnOk result (Within bounds progress.new) }
-    ensures took { OnOk result (TookBytes A.gives answerer.old answerer.new progress.old progress.new chunk.now
+    ensures took { OnOk result (TookBytes A.gives speaker.old speaker.new progress.old progress.new chunk.now
         (output_of (W.contents writer.old) due.old) (output_of (W.contents writer.new) due.new)) }
-    ensures failed { IfErr result (λ fault. StopsIn A.gives answerer.old answerer.new progress.old bounds
+    ensures failed { IfErr result (λ fault. StopsIn A.gives speaker.old speaker.new progress.old bounds
         chunk.now (output_of (W.contents writer.old) due.old) (settled (W.contents writer.new)) fault) }
     ensures writes_counted { W.failures writer.new ≡ writes_failed result (W.failures writer.old) }
 {
@@ -161,7 +138,7 @@ fn take_bytes<A: Answerer, W: WriteDevice>(
     while taken < chunk.len() {
         taken += take_front(
             alloc,
-            answerer,
+            speaker,
             due,
             writer,
             progress,
@@ -173,9 +150,9 @@ fn take_bytes<A: Answerer, W: WriteDevice>(
 }
 
 /// Takes the bytes of one read, as far as both bounds allow, and writes the answers to their lines together.
-pub fn take_chunk<A: Answerer, W: WriteDevice>(
+pub fn take_chunk<A: Speaker, W: WriteDevice>(
     alloc: Global,
-    answerer: &mut A,
+    speaker: &mut A,
     due: &mut Due,
     writer: &mut W,
     progress: &mut Progress,
@@ -185,12 +162,12 @@ pub fn take_chunk<A: Answerer, W: WriteDevice>(
     requires { Within bounds progress.old }
     ensures within { OnOk result (Within bounds progress.new) }
     ensures none { OnOk result (due.new ≡ []) }
-    ensures took { OnOk result (TookBytes A.gives answerer.old answerer.new progress.old progress.new chunk.now
+    ensures took { OnOk result (TookBytes A.gives speaker.old speaker.new progress.old progress.new chunk.now
         (output_of (W.contents writer.old) due.old) (settled (W.contents writer.new))) }
-    ensures failed { IfErr result (λ fault. StopsIn A.gives answerer.old answerer.new progress.old bounds
+    ensures failed { IfErr result (λ fault. StopsIn A.gives speaker.old speaker.new progress.old bounds
         chunk.now (output_of (W.contents writer.old) due.old) (settled (W.contents writer.new)) fault) }
     ensures writes_counted { W.failures writer.new ≡ writes_failed result (W.failures writer.old) }
 {
-    take_bytes(alloc, answerer, due, writer, progress, bounds, chunk)?;
+    take_bytes(alloc, speaker, due, writer, progress, bounds, chunk)?;
     due.send(writer)
 }

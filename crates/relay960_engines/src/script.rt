@@ -1,25 +1,22 @@
 //! A script over a relay: each line is a command, and its answer is one line.
 
-ghost use Rattle.std.specs.Prelude.{◌≡◌, false, IfOk, IfErr, OnErr};
-ghost use Rattle.std.specs.Cow.{cow_slice_items};
-ghost use Rattle.relay_messages.specs.Answers.{answer_text};
+ghost use Rattle.std.specs.Prelude.{◌≡◌, IfOk, IfErr};
 ghost use Rattle.relay960_engines.specs.Failures.{reads_failed, writes_failed};
-ghost use Rattle.relay960_engines.specs.Script.{Ran, ScriptStopped, is_want};
-ghost use Rattle.relay960_engines.specs.Writing.{line};
+ghost use Rattle.relay960_engines.specs.Inner.ScriptSteps.{LeadsTo};
+ghost use Rattle.relay960_engines.specs.Script.{Ran, ScriptStopped};
 
-use crate::answerer::Answerer;
 use crate::devices::{ReadDevice, WriteDevice};
+use crate::due::Due;
 use crate::fault::RunFault;
 use crate::limits::ScriptLimits;
-use crate::lines::run_lines;
-use c960_game::Refusal;
-use relay_core::{Reply, Stepper};
+use crate::lines::run_speaker;
+use crate::speaker::Speaker;
+use relay_core::Stepper;
 use relay_live::LiveRelay;
-use relay_messages::{Answer, Decoder, MessageFault, encode};
-use std::alloc::{AllocError, Global};
-use std::borrow::CowSlice;
+use relay_messages::{Answer, Decoder};
+use std::alloc::Global;
 
-/// The answerer of a script, over any kind of relay.
+/// The speaker of a script, over any kind of relay.
 #[derive(Drop)]
 pub struct Script<S: Stepper> {
     /// The relay after the commands so far.
@@ -28,47 +25,35 @@ pub struct Script<S: Stepper> {
     pub decoder: Decoder,
 }
 
-impl<S: Stepper> Answerer for Script<S> {
-    ghost use Rattle.relay960_engines.specs.Inner.ScriptSteps.{ScriptGives, answers_cut, with_line};
-
-    ghost gives = { λ s l bytes t. ScriptGives (S.record_of s.relay) l bytes (S.record_of t.relay) };
-
-    ghost spelt = { λ s l t given. with_line (S.record_of s.relay) l (S.record_of t.relay) given };
-
-    ghost cut = { λ s l bytes t given. answers_cut (S.record_of s.relay) l bytes (S.record_of t.relay) given };
-
-    fn answer(&mut self, alloc: Global, line: &[u8]) -> Result<CowSlice<'static, u8>, AllocError> {
-        let answer = match self.decoder.decode(line) {
+impl<S: Stepper> Script<S> {
+    /// The answer to a line. If the line is a command, the relay makes its step.
+    fn reply(&mut self, line: &[u8]) -> Answer
+        ensures { LeadsTo (S.record_of self.old.relay) line.now result (S.record_of self.new.relay) }
+    {
+        match self.decoder.decode(line) {
             Ok(command) => Answer::Reply(self.relay.step(command)),
             Err(fault) => Answer::Fault(fault),
-        };
-        line_of(alloc, &answer)
+        }
     }
 }
 
-/// The line of an answer.
-fn made_line(alloc: Global, answer: &Answer) -> Result<Vec<u8>, AllocError>
-    ensures { IfOk result (λ text. text.items ≡ line (answer_text answer.now)) }
-{
-    let mut text = encode(alloc, answer)?;
-    // `encode` leaves room for it.
-    text.push('\n')?;
-    Ok(text.into_bytes())
-}
+/// No answer takes memory, so that each can be given.
+impl<S: Stepper> Speaker for Script<S> {
+    ghost use Rattle.relay960_engines.specs.Inner.ScriptSteps.{ScriptGives, answers_cut};
 
-/// The line of an answer. An answer that reports lack of memory takes no memory itself, so that it can always be written.
-fn line_of(alloc: Global, answer: &Answer) -> Result<CowSlice<'static, u8>, AllocError>
-    ensures line { IfOk result (λ text. cow_slice_items text ≡ line (answer_text answer.now)) }
-    ensures no_want { OnErr result (is_want answer.now ≡ false) }
-{
-    match answer {
-        Answer::Reply(Reply::Refused(Refusal::OutOfMemory))
-        | Answer::Fault(MessageFault::OutOfMemory) => {
-            Ok(CowSlice::Borrowed(
-                b"{\"code\":12,\"name\":\"OutOfMemory\",\"reply\":\"refused\"}\n",
-            ))
-        }
-        _ => Ok(CowSlice::Owned(made_line(alloc, answer)?)),
+    ghost gives = { λ s l bytes t. ScriptGives (S.record_of s.relay) l bytes (S.record_of t.relay) };
+
+    ghost cut = { λ s l bytes t given. answers_cut (S.record_of s.relay) l bytes (S.record_of t.relay) given };
+
+    fn speak<W: WriteDevice>(
+        &mut self,
+        _alloc: Global,
+        due: &mut Due,
+        writer: &mut W,
+        line: &[u8],
+    ) -> Result<(), RunFault> {
+        let answer = self.reply(line);
+        due.add_answer(writer, &answer)
     }
 }
 
@@ -80,8 +65,8 @@ fn line_of(alloc: Global, answer: &Answer) -> Result<CowSlice<'static, u8>, Allo
 ///
 /// `Read` if a read failed: the lines that ended before were answered. `Write` if a write failed: a prefix of the
 /// answers was written. `TooLong` if there is a byte after the lines or bytes that the limits allow: the lines that end
-/// within both were answered. `OutOfMemory` if there was no memory for the relay, and nothing was read; or for the text of an
-/// answer that does not itself report lack of memory: all lines before its line were answered, and neither it nor any line after it was.
+/// within both were answered. `OutOfMemory` if there was no memory for the relay or for what is kept of a line, and nothing was read. An
+/// answer takes no memory.
 pub fn script_run<R: ReadDevice, W: WriteDevice>(
     alloc: Global,
     reader: &mut R,
@@ -100,5 +85,5 @@ pub fn script_run<R: ReadDevice, W: WriteDevice>(
     };
     let decoder = Decoder::new(alloc);
     let mut script = Script { relay, decoder };
-    run_lines(alloc, reader, &mut script, writer, limits.bounds())
+    run_speaker(alloc, reader, &mut script, writer, limits.bounds())
 }

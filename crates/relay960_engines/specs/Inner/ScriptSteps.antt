@@ -1,7 +1,7 @@
 -- What the answerer of a script gives: a line is answered by the relay's reply to its command, or by its fault. A line is
 -- answered as its first KEPT bytes are, since a longer one is too long for a command.
 use Rattle.std.specs.Prelude.{ℕ, ◌≡◌, List, take, Option, Some, None, Ok, Err, false}
-use Rattle.std.proofs.Common.{refl, lit<}
+use Rattle.std.proofs.Common.{lit<}
 use Rattle.relay_core.specs.declared.step.Step.{Step}
 use Rattle.relay_core.specs.Leads.{Leads}
 use Rattle.relay_core.specs.State.{RelayRecord}
@@ -29,11 +29,6 @@ pub record ScriptGives (r : RelayRecord) (l : List ℕ) (bytes : Option (List �
   pub answer : Answer
   pub leads : LeadsTo r l answer q
   pub spelt : IsLineOf answer bytes
-
--- an answer has a line
-pub with_line : (r : RelayRecord) (l : List ℕ) (q : RelayRecord) → ScriptGives r l None q → (bytes : List ℕ) × ScriptGives r l (Some bytes) q
-with_line r l q given =
-    (line (answer_text given.answer), record { answer = given.answer; leads = given.leads; spelt = refl })
 
 leads_cut : (r : RelayRecord) (l : List ℕ) (answer : Answer) (q : RelayRecord) → LeadsTo r (take KEPT l) answer q → LeadsTo r l answer q
 leads_cut r l (Fault fault) q given = (decoding_of_front KEPT l (Err fault) (lit< tt) given.0, given.1)

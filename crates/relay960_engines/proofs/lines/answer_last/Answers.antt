@@ -13,5 +13,5 @@ returns-then-is_empty-clause-wrote g c =
 pub returns-in_err-send-clause-failed : goal.returns-in_err-send-clause-failed
 returns-in_err-send-clause-failed g c =
     passed_on _ _ _ c.from_residual-in_err-send.ensures.1 (rw (last_line-whole c.args.progress.now.line (search rules))
-    (unsettled_answers _ _ _ _ _ _ _ _ (rw (c.as_slice.ensures, c.new-due.ensures) at c.in_ok-answer_line.ensures.sent)
+    (unsettled_answers _ _ _ _ _ _ _ _ (rw (c.as_slice.ensures, c.new-due.ensures) at c.in_ok-speak.ensures.sent)
     c.in_err-send.ensures.fault c.in_err-send.ensures.part))

@@ -13,7 +13,7 @@ invariant-loop-count g l = record {
   within : Within l.bounds l.progress;
   one : length l.buffer ≡ one_read;
   none : l.due ≡ [];
-  took : TookBytes g.A.Answerer.gives l.fn.answerer l.answerer l.fn.progress l.progress input
+  took : TookBytes g.A.Speaker.gives l.fn.speaker l.speaker l.fn.progress l.progress input
       (settled (g.W.WriteDevice.contents l.fn.writer)) (settled (g.W.WriteDevice.contents l.writer));
   reads : g.R.ReadDevice.failures l.reader ≡ g.R.ReadDevice.failures l.fn.reader;
   writes : g.W.WriteDevice.failures l.writer ≡ g.W.WriteDevice.failures l.fn.writer;

@@ -7,10 +7,10 @@ pub returns-then-is_empty-clause-sent : goal.returns-then-is_empty-clause-sent
 returns-then-is_empty-clause-sent g c =
     let whole : c.front.result.now ≡ kept_behind c.args.begun.now c.args.piece.now =
     c.front.ensures ∙ sym (behind_none c.args.begun.now c.args.piece.now (search rules)) in
-    rw whole at c.answer_line.ensures.sent
+    rw whole at c.speak.ensures.sent
 
 pub returns-then-is_empty-clause-failed : goal.returns-then-is_empty-clause-failed
 returns-then-is_empty-clause-failed g c =
     let whole : c.front.result.now ≡ kept_behind c.args.begun.now c.args.piece.now =
     c.front.ensures ∙ sym (behind_none c.args.begun.now c.args.piece.now (search rules)) in
-    rw whole at c.answer_line.ensures.failed
+    rw whole at c.speak.ensures.failed

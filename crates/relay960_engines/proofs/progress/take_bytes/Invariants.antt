@@ -8,7 +8,7 @@ abbrev pub invariant-loop-taken : goal.invariant-loop-taken
 invariant-loop-taken g l = record {
   inside : l.taken ≤ length l.chunk;
   within : Within l.bounds l.progress;
-  took : TookBytes g.A.Answerer.gives l.fn.answerer l.answerer l.fn.progress l.progress (take l.taken l.chunk)
+  took : TookBytes g.A.Speaker.gives l.fn.speaker l.speaker l.fn.progress l.progress (take l.taken l.chunk)
       (output_of (g.W.WriteDevice.contents l.fn.writer) l.fn.due) (output_of (g.W.WriteDevice.contents l.writer) l.due);
   counted : g.W.WriteDevice.failures l.writer ≡ g.W.WriteDevice.failures l.fn.writer;
 }

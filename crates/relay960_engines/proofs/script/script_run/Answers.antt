@@ -8,9 +8,9 @@ returns-in_default-clause-failed g c = starved_before c.args.limits.limits c.arg
 pub returns-clause-done : goal.returns-clause-done
 returns-clause-done g c =
     ran _ (λ script. script.relay) (λ s l bytes t given. given) _ _ c.args.limits.limits _ (search rules) _ _ _ _ _
-    (rw c.bounds.ensures.value at c.run_lines.ensures.done)
+    (rw c.bounds.ensures.value at c.run_speaker.ensures.done)
 
 pub returns-clause-failed : goal.returns-clause-failed
 returns-clause-failed g c =
     script_stopped _ (λ script. script.relay) (λ s l bytes t given. given) _ _ c.args.limits.limits _ (search rules) _ _ _ _ _
-    (rw c.bounds.ensures.value at c.run_lines.ensures.failed)
+    (rw c.bounds.ensures.value at c.run_speaker.ensures.failed)

@@ -1,6 +1,6 @@
 use Rattle.relay960_engines.proofs.AnswerFacts.{passed_on}
 use Rattle.relay960_engines.proofs.SendingFacts.{sent_answer, unsent_answer, unspelt_answer, halted_answer}
-use Rattle.relay960_engines.proofs.progress.answer_line.Goals as goal
+use Rattle.relay960_engines.proofs.speaker.AnySpeaker.speak.Goals as goal
 
 pub returns-in-Ok-clause-sent : goal.returns-in-Ok-clause-sent
 returns-in-Ok-clause-sent g c =
