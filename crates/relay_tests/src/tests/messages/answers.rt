@@ -2,16 +2,36 @@
 
 use crate::tests::again::again;
 use crate::tests::values::{START_518, account, move_of, position_of};
+use arrayvec::ArrayVec;
 use c960_board::Colour;
 use c960_game::{Outcome, Refusal};
 use relay_core::{Reply, Taken};
-use relay_messages::{Answer, MessageFault, encode};
+use relay_messages::{Answer, MessageFault, encode, encode_within};
 use std::alloc::Global;
 use std::process::Abort;
 
-/// The text of an answer, asked for again if there was no memory for it.
+/// The text of an answer, asked for again if there was no memory for it. The same text is put behind another one, without memory.
 fn text_of(rt: &impl Abort, alloc: Global, answer: &Answer) -> String {
-    again(rt, || encode(alloc, answer))
+    let mut space = ArrayVec::<u8, 258>::new();
+    space.push(b'.');
+    assert!(rt; encode_within(answer, &mut space));
+    let text = again(rt, || encode(alloc, answer));
+    assert!(rt; space.as_slice()[0] == b'.');
+    assert!(rt; &space.as_slice()[1..] == text.as_bytes());
+    text
+}
+
+#[test]
+fn a_text_needs_room_for_a_line_feed_behind_it(rt: HostRuntime) {
+    // {"reply":"nothing"} has 19 bytes.
+    let nothing = Answer::Reply(Reply::Took(Taken::Nothing));
+    let mut space = ArrayVec::<u8, 20>::new();
+    assert!(rt; encode_within(&nothing, &mut space));
+    assert!(rt; space.as_slice() == br#"{"reply":"nothing"}"#.as_slice());
+    let mut small = ArrayVec::<u8, 20>::new();
+    small.push(b'.');
+    assert!(rt; !encode_within(&nothing, &mut small));
+    assert!(rt; small.as_slice() == b".".as_slice());
 }
 
 #[test]
