@@ -1,0 +1,11 @@
+pub mod lemmas
+mod Owned
+mod Standing
+mod Expiring
+mod Dues
+mod Lists
+mod OneBoard
+mod Floors
+mod Sweeps
+mod Answered
+mod Reached

@@ -1,0 +1,12 @@
+pub mod Keys
+pub mod Holding
+pub mod Holders
+pub mod Owning
+pub mod Record
+pub mod Steps
+pub mod Times
+pub mod Hosting
+pub mod Talk
+pub mod Reading
+pub mod Runs
+pub mod Inner

@@ -1,0 +1,283 @@
+//! The boards of a hall, and what the steps of connections make of them.
+
+ghost use Rattle.std.specs.Prelude.{◌≡◌, ℕ, [], None, IfOk, OnErr, string_bytes};
+ghost use Rattle.std.specs.List.{list_any};
+ghost use Rattle.relay_core.specs.declared.step.Step.TheVariants.{Open, Submit, End, Follow};
+ghost use Rattle.relay_messages.specs.Answers.{answer_text};
+ghost use Rattle.relay_messages.specs.declared.answer.Answer.TheVariants.{Fault};
+ghost use Rattle.relay_hall.specs.Keys.{is_owner};
+ghost use Rattle.relay_hall.specs.Reading.{shown_at};
+ghost use Rattle.relay_hall.specs.Steps.{StateMakes, reply_to_end, reply_to_play, told};
+ghost use Rattle.relay_hall.specs.Talk.{IsAnsweredBy, IsUnansweredBy};
+ghost use Rattle.relay_hall.specs.Times.{swept_floor};
+
+use crate::boards::{end, end_where, hand_out, owns_any, play, ring_for};
+use crate::handed::Handed;
+use crate::hosted::Hosted;
+use crate::leaver::Leaver;
+use crate::owner::Owner;
+use crate::rung::Rung;
+use crate::shown::Shown;
+use c960_board::Move;
+use c960_game::{Ending, Limits, Outcome, Refusal};
+use indexmap::IndexMap;
+use live_board::Board;
+use relay_core::{BoardKey, BoardName, Reply, Step, may_open};
+use relay_messages::{Answer, MessageFault, encode};
+use relay_pushing::{Conn, Keeper};
+use std::alloc::{AllocError, Global};
+use std::marker::Model;
+
+/// The boards, and whose text is answered. Contracts see a `FloorState`.
+#[derive(Drop)]
+pub(crate) struct Floor {
+    alloc: Global,
+    /// How many boards there may be, and how much each may hold.
+    limits: Limits,
+    /// The boards that were opened, with room for all that the limits allow.
+    boards: IndexMap<BoardKey, Hosted>,
+    /// Which of them have something new.
+    rung: Rung,
+    /// Whose text is answered.
+    speaker: Owner,
+    /// The follower of the last accepted follow, until it is taken.
+    handed: Option<Handed>,
+}
+
+impl Model for Floor {
+    ghost use Rattle.relay_hall.specs.Record.{FloorState};
+    ghost use Rattle.std.specs.HashMap.{spare};
+
+    ghost Value = { FloorState };
+
+    ghost use Rattle.relay_hall.specs.Hosting.{IsFloor};
+    ghost use Rattle.relay_hall.specs.Inner.{state_of};
+
+    ghost view = { state_of };
+
+    ghost invariant = { λ h. IsFloor h.limits h.boards.entries (spare h.boards) };
+}
+
+/// The reply to a move.
+fn played(answer: Result<(u16, Option<Outcome>), Refusal>) -> Reply
+    ensures { result ≡ reply_to_play answer }
+{
+    match answer {
+        Ok((place, outcome)) => Reply::Played { place, outcome },
+        Err(refusal) => Reply::Refused(refusal),
+    }
+}
+
+/// The reply to an ending.
+fn ended(answer: Result<Outcome, Refusal>) -> Reply
+    ensures { result ≡ reply_to_end answer }
+{
+    match answer {
+        Ok(outcome) => Reply::Ended(outcome),
+        Err(refusal) => Reply::Refused(refusal),
+    }
+}
+
+/// The reply to a follow.
+fn told(answer: Result<Reply, Refusal>) -> Reply
+    ensures { result ≡ told answer }
+{
+    match answer {
+        Ok(reply) => reply,
+        Err(refusal) => Reply::Refused(refusal),
+    }
+}
+
+impl Floor {
+    /// No boards, with room for as many as the limits allow.
+    ///
+    /// # Errors
+    ///
+    /// There was no memory.
+    pub(crate) fn new(alloc: Global, limits: Limits) -> Result<Floor, AllocError>
+        ensures floor { IfOk result (λ s. s.floor ≡ record { limits = limits; boards = [] }) }
+        ensures empty { IfOk result (λ s. s.handed ≡ None) }
+    {
+        let rung = Rung::with_room_for(alloc, usize::from(limits.boards()))?;
+        Ok(Floor {
+            alloc,
+            limits,
+            boards: IndexMap::with_capacity(alloc, usize::from(limits.boards()))?,
+            rung,
+            speaker: Owner {
+                key: None,
+                opener: 0,
+            },
+            handed: None,
+        })
+    }
+
+    /// Opens a board, for the speaker. Refused: `BoardExists`, `BadStart`, `TooManyBoards`, `OutOfMemory`.
+    #[inline(never)]
+    fn open(&mut self, board: BoardKey, start: u16) -> Reply
+        ensures { StateMakes self.old (Open board start) result self.new }
+    {
+        let is_named = self.boards.contains_key(&board);
+        if let Err(refusal) = may_open(is_named, start, self.boards.len(), self.limits.boards()) {
+            return Reply::Refused(refusal);
+        }
+        let Ok(live) = Board::open(self.alloc, start, self.limits) else {
+            return Reply::Refused(Refusal::OutOfMemory);
+        };
+        let hosted = Hosted {
+            board: live,
+            owner: self.speaker,
+        };
+        let Ok(_) = self.boards.insert(board, hosted) else {
+            unreachable!();
+        };
+        Reply::Opened
+    }
+
+    /// Makes a move on a board. Refused: `NoSuchBoard`, `GameOver`, `LogFull`, `Illegal`.
+    #[inline(never)]
+    fn submit(&mut self, board: BoardKey, m: Move) -> Reply
+        ensures { StateMakes self.old (Submit board m) result self.new }
+    {
+        let answer = play(&mut self.boards, board, m);
+        ring_for(&self.boards, &mut self.rung, &board, answer.is_ok());
+        played(answer)
+    }
+
+    /// Ends the game of a board. Refused: `NoSuchBoard`, `GameOver`, `ClaimRefused`.
+    #[inline(never)]
+    fn end(&mut self, board: BoardKey, ending: Ending) -> Reply
+        ensures { StateMakes self.old (End board ending) result self.new }
+    {
+        let answer = end(&mut self.boards, board, ending);
+        ring_for(&self.boards, &mut self.rung, &board, answer.is_ok());
+        ended(answer)
+    }
+
+    /// Hands out a follower of a board, from a place of its log or from its length. Refused: `NoSuchBoard`, `NotYet`, `TooFarBack`,
+    /// `TooManyFollowers`, `OutOfMemory`.
+    #[inline(never)]
+    fn follow(&mut self, board: BoardName, from: Option<u16>) -> Result<Reply, Refusal>
+        ensures { (who : ℕ) → StateMakes self.old (Follow who board from) (told result) self.new }
+    {
+        let (follower, replaying) = hand_out(&mut self.boards, BoardKey::of(board), from)?;
+        let joined = follower.joined();
+        let position = replaying.position();
+        self.handed = Some(Handed { board, follower });
+        Ok(Reply::Following { joined, position })
+    }
+
+    /// Makes a step.
+    fn make(&mut self, step: &Step) -> Reply
+        ensures { StateMakes self.old step.now result self.new }
+    {
+        match *step {
+            Step::Open(board, start) => self.open(BoardKey::of(board), start),
+            Step::Submit(board, m) => self.submit(BoardKey::of(board), m),
+            Step::End(board, ending) => self.end(BoardKey::of(board), ending),
+            Step::Follow(_, board, from) => told(self.follow(board, from)),
+            // A connection does not ask for what it is sent unasked.
+            Step::Take(_) | Step::Leave(_) => Reply::Refused(Refusal::WrongMode),
+        }
+    }
+
+    /// Answers a text of a connection, for this speaker.
+    ///
+    /// # Errors
+    ///
+    /// There was no memory for the text of the answer.
+    pub(crate) fn answer(
+        &mut self,
+        conn: &mut Conn,
+        speaker: &Owner,
+        text: &[u8],
+    ) -> Result<String, AllocError>
+        requires empty { self.old.handed ≡ None }
+        ensures ok { IfOk result (λ s. IsAnsweredBy self.old.floor speaker.now conn.old text.now (string_bytes s) self.new.handed self.new.floor conn.new) }
+        ensures err { OnErr result (IsUnansweredBy self.old.floor speaker.now conn.old text.now self.new.handed self.new.floor conn.new) }
+    {
+        self.speaker = *speaker;
+        conn.answer(text, self)
+    }
+
+    /// Takes what was handed out last, if it was not taken yet.
+    pub(crate) fn take_handed(&mut self) -> Option<Handed>
+        ensures taken { result ≡ self.old.handed }
+        ensures floor { self.new.floor ≡ self.old.floor }
+        ensures empty { self.new.handed ≡ None }
+    {
+        self.handed.take()
+    }
+
+    /// The index of a board whose game has changed, once for each since it was last told.
+    pub(crate) fn take_rung(&mut self) -> Option<usize>
+        ensures { self.new ≡ self.old }
+    {
+        self.rung.take()
+    }
+
+    /// Ends, as abandoned, each game that is not over of those whose owners have left.
+    pub(crate) fn sweep<L: Leaver>(&mut self, left: &L)
+        ensures floor { self.new.floor ≡ swept_floor self.old.floor (L.gone left.now) }
+        ensures handed { self.new.handed ≡ self.old.handed }
+    {
+        end_where(&mut self.boards, &mut self.rung, left);
+    }
+
+    /// The board of this index, in the order of opening.
+    pub(crate) fn board(&self, at: usize) -> Option<Shown<'_>>
+        ensures { result ≡ shown_at self.now.floor at }
+    {
+        let (key, hosted) = self.boards.get_index(at)?;
+        Some(Shown {
+            name: key.name(),
+            board: &hosted.board,
+        })
+    }
+
+    /// The text of the answer to a message that has this fault.
+    ///
+    /// # Errors
+    ///
+    /// There was no memory.
+    pub(crate) fn fault(&self, fault: MessageFault) -> Result<String, AllocError>
+        ensures { IfOk result (λ text. string_bytes text ≡ answer_text (Fault fault)) }
+    {
+        encode(self.alloc, &Answer::Fault(fault))
+    }
+
+    /// Whether any board belongs to this one.
+    pub(crate) fn has_any_of(&self, owner: &Owner) -> bool
+        ensures { result ≡ list_any (λ e. is_owner owner.now.key e.1.owner.key) self.now.floor.boards }
+    {
+        owns_any(&self.boards, owner)
+    }
+}
+
+impl Keeper for Floor {
+    ghost use Rattle.std.specs.Prelude.{◌≡◌};
+    ghost use Rattle.relay_hall.specs.Steps.{StateMakes, tells_of};
+
+    ghost tells = { λ s question answer. answer ≡ tells_of s.floor s.speaker question };
+
+    ghost makes = { λ s step reply t. StateMakes s step reply t };
+
+    fn knows(&self, board: &BoardName) -> bool {
+        self.boards.contains_key(&BoardKey::of(*board))
+    }
+
+    fn owns(&self, board: &BoardName) -> bool {
+        match self.boards.get(&BoardKey::of(*board)) {
+            Some(hosted) => self.speaker.shares_with(&hosted.owner),
+            None => false,
+        }
+    }
+
+    fn owns_any(&self) -> bool {
+        owns_any(&self.boards, &self.speaker)
+    }
+
+    fn step(&mut self, step: Step) -> Reply {
+        self.make(&step)
+    }
+}

@@ -1,0 +1,23 @@
+//! A hall: all boards of a server, who opened each, and the keys of their owners, as one value that one caller owns. Its answers are a
+//! function of what it was told. It takes no lock, opens no socket, reads no clock and waits for nobody.
+#![tactic(auto)]
+
+mod boards;
+mod floor;
+mod hall;
+mod handed;
+mod holders;
+mod hosted;
+mod key;
+pub mod laws;
+mod leaver;
+mod owner;
+mod presence;
+mod rung;
+mod shown;
+
+pub use hall::Hall;
+pub use handed::Handed;
+pub use key::Key;
+pub use owner::Owner;
+pub use shown::Shown;

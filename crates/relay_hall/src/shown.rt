@@ -1,0 +1,105 @@
+//! A board that is looked at.
+
+ghost use Rattle.std.specs.Prelude.{◌≡◌, ◌++◌, drop, OnOk};
+ghost use Rattle.c960_game.specs.Positions.{position_at};
+ghost use Rattle.relay_hall.specs.Reading.{NewsOf, last_of, summary_of};
+
+use c960_board::{Move, Position};
+use c960_game::Outcome;
+use live_board::Board;
+use relay_core::BoardName;
+use relay_messages::BoardSummary;
+use std::alloc::AllocError;
+use std::marker::Model;
+
+/// A board of a hall, to be looked at: nothing can be done to it. Contracts see its name and its game.
+#[derive(Drop)]
+pub struct Shown<'a> {
+    pub(crate) name: BoardName,
+    pub(crate) board: &'a Board,
+}
+
+impl<'a> Model for Shown<'a> {
+    ghost use Rattle.live_board.specs.Board.{game_of};
+    ghost use Rattle.relay_hall.specs.Reading.{ShownBoard};
+
+    ghost Value = { ShownBoard };
+
+    ghost view = { λ s. record { name = s.name; game = game_of s.board.now.knows } };
+}
+
+impl<'a> Shown<'a> {
+    /// Its name.
+    pub fn name(&self) -> BoardName
+        ensures { result ≡ self.now.name }
+    {
+        self.name
+    }
+
+    /// How its game ended, once it has.
+    pub fn outcome(&self) -> Option<Outcome>
+        ensures { result ≡ self.now.game.outcome }
+    {
+        self.board.outcome()
+    }
+
+    /// Appends the moves of its log from a place on to `moves`. Returns the outcome of its game.
+    ///
+    /// # Errors
+    ///
+    /// There was no memory. Some of the moves may have been appended.
+    pub fn news(&self, from: u16, moves: &mut Vec<Move>) -> Result<Option<Outcome>, AllocError>
+        ensures { NewsOf self.now.game from moves.old.items moves.new.items result }
+    {
+        append_log(self.board, from, moves)?;
+        Ok(self.board.outcome())
+    }
+
+    /// The position after that many moves, or None exactly if fewer were made.
+    pub fn position_at(&self, place: u16) -> Option<Position>
+        ensures { result ≡ position_at self.now.game.start self.now.game.log place }
+    {
+        self.board.position_at(place)
+    }
+
+    /// Its present state.
+    pub fn summary(&self) -> BoardSummary
+        ensures { result ≡ summary_of self.now }
+    {
+        BoardSummary {
+            board: self.name,
+            start: self.board.start(),
+            position: self.board.position(),
+            last: last_move(self.board),
+            plies: self.board.len(),
+            outcome: self.board.outcome(),
+        }
+    }
+}
+
+/// Appends the moves of a board's log from a place on to `moves`.
+///
+/// # Errors
+///
+/// There was no memory.
+fn append_log(board: &Board, from: u16, moves: &mut Vec<Move>) -> Result<(), AllocError>
+    ensures { OnOk result (moves.new.items ≡ moves.old.items ++ drop from board.now.knows.log) }
+{
+    for at in from..board.len() {
+        let Some(m) = board.move_at(at) else {
+            unreachable!();
+        };
+        moves.push(m)?;
+    }
+    Ok(())
+}
+
+/// The last move of a board's log.
+fn last_move(board: &Board) -> Option<Move>
+    ensures { result ≡ last_of board.now.knows.log }
+{
+    match board.len() {
+        0 => None,
+        plies => board.move_at(plies - 1),
+    }
+}
