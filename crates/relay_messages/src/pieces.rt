@@ -22,14 +22,13 @@ pub trait TextRoom {
     /// Whether a text was put behind what was there, which leads to what is there.
     ghost puts: { Self → List ℕ → Bool → Self → Type 0 };
 
-    /// Puts the pieces there, one after the other, if there is room for all of them and for one byte more, so that a line feed has room
-    /// behind them. Returns whether there is.
+    /// Puts the pieces there, one after the other, if there is room for all of them. In a space of a fixed size there has to be room for one
+    /// byte more, so that a line feed fits behind them. Returns whether there was room.
     fn put(&mut self, pieces: &[&str]) -> bool
         ensures { puts self.old (flat_map (λ piece. piece.now) pieces.now) result self.new };
 }
 
-/// The pieces one after the other, in memory that is taken once. There is room for one byte more, so that a line feed can be added without
-/// taking memory again.
+/// The pieces one after the other, in memory that is taken once.
 ///
 /// # Errors
 ///
@@ -38,7 +37,7 @@ pub trait TextRoom {
 fn text_of_pieces(alloc: Global, pieces: &[&str]) -> Result<String, AllocError>
     ensures { IfOk result (λ text. string_bytes text ≡ flat_map (λ piece. piece.now) pieces.now) }
 {
-    let mut text = String::with_capacity(alloc, bytes_in(pieces).saturating_add(1))?;
+    let mut text = String::with_capacity(alloc, bytes_in(pieces))?;
     for piece in pieces {
         text.push_str(piece)?;
     }

@@ -1,4 +1,4 @@
--- What the answerer of a script gives: a line is answered by the relay's reply to its command, or by its fault. A line is
+-- What a script gives: a line is answered by the relay's reply to its command, or by its fault. A line is
 -- answered as its first KEPT bytes are, since a longer one is too long for a command.
 use Rattle.std.specs.Prelude.{ℕ, ◌≡◌, List, take, Option, Some, None, Ok, Err, false}
 use Rattle.std.proofs.Common.{lit<}

@@ -120,6 +120,14 @@ fn after_key<'a>(text: &'a str, key: &str) -> Option<&'a str>
     Some(skip_space(value))
 }
 
+/// How a text is tried next in which another value comes first than was asked for. A compact object may have one of the other kind there.
+fn next_at(value: &str) -> Next {
+    match take_field(value) {
+        Some(_) => Next::Compact,
+        None => Next::Plain,
+    }
+}
+
 /// The text of the member with this key, if that comes first, and what follows it.
 ///
 /// # Errors
@@ -129,7 +137,10 @@ pub fn take_text_of<'a>(text: &'a str, key: &str) -> Result<(&'a str, &'a str), 
     ensures { IfOk result (λ taken. IsMemberOf key.now (AText taken.0) text.now taken.1.now) }
 {
     let value = after_key(text, key).ok_or(Next::Compact)?;
-    take_text(value).ok_or(Next::Plain)
+    match take_text(value) {
+        Some(taken) => Ok(taken),
+        None => Err(next_at(value)),
+    }
 }
 
 /// The number of the member with this key, if that comes first, and what follows it.
@@ -141,7 +152,10 @@ pub fn take_number_of<'a>(text: &'a str, key: &str) -> Result<(u64, &'a str), Ne
     ensures { IfOk result (λ taken. IsMemberOf key.now (ANumber taken.0) text.now taken.1.now) }
 {
     let value = after_key(text, key).ok_or(Next::Compact)?;
-    take_number(value).ok_or(Next::Plain)
+    match take_number(value) {
+        Some(taken) => Ok(taken),
+        None => Err(next_at(value)),
+    }
 }
 
 /// The text or the number that comes first, and what follows it.

@@ -11,9 +11,9 @@ use crate::object::usual::Usual;
 use crate::reading::compact::{after, is_closed, open_compact, take_number_of, take_text_of};
 use crate::reading::next::Next;
 
-/// How a text is read next whose object does not end behind its last usual member: a compact object goes on with a comma.
-fn next_behind(end: &str) -> Next {
-    if after(end, b',').is_some() {
+/// How a text is tried next that goes on like this behind a member. A compact object has a comma there, or ends.
+fn next_behind(rest: &str) -> Next {
+    if after(rest, b',').is_some() || is_closed(rest) {
         Next::Compact
     } else {
         Next::Plain
@@ -60,7 +60,10 @@ fn last_number(text: &str, key: &str) -> Result<Option<u64>, Next>
 fn after_comma(text: &str) -> Result<&str, Next>
     ensures { IfOk result (λ rest. text.now ≡ 44 ∷ rest.now) }
 {
-    after(text, b',').ok_or(Next::Compact)
+    match after(text, b',') {
+        Some(rest) => Ok(rest),
+        None => Err(next_behind(text)),
+    }
 }
 
 /// Whether an object of the command with this name has one of the forms, if its keys stand in the usual order. Other commands come once a

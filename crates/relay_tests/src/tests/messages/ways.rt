@@ -54,10 +54,15 @@ fn usual_and_compact_texts_take_no_memory(rt: HostRuntime) {
             r#"{"cmd":"follow","board":"b1","spectator":7,"from":2}"#,
             Step::Follow(7, board, Some(2)),
         ),
+        (r#"{ "cmd": "take", "spectator": 7 }"#, Step::Take(7)),
         // Compact alone: the keys stand in another order, or the command is another.
         (r#"{"spectator":7,"cmd":"take"}"#, Step::Take(7)),
         (
             r#"{"cmd":"open","board":"b1","start":518}"#,
+            Step::Open(board, 518),
+        ),
+        (
+            r#"{ "cmd": "open", "board": "b1", "start": 518 }"#,
             Step::Open(board, 518),
         ),
         (
@@ -82,6 +87,13 @@ fn texts_that_are_refused_at_once_take_no_memory(rt: HostRuntime) {
     let mut decoder = Decoder::new(rt.alloc());
     for (text, fault) in [
         (r#"{"cmd":"pass"}"#, MessageFault::UnknownCommand),
+        (r#"{"cmd":7}"#, MessageFault::UnknownCommand),
+        (r#"{"cmd":"take"}"#, MessageFault::BadField),
+        (r#"{"cmd":"take","spectator":"7"}"#, MessageFault::BadField),
+        (
+            r#"{"cmd":"submit","board":"b1","move":4}"#,
+            MessageFault::BadField,
+        ),
         (
             r#"{"cmd":"take","spectator":4294967296}"#,
             MessageFault::BadField,
