@@ -2,15 +2,16 @@
 //
 //   operators PORT FOLLOWERS MOVES CROWD PEERS AHEAD
 //
-// The followers are one process with one epoll (peers.h), and so is the crowd, so that the operator's own process does nothing but wait for its
-// answers. It sends each move 10 ms after the answer before. CROWD is what the PEERS beside do without end:
+// The followers are one process with one epoll (peers.h), and so is the crowd, so that the operator's own process does nothing but wait for
+// its answers. It sends each move 10 ms after the answer before. CROWD is what the PEERS beside do without end:
 //
 //   joins     each comes, follows the board, and goes once it is greeted or refused
 //   refused   each asks to follow the board, which is full, and asks again at each answer; AHEAD questions are on their way at a time
 //   nobody    there are none
 //
-// Says `there` once all followers have joined, and goes on at a line on standard input. At the end all followers have all moves, or the status is 1.
-// Then it says in JSON how long the operator waited for an answer, and how many of the crowd joined and were refused in a second.
+// Says `there` once all followers have joined, and goes on at a line on standard input. At the end all followers have all moves,
+// or the status is 1. Then it says in JSON how long the operator waited for an answer, and how many of the crowd joined and were
+// refused in a second.
 #define _GNU_SOURCE
 #include <signal.h>
 #include <stdio.h>
@@ -196,7 +197,7 @@ int main(int argc, char **argv) {
     joined = told->joined - joined;
     refused = told->refused - refused;
     wait_for_all((long)count * moves);
-    printf("{\"median_ms\": %.3f, \"p99_ms\": %.3f, \"most_ms\": %.3f, \"joined_a_second\": %.0f, \"refused_a_second\": %.0f}\n", waited[moves / 2] * 1e3,
-           waited[moves * 99 / 100] * 1e3, waited[moves - 1] * 1e3, joined / took, refused / took);
+    printf("{\"median_ms\": %.3f, \"p99_ms\": %.3f, \"most_ms\": %.3f, \"joined_a_second\": %.0f, \"refused_a_second\": %.0f}\n",
+           waited[moves / 2] * 1e3, waited[moves * 99 / 100] * 1e3, waited[moves - 1] * 1e3, joined / took, refused / took);
     return 0;
 }

@@ -1,5 +1,5 @@
-// Connections to a server that is measured, and what they send and read: the same for a relay, for nginx with nchan and for mosquitto. A follower
-// costs a read of what came and a walk over the heads of its frames.
+// Connections to a server that is measured, and what they send and read: the same for a relay, for nginx with nchan and for mosquitto. A
+// follower costs a read of what came and a walk over the heads of its frames.
 #ifndef PEERS_H
 #define PEERS_H
 
@@ -165,8 +165,8 @@ static void take(struct peer *p, const unsigned char *bytes, long n) {
 
 // ---- connections
 
-// There are some 28,000 ports of the own machine for connections to one address, so of many each 20,000 go to another one of loopback. There
-// a relay has to watch at 0.0.0.0.
+// There are some 28,000 ports of the own machine for connections to one address, so of many each 20,000 go to another one of loopback.
+// There a relay has to watch at 0.0.0.0.
 static int dialled;
 
 static int dial(int port) {

@@ -67,7 +67,8 @@ struct seconds {
     double own, system;
 };
 
-// The processor seconds of all threads, those that have ended too. The system counts them in hundredths, and tells what was the program's own.
+// The processor seconds of all threads, those that have ended too. The system counts them in hundredths,
+// and tells what was the program's own.
 static inline struct seconds spent_in_all(void) {
     struct seconds all = {0, 0};
     char list[256], path[300];

@@ -3,17 +3,20 @@
 //
 //   reader burst KIND PORT FOLLOWERS MOVES PIDS   moves sent at once; prints deliveries, seconds, processor time, context switches, memory
 //   reader turns KIND PORT FOLLOWERS MOVES PIDS   each move is sent when all followers had the one before
-//   reader arrives KIND PORT FOLLOWERS MOVES PIDS the same, but nothing is read until the server rests: prints when the last one had each move
+//   reader arrives KIND PORT FOLLOWERS MOVES PIDS the same, but nothing is read until the server rests:
+//                                                 prints when the last one had each move
 //   reader connects KIND PORT CONNECTIONS PIDS    connections opened and closed, 64 at a time; prints how many a second, processor time
-//   reader rush KIND PORT JOININGS MOVES PIDS     the same of followers that come to a board of this many moves, and go once they are greeted
-//   reader joins KIND PORT JOININGS MOVES PIDS    followers that join such a board all at once on connections that stand; prints what a joining takes
+//   reader rush KIND PORT JOININGS MOVES PIDS     the same of followers that come to a board of this many moves,
+//                                                 and go once they are greeted
+//   reader joins KIND PORT JOININGS MOVES PIDS    followers that join such a board all at once on connections that stand;
+//                                                 prints what a joining takes
 //   reader idle KIND PORT FOLLOWERS PIDS          followers that wait; prints the server's resident kilobytes before and with them
 //
-// KIND is relay, nchan or mosquitto. Of a relay PORT may be MAIN/WATCH: then followers watch at the second one. PIDS are the server's processes,
-// separated by commas.
+// KIND is relay, nchan or mosquitto. Of a relay PORT may be MAIN/WATCH: then followers watch at the second one. PIDS are the server's
+// processes, separated by commas.
 //
-// In `arrives` the system stamps what comes to a follower with its time, so the reading client takes no part in what is measured. Its followers are in as
-// many processes as their descriptors need.
+// In `arrives` the system stamps what comes to a follower with its time, so the reading client takes no part in what is measured. Its
+// followers are in as many processes as their descriptors need.
 #define _GNU_SOURCE
 #include <poll.h>
 #include <signal.h>
@@ -95,11 +98,11 @@ static void moves(int followers, int count, int at_once) {
     struct rusage own;
     getrusage(RUSAGE_SELF, &own);
     double all = (double)followers * count;
-    printf("{\"deliveries\": %.0f, \"seconds\": %.6f, \"a_second\": %.0f, \"cpu_us\": %.3f, \"switches\": %.4f, \"client_seconds\": %.3f, ", all, took,
-           all / took, (after.seconds - before.seconds) * 1e6 / all, (after.switches - before.switches) / all,
+    printf("{\"deliveries\": %.0f, \"seconds\": %.6f, \"a_second\": %.0f, \"cpu_us\": %.3f, \"switches\": %.4f, \"client_seconds\": %.3f, ",
+           all, took, all / took, (after.seconds - before.seconds) * 1e6 / all, (after.switches - before.switches) / all,
            own.ru_utime.tv_sec + own.ru_stime.tv_sec + (own.ru_utime.tv_usec + own.ru_stime.tv_usec) / 1e6);
-    printf("\"joinings_a_second\": %.0f, \"joining_cpu_us\": %.1f, \"before_kb\": %ld, \"resident_kb\": %ld, \"bytes_each\": %.0f}\n", followers / joined,
-           joining * 1e6 / followers, empty, full, (full - empty) * 1024. / followers);
+    printf("\"joinings_a_second\": %.0f, \"joining_cpu_us\": %.1f, \"before_kb\": %ld, \"resident_kb\": %ld, \"bytes_each\": %.0f}\n",
+           followers / joined, joining * 1e6 / followers, empty, full, (full - empty) * 1024. / followers);
 }
 
 // ---- when a move has arrived, the reading client left out
@@ -114,8 +117,8 @@ static double real_time(void) {
 
 static double later(double a, double b) { return a > b ? a : b; }
 
-// Reads what has come; returns when the last of it came, as the system stamped it. Two frames may have one stamp, that of the second. So where a ping
-// is the last one, nobody knows when the move before it came, and what is returned is 0.
+// Reads what has come; returns when the last of it came, as the system stamped it. Two frames may have one stamp, that of the second. So
+// where a ping is the last one, nobody knows when the move before it came, and what is returned is 0.
 static double stamped(struct peer *p) {
     union {
         char bytes[256];
@@ -238,10 +241,10 @@ static void arrivals(int followers, int count) {
         if (took[ply] < 0) die("each follower had a ping after the move");
     }
     qsort(took, count, sizeof *took, in_order);
-    printf("{\"followers\": %d, \"least_ms\": %.1f, \"median_ms\": %.1f, \"most_ms\": %.1f, \"cpu_us\": %.3f, ", followers, took[0] * 1e3, took[count / 2] * 1e3,
-           took[count - 1] * 1e3, used * 1e6 / ((double)followers * count));
-    printf("\"joinings_a_second\": %.0f, \"joining_cpu_us\": %.1f, \"before_kb\": %ld, \"resident_kb\": %ld, \"bytes_each\": %.0f}\n", followers / joined,
-           joining * 1e6 / followers, empty, full, (full - empty) * 1024. / followers);
+    printf("{\"followers\": %d, \"least_ms\": %.1f, \"median_ms\": %.1f, \"most_ms\": %.1f, \"cpu_us\": %.3f, ",
+           followers, took[0] * 1e3, took[count / 2] * 1e3, took[count - 1] * 1e3, used * 1e6 / ((double)followers * count));
+    printf("\"joinings_a_second\": %.0f, \"joining_cpu_us\": %.1f, \"before_kb\": %ld, \"resident_kb\": %ld, \"bytes_each\": %.0f}\n",
+           followers / joined, joining * 1e6 / followers, empty, full, (full - empty) * 1024. / followers);
     fflush(stdout);
     for (int i = 0; i < parts; i++) put(words[i][1], "e", 1);
     while (wait(NULL) > 0) continue;
@@ -299,8 +302,8 @@ static void connects(int count, int joins, struct peer *waiting, int waiting_cou
     }
     double took = now() - start;
     usleep(500000);
-    printf("{\"connections\": %d, \"seconds\": %.3f, \"a_second\": %.0f, \"cpu_us\": %.1f, \"own_us\": %.1f, \"resident_kb\": %ld}\n", count, took, count / took,
-           since(before) * 1e6 / count, (spent_in_all().own - before.own) * 1e6 / count, resident());
+    printf("{\"connections\": %d, \"seconds\": %.3f, \"a_second\": %.0f, \"cpu_us\": %.1f, \"own_us\": %.1f, \"resident_kb\": %ld}\n",
+           count, took, count / took, since(before) * 1e6 / count, (spent_in_all().own - before.own) * 1e6 / count, resident());
 }
 
 // A board with this many moves, and a follower of it that stays, so that it is watched all the time.
@@ -358,8 +361,8 @@ static void joins(int joinings, int count) {
         server_rests();
         look_after(waiting, 2);
     }
-    printf("{\"joinings\": %d, \"a_second\": %.0f, \"cpu_us\": %.1f, \"own_us\": %.1f}\n", joinings, joinings / took, (used.own + used.system) * 1e6 / joinings,
-           used.own * 1e6 / joinings);
+    printf("{\"joinings\": %d, \"a_second\": %.0f, \"cpu_us\": %.1f, \"own_us\": %.1f}\n",
+           joinings, joinings / took, (used.own + used.system) * 1e6 / joinings, used.own * 1e6 / joinings);
 }
 
 static void idle(int followers) {

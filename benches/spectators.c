@@ -2,16 +2,16 @@
 //
 //   spectators PORT BOARDS COUNT GAME
 //
-// The boards s0, s1 .. play the same game. GAME is a file with a line for each place: the position before its move as a FEN, a tab, and the move;
-// the last line has no move. Before the games end, as agreed, their length comes on standard input. Of ten spectators of a board
+// The boards s0, s1 .. play the same game. GAME is a file with a line for each place: the position before its move as a FEN, a tab, and the
+// move; the last line has no move. Before the games end, as agreed, their length comes on standard input. Of ten spectators of a board
 //
 //   seven read everything as it comes, some of them from the first place on, the others from now on;
 //   one has a small buffer, reads slowly from the first place on, and comes again from there once it has nearly all;
 //   two end their connections after a while, or reset them, and come again from the place that they wait for.
 //
-// Says `there` once all have joined. Once all have had the end it says in JSON what was compared and how late the moves came to those who read as
-// they come, after the first of them had each. A text that is not the next one of its board, or a connection that ends otherwise, is reported on standard
-// error, and the status is 1.
+// Says `there` once all have joined. Once all have had the end it says in JSON what was compared and how late the moves came to those who
+// read as they come, after the first of them had each. A text that is not the next one of its board, or a connection that ends otherwise,
+// is reported on standard error, and the status is 1.
 #define _GNU_SOURCE
 #include <arpa/inet.h>
 #include <errno.h>
@@ -63,8 +63,8 @@ static double now(void) {
 }
 
 static void wrong(const struct spectator *s, const char *what) {
-    fprintf(stderr, "spectator %ld of board s%d, kind %d, at stage %d, %.3f s after it came, waiting for place %d: %s\n", (long)(s - spectators), s->board,
-            s->kind, s->stage, now() - s->came_at, s->next, what);
+    fprintf(stderr, "spectator %ld of board s%d, kind %d, at stage %d, %.3f s after it came, waiting for place %d: %s\n",
+            (long)(s - spectators), s->board, s->kind, s->stage, now() - s->came_at, s->next, what);
     exit(1);
 }
 
@@ -100,7 +100,8 @@ static int length_told(void) {
 // There are some 28,000 ports of the own machine for connections to one address of loopback, so of many each 20,000 go to another one.
 static int dial(int room) {
     static long dialled;
-    struct sockaddr_in to = {.sin_family = AF_INET, .sin_port = htons(port), .sin_addr.s_addr = htonl(INADDR_LOOPBACK + dialled++ / 20000 % 200)};
+    struct sockaddr_in to = {.sin_family = AF_INET, .sin_port = htons(port),
+                             .sin_addr.s_addr = htonl(INADDR_LOOPBACK + dialled++ / 20000 % 200)};
     int fd = socket(AF_INET, SOCK_STREAM, 0), one = 1, segment = 536;
     if (fd < 0) die("socket");
     // One with little room takes short segments. Of long ones none would fit, and the other side would ask for room ever more rarely.
@@ -116,7 +117,8 @@ static void comes(struct spectator *s, int from) {
                      "GET / HTTP/1.1\r\nHost: a\r\nUpgrade: websocket\r\nConnection: Upgrade\r\n"
                      "Sec-WebSocket-Key: dGhlIHNhbXBsZSBub25jZQ==\r\nSec-WebSocket-Version: 13\r\n\r\n");
     int length = snprintf(text, sizeof text, "{\"cmd\":\"follow\",\"board\":\"s%d\",\"spectator\":1}", s->board);
-    if (from >= 0) length = snprintf(text, sizeof text, "{\"cmd\":\"follow\",\"board\":\"s%d\",\"spectator\":1,\"from\":%d}", s->board, from);
+    if (from >= 0) length = snprintf(text, sizeof text, "{\"cmd\":\"follow\",\"board\":\"s%d\",\"spectator\":1,\"from\":%d}",
+                                     s->board, from);
     sent[n++] = (char)0x81;
     sent[n++] = (char)(0x80 | length);
     memset(sent + n, 0, 4);  // the mask

@@ -1,6 +1,6 @@
-// Preloaded into the program, gives each thread that waits by epoll a table of descriptors of its own, a copy of the one that it shared until then.
-// So each loop of the watch port has as many descriptors as the system allows a process (ulimit -Hn), and a crowd can be measured that is too large
-// for one table. Nothing else changes: a loop uses only what there was when it began, and what it opens itself.
+// Preloaded into the program, gives each thread that waits by epoll a table of descriptors of its own, a copy of the one that it shared
+// until then. So each loop of the watch port has as many descriptors as the system allows a process (ulimit -Hn), and a crowd can be
+// measured that is too large for one table. Nothing else changes: a loop uses only what there was when it began, and what it opens itself.
 #define _GNU_SOURCE
 #include <dlfcn.h>
 #include <sched.h>

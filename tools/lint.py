@@ -1,7 +1,7 @@
 #!/usr/bin/env -S python3 -B
 """Runs the linters over the repository: lint.py. They are those of Python, shell and JavaScript, and the layout of Rattle, which the gate
-refuses a crate for. What is missing is named with its Debian package. Lines of code and comments have at most 140 characters; definitions,
-clauses and proofs may have more, since a clause is read as one sentence."""
+refuses a crate for. What is missing is named with its Debian package. Lines of code and comments have at most 140 characters, in these
+languages and in C, CSS and HTML; definitions, clauses and proofs may have more, since a clause is read as one sentence."""
 import re
 import shutil
 import subprocess
@@ -9,7 +9,8 @@ import sys
 
 from crates import ROOT
 
-# By language: the command, the Debian package that has it or else where it comes from, and whether it takes one file at a time.
+# By language: the command, the Debian package that has it or else where it comes from, and whether it takes one file at a time. Of a
+# language without a linter only the length of its lines counts.
 LINTERS = {
     "Rattle": (["rattle", "fmt", "--check"], None, False),
     "Python": (["pyflakes3"], "pyflakes3", False),
@@ -17,7 +18,8 @@ LINTERS = {
     "shell": (["shellcheck", "--exclude=SC2016,SC3045"], "shellcheck", False),
     "JavaScript": (["node", "--check"], "nodejs", True),
 }
-ENDINGS = {".rt": "Rattle", ".antt": "Rattle", ".py": "Python", ".sh": "shell", ".js": "JavaScript", ".mjs": "JavaScript"}
+ENDINGS = {".rt": "Rattle", ".antt": "Rattle", ".py": "Python", ".sh": "shell", ".js": "JavaScript", ".mjs": "JavaScript",
+           ".c": "C", ".h": "C", ".css": "CSS", ".html": "HTML"}
 LONGEST = 140
 # What begins a clause or another ghost item of code.
 CLAUSE = re.compile(r"\s*(ghost|requires|ensures|invariant|decreases)\b")
@@ -68,7 +70,7 @@ def files():
     """The files of each language that git tracks or would track."""
     words = ["git", "ls-files", "-co", "--exclude-standard", "-z"]
     listed = subprocess.run(words, cwd=ROOT, stdout=subprocess.PIPE, check=True).stdout.decode().split("\0")
-    found = {language: [] for language in LINTERS}
+    found = {language: [] for language in ENDINGS.values()}
     for path in sorted({ROOT / it for it in listed if it}):
         language = language_of(path) if path.is_file() else None
         if language:
@@ -84,9 +86,10 @@ def main():
         return 1
     well = True
     for language, paths in files().items():
-        words, _, is_single = LINTERS[language]
-        for given in ([it] for it in paths) if is_single else [paths]:
-            well = subprocess.run([*words, *given], cwd=ROOT, check=False).returncode == 0 and well
+        if language in LINTERS:
+            words, _, is_single = LINTERS[language]
+            for given in ([it] for it in paths) if is_single else [paths]:
+                well = subprocess.run([*words, *given], cwd=ROOT, check=False).returncode == 0 and well
         well = are_short(paths) and well
         print(f"{language}: {len(paths)} files looked through", flush=True)
     return 0 if well else 1

@@ -1,10 +1,16 @@
 """Lines of code and comments have at most 140 characters; what tools/lint.py sets aside may have more."""
+import contextlib
+import io
 import pathlib
+import subprocess
 import sys
+import tempfile
 import unittest
+from unittest import mock
 
 sys.path.insert(0, str(pathlib.Path(__file__).resolve().parents[1]))
 
+import lint  # noqa: E402
 from lint import LONGEST, too_long  # noqa: E402
 
 
@@ -38,6 +44,17 @@ class Lines(unittest.TestCase):
         for line in (wide('    "', '",'), wide('    b"', '"'), wide('    r#"', '"#,'), "    " + "0x0000000000000001 " * 8):
             self.assertEqual(too_long(".rt", line), [], line)
         self.assertEqual(too_long(".rt", wide('    let a = "', '";')), [1])
+
+    def test_files_of_c_css_and_html_are_looked_through(self):
+        names = ["a.c", "a.css", "a.h", "a.html"]
+        with tempfile.TemporaryDirectory() as room, contextlib.redirect_stdout(io.StringIO()) as said:
+            subprocess.run(["git", "init", "-q"], cwd=room, check=True)
+            for name in names:
+                pathlib.Path(room, name).write_text(wide("a ", width=140) + "\n" + wide("a ", width=141) + "\n")
+            with mock.patch.multiple(lint, ROOT=pathlib.Path(room), LINTERS={}):
+                self.assertEqual(lint.main(), 1)
+        found = [line for line in said.getvalue().splitlines() if "more than" in line]
+        self.assertEqual(sorted(found), [f"{name}:2: more than 140 characters" for name in names])
 
 
 if __name__ == "__main__":
