@@ -1,12 +1,13 @@
 //! A connection: which boards it opened, and what it may do.
 
-ghost use Rattle.std.specs.Prelude.{◌≡◌, [], true, false, IfOk, OnErr, IfSome, IfNone, string_bytes};
+ghost use Rattle.std.specs.Prelude.{◌≡◌, ◌≢◌, ◌↔◌, [], true, false, IfOk, OnErr, IfSome, IfNone, string_bytes};
+ghost use Rattle.relay_messages.specs.Decoding.{IsDecoding};
 ghost use Rattle.relay_pushing.specs.Connections.{Answered, Bars, Ends, IsUnmoved, Leads, MayMake, OwnsNone, OwnsSome, Replied, Stopped, is_among};
 
 use crate::keeper::Keeper;
 use c960_game::{Ending, Refusal};
 use relay_core::{BoardName, Reply, Step};
-use relay_messages::{Answer, Decoder, encode};
+use relay_messages::{Answer, Decoder, MessageFault, encode};
 use std::alloc::{AllocError, Global};
 use std::marker::Model;
 
@@ -45,16 +46,38 @@ impl Conn {
         self.opened.contains(&board)
     }
 
+    /// Whether the connection opened any board.
+    pub fn has_opened_any(&self) -> bool
+        ensures some { (result ≡ true) ↔ (self.now ≢ []) }
+        ensures none { (result ≡ false) ↔ (self.now ≡ []) }
+    {
+        !self.opened.is_empty()
+    }
+
     /// Whether some board belongs to the connection: it opened one, or the keeper says so.
     pub fn is_owner<K: Keeper>(&self, keeper: &K) -> bool
         ensures some { result ≡ true → OwnsSome (K.tells keeper.now) self.now }
         ensures none { result ≡ false → OwnsNone (K.tells keeper.now) self.now }
     {
-        !self.opened.is_empty() || keeper.owns_any()
+        self.has_opened_any() || keeper.owns_any()
     }
 
-    /// Why the connection may not make the step, if it may not.
-    fn refusal<K: Keeper>(&self, step: &Step, keeper: &K) -> Option<Refusal>
+    /// The step that a text asks for. No keeper is asked, and the boards that were opened stay as they are: a caller that holds the keeper
+    /// under a lock reads without the lock, and then calls `reply`.
+    ///
+    /// # Errors
+    ///
+    /// The fault of the text, or there was no memory to read it (`OutOfMemory`).
+    pub fn read(&mut self, text: &[u8]) -> Result<Step, MessageFault>
+        ensures read { IsDecoding text.now result }
+        ensures unchanged { self.new ≡ self.old }
+    {
+        self.decoder.decode(text)
+    }
+
+    /// Why the connection may not make the step, if it may not: `WrongMode` for a Take or a Leave, and for a Follow if some board belongs
+    /// to it; for a Submit or an End `NotYourBoard`, or `NoSuchBoard` if the keeper knows no such board, unless that board belongs to it.
+    pub fn refusal<K: Keeper>(&self, step: &Step, keeper: &K) -> Option<Refusal>
         ensures some { IfSome result (λ refusal. Bars (K.tells keeper.now) self.now step.now refusal) }
         ensures none { IfNone result (MayMake (K.tells keeper.now) self.now step.now) }
     {
@@ -80,8 +103,12 @@ impl Conn {
         }
     }
 
-    /// Replies to a step: makes it if the connection may. Room for an opened board is reserved before the step is made.
-    fn reply<K: Keeper>(&mut self, step: &Step, keeper: &mut K) -> Result<Reply, AllocError>
+    /// Replies to a step: with its refusal if the connection may not make it, else with the reply of the keeper, which made it.
+    ///
+    /// # Errors
+    ///
+    /// There was no memory for one more opened board. It is reserved before the step is made, so none was made.
+    pub fn reply<K: Keeper>(&mut self, step: &Step, keeper: &mut K) -> Result<Reply, AllocError>
         ensures ok { IfOk result (λ reply. Replied (K.tells keeper.old) K.makes self.old keeper.old step.now reply self.new keeper.new) }
         ensures err { OnErr result (IsUnmoved self.old keeper.old self.new keeper.new) }
     {
@@ -104,7 +131,7 @@ impl Conn {
         ensures ok { IfOk result (λ answer. Leads (K.tells keeper.old) K.makes self.old keeper.old text.now answer self.new keeper.new) }
         ensures err { OnErr result (IsUnmoved self.old keeper.old self.new keeper.new) }
     {
-        match self.decoder.decode(text) {
+        match self.read(text) {
             Ok(step) => Ok(Answer::Reply(self.reply(&step, keeper)?)),
             Err(fault) => Ok(Answer::Fault(fault)),
         }
