@@ -1,11 +1,12 @@
 -- What a connection does over the boards of a hall, whose answers are functions.
-use Rattle.std.proofs.Common.{◌≡◌, ◌≢◌, ◌⊎◌, inl, inr, ℕ, Bool, true, false, cond, not, ◌&&◌, ◌||◌, List, [], ◌∷◌, Option, None, Some, Result, Ok, Err, refl, sym, ap, ◌∙◌, subst}
+use Rattle.std.proofs.Common.{◌≡◌, ◌≢◌, ◌⊎◌, inl, inr, ℕ, Bool, true, false, cond, not, ◌&&◌, ◌||◌, List, [], ◌∷◌, ◌++◌, append-nil, Option, None, Some, Result, Ok, Err, refl, sym, ap, ◌∙◌, subst}
 use Rattle.c960_game.specs.declared.refusal.Refusal.{Refusal}
 use Rattle.c960_game.specs.declared.refusal.Refusal.TheVariants as refusals
 use Rattle.relay_core.specs.declared.step.Step.{Step}
 use Rattle.relay_core.specs.declared.step.Step.TheVariants.{Open, Submit, End, Follow, Take, Leave}
 use Rattle.relay_core.specs.declared.reply.Reply.{Reply}
 use Rattle.relay_core.specs.declared.reply.Reply.TheVariants.{Refused}
+use Rattle.relay_core.specs.History.{is_accepted}
 use Rattle.relay_messages.specs.declared.answer.Answer.{Answer}
 use Rattle.relay_messages.specs.declared.answer.Answer.TheVariants as answers
 use Rattle.relay_messages.specs.declared.fault.MessageFault.{MessageFault}
@@ -15,7 +16,7 @@ use Rattle.relay_pushing.specs.Connections as conn
 use Rattle.relay_hall.specs.declared.handed.Handed.{Handed}
 use Rattle.relay_hall.specs.Record.{FloorState}
 use Rattle.relay_hall.specs.Steps.{Makes, StateMakes, latest, tells_of}
-use Rattle.relay_hall.specs.Talk.{IsAnsweredBy, IsUnansweredBy, IsUnread, SaidAnswered, StepAnswered, are_none, may_make, not_its_own, why_not}
+use Rattle.relay_hall.specs.Talk.{IsAnsweredBy, IsRepliedBy, IsUnansweredBy, IsUnmade, IsUnread, SaidAnswered, StepReplied, are_none, may_make, not_its_own, why_not}
 
 -- what the boards tell, and what is made of a step
 abbrev Tells : FloorState → conn.Question → Bool → Type 0
@@ -77,7 +78,7 @@ module _ (s : FloorState) (boards : List (List ℕ)) where
   bars (Leave who) refusal f = (refl, f)
 
   -- nothing was handed out before
-  module _ (empty : s.handed ≡ None) (text : List ℕ) (t : FloorState) (now : List (List ℕ)) where
+  module _ (empty : s.handed ≡ None) (now : List (List ℕ)) (t : FloorState) where
     made : (step : Step) (reply : Reply) → StateMakes s step reply t → Makes s.floor s.speaker step reply t.handed t.floor
     made step reply m = subst (λ (h : Option Handed). Makes s.floor s.speaker step reply h t.floor) (sym (m.latest ∙ by m.handed)) m.makes
       where
@@ -85,42 +86,53 @@ module _ (s : FloorState) (boards : List (List ℕ)) where
         by None = empty
         by (Some h) = refl
 
-    still : t ≡ s → (t.handed ≡ None) × (t.floor ≡ s.floor)
-    still is = (ap (λ (x : FloorState). x.handed) is ∙ empty, ap (λ (x : FloorState). x.floor) is)
+    pub unmade : conn.IsUnmoved boards s now t → IsUnmade s.floor boards t.handed t.floor now
+    unmade u = (ap (λ (x : FloorState). x.handed) u.keeper_is ∙ empty, ap (λ (x : FloorState). x.floor) u.keeper_is, u.boards_are)
 
-    -- the answer to a step
-    replied : (step : Step) (reply : Reply) → conn.Replied (Tells s) MadeBy boards s step reply now t
-        → StepAnswered (may_make s.floor s.speaker boards step) s.floor s.speaker boards step (answers.Reply reply) t.handed t.floor now
+    -- the reply to a step
+    pub replied : (step : Step) (reply : Reply) → conn.Replied (Tells s) MadeBy boards s step reply now t → IsRepliedBy s.floor s.speaker boards step reply t.handed t.floor now
     replied step reply (inl m) =
-        subst (λ (b : Bool). StepAnswered b s.floor s.speaker boards step (answers.Reply reply) t.handed t.floor now) (sym (may step m.may))
-        (reply, made step reply m.made, refl, m.boards_are)
+        subst (λ (b : Bool). StepReplied b s.floor s.speaker boards step reply t.handed t.floor now) (sym (may step m.may)) (made step reply m.made, m.boards_are)
     replied step reply (inr barred) =
         let why = bars step barred.refusal barred.bars in
-        let same = still barred.unmoved.keeper_is in
-        subst (λ (b : Bool). StepAnswered b s.floor s.speaker boards step (answers.Reply reply) t.handed t.floor now) (sym why.0)
-        (ap answers.Reply (barred.reply_is ∙ ap Refused why.1), same.0, same.1, barred.unmoved.boards_are)
+        subst (λ (b : Bool). StepReplied b s.floor s.speaker boards step reply t.handed t.floor now) (sym why.0) (barred.reply_is ∙ ap Refused why.1, unmade barred.unmoved)
 
-    said : (d : Result Step MessageFault) → decoded text ≡ d → (answer : Answer) → SaidAnswered s.floor s.speaker boards d answer t.handed t.floor now
-        → SaidAnswered s.floor s.speaker boards (decoded text) answer t.handed t.floor now
-    said d e answer h = subst (λ (x : Result Step MessageFault). SaidAnswered s.floor s.speaker boards x answer t.handed t.floor now) (sym e) h
+    module _ (text : List ℕ) where
+      said : (d : Result Step MessageFault) → decoded text ≡ d → (answer : Answer) → SaidAnswered s.floor s.speaker boards d answer t.handed t.floor now
+          → SaidAnswered s.floor s.speaker boards (decoded text) answer t.handed t.floor now
+      said d e answer h = subst (λ (x : Result Step MessageFault). SaidAnswered s.floor s.speaker boards x answer t.handed t.floor now) (sym e) h
 
-    led : (answer : Answer) → conn.Leads (Tells s) MadeBy boards s text answer now t
-        → SaidAnswered s.floor s.speaker boards (decoded text) answer t.handed t.floor now ⊎ IsUnread s.floor boards text answer t.handed t.floor now
-    led (answers.Fault fault) (inl e, u) =
-        let same = still u.keeper_is in
-        inl (said (Err fault) (sym e) (answers.Fault fault) (refl, same.0, same.1, u.boards_are))
-    led (answers.Fault fault) (inr m, u) =
-        let want : fault ≡ faults.OutOfMemory = let e = m.1 in cc in
-        let same = still u.keeper_is in
-        inr (m.0, ap answers.Fault want, same.0, same.1, u.boards_are)
-    led (answers.Reply reply) h = inl (said (Ok h.0) (read text h.0 h.1) (answers.Reply reply) (replied h.0 reply h.2))
+      led : (answer : Answer) → conn.Leads (Tells s) MadeBy boards s text answer now t
+          → SaidAnswered s.floor s.speaker boards (decoded text) answer t.handed t.floor now ⊎ IsUnread s.floor boards text answer t.handed t.floor now
+      led (answers.Fault fault) (inl e, u) = inl (said (Err fault) (sym e) (answers.Fault fault) (refl, unmade u))
+      led (answers.Fault fault) (inr m, u) = let want : fault ≡ faults.OutOfMemory = let e = m.1 in cc in inr (m.0, ap answers.Fault want, unmade u)
+      led (answers.Reply reply) h = inl (said (Ok h.0) (read text h.0 h.1) (answers.Reply reply) (reply, refl, replied h.0 reply h.2))
 
 -- ---- The calls.
 
+-- a follow opens no board
+none_opened : (boards : List (List ℕ)) (who : ℕ) (name : List ℕ) (from : Option ℕ) (reply : Reply) → conn.opened_after boards (Follow who name from) reply ≡ boards
+none_opened boards who name from reply = by (is_accepted reply)
+  where
+    by : (t : Bool) → cond t (boards ++ []) boards ≡ boards
+    by true = append-nil boards
+    by false = refl
+
+module _ (s : FloorState) (empty : s.handed ≡ None) (boards now : List (List ℕ)) (t : FloorState) where
+  -- a follow that the connection may make
+  pub joined : (who : ℕ) (name : List ℕ) (from : Option ℕ) (reply : Reply) → conn.MayMake (Tells s) boards (Follow who name from) → StateMakes s (Follow who name from) reply t → now ≡ boards
+      → IsRepliedBy s.floor s.speaker boards (Follow who name from) reply t.handed t.floor now
+  joined who name from reply may makes same = replied s boards empty now t (Follow who name from) reply
+      (inl (record { may = may; made = makes; boards_are = same ∙ sym (none_opened boards who name from reply) }))
+
+  -- a step that is refused to it
+  pub barred : (step : Step) (refusal : Refusal) → conn.Bars (Tells s) boards step refusal → conn.IsUnmoved boards s now t → IsRepliedBy s.floor s.speaker boards step (Refused refusal) t.handed t.floor now
+  barred step refusal bars unmoved = replied s boards empty now t step (Refused refusal) (inr (record { refusal = refusal; bars = bars; reply_is = refl; unmoved = unmoved }))
+
 module _ (s : FloorState) (empty : s.handed ≡ None) (boards : List (List ℕ)) (text : List ℕ) (now : List (List ℕ)) (t : FloorState) where
   pub answered : (bytes : List ℕ) → conn.Answered (Tells s) MadeBy boards s text bytes now t → IsAnsweredBy s.floor s.speaker boards text bytes t.handed t.floor now
-  answered bytes a = (a.0, a.2, led s boards empty text t now a.0 a.1)
+  answered bytes a = (a.0, a.2, led s boards empty now t text a.0 a.1)
 
   pub unanswered : conn.Stopped (Tells s) MadeBy boards s text now t → IsUnansweredBy s.floor s.speaker boards text t.handed t.floor now
-  unanswered (inl m) = inl (m.0, m.1, read text m.0 m.2, may s boards m.0 m.3.may, made s boards empty text t now m.0 m.1 m.3.made, m.3.boards_are)
-  unanswered (inr u) = let same = still s boards empty text t now u.keeper_is in inr (same.0, same.1, u.boards_are)
+  unanswered (inl m) = inl (m.0, m.1, read text m.0 m.2, may s boards m.0 m.3.may, made s boards empty now t m.0 m.1 m.3.made, m.3.boards_are)
+  unanswered (inr u) = inr (unmade s boards empty now t u)

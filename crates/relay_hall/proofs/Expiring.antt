@@ -5,6 +5,7 @@ use Rattle.relay_hall.specs.declared.presence.Presence.{Presence}
 use Rattle.relay_hall.specs.declared.presence.Presence.TheVariants.{Here, Waits}
 use Rattle.relay_hall.specs.Holders.{AllRunOut, HasRunOut, NoneHasRunOut, OthersStay, has_run_out, presence_of}
 use Rattle.relay_hall.specs.Keys.{same_key}
+use Rattle.relay_hall.specs.Times.{has_waited}
 use Rattle.std.specs.Cmp.Lexicographic.{same_text}
 
 -- the two tests are one
@@ -53,3 +54,19 @@ module _ (now : Option ℕ) (first : List Holder) where
       by : (presence_of key rows ≡ presence_of key first) ⊎ ((presence_of key rows ≡ None) × HasRunOut now (presence_of key first)) → presence_of key rows ≡ cond (has_run_out now (presence_of key first)) None (presence_of key first)
       by (inl e) = kept e (has_run_out now (presence_of key first)) refl
       by (inr (e, d)) = e ∙ sym (ap (λ (t : Bool). cond t None (presence_of key first)) (is_run_out now (presence_of key first) d))
+
+-- if no key's boards have done so, all stay
+module _ (now : Option ℕ) (rows : List Holder) (none : NoneHasRunOut now rows) where
+  not_out : (key : List ℕ) → has_run_out now (presence_of key rows) ≡ false
+  not_out key = by (has_run_out now (presence_of key rows)) refl
+    where
+      by : (t : Bool) → has_run_out now (presence_of key rows) ≡ t → t ≡ false
+      by true z = absurd (none key (run_out_is now (presence_of key rows) z))
+      by false z = refl
+
+  pub all_stay : AllRunOut now rows rows
+  all_stay key = sym (ap (λ (t : Bool). cond t None (presence_of key rows)) (not_out key))
+
+  pub none_waited : (key : Option (List ℕ)) → has_waited now rows key ≡ false
+  none_waited None = refl
+  none_waited (Some key) = not_out key

@@ -1,9 +1,9 @@
 -- The steps of a hall: what is kept, and what is shown.
 use Rattle.std.proofs.Common.{◌≡◌, ◌+◌, ◌<◌, ◌≤◌, ℕ, false, is_some, List, [], ◌∷◌, ◌++◌, length, cond, Option, None, Some, Result, Ok, Err, OnErr, OnOk, option_map, inl, inr, refl, sym, ap, ◌∙◌, subst, arith, length-append}
 use Rattle.std.proofs.lemmas.List.{length-map}
-use Rattle.std.proofs.lemmas.Option.{same_Some}
-use Rattle.std.specs.Prelude.{MatchOption}
-use Rattle.std.specs.Map.{lookup}
+use Rattle.std.proofs.lemmas.Option.{same_Some, slice_get-map}
+use Rattle.std.specs.Prelude.{MatchOption, slice_get}
+use Rattle.std.specs.Map.{keys_of, lookup, values_of}
 use Rattle.c960_board.specs.declared.parts.Parts.{Parts}
 use Rattle.c960_board.specs.Moves.{Triple}
 use Rattle.c960_game.specs.declared.ending.Ending.{Ending}
@@ -280,6 +280,23 @@ taken_shown name entries = by (lookup (same_name name) entries) ∙ sym (ap is_s
     by : (o : Option Hosted) → is_some o ≡ is_some (option_map shown_board o)
     by None = refl
     by (Some h) = refl
+
+-- where a board is found
+pub keys_shown : (entries : Entries) → keys_of (rows entries) ≡ keys_of entries
+keys_shown [] = refl
+keys_shown (e ∷ es) = ap (λ (names : List (List ℕ)). e.0 ∷ names) (keys_shown es)
+
+pub board_shown : (name : List ℕ) (entries : Entries) (at : ℕ) → slice_get (values_of entries) at ≡ lookup (same_name name) entries
+    → option_map (λ (e : List ℕ × HallBoard). e.1) (slice_get (rows entries) at) ≡ lookup (same_name name) (rows entries)
+board_shown name entries at found =
+    ap (option_map (λ (e : List ℕ × HallBoard). e.1)) (slice_get-map (λ (e : List ℕ × Hosted). (e.0, shown_board e.1)) entries at)
+    ∙ by (slice_get entries at)
+    ∙ ap (option_map shown_board) (sym (slice_get-map (λ (e : List ℕ × Hosted). e.1) entries at) ∙ found)
+    ∙ sym (lookup-map (same_name name) shown_board entries)
+  where
+    by : (o : Option (List ℕ × Hosted)) → option_map (λ (e : List ℕ × HallBoard). e.1) (option_map (λ (e : List ℕ × Hosted). (e.0, shown_board e.1)) o) ≡ option_map shown_board (option_map (λ (e : List ℕ × Hosted). e.1) o)
+    by None = refl
+    by (Some e) = refl
 
 module _ (key : Option (List ℕ)) (name : List ℕ) (entries : Entries) where
   pub owned_some : (h : Hosted) → lookup (same_name name) entries ≡ Some h → is_owner key h.owner.key ≡ is_owned key (lookup (same_name name) (rows entries))

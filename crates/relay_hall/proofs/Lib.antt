@@ -8,4 +8,3 @@ mod OneBoard
 mod Floors
 mod Sweeps
 mod Answered
-mod Reached

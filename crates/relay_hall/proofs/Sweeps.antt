@@ -1,5 +1,5 @@
 -- Endings of many boards at once.
-use Rattle.std.proofs.Common.{◌≡◌, ℕ, Bool, true, false, is_some, cond, List, length, map, slice_get, Some, Result, Ok, Err, OnErr, OnOk, option_map, refl, sym, ap, ◌∙◌, subst, arith}
+use Rattle.std.proofs.Common.{◌≡◌, ℕ, Bool, true, false, is_some, cond, List, [], ◌∷◌, length, map, slice_get, Some, Result, Ok, Err, OnErr, OnOk, option_map, refl, sym, ap, ◌∙◌, subst, arith}
 use Rattle.std.proofs.lemmas.List.{length-map}
 use Rattle.std.proofs.lemmas.Map.Entries.{lookup_from_place}
 use Rattle.std.specs.Map.{lookup}
@@ -27,8 +27,9 @@ use Rattle.live_board.specs.Views.{finished}
 use Rattle.relay_hall.specs.declared.hosted.Hosted.{Hosted}
 use Rattle.relay_hall.specs.declared.owner.Owner.{Owner}
 use Rattle.relay_hall.specs.Hosting.{Entries, IsFloor, abandoned_board, abandoned_by, game_in, games, held_by, limits_at, limits_each, limits_in, rows, shown_board}
-use Rattle.relay_hall.specs.Steps.{board_limits}
-use Rattle.relay_hall.specs.Times.{swept_board}
+use Rattle.relay_hall.specs.Record.{FloorRecord, HallBoard}
+use Rattle.relay_hall.specs.Steps.{board_limits, with_game}
+use Rattle.relay_hall.specs.Times.{abandoned_game, swept_board, swept_floor}
 use Rattle.relay_hall.proofs.OneBoard.{not_refused}
 use Rattle.relay_hall.proofs.Lists.{same_name_laws, set_same_at}
 
@@ -135,3 +136,13 @@ sweep_lives limits gone old new room later is kept same hall = record {
       let h = hall.fits in
       omega (arith, n, h, same);
 }
+
+-- if nobody has left, nothing changes
+pub none_swept : (f : FloorRecord) (gone : Owner → Bool) → ((o : Owner) → gone o ≡ false) → swept_floor f gone ≡ f
+none_swept f gone none = ap (λ (bs : List (List ℕ × HallBoard)). record f { boards = bs }) (by f.boards)
+  where
+    by : (bs : List (List ℕ × HallBoard)) → map (λ e. (e.0, swept_board gone e.1)) bs ≡ bs
+    by [] = refl
+    by (e ∷ es) =
+        ap (λ (t : Bool). (e.0, cond t (with_game abandoned_game e.1) e.1) ∷ map (λ x. (x.0, swept_board gone x.1)) es) (none e.1.owner)
+        ∙ ap (λ (xs : List (List ℕ × HallBoard)). e ∷ xs) (by es)

@@ -5,3 +5,4 @@ pub mod Holding
 pub mod InTime
 pub mod OneStep
 pub mod Counting
+pub mod Reached

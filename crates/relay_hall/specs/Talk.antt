@@ -41,22 +41,29 @@ why_not f speaker (Submit board m) = not_its_own f speaker board
 why_not f speaker (End board ending) = not_its_own f speaker board
 why_not f speaker _ = refusals.WrongMode
 
--- the answer to a step, depending on whether the connection may make it
-abbrev pub StepAnswered : Bool → FloorRecord → Owner → List (List ℕ) → Step → Answer → Option Handed → FloorRecord → List (List ℕ) → Type 0
-StepAnswered true f speaker opened step answer handed l now =
-    (reply : Reply) × Makes f speaker step reply handed l × (answer ≡ answers.Reply reply) × (now ≡ opened_after opened step reply)
-StepAnswered false f speaker opened step answer handed l now =
-    (answer ≡ answers.Reply (Refused (why_not f speaker step))) × (handed ≡ None) × (l ≡ f) × (now ≡ opened)
+-- nothing is handed out, and the boards and those that the connection has opened are as they were
+abbrev pub IsUnmade : FloorRecord → List (List ℕ) → Option Handed → FloorRecord → List (List ℕ) → Type 0
+IsUnmade f opened handed l now = (handed ≡ None) × (l ≡ f) × (now ≡ opened)
+
+-- the reply to a step, depending on whether the connection may make it
+abbrev pub StepReplied : Bool → FloorRecord → Owner → List (List ℕ) → Step → Reply → Option Handed → FloorRecord → List (List ℕ) → Type 0
+StepReplied true f speaker opened step reply handed l now = Makes f speaker step reply handed l × (now ≡ opened_after opened step reply)
+StepReplied false f speaker opened step reply handed l now = (reply ≡ Refused (why_not f speaker step)) × IsUnmade f opened handed l now
+
+-- a step of a connection that has opened these boards gets this reply
+abbrev pub IsRepliedBy : FloorRecord → Owner → List (List ℕ) → Step → Reply → Option Handed → FloorRecord → List (List ℕ) → Type 0
+IsRepliedBy f speaker opened step reply handed l now = StepReplied (may_make f speaker opened step) f speaker opened step reply handed l now
 
 -- the answer to a text that says this
 abbrev pub SaidAnswered : FloorRecord → Owner → List (List ℕ) → Result Step MessageFault → Answer → Option Handed → FloorRecord → List (List ℕ) → Type 0
-SaidAnswered f speaker opened (Ok step) answer handed l now = StepAnswered (may_make f speaker opened step) f speaker opened step answer handed l now
-SaidAnswered f speaker opened (Err fault) answer handed l now = (answer ≡ answers.Fault fault) × (handed ≡ None) × (l ≡ f) × (now ≡ opened)
+SaidAnswered f speaker opened (Ok step) answer handed l now =
+    (reply : Reply) × (answer ≡ answers.Reply reply) × IsRepliedBy f speaker opened step reply handed l now
+SaidAnswered f speaker opened (Err fault) answer handed l now = (answer ≡ answers.Fault fault) × IsUnmade f opened handed l now
 
 -- there was no memory to read the text, which is not too long, and nothing was made
 abbrev pub IsUnread : FloorRecord → List (List ℕ) → List ℕ → Answer → Option Handed → FloorRecord → List (List ℕ) → Type 0
 IsUnread f opened text answer handed l now =
-    (length text ≤ MOST_BYTES) × (answer ≡ answers.Fault faults.OutOfMemory) × (handed ≡ None) × (l ≡ f) × (now ≡ opened)
+    (length text ≤ MOST_BYTES) × (answer ≡ answers.Fault faults.OutOfMemory) × IsUnmade f opened handed l now
 
 -- the text of a connection that has opened these boards gets the answer of these bytes
 abbrev pub IsAnsweredBy : FloorRecord → Owner → List (List ℕ) → List ℕ → List ℕ → Option Handed → FloorRecord → List (List ℕ) → Type 0
@@ -69,4 +76,4 @@ abbrev pub IsUnansweredBy : FloorRecord → Owner → List (List ℕ) → List �
 IsUnansweredBy f speaker opened text handed l now =
     ((step : Step) × (reply : Reply) × (decoded text ≡ Ok step) × (may_make f speaker opened step ≡ true) × Makes f speaker step reply handed l
     × (now ≡ opened_after opened step reply))
-    ⊎ ((handed ≡ None) × (l ≡ f) × (now ≡ opened))
+    ⊎ IsUnmade f opened handed l now

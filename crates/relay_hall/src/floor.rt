@@ -1,14 +1,16 @@
 //! The boards of a hall, and what the steps of connections make of them.
 
-ghost use Rattle.std.specs.Prelude.{◌≡◌, ℕ, [], None, IfOk, OnErr, string_bytes};
+ghost use Rattle.std.specs.Prelude.{◌≡◌, ℕ, [], None, is_some, length, option_map, slice_get, IfOk, IfSome, OnErr, string_bytes};
 ghost use Rattle.std.specs.List.{list_any};
+ghost use Rattle.std.specs.Map.{lookup};
+ghost use Rattle.relay_core.specs.Name.{same_name};
 ghost use Rattle.relay_core.specs.declared.step.Step.TheVariants.{Open, Submit, End, Follow};
 ghost use Rattle.relay_messages.specs.Answers.{answer_text};
 ghost use Rattle.relay_messages.specs.declared.answer.Answer.TheVariants.{Fault};
 ghost use Rattle.relay_hall.specs.Keys.{is_owner};
-ghost use Rattle.relay_hall.specs.Reading.{shown_at};
-ghost use Rattle.relay_hall.specs.Steps.{StateMakes, reply_to_end, reply_to_play, told};
-ghost use Rattle.relay_hall.specs.Talk.{IsAnsweredBy, IsUnansweredBy};
+ghost use Rattle.relay_hall.specs.Reading.{place_of, shown_at};
+ghost use Rattle.relay_hall.specs.Steps.{StateMakes, in_full, reply_to_end, reply_to_play};
+ghost use Rattle.relay_hall.specs.Talk.{IsAnsweredBy, IsRepliedBy, IsUnansweredBy, IsUnmade};
 ghost use Rattle.relay_hall.specs.Times.{swept_floor};
 
 use crate::boards::{end, end_where, hand_out, owns_any, play, ring_for};
@@ -16,6 +18,7 @@ use crate::handed::Handed;
 use crate::hosted::Hosted;
 use crate::leaver::Leaver;
 use crate::owner::Owner;
+use crate::reply::HallReply;
 use crate::rung::Rung;
 use crate::shown::Shown;
 use c960_board::Move;
@@ -74,16 +77,6 @@ fn ended(answer: Result<Outcome, Refusal>) -> Reply
 {
     match answer {
         Ok(outcome) => Reply::Ended(outcome),
-        Err(refusal) => Reply::Refused(refusal),
-    }
-}
-
-/// The reply to a follow.
-fn told(answer: Result<Reply, Refusal>) -> Reply
-    ensures { result ≡ told answer }
-{
-    match answer {
-        Ok(reply) => reply,
         Err(refusal) => Reply::Refused(refusal),
     }
 }
@@ -157,14 +150,17 @@ impl Floor {
     /// Hands out a follower of a board, from a place of its log or from its length. Refused: `NoSuchBoard`, `NotYet`, `TooFarBack`,
     /// `TooManyFollowers`, `OutOfMemory`.
     #[inline(never)]
-    fn follow(&mut self, board: BoardName, from: Option<u16>) -> Result<Reply, Refusal>
-        ensures { (who : ℕ) → StateMakes self.old (Follow who board from) (told result) self.new }
+    fn joins(&mut self, board: BoardName, from: Option<u16>) -> HallReply
+        ensures { (who : ℕ) → StateMakes self.old (Follow who board from) (in_full result) self.new }
     {
-        let (follower, replaying) = hand_out(&mut self.boards, BoardKey::of(board), from)?;
-        let joined = follower.joined();
-        let position = replaying.position();
-        self.handed = Some(Handed { board, follower });
-        Ok(Reply::Following { joined, position })
+        match hand_out(&mut self.boards, BoardKey::of(board), from) {
+            Ok((follower, replaying)) => {
+                let joined = follower.joined();
+                self.handed = Some(Handed { board, follower });
+                HallReply::Joins { joined, replaying }
+            }
+            Err(refusal) => HallReply::Said(Reply::Refused(refusal)),
+        }
     }
 
     /// Makes a step.
@@ -175,7 +171,7 @@ impl Floor {
             Step::Open(board, start) => self.open(BoardKey::of(board), start),
             Step::Submit(board, m) => self.submit(BoardKey::of(board), m),
             Step::End(board, ending) => self.end(BoardKey::of(board), ending),
-            Step::Follow(_, board, from) => told(self.follow(board, from)),
+            Step::Follow(_, board, from) => self.joins(board, from).reply(),
             // A connection does not ask for what it is sent unasked.
             Step::Take(_) | Step::Leave(_) => Reply::Refused(Refusal::WrongMode),
         }
@@ -198,6 +194,31 @@ impl Floor {
     {
         self.speaker = *speaker;
         conn.answer(text, self)
+    }
+
+    /// Replies to a step of a connection, for this speaker.
+    ///
+    /// # Errors
+    ///
+    /// There was no memory. Nothing was made.
+    pub(crate) fn reply(
+        &mut self,
+        conn: &mut Conn,
+        who: &Owner,
+        step: &Step,
+    ) -> Result<HallReply, AllocError>
+        requires empty { self.old.handed ≡ None }
+        ensures ok { IfOk result (λ r. IsRepliedBy self.old.floor who.now conn.old step.now (in_full r) self.new.handed self.new.floor conn.new) }
+        ensures err { OnErr result (IsUnmade self.old.floor conn.old self.new.handed self.new.floor conn.new) }
+    {
+        self.speaker = *who;
+        let Step::Follow(_, board, from) = *step else {
+            return Ok(HallReply::Said(conn.reply(step, self)?));
+        };
+        match conn.refusal(step, self) {
+            Some(refusal) => Ok(HallReply::Said(Reply::Refused(refusal))),
+            None => Ok(self.joins(board, from)),
+        }
     }
 
     /// Takes what was handed out last, if it was not taken yet.
@@ -231,8 +252,24 @@ impl Floor {
         let (key, hosted) = self.boards.get_index(at)?;
         Some(Shown {
             name: key.name(),
-            board: &hosted.board,
+            hosted,
         })
+    }
+
+    /// The index of the board of this name, in the order of opening.
+    pub(crate) fn place_of(&self, name: &BoardName) -> Option<usize>
+        ensures index { result ≡ place_of self.now.floor name.now }
+        ensures found { is_some result ≡ is_some (lookup (same_name name.now) self.now.floor.boards) }
+        ensures board { IfSome result (λ at. option_map (λ e. e.1) (slice_get self.now.floor.boards at) ≡ lookup (same_name name.now) self.now.floor.boards) }
+    {
+        self.boards.get_index_of(&BoardKey::of(*name))
+    }
+
+    /// How many boards there are.
+    pub(crate) fn len(&self) -> usize
+        ensures { result ≡ length self.now.floor.boards }
+    {
+        self.boards.len()
     }
 
     /// The text of the answer to a message that has this fault.

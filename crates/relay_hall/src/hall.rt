@@ -1,15 +1,19 @@
 //! A hall: its boards, the keys of those who are there, and time.
 
-ghost use Rattle.std.specs.Prelude.{◌≡◌, ◌&&◌, true, not, nat_lt, cond, Some, None, IfOk, OnErr, OnOk, string_bytes};
+ghost use Rattle.std.specs.Prelude.{◌≡◌, ◌&&◌, true, not, nat_lt, cond, is_some, length, option_map, slice_get, Some, None, IfOk, IfSome, OnErr, OnOk, string_bytes};
+ghost use Rattle.std.specs.Map.{lookup};
+ghost use Rattle.relay_core.specs.Name.{same_name};
 ghost use Rattle.relay_messages.specs.Answers.{answer_text};
 ghost use Rattle.relay_messages.specs.declared.answer.Answer.TheVariants.{Fault};
 ghost use Rattle.relay_messages.specs.declared.fault.MessageFault.TheVariants.{BadField, NotJson};
-ghost use Rattle.relay_hall.specs.Holders.{IsNextDue, is_waiting, presence_of};
-ghost use Rattle.relay_hall.specs.Reading.{shown_at};
+ghost use Rattle.relay_pushing.specs.Connections.{OwnsAny};
+ghost use Rattle.relay_hall.specs.Holders.{AllRunOut, IsNextDue, is_waiting, presence_of};
+ghost use Rattle.relay_hall.specs.Reading.{place_of, shown_at};
 ghost use Rattle.relay_hall.specs.Record.{nobody_yet};
 ghost use Rattle.relay_hall.specs.Runs.{IsReached};
-ghost use Rattle.relay_hall.specs.Talk.{IsAnsweredBy, IsUnansweredBy};
-ghost use Rattle.relay_hall.specs.Times.{Came, Shut, Timed, WentBy, WentWith, swept, waits_until};
+ghost use Rattle.relay_hall.specs.Steps.{in_full, tells_of};
+ghost use Rattle.relay_hall.specs.Talk.{IsAnsweredBy, IsRepliedBy, IsUnansweredBy};
+ghost use Rattle.relay_hall.specs.Times.{Came, Shut, Timed, WentBy, WentWith, has_waited, swept, swept_floor, waits_until};
 
 use crate::floor::Floor;
 use crate::handed::Handed;
@@ -17,8 +21,10 @@ use crate::holders::Holders;
 use crate::key::Key;
 use crate::leaver::{Everybody, KeyOwner, Keyless, RunOut};
 use crate::owner::Owner;
+use crate::reply::HallReply;
 use crate::shown::Shown;
 use c960_game::Limits;
+use relay_core::{BoardName, Step};
 use relay_messages::MessageFault;
 use relay_pushing::Conn;
 use std::alloc::{AllocError, Global};
@@ -63,6 +69,24 @@ fn when(owns: bool, is_shut: bool, now: u64, until: u64) -> Option<u64>
     }
 }
 
+/// Ends, as abandoned, the games of boards that have waited until now, and forgets their keys; without a time, of those that wait. Mostly
+/// there are none, and then no board is looked at.
+fn run_out(floor: &mut Floor, holders: &mut Holders, now: Option<u64>)
+    ensures keys { AllRunOut now holders.old.rows.items holders.new.rows.items }
+    ensures floor { floor.new.floor ≡ swept_floor floor.old.floor (λ o. has_waited now holders.old.rows.items o.key) }
+    ensures handed { floor.new.handed ≡ floor.old.handed }
+{
+    if !holders.has_due(now) {
+        return;
+    }
+    let left = RunOut {
+        holders: &*holders,
+        now,
+    };
+    floor.sweep(&left);
+    holders.expire_all(now);
+}
+
 impl Hall {
     /// A hall without boards, with room for as many as the limits allow. Boards of a key wait `grace` milliseconds for a connection with
     /// it.
@@ -70,7 +94,7 @@ impl Hall {
     /// # Errors
     ///
     /// There was no memory.
-    #[tactic(auto, using(crate::proofs::Reached::nobody_reached))]
+    #[tactic(auto, using(crate::proofs::lemmas::Reached::nobody_reached))]
     pub fn new(alloc: Global, limits: Limits, grace: u64) -> Result<Hall, AllocError>
         ensures { IfOk result (λ h. h ≡ nobody_yet limits grace) }
     {
@@ -105,6 +129,27 @@ impl Hall {
         (heard, self.floor.take_handed())
     }
 
+    /// Replies to a step of a connection, for its owner: what `hear` does between reading a text and writing its answer. Returns the reply,
+    /// and the follower that was handed out if a follow was accepted, with the name of its board.
+    ///
+    /// # Errors
+    ///
+    /// There was no memory. Nothing was made.
+    pub fn reply(
+        &mut self,
+        conn: &mut Conn,
+        who: &Owner,
+        step: &Step,
+    ) -> (Result<HallReply, AllocError>, Option<Handed>)
+        ensures ok { IfOk result.0 (λ r. IsRepliedBy self.old.floor who.now conn.old step.now (in_full r) result.1 self.new.floor conn.new) }
+        ensures err { OnErr result.0 ((result.1 ≡ None) × (self.new ≡ self.old) × (conn.new ≡ conn.old)) }
+        ensures rest { self.new ≡ record self.old { floor = self.new.floor } }
+        ensures reached { IsReached self.old × IsReached self.new }
+    {
+        let replied = self.floor.reply(conn, who, step);
+        (replied, self.floor.take_handed())
+    }
+
     /// The text of the answer to a message that is no text, by which nothing changes: `NotJson`.
     ///
     /// # Errors
@@ -133,6 +178,29 @@ impl Hall {
         ensures { self.new ≡ self.old }
     {
         self.floor.take_rung()
+    }
+
+    /// Whether any board belongs to connections with the key of this one. None does if it has no key.
+    pub fn owns_any(&self, who: &Owner) -> bool
+        ensures { result ≡ tells_of self.now.floor who.now OwnsAny }
+    {
+        self.floor.has_any_of(who)
+    }
+
+    /// The index of the board of this name, in the order of opening. It stays, since no board is removed.
+    pub fn place_of(&self, name: &BoardName) -> Option<usize>
+        ensures index { result ≡ place_of self.now.floor name.now }
+        ensures found { is_some result ≡ is_some (lookup (same_name name.now) self.now.floor.boards) }
+        ensures board { IfSome result (λ at. option_map (λ e. e.1) (slice_get self.now.floor.boards at) ≡ lookup (same_name name.now) self.now.floor.boards) }
+    {
+        self.floor.place_of(name)
+    }
+
+    /// How many boards there are. Their indices are below this.
+    pub fn len(&self) -> usize
+        ensures { result ≡ length self.now.floor.boards }
+    {
+        self.floor.len()
     }
 
     /// The board of this index, in the order of opening.
@@ -175,7 +243,7 @@ impl Hall {
     }
 
     /// The connection of this number, which has no key, goes.
-    fn leave_without(&mut self, who: u32)
+    fn leave_without(&mut self, who: u64)
         ensures { WentBy self.old who None self.new }
     {
         self.floor.sweep(&Keyless(who));
@@ -211,12 +279,7 @@ impl Hall {
     pub fn tick(&mut self, now: u64)
         ensures { Timed self.old now self.new }
     {
-        let left = RunOut {
-            holders: &self.holders,
-            now: Some(now),
-        };
-        self.floor.sweep(&left);
-        self.holders.expire_all(Some(now));
+        run_out(&mut self.floor, &mut self.holders, Some(now));
         self.time = self.time.max(now);
     }
 
@@ -224,12 +287,7 @@ impl Hall {
     pub fn shut(&mut self)
         ensures { Shut self.old self.new }
     {
-        let left = RunOut {
-            holders: &self.holders,
-            now: None,
-        };
-        self.floor.sweep(&left);
-        self.holders.expire_all(None);
+        run_out(&mut self.floor, &mut self.holders, None);
         self.is_shut = true;
     }
 

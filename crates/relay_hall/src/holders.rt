@@ -1,6 +1,6 @@
 //! The keys that connections hold, and those whose boards wait for a connection to come back.
 
-ghost use Rattle.std.specs.Prelude.{◌≡◌, ◌<◌, ◌++◌, ◌∷◌, [], vec_len, is_some, true, slice_get, None, IfOk, IfSome, OnOk, OnErr};
+ghost use Rattle.std.specs.Prelude.{◌≡◌, ◌<◌, ◌++◌, ◌∷◌, [], vec_len, is_some, true, false, slice_get, None, IfOk, IfSome, OnOk, OnErr};
 ghost use Rattle.relay_hall.specs.Holders.{AllRunOut, IsNextDue, departure, has_run_out, is_waiting, presence_of, with_newcomer, without_one, HasRunOut, NoneHasRunOut, OthersStay, stand_once};
 ghost use Rattle.relay_hall.specs.Holding.{IsDue};
 ghost use Rattle.relay_hall.specs.Keys.{same_key};
@@ -160,6 +160,13 @@ impl Holders {
             }
         }
         None
+    }
+
+    /// Whether the boards of any key have waited until now; without a time, whether any wait. No key is compared.
+    pub(crate) fn has_due(&self, now: Option<u64>) -> bool
+        ensures { result ≡ false → NoneHasRunOut now self.now.rows.items }
+    {
+        self.due_index(now).is_some()
     }
 
     /// Removes each key whose boards have waited until now; without a time, each whose boards wait.

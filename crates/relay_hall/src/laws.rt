@@ -12,7 +12,7 @@ ghost use Rattle.relay_hall.specs.declared.handed.Handed.{Handed};
 ghost use Rattle.relay_hall.specs.declared.owner.Owner.{Owner};
 ghost use Rattle.relay_hall.specs.Holders.{presence_of};
 ghost use Rattle.relay_hall.specs.Record.{HallBoard, HallRecord, nobody_yet, plain_of};
-ghost use Rattle.relay_hall.specs.Talk.{IsAnsweredBy, IsUnansweredBy};
+ghost use Rattle.relay_hall.specs.Talk.{IsAnsweredBy, IsRepliedBy, IsUnansweredBy};
 ghost use Rattle.relay_hall.specs.Runs.{AllSayWhileThere, HallEvent, HallTold, HallRuns, HallStep, IsForsaken, IsHandedOf, IsInTime, IsOneStep, IsOrderly, Replied, Says, Silent, has_gone};
 
 use relay_core::laws::histories::logs_are_legal_games;
@@ -52,8 +52,11 @@ pub fn whatever_happens()
     logs_are_legal_games();
 }
 
-/// A text makes one step at most, as one event, or nothing: what answers a text does to a hall is a run of one event or none.
+/// A text, or a step that was read from one, makes one step at most, as one event, or nothing: what replies to a step or answers a text
+/// does to a hall is a run of one event or none.
 pub fn one_step_at_most()
+    ensures replied { (k l : HallRecord) (speaker : Owner) (opened : List (List ℕ)) (step : Step) (reply : Reply) (handed : Option Handed) (now : List (List ℕ))
+        → IsRepliedBy k.floor speaker opened step reply handed l.floor now → l ≡ record k { floor = l.floor } → IsOneStep k speaker handed l }
     ensures answered { (k l : HallRecord) (speaker : Owner) (opened : List (List ℕ)) (text bytes : List ℕ) (handed : Option Handed) (now : List (List ℕ))
         → IsAnsweredBy k.floor speaker opened text bytes handed l.floor now → l ≡ record k { floor = l.floor } → IsOneStep k speaker handed l }
     ensures unanswered { (k l : HallRecord) (speaker : Owner) (opened : List (List ℕ)) (text : List ℕ) (handed : Option Handed) (now : List (List ℕ))

@@ -24,7 +24,7 @@ pub(crate) trait Leaver {
 
 /// The connection of this number, if it has no key.
 #[derive(Drop)]
-pub(crate) struct Keyless(pub(crate) u32);
+pub(crate) struct Keyless(pub(crate) u64);
 
 impl Leaver for Keyless {
     ghost gone = { λ s owner. is_left_by s.0 owner };

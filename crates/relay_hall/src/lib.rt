@@ -13,6 +13,7 @@ pub mod laws;
 mod leaver;
 mod owner;
 mod presence;
+mod reply;
 mod rung;
 mod shown;
 
@@ -20,4 +21,5 @@ pub use hall::Hall;
 pub use handed::Handed;
 pub use key::Key;
 pub use owner::Owner;
+pub use reply::HallReply;
 pub use shown::Shown;

@@ -10,7 +10,7 @@ use crate::key::Key;
 #[derive(Clone, Copy)]
 pub struct Owner {
     pub key: Option<Key>,
-    pub opener: u32,
+    pub opener: u64,
 }
 
 impl Owner {
@@ -35,7 +35,7 @@ impl Owner {
     }
 
     /// Whether what it opened is left when the connection of this number goes: it has no key.
-    pub(crate) fn is_left_by(&self, who: u32) -> bool
+    pub(crate) fn is_left_by(&self, who: u64) -> bool
         ensures { result ≡ is_left_by who self.now }
     {
         self.key.is_none() && self.opener == who

@@ -1,22 +1,25 @@
 //! A board that is looked at.
 
-ghost use Rattle.std.specs.Prelude.{◌≡◌, ◌++◌, drop, OnOk};
+ghost use Rattle.std.specs.Prelude.{◌≡◌, ◌++◌, drop, OnOk, Some};
 ghost use Rattle.c960_game.specs.Positions.{position_at};
+ghost use Rattle.relay_hall.specs.Keys.{is_owner};
 ghost use Rattle.relay_hall.specs.Reading.{NewsOf, last_of, summary_of};
 
+use crate::hosted::Hosted;
+use crate::key::Key;
 use c960_board::{Move, Position};
-use c960_game::Outcome;
+use c960_game::{Outcome, Replaying};
 use live_board::Board;
 use relay_core::BoardName;
 use relay_messages::BoardSummary;
 use std::alloc::AllocError;
 use std::marker::Model;
 
-/// A board of a hall, to be looked at: nothing can be done to it. Contracts see its name and its game.
+/// A board of a hall, to be looked at: nothing can be done to it. Contracts see its name, its game and its owner.
 #[derive(Drop)]
 pub struct Shown<'a> {
     pub(crate) name: BoardName,
-    pub(crate) board: &'a Board,
+    pub(crate) hosted: &'a Hosted,
 }
 
 impl<'a> Model for Shown<'a> {
@@ -25,7 +28,7 @@ impl<'a> Model for Shown<'a> {
 
     ghost Value = { ShownBoard };
 
-    ghost view = { λ s. record { name = s.name; game = game_of s.board.now.knows } };
+    ghost view = { λ s. record { name = s.name; game = game_of s.hosted.now.board.knows; owner = s.hosted.now.owner } };
 }
 
 impl<'a> Shown<'a> {
@@ -40,7 +43,7 @@ impl<'a> Shown<'a> {
     pub fn outcome(&self) -> Option<Outcome>
         ensures { result ≡ self.now.game.outcome }
     {
-        self.board.outcome()
+        self.hosted.board.outcome()
     }
 
     /// Appends the moves of its log from a place on to `moves`. Returns the outcome of its game.
@@ -51,15 +54,29 @@ impl<'a> Shown<'a> {
     pub fn news(&self, from: u16, moves: &mut Vec<Move>) -> Result<Option<Outcome>, AllocError>
         ensures { NewsOf self.now.game from moves.old.items moves.new.items result }
     {
-        append_log(self.board, from, moves)?;
-        Ok(self.board.outcome())
+        append_log(&self.hosted.board, from, moves)?;
+        Ok(self.hosted.board.outcome())
     }
 
     /// The position after that many moves, or None exactly if fewer were made.
     pub fn position_at(&self, place: u16) -> Option<Position>
         ensures { result ≡ position_at self.now.game.start self.now.game.log place }
     {
-        self.board.position_at(place)
+        self.hosted.board.position_at(place)
+    }
+
+    /// The position after that many moves, to be worked out without the hall, or None exactly if fewer were made.
+    pub fn replay_at(&self, place: u16) -> Option<Replaying>
+        ensures { result ≡ position_at self.now.game.start self.now.game.log place }
+    {
+        self.hosted.board.replay_at(place)
+    }
+
+    /// Whether it belongs to connections with this key: the connection that opened it had the key.
+    pub fn belongs_to(&self, key: &Key) -> bool
+        ensures { result ≡ is_owner (Some key.now) self.now.owner.key }
+    {
+        self.hosted.owner.has(key)
     }
 
     /// Its present state.
@@ -68,11 +85,11 @@ impl<'a> Shown<'a> {
     {
         BoardSummary {
             board: self.name,
-            start: self.board.start(),
-            position: self.board.position(),
-            last: last_move(self.board),
-            plies: self.board.len(),
-            outcome: self.board.outcome(),
+            start: self.hosted.board.start(),
+            position: self.hosted.board.position(),
+            last: last_move(&self.hosted.board),
+            plies: self.hosted.board.len(),
+            outcome: self.hosted.board.outcome(),
         }
     }
 }

@@ -1,5 +1,5 @@
 use Rattle.relay_hall.specs.Inner.{hall_of}
-use Rattle.relay_hall.proofs.Reached.{arrived}
+use Rattle.relay_hall.proofs.lemmas.Reached.{arrived}
 use Rattle.relay_hall.proofs.hall.Hall.arrive.Goals as goal
 
 pub invariant_of-self : goal.invariant_of-self

@@ -1,7 +1,7 @@
 use Rattle.std.proofs.Common.{◌∙◌}
 use Rattle.relay_hall.specs.Inner.{hall_of}
 use Rattle.relay_hall.specs.Runs.{Ends, Silent}
-use Rattle.relay_hall.proofs.Reached.{goes_on}
+use Rattle.relay_hall.proofs.lemmas.Reached.{goes_on}
 use Rattle.relay_hall.proofs.hall.Hall.end_all.Goals as goal
 
 pub invariant_of-self : goal.invariant_of-self

@@ -2,7 +2,7 @@ use Rattle.std.proofs.Common.{sym, subst, string_bytes}
 use Rattle.relay_hall.specs.Inner.{hall_of}
 use Rattle.relay_hall.specs.Record.{FloorRecord}
 use Rattle.relay_hall.specs.Runs.{IsReached}
-use Rattle.relay_hall.proofs.Reached.{heard}
+use Rattle.relay_hall.proofs.lemmas.Reached.{heard}
 use Rattle.relay_hall.proofs.hall.Hall.hear.Goals as goal
 
 pub invariant_of-self : goal.invariant_of-self

@@ -7,7 +7,7 @@ use Rattle.relay_hall.specs.Inner.{hall_of}
 use Rattle.relay_hall.specs.Record.{FloorRecord, HallRecord}
 use Rattle.relay_hall.specs.Runs.{Goes, Silent}
 use Rattle.relay_hall.specs.Times.{WentWith, swept_floor, waits_until}
-use Rattle.relay_hall.proofs.Reached.{goes_on}
+use Rattle.relay_hall.proofs.lemmas.Reached.{goes_on}
 use Rattle.relay_hall.proofs.hall.Hall.leave_with.Goals as goal
 
 not_some : {A : Type 0} (o : Option A) → not (is_some o) ≡ is_none o

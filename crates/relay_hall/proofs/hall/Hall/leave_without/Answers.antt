@@ -1,7 +1,7 @@
 use Rattle.std.proofs.Common.{None, ◌∙◌}
 use Rattle.relay_hall.specs.Inner.{hall_of}
 use Rattle.relay_hall.specs.Runs.{Goes, Silent}
-use Rattle.relay_hall.proofs.Reached.{goes_on}
+use Rattle.relay_hall.proofs.lemmas.Reached.{goes_on}
 use Rattle.relay_hall.proofs.hall.Hall.leave_without.Goals as goal
 
 pub invariant_of-self : goal.invariant_of-self

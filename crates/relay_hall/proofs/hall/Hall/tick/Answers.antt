@@ -1,20 +1,20 @@
 use Rattle.std.proofs.Common.{◌∙◌}
 use Rattle.relay_hall.specs.Inner.{hall_of}
 use Rattle.relay_hall.specs.Runs.{Silent, Time}
-use Rattle.relay_hall.proofs.Reached.{goes_on}
+use Rattle.relay_hall.proofs.lemmas.Reached.{goes_on}
 use Rattle.relay_hall.proofs.hall.Hall.tick.Goals as goal
 
 pub invariant_of-self : goal.invariant_of-self
 invariant_of-self c =
     let a = c.self.inside in
     record {
-      empty = c.sweep.ensures.handed ∙ c.self.invariant.empty;
+      empty = c.run_out.ensures.handed ∙ c.self.invariant.empty;
       reached = goes_on (hall_of a) c.self.invariant.reached (Time c.args.now) Silent _
-          (c.expire_all.ensures, (λ i. record (hall_of a) { floor = c.sweep.ensures.floor i; keys = c.expire_all.new.self.rows.items; time = c.max-self-inside.ensures i }));
+          (c.run_out.ensures.keys, (λ i. record (hall_of a) { floor = c.run_out.ensures.floor i; keys = c.run_out.new.holders.rows.items; time = c.max-self-inside.ensures i }));
     }
 
 pub returns : goal.returns
 returns c =
     let a = c.self.inside in
     rw (← c.self.view_is)
-    (c.expire_all.ensures, (λ i. record (hall_of a) { floor = c.sweep.ensures.floor i; keys = c.expire_all.new.self.rows.items; time = c.max-self-inside.ensures i }))
+    (c.run_out.ensures.keys, (λ i. record (hall_of a) { floor = c.run_out.ensures.floor i; keys = c.run_out.new.holders.rows.items; time = c.max-self-inside.ensures i }))

@@ -17,9 +17,9 @@ use Rattle.relay_hall.specs.Holders.{OthersStay, presence_of, with_newcomer}
 use Rattle.relay_hall.specs.Record.{FloorRecord, HallRecord, nobody_yet}
 use Rattle.relay_hall.specs.Runs.{HallEvent, Comes, Says, Goes, Time, Shuts, Ends, HallTold, Replied, Silent, HallRuns, HallStep, IsOneStep, IsReached, Passes, history_after}
 use Rattle.relay_hall.specs.Steps.{Makes, OpensAs, after_end, after_submit, answer_to_end, answer_to_open, answer_to_submit}
-use Rattle.relay_hall.specs.Talk.{IsAnsweredBy, IsUnansweredBy}
+use Rattle.relay_hall.specs.Talk.{IsAnsweredBy, IsRepliedBy, IsUnansweredBy, IsUnmade}
 use Rattle.relay_hall.specs.Times.{WentBy}
-use Rattle.relay_hall.proofs.lemmas.OneStep.{answered_once, unanswered_once}
+use Rattle.relay_hall.proofs.lemmas.OneStep.{answered_once, replied_once, unanswered_once}
 
 -- ---- No event changes the limits or the grace.
 
@@ -60,7 +60,7 @@ passed_within k (Time t) l (all, is) = ap setting is
 passed_within k Shuts l (all, is) = ap setting is
 passed_within k Ends l is = ap setting is
 
-step_within : (k : HallRecord) (e : HallEvent) (t : HallTold) (l : HallRecord) → HallStep k e t l → setting l ≡ setting k
+pub step_within : (k : HallRecord) (e : HallEvent) (t : HallTold) (l : HallRecord) → HallStep k e t l → setting l ≡ setting k
 step_within k e Silent l s = passed_within k e l s
 step_within k (Says speaker step) (Replied reply handed) l (makes, is) = ap setting is ∙ ap (λ (n : LimitNumbers). nobody_yet n k.grace) (made_within k.floor speaker step reply handed l.floor makes)
 step_within k (Comes key) (Replied reply handed) l s = absurd s
@@ -71,12 +71,12 @@ step_within k Ends (Replied reply handed) l s = absurd s
 
 -- ---- One event more.
 
-one_more : (k : HallRecord) (h : History) (es : List HallEvent) (ts : List HallTold) (g : History) (l : HallRecord) → HallRuns k h es ts g l → (e : HallEvent) (t : HallTold) (m : HallRecord) → HallStep l e t m
+pub runs_on : (k : HallRecord) (h : History) (es : List HallEvent) (ts : List HallTold) (g : History) (l : HallRecord) → HallRuns k h es ts g l → (e : HallEvent) (t : HallTold) (m : HallRecord) → HallStep l e t m
     → HallRuns k h (es ++ e ∷ []) (ts ++ t ∷ []) (history_after l e t m g) m
-one_more k h [] [] g l (g-is, l-is) e t m s = (m, subst (λ (x : HallRecord). HallStep x e t m) l-is s, ((λ i. history_after (l-is i) e t m (g-is i)), refl))
-one_more k h [] (u ∷ ts) g l r e t m s = absurd r
-one_more k h (d ∷ es) [] g l r e t m s = absurd r
-one_more k h (d ∷ es) (u ∷ ts) g l (mid, first, r) e t m s = (mid, first, one_more mid (history_after k d u mid h) es ts g l r e t m s)
+runs_on k h [] [] g l (g-is, l-is) e t m s = (m, subst (λ (x : HallRecord). HallStep x e t m) l-is s, ((λ i. history_after (l-is i) e t m (g-is i)), refl))
+runs_on k h [] (u ∷ ts) g l r e t m s = absurd r
+runs_on k h (d ∷ es) [] g l r e t m s = absurd r
+runs_on k h (d ∷ es) (u ∷ ts) g l (mid, first, r) e t m s = (mid, first, runs_on mid (history_after k d u mid h) es ts g l r e t m s)
 
 pub goes_on : (k : HallRecord) → IsReached k → (e : HallEvent) (t : HallTold) (l : HallRecord) → HallStep k e t l → IsReached l
 goes_on k r e t l s =
@@ -86,7 +86,7 @@ goes_on k r e t l s =
       told = r.told ++ t ∷ [];
       history = history_after k e t l so_far;
       run = subst (λ (b : HallRecord). HallRuns b [] (r.events ++ e ∷ []) (r.told ++ t ∷ []) (history_after k e t l so_far) l) (sym (step_within k e t l s))
-          (one_more (setting k) [] r.events r.told so_far k r.run e t l s);
+          (runs_on (setting k) [] r.events r.told so_far k r.run e t l s);
     }
 
 pub nobody_reached : (limits : LimitNumbers) (grace : ℕ) → IsReached (nobody_yet limits grace)
@@ -100,8 +100,13 @@ heard_once k l speaker handed r (inr (is, none)) = subst IsReached (sym is) r
 
 pub heard : {S E : Type 0} (bytes : S → List ℕ) (k : HallRecord) (f : FloorRecord) (speaker : Owner) (opened : List (List ℕ)) (text : List ℕ) (handed : Option Handed) (now : List (List ℕ)) (answer : Result S E) → IsReached k
     → IfOk answer (λ s. IsAnsweredBy k.floor speaker opened text (bytes s) handed f now) → OnErr answer (IsUnansweredBy k.floor speaker opened text handed f now) → IsReached (record k { floor = f })
-heard bytes k f speaker opened text handed now (Ok s) r ok err = heard_once k (record k { floor = f }) speaker handed r (answered_once k (record k { floor = f }) refl speaker opened text (bytes s) handed now ok)
-heard bytes k f speaker opened text handed now (Err e) r ok err = heard_once k (record k { floor = f }) speaker handed r (unanswered_once k (record k { floor = f }) refl speaker opened text handed now err)
+heard bytes k f speaker opened text handed now (Ok s) r ok err = heard_once k (record k { floor = f }) speaker handed r (answered_once k (record k { floor = f }) refl speaker opened handed now text (bytes s) ok)
+heard bytes k f speaker opened text handed now (Err e) r ok err = heard_once k (record k { floor = f }) speaker handed r (unanswered_once k (record k { floor = f }) refl speaker opened handed now text err)
+
+pub replied : {S E : Type 0} (full : S → Reply) (k : HallRecord) (f : FloorRecord) (speaker : Owner) (opened : List (List ℕ)) (step : Step) (handed : Option Handed) (now : List (List ℕ)) (answer : Result S E) → IsReached k
+    → IfOk answer (λ s. IsRepliedBy k.floor speaker opened step (full s) handed f now) → OnErr answer (IsUnmade k.floor opened handed f now) → IsReached (record k { floor = f })
+replied full k f speaker opened step handed now (Ok s) r ok err = heard_once k (record k { floor = f }) speaker handed r (replied_once k (record k { floor = f }) refl speaker opened handed now step (full s) ok)
+replied full k f speaker opened step handed now (Err e) r ok (none, is, now-is) = subst (λ (x : FloorRecord). IsReached (record k { floor = x })) (sym is) r
 
 pub arrived : {A E : Type 0} (k : HallRecord) (key : List ℕ) (keys : List Holder) (answer : Result A E) → IsReached k
     → OnOk answer (is_some (presence_of key keys) ≡ true) → OnOk answer (presence_of key keys ≡ with_newcomer (presence_of key k.keys)) → OthersStay key k.keys keys → OnErr answer (keys ≡ k.keys)
