@@ -1,0 +1,308 @@
+//! A hall in plain terms: boards in a row, each with the number of its moves. All games go the same way, so that one move of four is legal.
+
+use crate::tests::answers::{
+    AGREED, BAD_START, BOARD_EXISTS, GAME_OVER, ILLEGAL, LOG_FULL, NO_SUCH_BOARD, NOT_YET,
+    NOT_YOUR_BOARD, OPENED, TOO_FAR_BACK, TOO_MANY_BOARDS, TOO_MANY_FOLLOWERS, WRONG_MODE,
+};
+use crate::tests::command::Command;
+use c960_game::Outcome;
+use std::alloc::{AllocError, Global};
+
+pub const BOARDS: u16 = 24;
+
+pub const FOLLOWERS: u16 = 2;
+
+pub const CAPACITY: u16 = 3;
+
+pub const PLIES: u16 = 10;
+
+pub const KEYS: usize = 6;
+
+/// Two knights out and home again. After any number of these moves only the next one is legal.
+pub const MOVES: [&str; 4] = ["g1f3", "g8f6", "f3g1", "f6g8"];
+
+/// A board.
+#[derive(Clone, Copy)]
+pub struct Row {
+    pub name: u32,
+    pub opener: u32,
+    pub key: usize,
+    pub plies: u16,
+    pub outcome: Option<Outcome>,
+    pub followers: u16,
+    /// Whether its game has changed since that was last told.
+    pub has_rung: bool,
+}
+
+/// The connections with a key.
+#[derive(Clone, Copy)]
+pub enum Stand {
+    Gone,
+    Here(u32),
+    Waits(u64),
+}
+
+/// Who speaks: its number, and its key, which is `KEYS` if it has none.
+#[derive(Clone, Copy)]
+pub struct Speaker {
+    pub number: u32,
+    pub key: usize,
+}
+
+/// What is answered.
+#[derive(Clone, Copy)]
+pub enum Answer {
+    Text(&'static str),
+    /// The move has this place.
+    Played(u16),
+    /// The follower joins at this place of the board of this index.
+    Joined(usize, u16),
+}
+
+/// A hall.
+#[derive(Drop)]
+pub struct Plain {
+    pub rows: Vec<Row>,
+    pub stands: [Stand; 6],
+    pub grace: u64,
+    pub time: u64,
+    pub is_shut: bool,
+}
+
+impl Plain {
+    /// No boards, with room for all.
+    pub fn new(alloc: Global, grace: u64) -> Result<Plain, AllocError> {
+        Ok(Plain {
+            rows: Vec::with_capacity(alloc, usize::from(BOARDS))?,
+            stands: [Stand::Gone; 6],
+            grace,
+            time: 0,
+            is_shut: false,
+        })
+    }
+
+    /// What a command is answered.
+    pub fn step(&mut self, speaker: Speaker, command: Command) -> Result<Answer, AllocError> {
+        match command {
+            Command::Open(name, start) => self.open(speaker, name, start),
+            Command::Submit(name, which) => Ok(self.submit(speaker, name, which)),
+            Command::Agree(name) => Ok(self.agree(speaker, name)),
+            Command::Follow(name) => Ok(self.follow(speaker, name, None)),
+            Command::FollowFrom(name, from) => Ok(self.follow(speaker, name, Some(from))),
+        }
+    }
+
+    /// The index of the board of this name.
+    fn find(&self, name: u32) -> Option<usize> {
+        self.rows.iter().position(|row| row.name == name)
+    }
+
+    fn owns(speaker: Speaker, row: &Row) -> bool {
+        row.opener == speaker.number || (speaker.key < KEYS && row.key == speaker.key)
+    }
+
+    fn open(&mut self, speaker: Speaker, name: u32, start: u16) -> Result<Answer, AllocError> {
+        if self.find(name).is_some() {
+            return Ok(Answer::Text(BOARD_EXISTS));
+        }
+        if start >= 960 {
+            return Ok(Answer::Text(BAD_START));
+        }
+        if self.rows.len() >= usize::from(BOARDS) {
+            return Ok(Answer::Text(TOO_MANY_BOARDS));
+        }
+        self.rows.push(Row {
+            name,
+            opener: speaker.number,
+            key: speaker.key,
+            plies: 0,
+            outcome: None,
+            followers: 0,
+            has_rung: false,
+        })?;
+        Ok(Answer::Text(OPENED))
+    }
+
+    /// The board of this name, if it is the speaker's and its game goes on.
+    fn going(&mut self, speaker: Speaker, name: u32) -> Result<&mut Row, &'static str> {
+        let Some(at) = self.find(name) else {
+            return Err(NO_SUCH_BOARD);
+        };
+        let Some(row) = self.rows.get_mut(at) else {
+            return Err(NO_SUCH_BOARD);
+        };
+        if !Plain::owns(speaker, row) {
+            return Err(NOT_YOUR_BOARD);
+        }
+        if row.outcome.is_some() {
+            return Err(GAME_OVER);
+        }
+        Ok(row)
+    }
+
+    fn submit(&mut self, speaker: Speaker, name: u32, which: u16) -> Answer {
+        let row = match self.going(speaker, name) {
+            Ok(row) => row,
+            Err(text) => return Answer::Text(text),
+        };
+        if row.plies >= PLIES {
+            return Answer::Text(LOG_FULL);
+        }
+        if row.plies % 4 != which {
+            return Answer::Text(ILLEGAL);
+        }
+        let place = row.plies;
+        row.plies = place.wrapping_add(1);
+        row.has_rung = true;
+        Answer::Played(place)
+    }
+
+    fn agree(&mut self, speaker: Speaker, name: u32) -> Answer {
+        let row = match self.going(speaker, name) {
+            Ok(row) => row,
+            Err(text) => return Answer::Text(text),
+        };
+        row.outcome = Some(Outcome::Agreed);
+        row.has_rung = true;
+        Answer::Text(AGREED)
+    }
+
+    fn follow(&mut self, speaker: Speaker, name: u32, from: Option<u16>) -> Answer {
+        if self.rows.iter().any(|row| Plain::owns(speaker, row)) {
+            return Answer::Text(WRONG_MODE);
+        }
+        let Some(at) = self.find(name) else {
+            return Answer::Text(NO_SUCH_BOARD);
+        };
+        let Some(row) = self.rows.get_mut(at) else {
+            return Answer::Text(NO_SUCH_BOARD);
+        };
+        let place = from.unwrap_or(row.plies);
+        if place > row.plies {
+            return Answer::Text(NOT_YET);
+        }
+        if row.plies.wrapping_sub(place) > CAPACITY {
+            return Answer::Text(TOO_FAR_BACK);
+        }
+        if row.followers >= FOLLOWERS {
+            return Answer::Text(TOO_MANY_FOLLOWERS);
+        }
+        row.followers = row.followers.wrapping_add(1);
+        Answer::Joined(at, place)
+    }
+
+    pub fn unfollow(&mut self, at: usize) {
+        if let Some(row) = self.rows.get_mut(at) {
+            row.followers = row.followers.wrapping_sub(1);
+        }
+    }
+
+    /// Each game that goes on, of those without a key that this number opened, or of this key, is abandoned.
+    fn abandon(&mut self, number: Option<u32>, key: usize) {
+        for row in self.rows.iter_mut() {
+            let is_left = match number {
+                Some(number) => row.key == KEYS && row.opener == number,
+                None => row.key == key,
+            };
+            if is_left && row.outcome.is_none() {
+                row.outcome = Some(Outcome::Abandoned);
+                row.has_rung = true;
+            }
+        }
+    }
+
+    /// Returns whether boards waited.
+    pub fn arrive(&mut self, key: usize) -> bool {
+        let Some(stand) = self.stands.get_mut(key) else {
+            return false;
+        };
+        match *stand {
+            Stand::Gone => {
+                *stand = Stand::Here(1);
+                false
+            }
+            Stand::Here(count) => {
+                *stand = Stand::Here(count.wrapping_add(1));
+                false
+            }
+            Stand::Waits(_) => {
+                *stand = Stand::Here(1);
+                true
+            }
+        }
+    }
+
+    pub fn leave(&mut self, speaker: Speaker) {
+        if speaker.key >= KEYS {
+            self.abandon(Some(speaker.number), KEYS);
+            return;
+        }
+        let owns = self.rows.iter().any(|row| row.key == speaker.key);
+        let may_wait = owns && !self.is_shut && self.grace > 0;
+        let until = self.time.wrapping_add(self.grace);
+        let Some(stand) = self.stands.get_mut(speaker.key) else {
+            return;
+        };
+        if let Stand::Here(count) = *stand {
+            if count > 1 {
+                *stand = Stand::Here(count.wrapping_sub(1));
+                return;
+            }
+        }
+        if may_wait {
+            *stand = Stand::Waits(until);
+        } else {
+            *stand = Stand::Gone;
+            self.abandon(None, speaker.key);
+        }
+    }
+
+    /// Keys whose time has come, or all that wait, are gone.
+    fn expire(&mut self, now: Option<u64>) {
+        for key in 0..KEYS {
+            let is_due = match self.stands[key] {
+                Stand::Waits(until) => match now {
+                    Some(now) => until <= now,
+                    None => true,
+                },
+                Stand::Gone | Stand::Here(_) => false,
+            };
+            if is_due {
+                self.stands[key] = Stand::Gone;
+                self.abandon(None, key);
+            }
+        }
+    }
+
+    pub fn tick(&mut self, now: u64) {
+        self.time = self.time.max(now);
+        self.expire(Some(now));
+    }
+
+    pub fn shut(&mut self) {
+        self.is_shut = true;
+        self.expire(None);
+    }
+
+    pub fn end_all(&mut self) {
+        for row in self.rows.iter_mut() {
+            if row.outcome.is_none() {
+                row.outcome = Some(Outcome::Abandoned);
+                row.has_rung = true;
+            }
+        }
+    }
+
+    pub fn next_due(&self) -> Option<u64> {
+        let mut next: Option<u64> = None;
+        for stand in self.stands.iter() {
+            if let Stand::Waits(until) = *stand {
+                next = match next {
+                    Some(earlier) => Some(earlier.min(until)),
+                    None => Some(until),
+                };
+            }
+        }
+        next
+    }
+}

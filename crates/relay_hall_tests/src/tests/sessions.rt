@@ -1,0 +1,345 @@
+//! Sessions as tables: what happens to a hall, one deed after another, and what it answers.
+
+use crate::tests::answers::{
+    AGREED, GAME_OVER, ILLEGAL, NO_SUCH_BOARD, NOT_YOUR_BOARD, OPENED, WRONG_MODE,
+};
+use crate::tests::sessions::Deed::{Comes, Due, Ends, Gets, Goes, Overs, Says, Shuts, Time};
+use c960_board::read_move;
+use c960_game::{Limits, Outcome};
+use live_board::Follower;
+use relay_core::Taken;
+use relay_hall::{Hall, Handed, Key, Owner};
+use relay_pushing::Conn;
+use std::alloc::Global;
+use std::process::Abort;
+use std::test::Fail;
+
+/// What happens. Connections are known by their numbers.
+#[derive(Clone, Copy)]
+enum Deed {
+    /// A connection with this key comes: whether its boards waited. Without one it is empty.
+    Comes(usize, &'static str, bool),
+    /// It sends this text, and gets this answer.
+    Says(usize, &'static str, &'static str),
+    /// It follows, and gets the move of this place.
+    Gets(usize, u16, &'static str),
+    /// It follows, and is told that the game is over.
+    Overs(usize, Outcome),
+    /// It goes.
+    Goes(usize),
+    /// It is this time.
+    Time(u64),
+    /// The next boards are to be ended at this time, or none are.
+    Due(Option<u64>),
+    /// Nobody can come back any more.
+    Shuts,
+    /// All games are ended.
+    Ends,
+}
+
+/// A connection.
+#[derive(Drop)]
+struct Person {
+    owner: Owner,
+    conn: Conn,
+    follower: Option<Follower>,
+}
+
+const KEY: &str = "H4gTq0Zr7_xWm2Kd-9aB";
+
+const OTHER: &str = "another-key_of-20-ch";
+
+const OPEN: &str = "{\"cmd\":\"open\",\"board\":\"b1\",\"start\":518}";
+
+const OPEN_B2: &str = "{\"cmd\":\"open\",\"board\":\"b2\",\"start\":518}";
+
+const E2E4: &str = "{\"cmd\":\"submit\",\"board\":\"b1\",\"move\":\"e2e4\"}";
+
+const E7E5: &str = "{\"cmd\":\"submit\",\"board\":\"b1\",\"move\":\"e7e5\"}";
+
+const G1F3: &str = "{\"cmd\":\"submit\",\"board\":\"b1\",\"move\":\"g1f3\"}";
+
+const B8C6: &str = "{\"cmd\":\"submit\",\"board\":\"b1\",\"move\":\"b8c6\"}";
+
+const A1B8: &str = "{\"cmd\":\"submit\",\"board\":\"b1\",\"move\":\"a1b8\"}";
+
+const A1B8_B2: &str = "{\"cmd\":\"submit\",\"board\":\"b2\",\"move\":\"a1b8\"}";
+
+const AGREE: &str = "{\"cmd\":\"end\",\"board\":\"b1\",\"how\":\"agreed\"}";
+
+const FOLLOW: &str = "{\"cmd\":\"follow\",\"board\":\"b1\",\"spectator\":1}";
+
+const FOLLOW_FROM_0: &str = "{\"cmd\":\"follow\",\"board\":\"b1\",\"spectator\":1,\"from\":0}";
+
+const FOLLOW_FROM_1: &str = "{\"cmd\":\"follow\",\"board\":\"b1\",\"spectator\":1,\"from\":1}";
+
+const FOLLOWING_0: &str =
+    "{\"fen\":\"rnbqkbnr/pppppppp/8/8/8/8/PPPPPPPP/RNBQKBNR w HAha - 0 1\",\"joined\":0,\"reply\":\"following\"}";
+
+const FOLLOWING_1: &str =
+    "{\"fen\":\"rnbqkbnr/pppppppp/8/8/4P3/8/PPPP1PPP/RNBQKBNR b HAha e3 0 1\",\"joined\":1,\"reply\":\"following\"}";
+
+const PLAYED_0: &str = "{\"outcome\":null,\"place\":0,\"reply\":\"played\"}";
+
+const PLAYED_1: &str = "{\"outcome\":null,\"place\":1,\"reply\":\"played\"}";
+
+const PLAYED_2: &str = "{\"outcome\":null,\"place\":2,\"reply\":\"played\"}";
+
+/// A board and a spectator; connection 3 is a stranger (docs/PROTOCOL.md, Sessions, the first).
+const A_BOARD_AND_A_SPECTATOR: [Deed; 11] = [
+    Says(1, OPEN, OPENED),
+    Says(2, FOLLOW, FOLLOWING_0),
+    Says(1, E7E5, ILLEGAL),
+    Says(1, E2E4, PLAYED_0),
+    Gets(2, 0, "e2e4"),
+    Says(1, FOLLOW, WRONG_MODE),
+    Says(3, E7E5, NOT_YOUR_BOARD),
+    Says(3, A1B8_B2, NO_SUCH_BOARD),
+    Says(3, "{\"cmd\":\"take\",\"spectator\":1}", WRONG_MODE),
+    Says(1, AGREE, AGREED),
+    Overs(2, Outcome::Agreed),
+];
+
+/// A spectator goes on from place 1; then the board's connection goes, and with it the game (the second).
+const A_BOARD_ENDS_WITH_ITS_CONNECTION: [Deed; 7] = [
+    Says(1, OPEN, OPENED),
+    Says(1, E2E4, PLAYED_0),
+    Says(1, E7E5, PLAYED_1),
+    Says(2, FOLLOW_FROM_1, FOLLOWING_1),
+    Gets(2, 1, "e7e5"),
+    Goes(1),
+    Overs(2, Outcome::Abandoned),
+];
+
+/// An operator with a key, connection 1, is lost after `e7e5`, and goes on as connection 4. The spectator, connection 2, notices nothing of
+/// it. Connection 3 has no key, connection 5 another one (the third; its grace is 120 s).
+const AN_OPERATOR_COMES_BACK: [Deed; 24] = [
+    Time(1000),
+    Comes(1, KEY, false),
+    Says(1, OPEN, OPENED),
+    Says(2, FOLLOW_FROM_0, FOLLOWING_0),
+    Says(1, E2E4, PLAYED_0),
+    Gets(2, 0, "e2e4"),
+    Says(1, E7E5, PLAYED_1),
+    Gets(2, 1, "e7e5"),
+    Due(None),
+    Goes(1),
+    Due(Some(121000)),
+    Time(120999),
+    Says(3, FOLLOW_FROM_1, FOLLOWING_1),
+    Gets(3, 1, "e7e5"),
+    Comes(4, KEY, true),
+    Due(None),
+    Says(4, E7E5, ILLEGAL),
+    Says(4, G1F3, PLAYED_2),
+    Says(4, FOLLOW, WRONG_MODE),
+    Comes(5, OTHER, false),
+    Says(5, B8C6, NOT_YOUR_BOARD),
+    Gets(2, 2, "g1f3"),
+    Says(4, AGREE, AGREED),
+    Overs(2, Outcome::Agreed),
+];
+
+/// Nobody comes back in time: the boards of the key are ended at that very time, and no others.
+const NOBODY_COMES_BACK: [Deed; 14] = [
+    Comes(1, KEY, false),
+    Says(1, OPEN, OPENED),
+    Comes(2, OTHER, false),
+    Says(2, OPEN_B2, OPENED),
+    Says(3, FOLLOW, FOLLOWING_0),
+    Time(5000),
+    Goes(1),
+    Due(Some(125000)),
+    Time(125000),
+    Due(None),
+    Overs(3, Outcome::Abandoned),
+    Comes(4, KEY, false),
+    Says(4, A1B8, GAME_OVER),
+    Says(2, A1B8_B2, ILLEGAL),
+];
+
+/// Two connections have the key: the boards wait only once both are gone, and each loss has a grace of its own.
+const EACH_LOSS_HAS_ITS_OWN_GRACE: [Deed; 15] = [
+    Comes(1, KEY, false),
+    Comes(2, KEY, false),
+    Says(1, OPEN, OPENED),
+    Goes(1),
+    Due(None),
+    Time(300000),
+    Says(2, E2E4, PLAYED_0),
+    Goes(2),
+    Due(Some(420000)),
+    Time(400000),
+    Comes(3, KEY, true),
+    Goes(3),
+    Due(Some(520000)),
+    Time(519999),
+    Comes(4, KEY, true),
+];
+
+/// Nobody can come back any more: what waits is ended, and what is held goes on until its connection goes.
+const NOBODY_CAN_COME_BACK: [Deed; 13] = [
+    Comes(1, KEY, false),
+    Says(1, OPEN, OPENED),
+    Comes(2, OTHER, false),
+    Says(2, OPEN_B2, OPENED),
+    Says(3, FOLLOW, FOLLOWING_0),
+    Goes(1),
+    Shuts,
+    Due(None),
+    Overs(3, Outcome::Abandoned),
+    Says(2, A1B8_B2, ILLEGAL),
+    Says(2, E7E5, NOT_YOUR_BOARD),
+    Ends,
+    Says(
+        2,
+        "{\"cmd\":\"submit\",\"board\":\"b2\",\"move\":\"e2e4\"}",
+        GAME_OVER,
+    ),
+];
+
+/// Without a grace the boards of a key end when its last connection goes.
+const NO_GRACE: [Deed; 9] = [
+    Comes(1, KEY, false),
+    Comes(2, KEY, false),
+    Says(1, OPEN, OPENED),
+    Goes(1),
+    Says(2, E2E4, PLAYED_0),
+    Goes(2),
+    Due(None),
+    Comes(3, KEY, false),
+    Says(3, A1B8, GAME_OVER),
+];
+
+/// A connection of this number.
+fn newcomer(alloc: Global, number: u32, key: Option<Key>) -> Person {
+    Person {
+        owner: Owner {
+            key,
+            opener: number,
+        },
+        conn: Conn::new(alloc),
+        follower: None,
+    }
+}
+
+/// The connection of this number.
+fn at<'a>(rt: &impl Abort, people: &'a mut [Person], who: usize) -> &'a mut Person {
+    let Some(person) = people.get_mut(who) else {
+        panic!(rt; "nobody");
+    };
+    person
+}
+
+/// What a follower takes.
+fn taken(rt: &impl Abort, person: &mut Person) -> Taken {
+    let Some(follower) = &mut person.follower else {
+        panic!(rt; "it follows nothing");
+    };
+    follower.take()
+}
+
+/// A follower gets the move of this place.
+fn gets(rt: &impl Abort, person: &mut Person, place: u16, text: &str) {
+    let Ok(m) = read_move(text.as_bytes()) else {
+        panic!(rt; "no move");
+    };
+    assert!(rt; taken(rt, person) == Taken::Move(place, m));
+}
+
+/// One deed.
+fn happens(rt: &impl Abort, alloc: Global, hall: &mut Hall, people: &mut [Person], deed: Deed) {
+    match deed {
+        Comes(who, key, waited) => comes(rt, alloc, hall, people, who, key, waited),
+        Says(who, text, answer) => says(rt, hall, at(rt, people, who), text, answer),
+        Gets(who, place, text) => gets(rt, at(rt, people, who), place, text),
+        Overs(who, outcome) => assert!(rt; taken(rt, at(rt, people, who)) == Taken::Over(outcome)),
+        Goes(who) => hall.leave(&at(rt, people, who).owner),
+        Time(now) => hall.tick(now),
+        Due(due) => assert!(rt; hall.next_due() == due),
+        Shuts => hall.shut(),
+        Ends => hall.end_all(),
+    }
+}
+
+/// A connection with this key comes.
+fn comes(
+    rt: &impl Abort,
+    alloc: Global,
+    hall: &mut Hall,
+    people: &mut [Person],
+    who: usize,
+    key: &str,
+    waited: bool,
+) {
+    let Some(key) = Key::parse(key.as_bytes()) else {
+        panic!(rt; "no key");
+    };
+    let Ok(did_wait) = hall.arrive(&key) else {
+        panic!(rt; "no memory");
+    };
+    assert!(rt; did_wait == waited);
+    let place = at(rt, people, who);
+    *place = newcomer(alloc, place.owner.opener, Some(key));
+}
+
+/// A connection sends this text, and gets this answer.
+fn says(rt: &impl Abort, hall: &mut Hall, person: &mut Person, text: &str, answer: &str) {
+    let (said, handed) = hall.hear(&mut person.conn, &person.owner, text.as_bytes());
+    let Ok(said) = said else {
+        panic!(rt; "no memory");
+    };
+    assert_eq!(rt; said.as_str(), answer);
+    if let Some(Handed { follower, .. }) = handed {
+        person.follower = Some(follower);
+    }
+}
+
+/// All deeds of a table, in a hall with this grace in milliseconds.
+fn play(rt: &impl Abort, alloc: Global, grace: u64, deeds: &[Deed]) -> Result<(), Fail> {
+    let limits = Limits::new(4, 4, 4, 64).ok_or("limits")?;
+    let mut hall = Hall::new(alloc, limits, grace)?;
+    let mut people = Vec::new(alloc);
+    for number in 0..8 {
+        people.push(newcomer(alloc, number, None))?;
+    }
+    for deed in deeds.iter() {
+        happens(rt, alloc, &mut hall, &mut people, *deed);
+    }
+    Ok(())
+}
+
+#[test]
+fn a_board_and_a_spectator(rt: HostRuntime) -> Result<(), Fail> {
+    play(&rt, rt.alloc(), 120000, &A_BOARD_AND_A_SPECTATOR)
+}
+
+#[test]
+fn a_board_ends_with_its_connection(rt: HostRuntime) -> Result<(), Fail> {
+    play(&rt, rt.alloc(), 120000, &A_BOARD_ENDS_WITH_ITS_CONNECTION)
+}
+
+#[test]
+fn an_operator_comes_back(rt: HostRuntime) -> Result<(), Fail> {
+    play(&rt, rt.alloc(), 120000, &AN_OPERATOR_COMES_BACK)
+}
+
+#[test]
+fn nobody_comes_back(rt: HostRuntime) -> Result<(), Fail> {
+    play(&rt, rt.alloc(), 120000, &NOBODY_COMES_BACK)
+}
+
+#[test]
+fn each_loss_has_its_own_grace(rt: HostRuntime) -> Result<(), Fail> {
+    play(&rt, rt.alloc(), 120000, &EACH_LOSS_HAS_ITS_OWN_GRACE)
+}
+
+#[test]
+fn nobody_can_come_back(rt: HostRuntime) -> Result<(), Fail> {
+    play(&rt, rt.alloc(), 120000, &NOBODY_CAN_COME_BACK)
+}
+
+#[test]
+fn without_a_grace_boards_end_with_the_last_connection(rt: HostRuntime) -> Result<(), Fail> {
+    play(&rt, rt.alloc(), 0, &NO_GRACE)
+}
