@@ -1,8 +1,12 @@
-//! The texts of answers that are the same each time.
+//! The texts of answers that are the same each time (docs/PROTOCOL.md).
 
 pub const OPENED: &str = "{\"reply\":\"opened\"}";
 
 pub const AGREED: &str = "{\"outcome\":\"agreed\",\"reply\":\"ended\"}";
+
+pub const BLACK_RESIGNS: &str = "{\"outcome\":\"black resigns\",\"reply\":\"ended\"}";
+
+pub const THREEFOLD: &str = "{\"outcome\":\"threefold\",\"reply\":\"ended\"}";
 
 pub const NO_SUCH_BOARD: &str = "{\"code\":1,\"name\":\"NoSuchBoard\",\"reply\":\"refused\"}";
 
@@ -18,8 +22,12 @@ pub const ILLEGAL: &str = "{\"code\":6,\"name\":\"Illegal\",\"reply\":\"refused\
 
 pub const LOG_FULL: &str = "{\"code\":7,\"name\":\"LogFull\",\"reply\":\"refused\"}";
 
+pub const CLAIM_REFUSED: &str = "{\"code\":8,\"name\":\"ClaimRefused\",\"reply\":\"refused\"}";
+
 pub const TOO_MANY_FOLLOWERS: &str =
     "{\"code\":11,\"name\":\"TooManyFollowers\",\"reply\":\"refused\"}";
+
+pub const NO_MEMORY: &str = "{\"code\":12,\"name\":\"OutOfMemory\",\"reply\":\"refused\"}";
 
 pub const NOT_YOUR_BOARD: &str = "{\"code\":13,\"name\":\"NotYourBoard\",\"reply\":\"refused\"}";
 
@@ -29,4 +37,6 @@ pub const TOO_FAR_BACK: &str = "{\"code\":15,\"name\":\"TooFarBack\",\"reply\":\
 
 pub const NOT_YET: &str = "{\"code\":16,\"name\":\"NotYet\",\"reply\":\"refused\"}";
 
-pub const NO_MEMORY: &str = "{\"code\":12,\"name\":\"OutOfMemory\",\"reply\":\"refused\"}";
+pub const NOT_JSON: &str = "{\"code\":21,\"name\":\"NotJson\",\"reply\":\"refused\"}";
+
+pub const BAD_FIELD: &str = "{\"code\":24,\"name\":\"BadField\",\"reply\":\"refused\"}";

@@ -1,30 +1,37 @@
 //! Whether a hall shows and answers what the model has.
 
-use crate::tests::plain::{Answer, BOARDS, Plain, Row};
-use relay_core::BoardName;
+use crate::tests::plain::{Answer, BOARDS, CAPACITY, Plain, Row};
+use crate::tests::values::{POSITIONS, Values};
+use c960_board::Move;
+use live_board::Follower;
+use relay_core::Taken;
 use relay_hall::{Hall, Shown};
 use std::alloc::{AllocError, Global};
 
-/// Whether the hall shows this board, under this name.
-fn shows_board(shown: &Shown, row: &Row, name: BoardName) -> bool {
+/// Whether the hall shows this board.
+fn shows_board(shown: &Shown, row: &Row, values: &Values) -> bool {
     let summary = shown.summary();
-    shown.name() == name
+    let name = values.name(row.name);
+    let position = values.position(row.plies);
+    Some(shown.name()) == name
+        && Some(summary.board) == name
         && summary.start == 518
+        && Some(summary.position) == position
+        && shown.position_at(row.plies) == position
+        && shown.position_at(row.plies.wrapping_add(1)).is_none()
+        && summary.last == values.last(row.plies)
         && summary.plies == row.plies
+        && summary.outcome == row.outcome
         && shown.outcome() == row.outcome
-        && shown.position_at(row.plies) == Some(summary.position)
 }
 
 /// Whether the hall shows the boards of the model and no others, and has the time of its next endings.
-pub fn shows(hall: &Hall, plain: &Plain, names: &[BoardName]) -> bool {
+pub fn shows(hall: &Hall, plain: &Plain, values: &Values) -> bool {
     for at in 0..plain.rows.len() {
         let (Some(row), Some(shown)) = (plain.rows.get(at), hall.board(at)) else {
             return false;
         };
-        let Some(name) = names.get(row.name as usize) else {
-            return false;
-        };
-        if !shows_board(&shown, row, *name) {
+        if !shows_board(&shown, row, values) {
             return false;
         }
     }
@@ -48,14 +55,60 @@ pub fn rings(hall: &mut Hall, plain: &mut Plain) -> bool {
     false
 }
 
+/// Whether a board tells its moves from this place on, and its outcome.
+pub fn tells(
+    shown: &Shown,
+    row: &Row,
+    values: &Values,
+    from: u16,
+    moves: &mut Vec<Move>,
+) -> Result<bool, AllocError> {
+    moves.clear();
+    let outcome = shown.news(from, moves)?;
+    let mut place = from;
+    for m in moves.iter() {
+        if place >= row.plies || values.move_at(place) != Some(*m) {
+            return Ok(false);
+        }
+        place = place.wrapping_add(1);
+    }
+    Ok(outcome == row.outcome && place >= row.plies)
+}
+
+/// Whether a follower that has taken nothing takes what is due from this place on: the moves, and then the end, nothing yet, or that it was
+/// too slow.
+pub fn takes(follower: &mut Follower, row: &Row, values: &Values, joined: u16) -> bool {
+    let due = row.plies.wrapping_sub(joined);
+    for nth in 0..due.min(CAPACITY) {
+        let place = joined.wrapping_add(nth);
+        let Some(m) = values.move_at(place) else {
+            return false;
+        };
+        if follower.take() != Taken::Move(place, m) {
+            return false;
+        }
+    }
+    follower.take() == last_of(row, due)
+}
+
+/// What a follower takes after the moves of which so many were due.
+pub fn last_of(row: &Row, due: u16) -> Taken {
+    match row.outcome {
+        _ if due > CAPACITY => Taken::Cut,
+        Some(outcome) => Taken::Over(outcome),
+        None => Taken::Nothing,
+    }
+}
+
 /// The text of a move that was played at this place.
 fn played(alloc: Global, place: u16) -> Result<String, AllocError> {
     format!(in alloc; "{{\"outcome\":null,\"place\":{place},\"reply\":\"played\"}}")
 }
 
-/// How the text of a follow from this place ends.
+/// The text of a follow from this place.
 fn following(alloc: Global, place: u16) -> Result<String, AllocError> {
-    format!(in alloc; ",\"joined\":{place},\"reply\":\"following\"}}")
+    let fen = POSITIONS.get(usize::from(place)).unwrap_or(&"");
+    format!(in alloc; "{{\"fen\":\"{fen}\",\"joined\":{place},\"reply\":\"following\"}}")
 }
 
 /// Whether the text is that of the answer. One allocation is refused at the most.
@@ -70,11 +123,11 @@ pub fn is_text_of(alloc: Global, text: &str, answer: Answer) -> Result<bool, All
             Ok(text == wanted.as_str())
         }
         Answer::Joined(_, place) => {
-            let end = match following(alloc, place) {
-                Ok(end) => end,
+            let wanted = match following(alloc, place) {
+                Ok(wanted) => wanted,
                 Err(AllocError) => following(alloc, place)?,
             };
-            Ok(text.ends_with(end.as_str()))
+            Ok(text == wanted.as_str())
         }
     }
 }

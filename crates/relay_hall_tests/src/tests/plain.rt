@@ -1,14 +1,15 @@
-//! A hall in plain terms: boards in a row, each with the number of its moves. All games go the same way, so that one move of four is legal.
+//! A hall in plain terms: boards in a row, each with the number of its moves.
 
 use crate::tests::answers::{
-    AGREED, BAD_START, BOARD_EXISTS, GAME_OVER, ILLEGAL, LOG_FULL, NO_SUCH_BOARD, NOT_YET,
+    BAD_START, BOARD_EXISTS, CLAIM_REFUSED, GAME_OVER, ILLEGAL, LOG_FULL, NO_SUCH_BOARD, NOT_YET,
     NOT_YOUR_BOARD, OPENED, TOO_FAR_BACK, TOO_MANY_BOARDS, TOO_MANY_FOLLOWERS, WRONG_MODE,
 };
-use crate::tests::command::Command;
+use crate::tests::command::{Command, ENDINGS};
+use crate::tests::seen::Seen;
 use c960_game::Outcome;
 use std::alloc::{AllocError, Global};
 
-pub const BOARDS: u16 = 24;
+pub const BOARDS: u16 = 16;
 
 pub const FOLLOWERS: u16 = 2;
 
@@ -17,9 +18,6 @@ pub const CAPACITY: u16 = 3;
 pub const PLIES: u16 = 10;
 
 pub const KEYS: usize = 6;
-
-/// Two knights out and home again. After any number of these moves only the next one is legal.
-pub const MOVES: [&str; 4] = ["g1f3", "g8f6", "f3g1", "f6g8"];
 
 /// A board.
 #[derive(Clone, Copy)]
@@ -67,6 +65,8 @@ pub struct Plain {
     pub grace: u64,
     pub time: u64,
     pub is_shut: bool,
+    /// What has occurred.
+    pub seen: Seen,
 }
 
 impl Plain {
@@ -78,18 +78,58 @@ impl Plain {
             grace,
             time: 0,
             is_shut: false,
+            seen: Seen::new(alloc)?,
         })
     }
 
     /// What a command is answered.
     pub fn step(&mut self, speaker: Speaker, command: Command) -> Result<Answer, AllocError> {
-        match command {
-            Command::Open(name, start) => self.open(speaker, name, start),
-            Command::Submit(name, which) => Ok(self.submit(speaker, name, which)),
-            Command::Agree(name) => Ok(self.agree(speaker, name)),
-            Command::Follow(name) => Ok(self.follow(speaker, name, None)),
-            Command::FollowFrom(name, from) => Ok(self.follow(speaker, name, Some(from))),
+        let answer = match command {
+            Command::Open(name, start) => self.open(speaker, name, start)?,
+            Command::Submit(name, which) => self.submit(speaker, name, which),
+            Command::End(name, which) => self.end(speaker, name, which),
+            Command::Follow(name) => self.follow(speaker, name, None),
+            Command::FollowFrom(name, from) => self.follow(speaker, name, Some(from)),
+        };
+        self.seen.note(match answer {
+            Answer::Text(text) => text,
+            Answer::Played(_) => "played",
+            Answer::Joined(_, _) => "following",
+        });
+        Ok(answer)
+    }
+
+    /// How many moves the board of this name has.
+    pub fn plies(&self, name: u32) -> Option<u16> {
+        let at = self.find(name)?;
+        let row = self.rows.get(at)?;
+        Some(row.plies)
+    }
+
+    /// The name of some board, if there is one.
+    pub fn some_name(&self, number: u32) -> u32 {
+        let boards = self.rows.len();
+        if boards == 0 {
+            return number;
         }
+        match self.rows.get(number as usize % boards) {
+            Some(row) => row.name,
+            None => number,
+        }
+    }
+
+    /// The name of a board of the speaker's whose game goes on; if there is one, its number is this one or greater.
+    pub fn own_going(&self, speaker: Speaker, name: u32) -> Option<u32> {
+        let mut own = None;
+        for row in self.rows.iter() {
+            if row.outcome.is_none() && Plain::owns(speaker, row) {
+                own = Some(row.name);
+                if row.name >= name {
+                    return own;
+                }
+            }
+        }
+        own
     }
 
     /// The index of the board of this name.
@@ -157,14 +197,21 @@ impl Plain {
         Answer::Played(place)
     }
 
-    fn agree(&mut self, speaker: Speaker, name: u32) -> Answer {
+    fn end(&mut self, speaker: Speaker, name: u32, which: usize) -> Answer {
         let row = match self.going(speaker, name) {
             Ok(row) => row,
             Err(text) => return Answer::Text(text),
         };
-        row.outcome = Some(Outcome::Agreed);
+        let Some((_, outcome, answer)) = ENDINGS.get(which).copied() else {
+            return Answer::Text(CLAIM_REFUSED);
+        };
+        // The first position has come back twice after eight moves, and White has the move.
+        if outcome == Outcome::Threefold && (row.plies < 8 || row.plies % 2 == 1) {
+            return Answer::Text(CLAIM_REFUSED);
+        }
+        row.outcome = Some(outcome);
         row.has_rung = true;
-        Answer::Text(AGREED)
+        Answer::Text(answer)
     }
 
     fn follow(&mut self, speaker: Speaker, name: u32, from: Option<u16>) -> Answer {
@@ -227,6 +274,7 @@ impl Plain {
             }
             Stand::Waits(_) => {
                 *stand = Stand::Here(1);
+                self.seen.note("came back");
                 true
             }
         }
@@ -251,6 +299,7 @@ impl Plain {
         }
         if may_wait {
             *stand = Stand::Waits(until);
+            self.seen.note("waits");
         } else {
             *stand = Stand::Gone;
             self.abandon(None, speaker.key);
@@ -270,6 +319,8 @@ impl Plain {
             if is_due {
                 self.stands[key] = Stand::Gone;
                 self.abandon(None, key);
+                self.seen
+                    .note(if now.is_some() { "ran out" } else { "shut out" });
             }
         }
     }

@@ -1,46 +1,90 @@
-//! Random events: sixty connections, six keys, three graces. After each event the hall shows what the plain model has, also if an allocation
-//! was refused (`rt try --test --fail-alloc N`).
+//! Random events: sixty connections, six keys, three graces. After each event the hall shows what the plain model has.
 
+use crate::tests::answers::{
+    AGREED, BAD_START, BLACK_RESIGNS, BOARD_EXISTS, CLAIM_REFUSED, GAME_OVER, ILLEGAL, LOG_FULL,
+    NO_SUCH_BOARD, NOT_YET, NOT_YOUR_BOARD, OPENED, THREEFOLD, TOO_FAR_BACK, TOO_MANY_BOARDS,
+    TOO_MANY_FOLLOWERS, WRONG_MODE,
+};
 use crate::tests::scene::Scene;
-use std::alloc::{AllocError, Global};
+use crate::tests::seen::Seen;
+use std::alloc::Global;
 use std::process::Abort;
 use std::test::Fail;
 
 /// How many halls there are for each grace, and how many events in each.
-const HALLS: u32 = 40;
+const HALLS: u32 = 46;
 
-const EVENTS: u32 = 1000;
+const EVENTS: u32 = 900;
 
-/// A scene, made again if it was refused.
-fn scene(rt: &impl Abort, alloc: Global, grace: u64, seed: u32) -> Result<Scene, AllocError> {
-    match Scene::new(rt, alloc, grace, seed) {
-        Ok(scene) => Ok(scene),
-        Err(AllocError) => Scene::new(rt, alloc, grace, seed),
-    }
-}
+/// What occurs with any grace.
+const WORDS: [&str; 22] = [
+    "played",
+    "following",
+    "nothing yet",
+    "over",
+    "cut",
+    OPENED,
+    AGREED,
+    BLACK_RESIGNS,
+    THREEFOLD,
+    NO_SUCH_BOARD,
+    BOARD_EXISTS,
+    BAD_START,
+    TOO_MANY_BOARDS,
+    GAME_OVER,
+    ILLEGAL,
+    LOG_FULL,
+    CLAIM_REFUSED,
+    TOO_MANY_FOLLOWERS,
+    NOT_YOUR_BOARD,
+    WRONG_MODE,
+    TOO_FAR_BACK,
+    NOT_YET,
+];
 
-/// Halls with this grace.
-fn run(rt: &impl Abort, alloc: Global, grace: u64) -> Result<(), Fail> {
+/// What occurs if there is a grace.
+const WAITING: [&str; 4] = ["waits", "came back", "ran out", "shut out"];
+
+/// Halls with this grace in milliseconds. Returns what has occurred.
+fn run(rt: &impl Abort, alloc: Global, grace: u64) -> Result<Seen, Fail> {
+    let mut seen = Seen::new(alloc)?;
     for seed in 0..HALLS {
-        let mut scene = scene(rt, alloc, grace, seed)?;
+        let mut scene = Scene::new(rt, alloc, grace, seed)?;
         for _ in 0..EVENTS {
             scene.happens(rt)?;
         }
+        assert!(rt; scene.refused == 0);
+        seen.note_all(&scene.plain.seen);
+    }
+    for word in WORDS {
+        assert!(rt; seen.has(word), "no {word}");
+    }
+    Ok(seen)
+}
+
+#[test]
+fn a_hall_without_a_grace_is_the_plain_one(rt: HostRuntime) -> Result<(), Fail> {
+    let seen = run(&rt, rt.alloc(), 0)?;
+    for word in WAITING {
+        assert!(rt; !seen.has(word), "{word}");
     }
     Ok(())
 }
 
 #[test]
-fn a_hall_without_a_grace_is_the_plain_one(rt: HostRuntime) -> Result<(), Fail> {
-    run(&rt, rt.alloc(), 0)
-}
-
-#[test]
 fn a_hall_with_a_short_grace_is_the_plain_one(rt: HostRuntime) -> Result<(), Fail> {
-    run(&rt, rt.alloc(), 40)
+    let seen = run(&rt, rt.alloc(), 40)?;
+    for word in WAITING {
+        assert!(rt; seen.has(word), "no {word}");
+    }
+    Ok(())
 }
 
 #[test]
 fn a_hall_with_a_long_grace_is_the_plain_one(rt: HostRuntime) -> Result<(), Fail> {
-    run(&rt, rt.alloc(), 1000)
+    let seen = run(&rt, rt.alloc(), 150)?;
+    for word in WAITING {
+        assert!(rt; seen.has(word), "no {word}");
+    }
+    Ok(())
 }

@@ -1,52 +1,52 @@
 //! A hall among its connections, and the model beside it. At most one allocation is refused; whoever was refused asks again.
 
-use crate::tests::answers::NO_MEMORY;
 use crate::tests::chance::Dice;
-use crate::tests::command::{Command, NAMES};
-use crate::tests::comparing::{is_text_of, rings, shows};
-use crate::tests::plain::{Answer, BOARDS, CAPACITY, FOLLOWERS, KEYS, PLIES, Plain, Speaker};
+use crate::tests::command::Command;
+use crate::tests::comparing::{last_of, rings, shows, takes, tells};
+use crate::tests::plain::{BOARDS, CAPACITY, FOLLOWERS, KEYS, PLIES, Plain, Speaker};
+use crate::tests::values::Values;
+use c960_board::Move;
 use c960_game::Limits;
 use live_board::Follower;
-use relay_core::BoardName;
-use relay_hall::{Hall, Handed, Key, Owner};
+use relay_core::Taken;
+use relay_hall::{Hall, Key, Owner};
 use relay_pushing::Conn;
 use std::alloc::{AllocError, Global};
 use std::process::Abort;
 
-pub const PEOPLE: u32 = 60;
+const PEOPLE: u32 = 60;
 
-const TEXTS: [&str; 6] = [
-    "key-number-0000000",
-    "key-number-0000001",
-    "key-number-000000_",
-    "key-number-00000000",
-    "1ey-number-0000000",
-    "another-key-of-the-greatest-length-0123456789-0123456789-0123456",
-];
+/// After so many events more connections go than come, and after some more it is the other way round again.
+const EBB: u32 = 400;
 
-/// A connection, and the board that it follows.
+const FLOOD: u32 = 700;
+
+/// A connection, and the board that it follows from a place.
 #[derive(Drop)]
-struct Person {
-    speaker: Speaker,
-    owner: Owner,
-    conn: Conn,
-    follower: Option<Follower>,
-    board: usize,
+pub struct Person {
+    pub speaker: Speaker,
+    pub owner: Owner,
+    pub conn: Conn,
+    pub follower: Option<Follower>,
+    pub board: usize,
+    pub joined: u16,
 }
 
 /// A hall, its connections, and its model.
 #[derive(Drop)]
 pub struct Scene {
-    alloc: Global,
+    pub alloc: Global,
     dice: Dice,
-    hall: Hall,
-    plain: Plain,
+    pub hall: Hall,
+    pub plain: Plain,
     people: Vec<Option<Person>>,
-    keys: Vec<Key>,
-    names: Vec<BoardName>,
-    next_number: u32,
+    pub values: Values,
+    moves: Vec<Move>,
+    /// How many events there have been, and how many connections.
+    events: u32,
+    numbers: u32,
     /// How often memory was refused.
-    refused: u32,
+    pub refused: u32,
 }
 
 /// Nobody, this many times.
@@ -56,24 +56,6 @@ fn nobody(alloc: Global, people: u32) -> Result<Vec<Option<Person>>, AllocError>
         all.push(None)?;
     }
     Ok(all)
-}
-
-fn all_keys(rt: &impl Abort, alloc: Global) -> Result<Vec<Key>, AllocError> {
-    let mut keys = Vec::new(alloc);
-    for text in TEXTS {
-        keys.push(Key::parse(text.as_bytes()).expect(rt, "a key"))?;
-    }
-    Ok(keys)
-}
-
-/// The names of boards.
-fn all_names(rt: &impl Abort, alloc: Global) -> Result<Vec<BoardName>, AllocError> {
-    let mut names = Vec::new(alloc);
-    for name in 0..NAMES {
-        let text = format!(in alloc; "b{name}")?;
-        names.push(BoardName::new(text.as_str().as_bytes()).expect(rt, "a name"))?;
-    }
-    Ok(names)
 }
 
 impl Scene {
@@ -86,22 +68,25 @@ impl Scene {
             hall: Hall::new(alloc, limits, grace)?,
             plain: Plain::new(alloc, grace)?,
             people: nobody(alloc, PEOPLE)?,
-            keys: all_keys(rt, alloc)?,
-            names: all_names(rt, alloc)?,
-            next_number: 1,
+            values: Values::new(rt, alloc)?,
+            moves: Vec::new(alloc),
+            events: 0,
+            numbers: 0,
             refused: 0,
         })
     }
 
     /// One event.
     pub fn happens(&mut self, rt: &impl Abort) -> Result<(), AllocError> {
+        self.events = self.events.wrapping_add(1);
         match self.dice.below(40) {
             0..=2 => self.passes(),
             3 => self.ends(),
             _ => self.somebody(rt)?,
         }
-        assert!(rt; shows(&self.hall, &self.plain, &self.names));
+        assert!(rt; shows(&self.hall, &self.plain, &self.values));
         assert!(rt; rings(&mut self.hall, &mut self.plain));
+        assert!(rt; self.has_news()?);
         assert!(rt; self.refused <= 1);
         Ok(())
     }
@@ -129,6 +114,32 @@ impl Scene {
         }
     }
 
+    /// Whether any board tells its moves from any place on. If it is refused, it is asked again.
+    fn has_news(&mut self) -> Result<bool, AllocError> {
+        let at = self.dice.below(u32::from(BOARDS)) as usize;
+        let from = self.dice.below(12) as u16;
+        match self.told(at, from) {
+            Ok(is_told) => Ok(is_told),
+            Err(AllocError) => {
+                self.refused = self.refused.wrapping_add(1);
+                self.told(at, from)
+            }
+        }
+    }
+
+    /// Whether the board of this index tells its moves from this place on, if there is one.
+    fn told(&mut self, at: usize, from: u16) -> Result<bool, AllocError> {
+        match (self.plain.rows.get(at), self.hall.board(at)) {
+            (Some(row), Some(shown)) => tells(&shown, row, &self.values, from, &mut self.moves),
+            _ => Ok(true),
+        }
+    }
+
+    /// Whether more go than come.
+    fn ebbs(&self) -> bool {
+        (EBB..FLOOD).contains(&self.events)
+    }
+
     /// A connection comes, or one that is there acts.
     fn somebody(&mut self, rt: &impl Abort) -> Result<(), AllocError> {
         let who = self.dice.below(PEOPLE) as usize;
@@ -137,6 +148,7 @@ impl Scene {
         };
         let here = match place.take() {
             Some(person) => self.acts(rt, person)?,
+            None if self.ebbs() && self.dice.below(12) > 0 => None,
             None => Some(self.comes(rt)),
         };
         if let Some(place) = self.people.get_mut(who) {
@@ -147,23 +159,26 @@ impl Scene {
 
     /// A connection comes, with one of the keys or with none.
     fn comes(&mut self, rt: &impl Abort) -> Person {
-        let key = (self.dice.below(8) as usize).min(KEYS);
-        let number = self.next_number;
-        self.next_number = number.wrapping_add(1);
-        let owned = self.keys.get(key).copied();
+        let key = (self.dice.below(12) as usize).min(KEYS);
+        self.numbers = self.numbers.wrapping_add(1);
+        let owned = self.values.keys.get(key).copied();
         if let Some(parsed) = owned {
             let waited = self.arrives(rt, &parsed);
             assert!(rt; waited == self.plain.arrive(key));
         }
         Person {
-            speaker: Speaker { number, key },
+            speaker: Speaker {
+                number: self.numbers,
+                key,
+            },
             owner: Owner {
                 key: owned,
-                opener: number,
+                opener: self.numbers,
             },
             conn: Conn::new(self.alloc),
             follower: None,
             board: 0,
+            joined: 0,
         }
     }
 
@@ -173,23 +188,24 @@ impl Scene {
             return waited;
         }
         self.refused = self.refused.wrapping_add(1);
-        assert!(rt; shows(&self.hall, &self.plain, &self.names));
+        assert!(rt; shows(&self.hall, &self.plain, &self.values));
         self.hall
             .arrive(key)
             .expect(rt, "it is refused once at the most")
     }
 
-    /// A connection says something, stops following, or goes.
+    /// A connection says something, stops following, or goes. One that follows says nothing.
     fn acts(&mut self, rt: &impl Abort, person: Person) -> Result<Option<Person>, AllocError> {
         let mut person = person;
-        let chance = self.dice.below(24);
-        if chance < 3 || person.follower.is_some() {
-            self.unfollows(&mut person);
-        } else {
-            let command = Command::drawn(&mut self.dice);
+        let goes = self.dice.below(24) < if self.ebbs() { 18 } else { 1 };
+        if person.follower.is_none() {
+            let command = Command::drawn(&mut self.dice, &self.plain, person.speaker);
             self.says(rt, &mut person, command)?;
+        } else if goes || self.dice.below(3) == 0 {
+            self.unfollows(rt, &mut person);
         }
-        if chance == 0 {
+        if goes {
+            self.unfollows(rt, &mut person);
             self.hall.leave(&person.owner);
             self.plain.leave(person.speaker);
             return Ok(None);
@@ -197,86 +213,24 @@ impl Scene {
         Ok(Some(person))
     }
 
-    /// A follower leaves.
-    fn unfollows(&mut self, person: &mut Person) {
-        if let Some(follower) = person.follower.take() {
-            let _ = follower.leave();
-            self.plain.unfollow(person.board);
-        }
-    }
-
-    /// A connection sends a command; once more if there was no memory for it, and then nothing had changed.
-    fn says(
-        &mut self,
-        rt: &impl Abort,
-        person: &mut Person,
-        command: Command,
-    ) -> Result<(), AllocError> {
-        let text = match command.spelt(self.alloc) {
-            Ok(text) => text,
-            Err(AllocError) => command.spelt(self.alloc)?,
+    /// A follower takes what is due, and leaves.
+    fn unfollows(&mut self, rt: &impl Abort, person: &mut Person) {
+        let Some(follower) = person.follower.take() else {
+            return;
         };
-        if self.is_refused(rt, person, text.as_str(), command)? {
-            self.refused = self.refused.wrapping_add(1);
-            assert!(rt; shows(&self.hall, &self.plain, &self.names));
-            assert!(rt; !self.is_refused(rt, person, text.as_str(), command)?);
-        }
-        Ok(())
-    }
-
-    /// A connection sends this text, and gets the answer of the model, unless it is refused for want of memory.
-    fn is_refused(
-        &mut self,
-        rt: &impl Abort,
-        person: &mut Person,
-        text: &str,
-        command: Command,
-    ) -> Result<bool, AllocError> {
-        let (said, handed) = self
-            .hall
-            .hear(&mut person.conn, &person.owner, text.as_bytes());
-        let Ok(said) = said else {
-            return self.is_unanswered(rt, person, handed, command);
+        let mut follower = follower;
+        let Some(row) = self.plain.rows.get(person.board) else {
+            panic!(rt; "no board");
         };
-        if said.as_str() == NO_MEMORY {
-            assert!(rt; handed.is_none());
-            return Ok(true);
-        }
-        let answer = self.plain.step(person.speaker, command)?;
-        assert!(rt; is_text_of(self.alloc, said.as_str(), answer)?);
-        keep(rt, person, handed, answer);
-        Ok(false)
-    }
-
-    /// There was no memory for the answer: the step was made, or nothing was. It was made if something was handed out, or if the hall does
-    /// not show any more what the model has.
-    fn is_unanswered(
-        &mut self,
-        rt: &impl Abort,
-        person: &mut Person,
-        handed: Option<Handed>,
-        command: Command,
-    ) -> Result<bool, AllocError> {
-        if handed.is_none() && shows(&self.hall, &self.plain, &self.names) {
-            return Ok(true);
-        }
-        self.refused = self.refused.wrapping_add(1);
-        let answer = self.plain.step(person.speaker, command)?;
-        keep(rt, person, handed, answer);
-        Ok(false)
-    }
-}
-
-/// A follower is handed out, from the place told, exactly if the answer says so.
-fn keep(rt: &impl Abort, person: &mut Person, handed: Option<Handed>, answer: Answer) {
-    match (answer, handed) {
-        (Answer::Joined(at, place), Some(Handed { follower, .. })) => {
-            assert!(rt; follower.joined() == place);
-            person.board = at;
-            person.follower = Some(follower);
-        }
-        (Answer::Joined(_, _), None) => panic!(rt; "nothing is handed out"),
-        (_, Some(_)) => panic!(rt; "a follower is handed out"),
-        (_, None) => {}
+        assert!(rt; takes(&mut follower, row, &self.values, person.joined));
+        let word = match last_of(row, row.plies.wrapping_sub(person.joined)) {
+            Taken::Cut => "cut",
+            Taken::Over(_) => "over",
+            _ => "nothing yet",
+        };
+        self.plain.seen.note(word);
+        let (account, _) = follower.leave();
+        assert!(rt; account.cut == (word == "cut"));
+        self.plain.unfollow(person.board);
     }
 }

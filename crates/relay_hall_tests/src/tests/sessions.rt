@@ -1,7 +1,8 @@
 //! Sessions as tables: what happens to a hall, one deed after another, and what it answers.
 
 use crate::tests::answers::{
-    AGREED, GAME_OVER, ILLEGAL, NO_SUCH_BOARD, NOT_YOUR_BOARD, OPENED, WRONG_MODE,
+    AGREED, BAD_FIELD, BOARD_EXISTS, GAME_OVER, ILLEGAL, LOG_FULL, NO_SUCH_BOARD, NOT_JSON,
+    NOT_YET, NOT_YOUR_BOARD, OPENED, TOO_FAR_BACK, TOO_MANY_BOARDS, TOO_MANY_FOLLOWERS, WRONG_MODE,
 };
 use crate::tests::sessions::Deed::{Comes, Due, Ends, Gets, Goes, Overs, Says, Shuts, Time};
 use c960_board::read_move;
@@ -86,25 +87,49 @@ const PLAYED_1: &str = "{\"outcome\":null,\"place\":1,\"reply\":\"played\"}";
 const PLAYED_2: &str = "{\"outcome\":null,\"place\":2,\"reply\":\"played\"}";
 
 /// A board and a spectator; connection 3 is a stranger (docs/PROTOCOL.md, Sessions, the first).
-const A_BOARD_AND_A_SPECTATOR: [Deed; 11] = [
+const A_BOARD_AND_A_SPECTATOR: [Deed; 14] = [
     Says(1, OPEN, OPENED),
+    Says(
+        1,
+        "{\"cmd\":\"open\",\"board\":\"b1\",\"start\":960}",
+        BOARD_EXISTS,
+    ),
+    Says(
+        2,
+        "{\"cmd\":\"follow\",\"board\":\"b9\",\"spectator\":1}",
+        NO_SUCH_BOARD,
+    ),
     Says(2, FOLLOW, FOLLOWING_0),
-    Says(1, E7E5, ILLEGAL),
+    Says(
+        1,
+        "{\"cmd\":\"submit\",\"board\":\"b1\",\"move\":\"e2e5\"}",
+        ILLEGAL,
+    ),
     Says(1, E2E4, PLAYED_0),
     Gets(2, 0, "e2e4"),
     Says(1, FOLLOW, WRONG_MODE),
     Says(3, E7E5, NOT_YOUR_BOARD),
-    Says(3, A1B8_B2, NO_SUCH_BOARD),
+    Says(
+        3,
+        "{\"cmd\":\"submit\",\"board\":\"b9\",\"move\":\"e7e5\"}",
+        NO_SUCH_BOARD,
+    ),
     Says(3, "{\"cmd\":\"take\",\"spectator\":1}", WRONG_MODE),
     Says(1, AGREE, AGREED),
     Overs(2, Outcome::Agreed),
+    Says(1, E7E5, GAME_OVER),
 ];
 
 /// A spectator goes on from place 1; then the board's connection goes, and with it the game (the second).
-const A_BOARD_ENDS_WITH_ITS_CONNECTION: [Deed; 7] = [
+const A_BOARD_ENDS_WITH_ITS_CONNECTION: [Deed; 8] = [
     Says(1, OPEN, OPENED),
     Says(1, E2E4, PLAYED_0),
     Says(1, E7E5, PLAYED_1),
+    Says(
+        2,
+        "{\"cmd\":\"follow\",\"board\":\"b1\",\"spectator\":1,\"from\":3}",
+        NOT_YET,
+    ),
     Says(2, FOLLOW_FROM_1, FOLLOWING_1),
     Gets(2, 1, "e7e5"),
     Goes(1),
@@ -137,6 +162,24 @@ const AN_OPERATOR_COMES_BACK: [Deed; 24] = [
     Says(5, B8C6, NOT_YOUR_BOARD),
     Gets(2, 2, "g1f3"),
     Says(4, AGREE, AGREED),
+    Overs(2, Outcome::Agreed),
+];
+
+/// At the limits: one board, one follower, queues of two moves, games of three plies. Connection 3 finds no place (the fourth).
+const AT_THE_LIMITS: [Deed; 14] = [
+    Says(1, OPEN, OPENED),
+    Says(1, OPEN_B2, TOO_MANY_BOARDS),
+    Says(2, FOLLOW, FOLLOWING_0),
+    Says(1, E2E4, PLAYED_0),
+    Gets(2, 0, "e2e4"),
+    Says(1, E7E5, PLAYED_1),
+    Gets(2, 1, "e7e5"),
+    Says(1, G1F3, PLAYED_2),
+    Says(1, B8C6, LOG_FULL),
+    Says(3, FOLLOW_FROM_0, TOO_FAR_BACK),
+    Says(3, FOLLOW_FROM_1, TOO_MANY_FOLLOWERS),
+    Says(1, AGREE, AGREED),
+    Gets(2, 2, "g1f3"),
     Overs(2, Outcome::Agreed),
 ];
 
@@ -295,9 +338,21 @@ fn says(rt: &impl Abort, hall: &mut Hall, person: &mut Person, text: &str, answe
     }
 }
 
-/// All deeds of a table, in a hall with this grace in milliseconds.
-fn play(rt: &impl Abort, alloc: Global, grace: u64, deeds: &[Deed]) -> Result<(), Fail> {
-    let limits = Limits::new(4, 4, 4, 64).ok_or("limits")?;
+/// Boards, followers of each, moves in a queue, plies of a game.
+type Numbers = (u16, u16, u16, u16);
+
+const AMPLE: Numbers = (4, 4, 4, 64);
+
+/// All deeds of a table, in a hall with these limits and this grace in milliseconds.
+fn play(
+    rt: &impl Abort,
+    alloc: Global,
+    numbers: Numbers,
+    grace: u64,
+    deeds: &[Deed],
+) -> Result<(), Fail> {
+    let (boards, followers, capacity, plies) = numbers;
+    let limits = Limits::new(boards, followers, capacity, plies).ok_or("limits")?;
     let mut hall = Hall::new(alloc, limits, grace)?;
     let mut people = Vec::new(alloc);
     for number in 0..8 {
@@ -311,35 +366,56 @@ fn play(rt: &impl Abort, alloc: Global, grace: u64, deeds: &[Deed]) -> Result<()
 
 #[test]
 fn a_board_and_a_spectator(rt: HostRuntime) -> Result<(), Fail> {
-    play(&rt, rt.alloc(), 120000, &A_BOARD_AND_A_SPECTATOR)
+    play(&rt, rt.alloc(), AMPLE, 0, &A_BOARD_AND_A_SPECTATOR)
 }
 
 #[test]
 fn a_board_ends_with_its_connection(rt: HostRuntime) -> Result<(), Fail> {
-    play(&rt, rt.alloc(), 120000, &A_BOARD_ENDS_WITH_ITS_CONNECTION)
+    play(&rt, rt.alloc(), AMPLE, 0, &A_BOARD_ENDS_WITH_ITS_CONNECTION)?;
+    play(
+        &rt,
+        rt.alloc(),
+        AMPLE,
+        120000,
+        &A_BOARD_ENDS_WITH_ITS_CONNECTION,
+    )
 }
 
 #[test]
 fn an_operator_comes_back(rt: HostRuntime) -> Result<(), Fail> {
-    play(&rt, rt.alloc(), 120000, &AN_OPERATOR_COMES_BACK)
+    play(&rt, rt.alloc(), AMPLE, 120000, &AN_OPERATOR_COMES_BACK)
+}
+
+#[test]
+fn at_the_limits(rt: HostRuntime) -> Result<(), Fail> {
+    play(&rt, rt.alloc(), (1, 1, 2, 3), 0, &AT_THE_LIMITS)
 }
 
 #[test]
 fn nobody_comes_back(rt: HostRuntime) -> Result<(), Fail> {
-    play(&rt, rt.alloc(), 120000, &NOBODY_COMES_BACK)
+    play(&rt, rt.alloc(), AMPLE, 120000, &NOBODY_COMES_BACK)
 }
 
 #[test]
 fn each_loss_has_its_own_grace(rt: HostRuntime) -> Result<(), Fail> {
-    play(&rt, rt.alloc(), 120000, &EACH_LOSS_HAS_ITS_OWN_GRACE)
+    play(&rt, rt.alloc(), AMPLE, 120000, &EACH_LOSS_HAS_ITS_OWN_GRACE)
 }
 
 #[test]
 fn nobody_can_come_back(rt: HostRuntime) -> Result<(), Fail> {
-    play(&rt, rt.alloc(), 120000, &NOBODY_CAN_COME_BACK)
+    play(&rt, rt.alloc(), AMPLE, 120000, &NOBODY_CAN_COME_BACK)
 }
 
 #[test]
 fn without_a_grace_boards_end_with_the_last_connection(rt: HostRuntime) -> Result<(), Fail> {
-    play(&rt, rt.alloc(), 0, &NO_GRACE)
+    play(&rt, rt.alloc(), AMPLE, 0, &NO_GRACE)
+}
+
+#[test]
+fn what_is_no_text_or_too_long_is_answered(rt: HostRuntime) -> Result<(), Fail> {
+    let limits = Limits::new(1, 1, 1, 1).ok_or("limits")?;
+    let hall = Hall::new(rt.alloc(), limits, 0)?;
+    assert_eq!(rt; hall.hear_binary()?.as_str(), NOT_JSON);
+    assert_eq!(rt; hall.hear_too_long()?.as_str(), BAD_FIELD);
+    Ok(())
 }
