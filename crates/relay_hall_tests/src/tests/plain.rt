@@ -23,7 +23,7 @@ pub const KEYS: usize = 6;
 #[derive(Clone, Copy)]
 pub struct Row {
     pub name: u32,
-    pub opener: u32,
+    pub opener: u64,
     pub key: usize,
     pub plies: u16,
     pub outcome: Option<Outcome>,
@@ -43,7 +43,7 @@ pub enum Stand {
 /// Who speaks: its number, and its key, which is `KEYS` if it has none.
 #[derive(Clone, Copy)]
 pub struct Speaker {
-    pub number: u32,
+    pub number: u64,
     pub key: usize,
 }
 
@@ -245,7 +245,7 @@ impl Plain {
     }
 
     /// Each game that goes on, of those without a key that this number opened, or of this key, is abandoned.
-    fn abandon(&mut self, number: Option<u32>, key: usize) {
+    fn abandon(&mut self, number: Option<u64>, key: usize) {
         for row in self.rows.iter_mut() {
             let is_left = match number {
                 Some(number) => row.key == KEYS && row.opener == number,

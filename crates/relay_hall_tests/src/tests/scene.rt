@@ -44,7 +44,7 @@ pub struct Scene {
     moves: Vec<Move>,
     /// How many events there have been, and how many connections.
     events: u32,
-    numbers: u32,
+    numbers: u64,
     /// How often memory was refused.
     pub refused: u32,
 }

@@ -255,7 +255,7 @@ const NO_GRACE: [Deed; 9] = [
 ];
 
 /// A connection of this number.
-fn newcomer(alloc: Global, number: u32, key: Option<Key>) -> Person {
+fn newcomer(alloc: Global, number: u64, key: Option<Key>) -> Person {
     Person {
         owner: Owner {
             key,
