@@ -10,15 +10,32 @@ use relay_messages::{Answer, MessageFault, encode, encode_within};
 use std::alloc::Global;
 use std::process::Abort;
 
-/// The text of an answer, asked for again if there was no memory for it. The same text is put behind another one, without memory.
-fn text_of(rt: &impl Abort, alloc: Global, answer: &Answer) -> String {
-    let mut space = ArrayVec::<u8, 258>::new();
-    space.push(b'.');
+/// A space of which this many bytes are left. Before them stand full stops.
+fn space_with(left: usize) -> ArrayVec<u8, 258> {
+    let mut space = ArrayVec::new();
+    for _ in left..258 {
+        let _ = space.try_push(b'.');
+    }
+    space
+}
+
+/// An answer has this text: in memory of its own, which is asked for again if it was refused, and behind what stands in a space that has
+/// just room for the text and for a line feed. Where the space has a byte less, it stays as it is.
+fn has_text(rt: &impl Abort, alloc: Global, answer: &Answer, text: &str) {
+    let own = again(rt, || encode(alloc, answer));
+    assert!(rt; own.as_str() == text);
+    let mut small = space_with(text.len());
+    assert!(rt; !encode_within(answer, &mut small));
+    assert!(rt; small.as_slice() == space_with(text.len()).as_slice());
+    let mut space = space_with(text.len() + 1);
     assert!(rt; encode_within(answer, &mut space));
-    let text = again(rt, || encode(alloc, answer));
-    assert!(rt; space.as_slice()[0] == b'.');
-    assert!(rt; &space.as_slice()[1..] == text.as_bytes());
-    text
+    assert!(rt; space.remaining_capacity() == 1);
+    assert!(rt;
+        space
+            .as_slice()
+            .starts_with(space_with(text.len() + 1).as_slice())
+    );
+    assert!(rt; space.as_slice().ends_with(text.as_bytes()));
 }
 
 #[test]
@@ -82,8 +99,7 @@ fn each_reply_has_its_text(rt: HostRuntime) {
         ),
         (Reply::Took(Taken::Cut), r#"{"reply":"cut"}"#),
     ] {
-        let given = text_of(&rt, rt.alloc(), &Answer::Reply(reply));
-        assert!(rt; given.as_str() == text);
+        has_text(&rt, rt.alloc(), &Answer::Reply(reply), text);
     }
 }
 
@@ -132,8 +148,7 @@ fn each_outcome_has_its_text(rt: HostRuntime) {
             r#"{"outcome":"seventy-five moves","reply":"ended"}"#,
         ),
     ] {
-        let given = text_of(&rt, rt.alloc(), &Answer::Reply(Reply::Ended(outcome)));
-        assert!(rt; given.as_str() == text);
+        has_text(&rt, rt.alloc(), &Answer::Reply(Reply::Ended(outcome)), text);
     }
 }
 
@@ -225,7 +240,6 @@ fn each_refusal_and_each_fault_has_its_text(rt: HostRuntime) {
             r#"{"code":24,"name":"BadField","reply":"refused"}"#,
         ),
     ] {
-        let given = text_of(&rt, rt.alloc(), &answer);
-        assert!(rt; given.as_str() == text);
+        has_text(&rt, rt.alloc(), &answer, text);
     }
 }
