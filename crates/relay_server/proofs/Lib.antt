@@ -1,4 +1,3 @@
-pub mod Given
 pub mod Named
 pub mod Standing
 pub mod Stretches

@@ -1,12 +1,7 @@
 pub mod Broadcasting
-pub mod Dues
-pub mod Heads
-pub mod Hearing
 pub mod Holders
 pub mod Holding
 pub mod Keys
-pub mod BufferedStreams
-pub mod Memory
 pub mod Opening
 pub mod Keeping
 pub mod Served

@@ -2,7 +2,7 @@
 
 use crate::since::Since;
 use crate::spectator::Spectator;
-use crate::wire::Wire;
+use relay_streams::Wire;
 use std::io::ErrorKind;
 
 /// How a connection took what was kept for it.

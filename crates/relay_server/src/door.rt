@@ -1,6 +1,6 @@
 //! The door, where connections come in, and how one is turned away when there is no room for it.
 
-use crate::deadline::Deadline;
+use relay_streams::Deadline;
 use std::io;
 use std::io::{Read, Write};
 use std::net::{Shutdown, TcpListener, TcpStream};

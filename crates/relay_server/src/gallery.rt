@@ -1,7 +1,7 @@
 //! The loops that connections that follow are moved to; each serves many of them.
 
 ghost use Rattle.std.specs.Prelude.{◌≡◌, Some, IfErr, IfOk, IfSome};
-ghost use Rattle.relay_server.specs.Heads.{left};
+ghost use Rattle.relay_streams.specs.Heads.{left};
 ghost use Rattle.relay_server.specs.Served.{Following};
 ghost use Rattle.relay_server.specs.Spectating.{HasBeenTold};
 
@@ -12,14 +12,12 @@ use crate::connection_keeper::ConnectionKeeper;
 use crate::interruptible::Interruptible;
 use crate::key::Key;
 use crate::lookout::Lookout;
-use crate::outlet::SocketOutlet;
 use crate::registry::Registry;
-use crate::socket::Socket;
 use crate::spectating::Spectating;
 use crate::spectator::Spectator;
 use crate::spectators::Newcomer;
 use crate::threads::{OWN_STACK_BYTES, Running, Shared};
-use crate::wire::Wire;
+use relay_streams::{Socket, SocketOutlet, Wire};
 use std::alloc::Global;
 use std::io;
 use std::io::ErrorKind;

@@ -1,8 +1,8 @@
 //! The thread that ends serving when standard input ends.
 
 use crate::registry::Registry;
-use crate::stream::read_some;
 use crate::threads::OWN_STACK_BYTES;
+use relay_streams::read_some;
 use std::alloc::Global;
 use std::io::StdinLock;
 use std::net::{Net, SocketAddr, TcpListener, TcpStream};

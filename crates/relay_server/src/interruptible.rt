@@ -2,11 +2,8 @@
 
 ghost use Rattle.std.specs.Prelude.{◌≡◌};
 
-use crate::deadline::Deadline;
-use crate::outlet::is_silence;
-use crate::patience::Patience;
 use crate::registry::Registry;
-use crate::stream::Stream;
+use relay_streams::{Deadline, Patience, Stream, is_silence};
 use std::io;
 use std::io::{ErrorKind, Read, Write};
 use std::time::{Clock, Duration};

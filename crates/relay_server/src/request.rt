@@ -1,27 +1,15 @@
-//! The request that begins a connection, and the answer to one that is refused.
+//! The request that begins a connection: one that is refused is answered, and one that is accepted may name a key.
 
-ghost use Rattle.std.specs.Prelude.{◌≡◌, ◌≤◌, None, length, take, IfOk, OnOk};
-ghost use Rattle.std.specs.Io.KnownBytes.{Appends};
-ghost use Rattle.relay_frames.specs.Requests.{Accepts, IsAnswered, answer_text};
+ghost use Rattle.std.specs.Prelude.{◌≡◌, None, take, IfOk};
+ghost use Rattle.relay_frames.specs.Requests.{Accepts, IsAnswered};
 
-use crate::buffered_stream::write_out;
-use crate::drain::end_and_drain;
-use crate::head::{Head, HeadFault};
+use crate::key::Key;
 use crate::sessions::{SessionEnd, end_unshaken};
-use crate::stream::Stream;
-use relay_frames::{Acceptance, RequestRefusal, acceptance_of};
+use relay_streams::{HeadFault, Request, Stream, read_request, refuse};
 use std::alloc::Global;
-use std::io;
-use std::io::Write;
+use std::str;
 use std::time::Clock;
 use tungstenite::Error;
-
-/// A request that is accepted.
-#[derive(Drop)]
-pub(crate) struct Request {
-    pub(crate) head: Head,
-    pub(crate) acceptance: Acceptance,
-}
 
 /// Reads a request that is accepted. One that is refused is answered, and then the connection ends.
 pub(crate) fn receive<C: Clock, S: Stream>(
@@ -43,38 +31,22 @@ pub(crate) fn receive<C: Clock, S: Stream>(
     }
 }
 
-/// Reads a request's head, and checks whether the request is accepted.
-fn read_request<C: Clock, S: Stream>(
-    clock: &C,
-    alloc: Global,
-    stream: &mut S,
-) -> Result<Request, HeadFault>
-    ensures let_in { IfOk result (λ request. IsAnswered (take request.head.end request.head.bytes.items) None) }
-    ensures accepted { IfOk result (λ request. Accepts (take request.head.end request.head.bytes.items) request.acceptance.value) }
-    ensures unread { IfOk result (λ request. request.head.given ≡ request.head.end) }
-{
-    let head = Head::read(clock, alloc, stream)?;
-    match acceptance_of(head.request()) {
-        Ok(acceptance) => Ok(Request { head, acceptance }),
-        Err(refusal) => Err(HeadFault::Refused(refusal)),
-    }
+/// The key in the target of a request with this head (RFC 9112, section 3). The fields of its query come after the first `?` and
+/// are separated by `&`. The key is the value of the first field that is `key=` followed by a key. Nothing else is looked at.
+pub(crate) fn key_of(head: &[u8]) -> Option<Key> {
+    let (_, behind_method) = first_line(head)?.split_once(' ')?;
+    let (target, _) = behind_method.split_once(' ')?;
+    let (_, query) = target.split_once('?')?;
+    query.split('&').find_map(key_in)
 }
 
-/// Answers a request that is refused, and ends the connection. What still arrives is read for a while, as a reset would destroy the answer.
-fn refuse<C: Clock, S: Stream>(
-    clock: &C,
-    stream: &mut S,
-    refusal: RequestRefusal,
-) -> io::Result<()> {
-    tell(stream, refusal)?;
-    end_and_drain(clock, stream)
+/// The first line of a head, if it is text.
+fn first_line(head: &[u8]) -> Option<&str> {
+    let end = head.iter().position(|byte| matches!(*byte, b'\r' | b'\n'))?;
+    str::from_utf8(head.get(..end)?).ok()
 }
 
-/// Writes the answer to a request that is refused.
-fn tell<S: Write>(stream: &mut S, refusal: RequestRefusal) -> io::Result<()>
-    ensures whole { OnOk result (Appends (S.contents stream.old) (S.contents stream.new) (answer_text refusal)) }
-{
-    let (_, done) = write_out(refusal.answer(), stream);
-    done?;
-    stream.flush()
+/// The key of this field of a query, if it has one.
+fn key_in(field: &str) -> Option<Key> {
+    Key::parse(field.strip_prefix("key=")?.as_bytes())
 }

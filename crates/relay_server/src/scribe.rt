@@ -1,11 +1,11 @@
 //! The thread that writes the log.
 
 use crate::chronicle::LogNotes;
-use crate::deadline::Deadline;
 use crate::registry::Registry;
 use crate::threads::OwnThread;
 use log::sink::Console;
 use log::{Level, Logged, info};
+use relay_streams::Deadline;
 use std::alloc::Global;
 use std::sync::atomic::Ordering;
 use std::sync::{Arc, Wait};

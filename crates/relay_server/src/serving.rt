@@ -2,19 +2,17 @@
 
 ghost use Rattle.std.specs.Prelude.{◌≡◌, ◌≤◌, ◌<◌, ◌+◌, IfSome, false, true};
 
-use crate::deadline::Deadline;
 use crate::door::{Caller, Door, turn_away};
 use crate::gallery::{Connection, Gallery, start_gallery};
 use crate::grace::Grace;
 use crate::input_watch::watch_input;
 use crate::interruptible::Interruptible;
-use crate::patience::Patience;
 use crate::registry::Registry;
 use crate::scribe::Scribe;
 use crate::sessions::{Arrival, SessionEnd, attend_or_hand_over, come};
-use crate::socket::Socket;
 use crate::threads::{Running, Shared, join_all, join_ended, join_until_due, join_until_ending};
 use relay_pushing::Gate;
+use relay_streams::{Deadline, Patience, Socket};
 use std::alloc::{AllocError, Global};
 use std::io;
 use std::io::StdinLock;

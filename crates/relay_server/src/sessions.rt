@@ -4,29 +4,27 @@ ghost use Rattle.std.specs.Prelude.{◌≡◌, ◌↔◌, if◌then◌else◌, [
 ghost use Rattle.std.specs.Io.KnownBytes.{Appends};
 ghost use Rattle.relay_frames.specs.Requests.{acceptance_text};
 ghost use Rattle.relay_pushing.specs.Connections.{Ends};
-ghost use Rattle.relay_server.specs.Heads.{left};
-ghost use Rattle.relay_server.specs.BufferedStreams.{written as buffered_written};
-ghost use Rattle.relay_server.specs.Memory.{LacksMemory};
+ghost use Rattle.relay_streams.specs.Heads.{left};
+ghost use Rattle.relay_streams.specs.BufferedStreams.{written as buffered_written};
+ghost use Rattle.relay_streams.specs.Memory.{LacksMemory};
 ghost use Rattle.relay_server.specs.Keeping.{Replies};
 ghost use Rattle.relay_server.specs.Spectating.{Conversed, Followed, HasBeenTold, Pushed};
 ghost use Rattle.relay_server.specs.Talking.{TalkEnds};
 
-use crate::buffered_stream::BufferedStream;
 use crate::chronicle::What;
 use crate::connection_keeper::ConnectionKeeper;
 use crate::gallery::{Connection, Gallery, hand_over};
-use crate::head::Head;
 use crate::key::Key;
-use crate::memory::is_want_of_memory;
-use crate::outlet::{MOST_SILENT_SECONDS, SocketOutlet};
-use crate::patience::Patience;
 use crate::registry::Registry;
-use crate::request::{Request, receive};
+use crate::request::{key_of, receive};
 use crate::spectating::Spectating;
-use crate::stream::Stream;
 use crate::talk::{Stop, Talk, TalkEnd};
 use relay_frames::Acceptance;
 use relay_pushing::{Conn, Gate, Outlet, PushEnd};
+use relay_streams::{
+    BufferedStream, Head, MOST_SILENT_SECONDS, Patience, Request, SocketOutlet, Stream,
+    is_want_of_memory,
+};
 use std::alloc::{AllocError, Global};
 use std::io::{Read, Write};
 use std::sync::{Arc, Wait};
@@ -239,7 +237,7 @@ fn shake_hands<C: Clock, S: Stream + Drop>(
         return Err(end_unshaken(&Error::Io(error)));
     }
     let key = if registry.takes_keys() {
-        head.key()
+        key_of(head.request())
     } else {
         None
     };

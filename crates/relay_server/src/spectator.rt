@@ -8,21 +8,20 @@ ghost use Rattle.relay_pushing.specs.declared.pushing.Turn.TheVariants as turns;
 ghost use Rattle.live_board.specs.Views.{next_of};
 ghost use Rattle.live_board.specs.Seats.{FollowerSeat};
 ghost use Rattle.relay_frames.specs.Reading.{is_midway};
-ghost use Rattle.relay_server.specs.Heads.{left};
-ghost use Rattle.relay_server.specs.BufferedStreams.{written as buffered_written};
+ghost use Rattle.relay_streams.specs.Heads.{left};
+ghost use Rattle.relay_streams.specs.BufferedStreams.{written as buffered_written};
 ghost use Rattle.relay_server.specs.Served.{Ended, Following, Heeded, IsAnswered, IsClosed, IsGone, IsLeftWith, IsNext, IsPassedOver, IsPeers, IsTakenIn, NoneTakenIn, TookTurn, standing_of};
 ghost use Rattle.relay_server.specs.Spectating.{HasBeenTold, close_code, session_end};
 
 use crate::chronicle::What;
 use crate::key::Key;
-use crate::outlet::SocketOutlet;
 use crate::registry::Registry;
 use crate::sessions::{CUT_OFF, SessionEnd};
 use crate::spectating::Spectating;
-use crate::stream::Stream;
 use relay_core::BoardName;
 use relay_frames::{Code, Event};
 use relay_pushing::{LastText, PushEnd, Turn};
+use relay_streams::{SocketOutlet, Stream};
 use std::io::{Read, Write};
 use std::marker::Model;
 use std::sync::Wait;
@@ -64,8 +63,8 @@ pub(crate) struct Spectator<S: Read + Write> {
 }
 
 impl<S: Read + Write> Model for Spectator<S> {
-    ghost use Rattle.relay_server.specs.Heads.{left};
-    ghost use Rattle.relay_server.specs.BufferedStreams.{written as buffered_written};
+    ghost use Rattle.relay_streams.specs.Heads.{left};
+    ghost use Rattle.relay_streams.specs.BufferedStreams.{written as buffered_written};
     ghost use Rattle.relay_server.specs.Served.{IsServed, Served, standing_of};
 
     ghost Value = { Served };

@@ -9,13 +9,11 @@ ghost use Rattle.relay_server.specs.Talking.{AnswerSent, BreachTold, Heard, IsSe
 
 use crate::broadcast::Broadcast;
 use crate::connection_keeper::ConnectionKeeper;
-use crate::outlet::SocketOutlet;
-use crate::patience::Patience;
-use crate::stream::Stream;
 use crate::wakes::Wakes;
 use relay_frames::{Breach, Code, Event};
 use relay_messages::{Answer, MessageFault, encode};
 use relay_pushing::{Conn, Gate, Keeper, Outlet};
+use relay_streams::{Patience, SocketOutlet, Stream};
 use std::alloc::{AllocError, Global};
 use std::sync::{Arc, Wait};
 use std::time::Clock;

@@ -1,7 +1,7 @@
 //! The threads of sessions, which are joined as they end, and those that are the server's own.
 
-use crate::deadline::Deadline;
 use crate::registry::Registry;
+use relay_streams::Deadline;
 use std::alloc::Global;
 use std::net::TcpStream;
 use std::sync::atomic::{AtomicBool, Ordering};

@@ -1,10 +1,10 @@
 //! Postponed wakes.
 
 ghost use Rattle.std.specs.Prelude.{◌≡◌, ◌+◌, ◌<◌, ◌≤◌, Some, true, false, is_some};
-ghost use Rattle.relay_server.specs.BufferedStreams.{IsOffered};
+ghost use Rattle.relay_streams.specs.BufferedStreams.{IsOffered};
 
 use crate::broadcast::Broadcast;
-use crate::outlet::SocketOutlet;
+use relay_streams::SocketOutlet;
 use std::alloc::Global;
 use std::sync::Arc;
 

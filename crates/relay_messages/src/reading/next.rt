@@ -5,8 +5,8 @@
 pub enum Next {
     /// As a compact object.
     Compact,
-    /// As a plain object: it is longer than a compact object may be, does not end with a brace, or has white space, an escape or a value that
-    /// none has.
+    /// As a plain object: it is longer than a compact object may be, does not end with a brace, or has white space, an escape or a value
+    /// that none has.
     Plain,
     /// As any value: there are too many members for a plain object, or a key comes twice.
     Any,

@@ -1,0 +1,524 @@
+//! The outlet over a WebSocket.
+
+ghost use Rattle.std.specs.Prelude.{◌≡◌, [], ◌∷◌, ◌++◌, ◌≤◌, ◌<◌, ◌↔◌, IsTrue, None, Some, Err, true, false, is_some, length, option_map, IfErr, IfNone, IfOk, OnOk, OnErr, if◌then◌else◌};
+ghost use Rattle.std.specs.Io.KnownBytes.{Appends, Keeps};
+ghost use Rattle.relay_frames.specs.Breaches.{code_of};
+ghost use Rattle.relay_frames.specs.Events.{number_of, told};
+ghost use Rattle.relay_frames.specs.Frames.{close_frame, ping_frame, pong_frame, text_frame};
+ghost use Rattle.relay_frames.specs.Reading.{is_midway, next_step};
+ghost use Rattle.relay_pushing.specs.Sending.{Counts};
+ghost use Rattle.relay_pushing.specs.declared.outlet.SendFault.TheVariants.{Device};
+ghost use Rattle.relay_streams.specs.Dues.{IsStillDue};
+ghost use Rattle.relay_streams.specs.Heads.{left};
+ghost use Rattle.relay_streams.specs.Hearing.{TakesIn, TakesNone};
+ghost use Rattle.relay_streams.specs.BufferedStreams.{IsOffered, Sends, written as buffered_written};
+ghost use Rattle.relay_streams.specs.Memory.{IsToldOf};
+
+use crate::buffered_stream::BufferedStream;
+use crate::deadline::Deadline;
+use crate::drain::end_and_drain;
+use crate::memory::is_want_of_memory;
+use crate::stream::Stream;
+use crate::texts::Texts;
+use relay_frames::{Breach, Code, Event, Peer, outgoing};
+use relay_pushing::{Outlet, SendFault};
+use std::alloc::{AllocError, Global};
+use std::io;
+use std::io::{ErrorKind, Read, Write};
+use std::time::{Clock, Duration};
+use tungstenite::Error;
+
+/// How many pings in a row are sent to a peer that stays silent.
+const MOST_PINGS: u32 = 2;
+
+/// After how many seconds of silence a peer that a session reads from is sent a ping. In the loops `relay_frames::silence` has it.
+pub const MOST_SILENT_SECONDS: u64 = 30;
+
+/// How many seconds a peer may take over half a message.
+const MOST_HALF_SECONDS: u64 = 10;
+
+/// How many bytes one read of the stream asks for.
+const READ_BYTES: usize = 4096;
+
+/// How many bytes at least are kept back for a peer that is pushed to by turns, before it has no room.
+const ROOM_BYTES: usize = 4096;
+
+/// An outlet over a WebSocket, from the end of its handshake on. Its model is the texts whose frames it put into the stream's buffer.
+#[derive(Drop)]
+pub struct SocketOutlet<S> {
+    alloc: Global,
+    buffered: BufferedStream<S>,
+    peer: Peer,
+    /// The time by which a message that has partly arrived has to be complete, if there is one.
+    due: Option<Deadline>,
+    /// Whether that message comes in fragments: frames between them are not part of it.
+    is_in_fragments: bool,
+    /// How many bytes may be kept back while there is still room for one more text.
+    room: usize,
+    failures: u64,
+    texts: Texts,
+}
+
+impl<S: Read + Write + Drop> SocketOutlet<S> {
+    /// The outlet over a stream whose handshake is done and whose device has not failed yet. No text has been put into it.
+    pub fn new(alloc: Global, buffered: BufferedStream<S>) -> SocketOutlet<S>
+        ensures texts { result.texts.items ≡ [] }
+        ensures failures { result.failures ≡ 0 }
+        ensures buffered { result.buffered ≡ buffered }
+    {
+        SocketOutlet {
+            alloc,
+            buffered,
+            peer: Peer::new(alloc),
+            due: None,
+            is_in_fragments: false,
+            room: ROOM_BYTES,
+            failures: 0,
+            texts: Texts::new(),
+        }
+    }
+
+    /// Reads the stream once. A peer that was silent for as long as a read waits is sent a ping, and then another one. If it is still
+    /// silent after that, it is taken to have gone.
+    fn wait_for(&mut self, bytes: &mut [u8]) -> Result<usize, Error>
+        ensures bound { IfOk result (λ n. n ≤ length bytes.new) }
+        ensures texts { self.new.texts ≡ self.old.texts }
+        ensures due { self.new.due ≡ self.old.due }
+    {
+        for _ in 0..MOST_PINGS {
+            let heard = self.buffered.read(bytes);
+            if !is_silence(&heard) {
+                return Ok(heard?);
+            }
+            self.ping()?;
+        }
+        Ok(self.buffered.read(bytes)?)
+    }
+
+    /// Writes a ping (RFC 6455, section 5.5.2). It leaves before the next read waits.
+    pub fn ping(&mut self) -> Result<(), Error>
+        ensures given { OnOk result (Appends (buffered_written S.contents self.old.buffered) (buffered_written S.contents self.new.buffered) (ping_frame [])) }
+        ensures ungiven { OnErr result (Keeps (buffered_written S.contents self.old.buffered) (buffered_written S.contents self.new.buffered)) }
+        ensures peer { self.new.peer ≡ self.old.peer }
+        ensures texts { self.new.texts ≡ self.old.texts }
+        ensures due { self.new.due ≡ self.old.due }
+    {
+        let mut frame = Vec::new(self.alloc);
+        outgoing::ping(b"", &mut frame)?;
+        self.buffered.put(frame.as_slice())?;
+        Ok(())
+    }
+
+    /// Answers a ping with a pong that has its bytes (RFC 6455, section 5.5.3). It leaves before the next read waits.
+    ///
+    /// # Errors
+    ///
+    /// The stream took no more, or there was no memory.
+    pub fn pong(&mut self, payload: &[u8]) -> Result<(), Error>
+        ensures given { OnOk result (Appends (buffered_written S.contents self.old.buffered) (buffered_written S.contents self.new.buffered) (pong_frame payload.now)) }
+        ensures ungiven { OnErr result (Keeps (buffered_written S.contents self.old.buffered) (buffered_written S.contents self.new.buffered)) }
+        ensures peer { self.new.peer ≡ self.old.peer }
+        ensures texts { self.new.texts ≡ self.old.texts }
+    {
+        let mut frame = Vec::new(self.alloc);
+        outgoing::pong(payload, &mut frame)?;
+        self.buffered.put(frame.as_slice())?;
+        Ok(())
+    }
+
+    /// Offers the stream what is kept back, in one write.
+    pub fn offer(&mut self)
+        ensures offered { IsOffered self.new.buffered }
+        ensures bytes { Keeps (buffered_written S.contents self.old.buffered) (buffered_written S.contents self.new.buffered) }
+        ensures front { Sends S.contents self.old.buffered self.new.buffered.stream self.new.buffered.output.items }
+        ensures peer { self.new.peer ≡ self.old.peer }
+        ensures texts { self.new.texts ≡ self.old.texts }
+    {
+        self.buffered.offer();
+    }
+
+    /// Whether so much is kept back that what is put next waits until the stream has taken it.
+    pub fn is_full(&self) -> bool {
+        self.buffered.is_full()
+    }
+
+    /// Sends what was accepted as far as the device allows.
+    pub fn give_up(&mut self)
+        ensures { self.new.texts ≡ self.old.texts }
+    {
+        let _ = self.buffered.send_now();
+    }
+
+    /// Puts a text's frame into the buffer, after all that was put there before, and notes the text. After an error the text is not noted.
+    ///
+    /// # Errors
+    ///
+    /// The stream took no more, or there was no memory.
+    fn hand_over(&mut self, text: &str) -> Result<(), Error>
+        ensures noted { OnOk result (self.new.texts.items ≡ self.old.texts.items ++ text.now ∷ []) }
+        ensures given { OnOk result (Appends (buffered_written S.contents self.old.buffered) (buffered_written S.contents self.new.buffered) (text_frame text.now)) }
+        ensures unnoted { OnErr result (self.new.texts ≡ self.old.texts) }
+        ensures failures { self.new.failures ≡ self.old.failures }
+    {
+        self.buffered.put_text(text)?;
+        self.texts = self.texts.and(text);
+        Ok(())
+    }
+
+    /// Puts the frame of a close into the buffer, after all that was put there before.
+    ///
+    /// # Errors
+    ///
+    /// The stream took no more, or there was no memory.
+    pub fn put_close(&mut self, code: Option<Code>) -> Result<(), Error>
+        ensures given { OnOk result (Appends (buffered_written S.contents self.old.buffered) (buffered_written S.contents self.new.buffered) (close_frame (number_of code))) }
+        ensures ungiven { OnErr result (Keeps (buffered_written S.contents self.old.buffered) (buffered_written S.contents self.new.buffered)) }
+        ensures peer { self.new.peer ≡ self.old.peer }
+        ensures texts { self.new.texts ≡ self.old.texts }
+        ensures failures { self.new.failures ≡ self.old.failures }
+    {
+        let mut frame = Vec::new(self.alloc);
+        outgoing::close(code, &mut frame)?;
+        self.buffered.put(frame.as_slice())?;
+        Ok(())
+    }
+
+    /// Puts the frame of the close that reports a peer's breach into the buffer.
+    ///
+    /// # Errors
+    ///
+    /// The stream took no more, or there was no memory.
+    pub fn put_breach(&mut self, breach: Breach) -> Result<(), Error>
+        ensures given { OnOk result (Appends (buffered_written S.contents self.old.buffered) (buffered_written S.contents self.new.buffered) (close_frame (Some (code_of breach)))) }
+        ensures texts { self.new.texts ≡ self.old.texts }
+    {
+        self.put_close(Some(breach.code()))
+    }
+
+    /// Counts a failure of the device.
+    fn device_failed(&mut self) -> SendFault
+        ensures fault { result ≡ Device }
+        ensures counts { Counts self.old.failures self.new.failures (Err result) }
+        ensures texts { self.new.texts ≡ self.old.texts }
+    {
+        if self.failures < u64::MAX {
+            self.failures += 1;
+        }
+        SendFault::Device
+    }
+
+    /// The result of a call of the socket. A failure of the device is counted; lack of memory is not one.
+    fn counted(&mut self, done: Result<(), Error>) -> Result<(), SendFault>
+        ensures told { IsToldOf done result }
+        ensures counts { Counts self.old.failures self.new.failures result }
+        ensures texts { self.new.texts ≡ self.old.texts }
+    {
+        match done {
+            Ok(()) => Ok(()),
+            Err(error) if is_want_of_memory(&error) => Err(SendFault::OutOfMemory),
+            Err(_) => Err(self.device_failed()),
+        }
+    }
+
+    /// Sends what the stream kept back.
+    fn send_kept(&mut self) -> Result<(), SendFault>
+        ensures counts { Counts self.old.failures self.new.failures result }
+        ensures texts { self.new.texts ≡ self.old.texts }
+    {
+        let sent = self.buffered.send_now().map_err(Error::Io);
+        self.counted(sent)
+    }
+}
+
+impl<S: Read + Write + Drop> SocketOutlet<S> {
+    /// Reads once from a stream that does not wait, and feeds what came to the peer's reader. Returns how many bytes came.
+    ///
+    /// # Errors
+    ///
+    /// The stream failed, and nothing was lost; or there was no memory (`OutOfMemory`).
+    pub fn take_in(&mut self) -> io::Result<usize>
+        ensures came { IfOk result (λ n. TakesIn S.remaining self.old self.new n) }
+        ensures nothing { IfErr result (λ error. TakesNone S.remaining self.old self.new error) }
+        ensures kept { self.new.buffered.output ≡ self.old.buffered.output }
+        ensures texts { self.new.texts ≡ self.old.texts }
+    {
+        let mut piece = [0; READ_BYTES];
+        let n = self.buffered.read_on(&mut piece)?;
+        match self.peer.feed(&piece[..n]) {
+            Ok(()) => Ok(n),
+            Err(_) => Err(io::Error::from(ErrorKind::OutOfMemory)),
+        }
+    }
+
+    /// What the bytes that were read say next, if anything.
+    ///
+    /// # Errors
+    ///
+    /// There was no memory. Then nothing has changed.
+    pub fn heard_next(&mut self) -> Result<Option<Event>, AllocError>
+        ensures told { IfOk result (λ event. option_map told event ≡ (next_step self.old.peer).told) }
+        ensures then { OnOk result (self.new.peer ≡ (next_step self.old.peer).then) }
+        ensures unchanged { OnErr result (self.new.peer ≡ self.old.peer) }
+        ensures buffered { self.new.buffered ≡ self.old.buffered }
+        ensures texts { self.new.texts ≡ self.old.texts }
+    {
+        self.peer.next()
+    }
+
+    /// Whether the peer is in the middle of a message.
+    pub fn is_midway(&self) -> bool
+        ensures { result ≡ is_midway self.now.peer }
+    {
+        self.peer.is_midway()
+    }
+
+    /// Sends as much of what was kept back as a stream that does not wait takes. Returns whether nothing is kept back any more.
+    ///
+    /// # Errors
+    ///
+    /// The stream failed, now or before. What it did not take is still kept back.
+    pub fn send_some(&mut self) -> io::Result<bool>
+        ensures bytes { Keeps (buffered_written S.contents self.old.buffered) (buffered_written S.contents self.new.buffered) }
+        ensures all { IfOk result (λ all. IsTrue all ↔ (self.new.buffered.output.items ≡ [])) }
+        ensures front { Sends S.contents self.old.buffered self.new.buffered.stream self.new.buffered.output.items }
+        ensures peer { self.new.peer ≡ self.old.peer }
+        ensures texts { self.new.texts ≡ self.old.texts }
+    {
+        self.buffered.send_some()
+    }
+
+    /// How many bytes are kept back.
+    pub fn kept(&self) -> usize
+        ensures { result ≡ length self.now.buffered.output.items }
+    {
+        self.buffered.kept()
+    }
+
+    /// If lifted, there is room for one more text from now on, however much is kept back; if not, there is only while that is little.
+    pub fn lift(&mut self, is_lifted: bool)
+        ensures room { self.new.room ≡ if is_lifted then usize.MAX else 4096 }
+        ensures peer { self.new.peer ≡ self.old.peer }
+        ensures buffered { self.new.buffered ≡ self.old.buffered }
+        ensures texts { self.new.texts ≡ self.old.texts }
+    {
+        self.room = if is_lifted { usize::MAX } else { ROOM_BYTES };
+    }
+
+    /// The stream, and the outlet without it, ready for another stream in its place.
+    pub fn unplugged(self) -> (S, SocketOutlet<()>)
+        ensures stream { result.0 ≡ self.buffered.stream }
+        ensures kept { result.1.buffered.output.items ≡ self.buffered.output.items }
+        ensures behind { left result.1.buffered.head ≡ left self.buffered.head }
+        ensures failed { result.1.buffered.has_failed ≡ self.buffered.has_failed }
+        ensures peer { result.1.peer ≡ self.peer }
+        ensures failures { result.1.failures ≡ self.failures }
+        ensures texts { result.1.texts ≡ self.texts }
+    {
+        let SocketOutlet {
+            alloc,
+            buffered,
+            peer,
+            due,
+            is_in_fragments,
+            room,
+            failures,
+            texts,
+        } = self;
+        let (stream, buffered) = buffered.unplugged();
+        let outlet = SocketOutlet {
+            alloc,
+            buffered,
+            peer,
+            due,
+            is_in_fragments,
+            room,
+            failures,
+            texts,
+        };
+        (stream, outlet)
+    }
+}
+
+impl SocketOutlet<()> {
+    /// The same outlet over this stream, which does not wait.
+    pub fn onto<S>(self, stream: S) -> SocketOutlet<S>
+        ensures stream { result.buffered.stream ≡ stream }
+        ensures kept { result.buffered.output.items ≡ self.buffered.output.items }
+        ensures behind { left result.buffered.head ≡ left self.buffered.head }
+        ensures failed { result.buffered.has_failed ≡ self.buffered.has_failed }
+        ensures unbounded { result.buffered.most_output ≡ usize.MAX }
+        ensures peer { result.peer ≡ self.peer }
+        ensures failures { result.failures ≡ self.failures }
+        ensures texts { result.texts ≡ self.texts }
+    {
+        let SocketOutlet {
+            alloc,
+            buffered,
+            peer,
+            due,
+            is_in_fragments,
+            room,
+            failures,
+            texts,
+        } = self;
+        SocketOutlet {
+            alloc,
+            buffered: buffered.onto(stream),
+            peer,
+            due,
+            is_in_fragments,
+            room,
+            failures,
+            texts,
+        }
+    }
+}
+
+impl<S: Stream + Drop> SocketOutlet<S> {
+    /// Ends the output of a stream that does not wait, after everything was written to it.
+    pub fn end_output(&mut self)
+        ensures { self.new.texts ≡ self.old.texts }
+    {
+        let _ = self.buffered.end_output();
+    }
+
+    /// What the peer says next in what was read, if it says anything but fragments: what they say is reported with the last one.
+    ///
+    /// # Errors
+    ///
+    /// There was no memory.
+    pub fn next_whole(&mut self) -> Result<Option<Event>, AllocError>
+        ensures texts { self.new.texts ≡ self.old.texts }
+        ensures buffered { self.new.buffered ≡ self.old.buffered }
+        ensures due { self.new.is_in_fragments ≡ true → self.new.due ≡ self.old.due }
+        ensures none { IfOk result (λ event. IfNone event (self.new.due ≡ self.old.due)) }
+        ensures err { OnErr result (self.new.due ≡ self.old.due) }
+    {
+        for _ in 0..u64::MAX {
+            match self.peer.next()? {
+                Some(Event::Fragment) => self.is_in_fragments = true,
+                Some(event) => {
+                    self.heard(&event);
+                    return Ok(Some(event));
+                }
+                None => return Ok(None),
+            }
+        }
+        Ok(None)
+    }
+
+    /// What the peer says next, except fragments. The stream is read when what was read says nothing more.
+    ///
+    /// # Errors
+    ///
+    /// The stream failed or ended, with the kind `WouldBlock` or `TimedOut` if the peer has gone or takes too long over a message; or there
+    /// was no memory.
+    pub fn read<C: Clock>(&mut self, clock: &C) -> Result<Event, Error>
+        ensures texts { self.new.texts ≡ self.old.texts }
+        ensures due { self.new.is_in_fragments ≡ true → IsStillDue self.old.due self.new.due }
+    {
+        for _ in 0..u64::MAX {
+            if let Some(event) = self.next_whole()? {
+                return Ok(event);
+            }
+            self.fill(clock)?;
+        }
+        Err(Error::Io(io::Error::from(ErrorKind::TimedOut)))
+    }
+
+    /// A message is complete, unless it was a frame between the fragments of one: what comes next has its own time.
+    fn heard(&mut self, event: &Event)
+        ensures texts { self.new.texts ≡ self.old.texts }
+        ensures buffered { self.new.buffered ≡ self.old.buffered }
+        ensures due { self.new.is_in_fragments ≡ true → self.new.due ≡ self.old.due }
+        ensures none_due { self.new.is_in_fragments ≡ false → self.new.due ≡ None }
+    {
+        if matches!(event, Event::Text(_) | Event::Binary(_)) {
+            self.is_in_fragments = false;
+        }
+        if !self.is_in_fragments {
+            self.due = None;
+        }
+    }
+
+    /// Feeds what came to the peer's reader.
+    fn fill<C: Clock>(&mut self, clock: &C) -> Result<(), Error>
+        ensures texts { self.new.texts ≡ self.old.texts }
+        ensures due { IsStillDue self.old.due self.new.due }
+    {
+        let mut bytes = [0; READ_BYTES];
+        let n = if self.peer.is_midway() {
+            self.wait_for_rest(clock, &mut bytes)?
+        } else {
+            self.wait_for(&mut bytes)?
+        };
+        if n == 0 {
+            return Err(Error::Io(io::Error::from(ErrorKind::UnexpectedEof)));
+        }
+        self.peer.feed(&bytes[..n])?;
+        Ok(())
+    }
+
+    /// Reads the stream once in the middle of a message. The whole message has ten seconds, however often some of it arrives.
+    fn wait_for_rest<C: Clock>(&mut self, clock: &C, bytes: &mut [u8]) -> Result<usize, Error>
+        ensures bound { IfOk result (λ n. n ≤ length bytes.new) }
+        ensures texts { self.new.texts ≡ self.old.texts }
+        ensures due { IsStillDue self.old.due self.new.due }
+        ensures bounded { OnOk result (is_some self.new.due ≡ true) }
+    {
+        let due = match self.due {
+            Some(due) => due,
+            None => Deadline::after(clock, Duration::from_secs(MOST_HALF_SECONDS))?,
+        };
+        self.due = Some(due);
+        self.buffered.bound_reads(Some(due.left(clock)?))?;
+        let n = self.buffered.read(bytes)?;
+        self.buffered
+            .bound_reads(Some(Duration::from_secs(MOST_SILENT_SECONDS)))?;
+        Ok(n)
+    }
+
+    /// Ends the output, and reads on until the peer's end: otherwise a peer that still sends would get a reset instead of the last
+    /// texts. What it sends now is dropped.
+    pub fn drain<C: Clock>(&mut self, clock: &C)
+        ensures { self.new.texts ≡ self.old.texts }
+    {
+        let _ = end_and_drain(clock, &mut self.buffered);
+    }
+}
+
+impl<S: Read + Write + Drop> Outlet for SocketOutlet<S> {
+    ghost sent = { λ s. Some s.texts.items };
+
+    ghost failures = { λ s. s.failures };
+
+    /// An outlet that waits for room while it sends need not be asked.
+    fn has_room(&self) -> bool
+        ensures { IsTrue result ↔ (length self.now.buffered.output.items < self.now.room) }
+    {
+        self.buffered.kept() < self.room
+    }
+
+    fn send(&mut self, text: &str) -> Result<(), SendFault> {
+        let done = self.hand_over(text);
+        self.counted(done)
+    }
+
+    fn flush(&mut self) -> Result<(), SendFault> {
+        self.send_kept()
+    }
+
+    fn close(&mut self, code: u16) -> Result<(), SendFault> {
+        let done = self.put_close(Code::new(code));
+        self.counted(done)?;
+        self.send_kept()
+    }
+}
+
+/// Whether a read ended because nothing came for as long as it waits.
+pub fn is_silence(heard: &io::Result<usize>) -> bool {
+    match heard {
+        Err(cause) => matches!(cause.kind(), ErrorKind::WouldBlock | ErrorKind::TimedOut),
+        Ok(_) => false,
+    }
+}
