@@ -1,7 +1,8 @@
 #!/bin/sh
 # Tries enter.py on the built program (or the one that RELAY960 names): its parts; a relay beside files that grow, corrections, losses and
-# programs that are killed; games of Stockfish's moves, written by pgn-extract, PyChess and a writer of its own in every way that is read;
-# and all 960 starts. It uses no address but loopback, and takes some three minutes: ./test.sh 200 takes 200 games in place of 40.
+# programs that are killed; a file that ends at each of its bytes; games of Stockfish's moves, written by pgn-extract, PyChess and a writer
+# of its own in every way that is read; and all 960 starts. It uses no address but loopback, and takes some six minutes: ./test.sh 200 takes
+# 200 games in place of 40.
 # ./test.sh long [SECONDS] plays a round of 64 boards instead, ten moves a second (for 1440 seconds), and tells its memory, its time and
 # how soon moves were at the relay. The last line says what came.
 set -eu
@@ -17,4 +18,5 @@ if [ "${1:-}" = long ]; then
 fi
 /usr/bin/python3 -m unittest discover -s tests
 /usr/bin/python3 -m unittest relay_client.tests.test_pgn_in
+/usr/bin/python3 test_cuts.py
 exec /usr/bin/python3 test_rounds.py "${1:-40}"
