@@ -47,7 +47,9 @@ s|/var/log/nginx/|$run/|g" \
 echo "ok      package"
 systemd-analyze verify --man=no "$root"/usr/lib/systemd/system/*.service
 echo "ok      units"
-mandoc -T lint -W style "$root"/usr/share/man/man1/*.1.gz
+for page in "$root"/usr/share/man/man1/*.1.gz; do
+    mandoc -T lint -W style "$page"  # It unpacks the first of several only.
+done
 echo "ok      manual pages"
 
 # A hall, from the package's own files.
