@@ -14,7 +14,7 @@ ghost use Rattle.live_board.specs.Board.{game_of, setup_of};
 ghost use Rattle.relay_live.specs.Live.{SlotsLeft};
 
 use crate::boards::{end, join, leave_for, play, take_for};
-use crate::seated::Seated;
+use crate::seated::{Followed, Seated};
 use crate::seats::Seats;
 use c960_board::Move;
 use c960_game::{Ending, Limits, MOST_PLIES, Refusal};
@@ -131,7 +131,7 @@ impl Holdings {
             unreachable!();
         };
         let seated = Seated {
-            board,
+            board: Followed::of(&board),
             index,
             slot,
             joined,

@@ -1,15 +1,45 @@
 //! Where a spectator follows.
 
-ghost use Rattle.std.specs.Prelude.{◌≡◌, ℕ, ◌<◌, Some, is_some, unwrap_or};
+ghost use Rattle.std.specs.Prelude.{◌≡◌, ℕ, List, ◌<◌, Some, is_some, unwrap_or};
 
 use relay_core::{Account, BoardKey};
+use std::marker::Model;
+
+/// The name of the board that a spectator follows. Only clauses read it, and see its bytes: it takes no memory.
+#[derive(Drop)]
+pub(crate) struct Followed {
+    ghost name: { List ℕ },
+}
+
+impl Model for Followed {
+    ghost use Rattle.std.specs.Prelude.{ℕ, List};
+    ghost use Rattle.std.specs.Borrow.{ftrue};
+
+    ghost Value = { List ℕ };
+
+    ghost view = { λ f. f.name };
+
+    // There is no memory that it could own.
+    ghost also_owns = { λ _. ftrue };
+}
+
+// It owns nothing, so another thread may have it: a relay may go to another thread.
+unsafe impl Send for Followed {}
+
+impl Followed {
+    /// That of this board.
+    pub(crate) fn of(_board: &BoardKey) -> Followed
+        ensures { result ≡ _board.now }
+    {
+        Followed {}
+    }
+}
 
 /// Where a spectator follows, and how far it has got. Everything else about it is in what the board knows.
 #[derive(Drop)]
 pub(crate) struct Seated {
-    /// The board that it follows. Only contracts read it. Were it a ghost value, the prover would not find that a relay may go to another
-    /// thread.
-    pub(crate) board: BoardKey,
+    /// The board that it follows, which only contracts read.
+    pub(crate) board: Followed,
     /// The index of that board in the map of boards. It stays, since a board is removed only when the relay ends.
     pub(crate) index: usize,
     /// Its slot there.

@@ -71,19 +71,19 @@ joined : (c : After-join) → Goes (held_of c.self.inside) (held_by c.self.insid
 joined c =
     let a = c.self.inside in
     let b = c.in-Some.live.now in
-    let m = c.before.before.before.before.before.before.before.before.before in
+    let m = c.before.before.before.before.before.before.before.before.before.before.before in
     let u = c.in_default-may_follow.field-0 in
     let w = granted m u c.in_default-may_follow.is in
     let seat = c.in_default-insert.ensures.ok in
     let fine = sym c.in_default-may_follow.is ∙ held_grounds m (ap is_some seat.0) in
     let vacant = (found_vacant b.knows c.vacant_slot-vacant.result c.in-Some-vacant.slot c.in-Some-vacant.is c.vacant_slot-vacant.ensures.slot).1 in
-    let s : Seated = record { board = c.args.board; index = c.in-Some.index; slot = c.in-Some-vacant.slot; joined = c.unwrap_or-joined.result; taken = 0 } in
+    let s : Seated = record { board = c.of.result; index = c.in-Some.index; slot = c.in-Some-vacant.slot; joined = c.unwrap_or-joined.result; taken = 0 } in
     let t = joins c.args.board a.boards.entries c.join.new.boards.entries c.in-Some-vacant.slot c.unwrap_or-joined.result b (there m) (c.join.ensures.swapped c.args.board (stood_at m)) in
     let stood = sym c.in-Some-position_at.is ∙ c.position_at.ensures.value in (
       goes a.limits a.boards.entries c.join.new.boards.entries a.followers.entries c.insert.new.self.entries c.args.who c.args.board c.in-Some-vacant.slot c.unwrap_or-joined.result c.self.invariant.0 seat.0
-          b t.0 (there m) vacant w.0 t.1 t.2 t.3 s refl (stood_at m) refl refl refl seat.1 c.args.from c.in-Some-position_at.position u fine (place m) stood,
+          b t.0 (there m) vacant w.0 t.1 t.2 t.3 s c.of.ensures (stood_at m) refl refl refl seat.1 c.args.from c.in-Some-position_at.position u fine (place m) stood,
       lives a.limits a.boards.entries c.join.new.boards.entries a.followers.entries c.insert.new.self.entries c.args.who c.args.board c.in-Some-vacant.slot c.unwrap_or-joined.result c.self.invariant.0 seat.0
-          b t.0 (there m) vacant w.0 t.1 t.2 t.3 s refl (stood_at m) refl refl refl seat.1 c.args.from c.in-Some-position_at.position u fine (place m) stood,
+          b t.0 (there m) vacant w.0 t.1 t.2 t.3 s c.of.ensures (stood_at m) refl refl refl seat.1 c.args.from c.in-Some-position_at.position u fine (place m) stood,
       boards_counted a.boards.entries c.join.new.boards.entries c.args.board b t.0 (there m) t.3,
     )
 
