@@ -22,8 +22,8 @@ pub trait TextRoom {
     /// Whether a text was put behind what was there, which leads to what is there.
     ghost puts: { Self → List ℕ → Bool → Self → Type 0 };
 
-    /// Puts the pieces there, one after the other, if there is room for all of them. In a space of a fixed size there has to be room for one
-    /// byte more, so that a line feed fits behind them. Returns whether there was room.
+    /// Puts the pieces there, one after the other, if there is room for all of them. In a space of a fixed size there has to be room for
+    /// one byte more, so that a line feed fits behind them. Returns whether there was room.
     fn put(&mut self, pieces: &[&str]) -> bool
         ensures { puts self.old (flat_map (λ piece. piece.now) pieces.now) result self.new };
 }
