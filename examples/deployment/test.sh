@@ -52,9 +52,9 @@ for page in "$root"/usr/share/man/man1/*.1.gz; do
 done
 echo "ok      manual pages"
 
-# A hall, from the package's own files.
+# A hall, from the package's own files, with an ordinary user's path.
 echo "b1 518 White – Black" > "$run/round"
-PYTHONPATH='' "$root/usr/lib/relay960/hall.py" --address 127.0.0.1 --port 9960 "$run/round" > "$run/hall.log" 2>&1 &
+PATH=/usr/local/bin:/usr/bin:/bin PYTHONPATH='' "$root/usr/lib/relay960/hall.py" --address 127.0.0.1 --port 9960 "$run/round" > "$run/hall.log" 2>&1 &
 hall=$!
 pids="$pids $hall"
 ports wait 9960 || { cat "$run/hall.log"; exit 1; }

@@ -55,6 +55,10 @@ def first_there(paths):
     raise Wrong(f"there is no {paths[0]}")
 
 
+# Where Debian has nginx, which is in no ordinary user's path.
+os.environ["PATH"] = f"{os.environ.get('PATH', os.defpath)}:/usr/sbin:/sbin"
+
+
 def missing():
     """The packages of Debian that it needs and that are not there."""
     commands = {"nginx-light": "nginx", "qrencode": "qrencode", "iproute2": "ip"}
