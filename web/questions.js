@@ -49,6 +49,7 @@ const createQuestions = (at) => {
     at("sure-yes").textContent = yes;
     box.returnValue = "";
     box.showModal();
+    at("sure-no").focus(); // Not by `autofocus`: a browser complains of that in the frame of a page from disk.
     return new Promise((resolve) => {
       box.addEventListener("close", () => resolve(box.returnValue === "yes"), { once: true });
     });

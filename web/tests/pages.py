@@ -12,6 +12,7 @@ import websockets
 import back
 import beside
 import broadcast
+import console
 import contrast
 import desk
 import gone
@@ -976,7 +977,7 @@ async def main():
     pictures = words[1] if words[:1] == ["--pictures"] else None
     other = OTHERS.get(words[0]) if words else None
     words = (words[1:] or OFTEN) if other else words
-    modules = (back, beside, broadcast, contrast, desk, gone, lists, notation, rounds, senses, tabs)
+    modules = (back, beside, broadcast, console, contrast, desk, gone, lists, notation, rounds, senses, tabs)
     tries = {name[4:]: it for module in (globals(), *map(vars, modules)) for name, it in module.items() if name.startswith("try_")}
     # A test's site makes its own certificate, and has a name of its own.
     hosts = f"--host-resolver-rules=MAP {rounds.OTHER_HOST} 127.0.0.1, MAP * ~NOTFOUND, EXCLUDE 127.0.0.1, EXCLUDE localhost"
