@@ -54,7 +54,8 @@ echo "ok      manual pages"
 
 # A hall, from the package's own files, with an ordinary user's path.
 echo "b1 518 White – Black" > "$run/round"
-PATH=/usr/local/bin:/usr/bin:/bin PYTHONPATH='' "$root/usr/lib/relay960/hall.py" --address 127.0.0.1 --port 9960 "$run/round" > "$run/hall.log" 2>&1 &
+PATH=/usr/local/bin:/usr/bin:/bin PYTHONPATH='' "$root/usr/lib/relay960/hall.py" --address 127.0.0.1 --port 9960 "$run/round" \
+    > "$run/hall.log" 2>&1 &
 hall=$!
 pids="$pids $hall"
 ports wait 9960 || { cat "$run/hall.log"; exit 1; }

@@ -1,8 +1,8 @@
 #!/bin/sh
 # Tries enter.py on the built program (or the one that RELAY960 names): its parts; a relay beside files that grow, corrections, losses and
 # programs that are killed; a file that ends at each of its bytes; games of Stockfish's moves, written by pgn-extract, PyChess and a writer
-# of its own in every way that is read; and all 960 starts. It uses no address but loopback, and takes some five minutes: ./test.sh 200 takes
-# 200 games in place of 40.
+# of its own in every way that is read; and all 960 starts. It uses no address but loopback, and takes some five minutes: ./test.sh 200
+# takes 200 games in place of 40.
 # ./test.sh long [SECONDS] plays a round of 64 boards instead, ten moves a second (for 1440 seconds), and tells its memory, its time and
 # how soon moves were at the relay. The last line says what came.
 set -eu

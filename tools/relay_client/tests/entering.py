@@ -2,6 +2,7 @@
 
 import asyncio
 import contextlib
+import http.server
 import json
 import logging
 import os
@@ -9,6 +10,7 @@ import pathlib
 import subprocess
 import sys
 import tempfile
+import threading
 import unittest
 
 from relay_client.connection import Connection
@@ -63,6 +65,32 @@ def boards_of(relay):
         found[text["board"]] = (text["start"], log_of(relay.port, text["board"], text["plies"]), text["outcome"])
     watch.close()
     return found
+
+
+class Site(http.server.ThreadingHTTPServer):
+    """A site on a free port that has one file, and answers with `status` or with a part of it."""
+
+    class Answer(http.server.BaseHTTPRequestHandler):
+        def do_GET(self):
+            site = self.server
+            tag = f'"{hash(site.body)}"'
+            status = 304 if site.status == 200 and self.headers["If-None-Match"] == tag else site.status
+            site.answered.append(status)
+            self.send_response(status)
+            self.send_header("ETag", tag)
+            if status == 200:
+                self.send_header("Content-Length", str(len(site.body)))
+            self.end_headers()
+            if status == 200:
+                self.wfile.write(site.body[:len(site.body) // 2] if site.is_half else site.body)
+
+        def log_message(self, *_):
+            pass
+
+    def __init__(self):
+        super().__init__(("127.0.0.1", 0), self.Answer)
+        self.body, self.status, self.is_half, self.answered = b"", 200, False, []
+        threading.Thread(target=self.serve_forever, daemon=True).start()
 
 
 class Entering(unittest.IsolatedAsyncioTestCase):

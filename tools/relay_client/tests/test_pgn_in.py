@@ -2,42 +2,15 @@
 example's own test.sh, by hand, has more."""
 
 import asyncio
-import http.server
 import random
 import signal
-import threading
 
 from relay_client.connection import Connection
 from relay_client.program import PATIENCE
-from relay_client.tests.entering import DUTCH, DUTCH_SENT, ITALIAN, ITALIAN_SENT, THERE_AND_BACK, THERE_AND_BACK_SENT, Entering, game
+from relay_client.tests.entering import (DUTCH, DUTCH_SENT, ITALIAN, ITALIAN_SENT, THERE_AND_BACK, THERE_AND_BACK_SENT, Entering, Site,
+                                         game)
 from relay_client.texts import OPENED, ended, ends, opens, played, submits
 from relay_client.wire import DOWN, Wire
-
-
-class Site(http.server.ThreadingHTTPServer):
-    """A site on a free port that has one file, and answers with `status` or with a part of it."""
-
-    class Answer(http.server.BaseHTTPRequestHandler):
-        def do_GET(self):
-            site = self.server
-            tag = f'"{hash(site.body)}"'
-            status = 304 if site.status == 200 and self.headers["If-None-Match"] == tag else site.status
-            site.answered.append(status)
-            self.send_response(status)
-            self.send_header("ETag", tag)
-            if status == 200:
-                self.send_header("Content-Length", str(len(site.body)))
-            self.end_headers()
-            if status == 200:
-                self.wfile.write(site.body[:len(site.body) // 2] if site.is_half else site.body)
-
-        def log_message(self, *_):
-            pass
-
-    def __init__(self):
-        super().__init__(("127.0.0.1", 0), self.Answer)
-        self.body, self.status, self.is_half, self.answered = b"", 200, False, []
-        threading.Thread(target=self.serve_forever, daemon=True).start()
 
 
 class Growing(Entering):
