@@ -26,7 +26,8 @@ async def try_silent_console(browser):
     watches = [await open_heard(browser, url("watch.html", board="c1", **it))
                for it in ({"server": relay.address}, {"watch": relay.watch_address})]
     rounds = [await open_heard(browser, url("round.html", **it))
-              for it in ({"watch": relay.watch_address}, {"server": relay.address, "boards": "c1,c2"}, {"watch": relay.watch_address, "hall": ""})]
+              for it in ({"watch": relay.watch_address}, {"server": relay.address, "boards": "c1,c2"},
+                         {"watch": relay.watch_address, "hall": ""})]
     tables = await open_heard(browser, url("tables.html", server=relay.address))
     await tables.fill("#lines", "c2 518 White – Black\nc3 0")
     await tables.click("#source .main")
