@@ -16,4 +16,9 @@ impl Dice {
     pub fn below(&mut self, count: u32) -> u32 {
         if count == 0 { 0 } else { self.roll() % count }
     }
+
+    /// The same of few.
+    pub fn few(&mut self, count: u16) -> u16 {
+        u16::try_from(self.below(u32::from(count))).unwrap_or(0)
+    }
 }

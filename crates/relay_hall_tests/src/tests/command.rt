@@ -37,7 +37,7 @@ pub enum Command {
 
 /// Any move, or as often the one of this place.
 fn any_move(dice: &mut Dice, place: u16) -> u16 {
-    let any = dice.below(8) as u16;
+    let any = dice.few(8);
     if any < 4 { any } else { place % 4 }
 }
 
@@ -56,7 +56,7 @@ impl Command {
             14 => Command::End(board, (dice.below(8) as usize).min(2)),
             15..=17 => Command::Follow(board),
             18..=25 => {
-                let back = dice.below(6) as u16;
+                let back = dice.few(6);
                 Command::FollowFrom(board, plies.wrapping_add(1).saturating_sub(back))
             }
             _ => Command::Open(name, if dice.below(8) == 0 { 960 } else { 518 }),

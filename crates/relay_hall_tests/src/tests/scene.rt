@@ -117,7 +117,7 @@ impl Scene {
     /// Whether any board tells its moves from any place on. If it is refused, it is asked again.
     fn has_news(&mut self) -> Result<bool, AllocError> {
         let at = self.dice.below(u32::from(BOARDS)) as usize;
-        let from = self.dice.below(12) as u16;
+        let from = self.dice.few(12);
         match self.told(at, from) {
             Ok(is_told) => Ok(is_told),
             Err(AllocError) => {
