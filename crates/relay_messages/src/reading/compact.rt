@@ -121,11 +121,8 @@ fn after_key<'a>(text: &'a str, key: &str) -> Option<&'a str>
 }
 
 /// How a text is tried next in which another value comes first than was asked for. A compact object may have one of the other kind there.
-fn next_at(value: &str) -> Next {
-    match take_field(value) {
-        Some(_) => Next::Compact,
-        None => Next::Plain,
-    }
+fn next_at(is_of_other_kind: bool) -> Next {
+    if is_of_other_kind { Next::Compact } else { Next::Plain }
 }
 
 /// The text of the member with this key, if that comes first, and what follows it.
@@ -139,7 +136,7 @@ pub fn take_text_of<'a>(text: &'a str, key: &str) -> Result<(&'a str, &'a str), 
     let value = after_key(text, key).ok_or(Next::Compact)?;
     match take_text(value) {
         Some(taken) => Ok(taken),
-        None => Err(next_at(value)),
+        None => Err(next_at(take_digit(value).is_some())),
     }
 }
 
@@ -154,7 +151,7 @@ pub fn take_number_of<'a>(text: &'a str, key: &str) -> Result<(u64, &'a str), Ne
     let value = after_key(text, key).ok_or(Next::Compact)?;
     match take_number(value) {
         Some(taken) => Ok(taken),
-        None => Err(next_at(value)),
+        None => Err(next_at(after(value, b'"').is_some())),
     }
 }
 
