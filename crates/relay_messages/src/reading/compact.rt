@@ -122,7 +122,11 @@ fn after_key<'a>(text: &'a str, key: &str) -> Option<&'a str>
 
 /// How a text is tried next in which another value comes first than was asked for. A compact object may have one of the other kind there.
 fn next_at(is_of_other_kind: bool) -> Next {
-    if is_of_other_kind { Next::Compact } else { Next::Plain }
+    if is_of_other_kind {
+        Next::Compact
+    } else {
+        Next::Plain
+    }
 }
 
 /// The text of the member with this key, if that comes first, and what follows it.
