@@ -182,7 +182,8 @@ impl Hall {
 
     /// Whether any board belongs to connections with the key of this one. None does if it has no key.
     pub fn owns_any(&self, who: &Owner) -> bool
-        ensures { result ≡ tells_of self.now.floor who.now OwnsAny }
+        ensures owns { result ≡ tells_of self.now.floor who.now OwnsAny }
+        ensures reached { IsReached self.now }
     {
         self.floor.has_any_of(who)
     }
@@ -192,6 +193,7 @@ impl Hall {
         ensures index { result ≡ place_of self.now.floor name.now }
         ensures found { is_some result ≡ is_some (lookup (same_name name.now) self.now.floor.boards) }
         ensures board { IfSome result (λ at. option_map (λ e. e.1) (slice_get self.now.floor.boards at) ≡ lookup (same_name name.now) self.now.floor.boards) }
+        ensures reached { IsReached self.now }
     {
         self.floor.place_of(name)
     }
@@ -216,6 +218,13 @@ impl Hall {
         ensures { IsNextDue self.now.keys result }
     {
         self.holders.next()
+    }
+
+    /// Whether the boards of this key wait for a connection with it.
+    pub fn waits(&self, key: &Key) -> bool
+        ensures { result ≡ is_waiting (presence_of key.now self.now.keys) }
+    {
+        self.holders.has_run_out(key, None)
     }
 
     /// A connection with this key has come. Returns whether its boards waited.
