@@ -1,0 +1,23 @@
+//! The boards of a server, which all connections share: a hall behind one lock, and what wakes those who follow its boards and watch them.
+//! Within one hold of the lock one thing is done, exactly as the hall's definitions say. Texts are read and written, and positions worked
+//! out, without it.
+#![tactic(auto)]
+
+mod chime;
+mod chronicle;
+mod found;
+mod house;
+mod lobby;
+mod lookout;
+mod made;
+mod rang;
+mod registry;
+mod shown;
+mod signal;
+
+pub use chime::{BoardBell, Chime};
+pub use chronicle::{Chronicle, LogNote, LogNotes, What};
+pub use lookout::Lookout;
+pub use made::Made;
+pub use registry::Registry;
+pub use shown::Shown;

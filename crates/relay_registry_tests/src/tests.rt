@@ -1,0 +1,6 @@
+//! The tests.
+
+mod graces;
+mod people;
+mod steps;
+mod threads;

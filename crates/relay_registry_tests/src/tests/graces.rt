@@ -1,0 +1,73 @@
+//! How long boards of a key wait.
+
+use crate::tests::people::{Person, board, key, registry};
+use relay_core::{Reply, Step};
+use relay_registry::Registry;
+use std::process::Abort;
+use std::sync::Wait;
+use std::test::Fail;
+use std::thread::sleep;
+use std::time::{Clock, Duration};
+
+/// Whether the game of the first board is over.
+fn is_over<R: Wait + Abort>(rt: &R, registry: &Registry) -> bool {
+    match registry.show_at(rt, 0) {
+        Ok(Some(shown)) => shown.is_over(rt),
+        _ => panic!(rt; "no board"),
+    }
+}
+
+/// An operator with the key comes and opens the board.
+fn opens<R: Wait + Abort>(rt: &R, registry: &Registry, person: &mut Person) {
+    registry.arrive(rt, &key(rt)).expect(rt, "memory");
+    let told = person.is_told(rt, registry, Step::Open(board(rt, b"b1"), 518));
+    assert!(rt; told == Reply::Opened);
+    assert!(rt; registry.owns_any(rt, &person.owner));
+}
+
+#[test]
+fn boards_wait_for_their_key_and_end_behind_the_grace(rt: HostRuntime) -> Result<(), Fail> {
+    let registry = registry(&rt, rt.alloc(), 1)?;
+    registry.set_watched(true);
+    let mut operator = Person::new(rt.alloc(), &registry, Some(key(&rt)));
+    opens(&rt, &registry, &mut operator);
+    assert!(rt; registry.tick(&rt).is_none());
+
+    let heard = registry.waiting().count();
+    registry.leave(&rt, &operator.owner);
+    assert!(rt; registry.waiting().count() != heard);
+    let left = registry.tick(&rt).expect(&rt, "a board waits");
+    assert!(rt; left > Duration::ZERO && left <= Duration::from_millis(1001));
+    assert!(rt; !is_over(&rt, &registry));
+
+    registry.arrive(&rt, &key(&rt))?;
+    assert!(rt; registry.tick(&rt).is_none() && !is_over(&rt, &registry));
+    registry.leave(&rt, &operator.owner);
+    let _ = sleep(&rt, Duration::from_millis(1100));
+    assert!(rt; registry.tick(&rt).is_none() && is_over(&rt, &registry));
+    assert!(rt; registry.rings(0) == 1);
+    Ok(())
+}
+
+#[test]
+fn boards_end_at_once_where_nobody_watches_how_long_they_wait(rt: HostRuntime) -> Result<(), Fail> {
+    let registry = registry(&rt, rt.alloc(), 60)?;
+    let mut operator = Person::new(rt.alloc(), &registry, Some(key(&rt)));
+    opens(&rt, &registry, &mut operator);
+    registry.leave(&rt, &operator.owner);
+    assert!(rt; is_over(&rt, &registry) && registry.tick(&rt).is_none());
+    Ok(())
+}
+
+#[test]
+fn boards_that_wait_end_when_nobody_can_come_back(rt: HostRuntime) -> Result<(), Fail> {
+    let registry = registry(&rt, rt.alloc(), 60)?;
+    registry.set_watched(true);
+    let mut operator = Person::new(rt.alloc(), &registry, Some(key(&rt)));
+    opens(&rt, &registry, &mut operator);
+    registry.leave(&rt, &operator.owner);
+    assert!(rt; !is_over(&rt, &registry));
+    registry.shut(&rt);
+    assert!(rt; is_over(&rt, &registry) && registry.rings(0) == 1);
+    Ok(())
+}
