@@ -1,10 +1,3 @@
-pub mod Broadcasting
-pub mod Holders
-pub mod Holding
-pub mod Keys
-pub mod Opening
-pub mod Keeping
 pub mod Served
-pub mod Showing
 pub mod Spectating
 pub mod Talking

@@ -19,8 +19,10 @@ use Rattle.live_board.specs.Views.{next_of}
 use Rattle.live_board.specs.Sound.{BearsOut}
 use Rattle.live_board.specs.Seats.{FollowerSeat}
 use Rattle.live_board.specs.Takes.{Stays, Took, TookOfGame}
+use Rattle.relay_hall.specs.declared.handed.Handed.{Handed}
 use Rattle.relay_server.specs.declared.sessions.SessionEnd.{SessionEnd}
 use Rattle.relay_server.specs.declared.sessions.SessionEnd.TheVariants as ends
+use Rattle.relay_server.specs.declared.spectating.Spectating.{Spectating as SpectatingRecord}
 
 -- a take of the follower gives this answer, and leads from f to g; what it has taken is of a legal game
 abbrev pub Gives : FollowerSeat → Taken → FollowerSeat → Type 0
@@ -88,11 +90,9 @@ close_code is_ending (Failed fault) = None
 abbrev pub Pushed : FollowerSeat → FollowerSeat → List (List ℕ) → List (List ℕ) → SessionEnd → Type 0
 Pushed f g old new ended = (end : PushEnd) × SentUntil f g (Some old) (Some new) end × (ended ≡ session_end end)
 
--- A session with this follower pushed: it ended in this way, the texts handed over are those that the follower was sent, and it still has
--- the follower. One without a follower failed, and nothing was handed over.
-abbrev pub Followed : Option FollowerSeat → Option FollowerSeat → List (List ℕ) → List (List ℕ) → SessionEnd → Type 0
-Followed (Some f) has old new ended = (g : FollowerSeat) × Pushed f g old new ended × (has ≡ Some g)
-Followed None has old new ended = (ended ≡ ends.Failed) × (new ≡ old) × (has ≡ None)
+-- what a connection follows, as it was handed out: the name of the board, and the follower
+abbrev pub handed_as : SpectatingRecord → Handed
+handed_as s = record { board = s.board; follower = s.source }
 
 -- ---- From the reply on.
 

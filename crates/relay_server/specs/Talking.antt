@@ -1,60 +1,81 @@
 -- How a peer's messages are answered.
-use Rattle.std.specs.Prelude.{◌≡◌, ℕ, List, Bool, Option, None, Some, string_bytes, ⊤}
+use Rattle.std.specs.Prelude.{◌≡◌, ◌⊎◌, ℕ, List, [], false, Option, None, Some, Result, Ok, Err, MatchOption, string_bytes, ⊤}
 use Rattle.relay_core.specs.declared.step.Step.{Step}
 use Rattle.relay_core.specs.declared.reply.Reply.{Reply}
 use Rattle.relay_messages.specs.Answers.{answer_text}
-use Rattle.relay_messages.specs.declared.answer.Answer.TheVariants.{Fault}
+use Rattle.relay_messages.specs.Decoding.{IsDecoding}
+use Rattle.relay_messages.specs.declared.answer.Answer.TheVariants as answers
+use Rattle.relay_messages.specs.declared.fault.MessageFault.{MessageFault}
 use Rattle.relay_messages.specs.declared.fault.MessageFault.TheVariants.{BadField, NotJson}
-use Rattle.relay_pushing.specs.Connections.{Answered, IsUnmoved, OwnsNone, Question, Stopped}
 use Rattle.relay_pushing.specs.Sending.{Gains}
 use Rattle.relay_frames.specs.declared.breach.Breach.{Breach}
 use Rattle.relay_frames.specs.declared.breach.Breach.TheVariants.{TooLong}
 use Rattle.relay_frames.specs.declared.event.Event.{Event}
 use Rattle.relay_frames.specs.declared.event.Event.TheVariants as events
-use Rattle.live_board.specs.Seats.{FollowerSeat}
+use Rattle.relay_hall.specs.declared.handed.Handed.{Handed}
+use Rattle.relay_hall.specs.declared.owner.Owner.{Owner}
+use Rattle.relay_registry.specs.Holds.{IsToldOwner, WasMade}
 use Rattle.relay_server.specs.declared.talk.TalkEnd.{TalkEnd}
-use Rattle.relay_server.specs.declared.talk.TalkEnd.TheVariants.{Closed, Full, Follows, Broken, Idle, Failed}
+use Rattle.relay_server.specs.declared.talk.TalkEnd.TheVariants.{Follows, Idle}
 use Rattle.relay_server.specs.Spectating.{HasBeenTold}
 
--- a text is answered as the connection answers it; any other message is answered as a text that is not JSON, and no step is made
-abbrev pub MessageAnswered : {K : Type 0} → (Question → Bool → Type 0) → (K → Step → Reply → K → Type 0) → List (List ℕ) → K → Event → List ℕ → List (List ℕ) → K → Type 0
-MessageAnswered tells makes opened k (events.Text text) bytes boards after = Answered tells makes opened k (string_bytes text) bytes boards after
-MessageAnswered tells makes opened k other bytes boards after =
-    (bytes ≡ answer_text (Fault NotJson)) × IsUnmoved opened k boards after
+-- a step of a connection that has opened these boards is answered by what one hold of the lock makes of it
+abbrev pub StepAnswered : Owner → List (List ℕ) → Step → List ℕ → Option Handed → List (List ℕ) → Type 0
+StepAnswered who opened step bytes handed now =
+    (reply : Reply) × WasMade who opened step reply handed now × (bytes ≡ answer_text (answers.Reply reply))
 
--- there was no memory for the answer: the step that a text asks for was made, or none was
-abbrev pub MessageStopped : {K : Type 0} → (Question → Bool → Type 0) → (K → Step → Reply → K → Type 0) → List (List ℕ) → K → Event → List (List ℕ) → K → Type 0
-MessageStopped tells makes opened k (events.Text text) boards after = Stopped tells makes opened k (string_bytes text) boards after
-MessageStopped tells makes opened k other boards after = IsUnmoved opened k boards after
+-- a message is answered that it has this fault, and nothing is made
+abbrev pub IsObjectedTo : List (List ℕ) → MessageFault → List ℕ → Option Handed → List (List ℕ) → Type 0
+IsObjectedTo opened fault bytes handed now = (bytes ≡ answer_text (answers.Fault fault)) × (handed ≡ None) × (now ≡ opened)
 
--- the answer to a message comes after the texts before, and the keeper is the one that the answer left
-abbrev pub AnswerSent : {K : Type 0} → (Question → Bool → Type 0) → (K → Step → Reply → K → Type 0) → List (List ℕ) → K → Event → List (List ℕ) → List (List ℕ) → K → List (List ℕ) → Type 0
-AnswerSent tells makes opened k message old boards after new =
-    (bytes : List ℕ) × MessageAnswered tells makes opened k message bytes boards after × Gains (Some old) (Some new) bytes
+-- what a text says is answered: the step that it asks for, or its fault
+abbrev pub SaidAnswered : Owner → List (List ℕ) → Result Step MessageFault → List ℕ → Option Handed → List (List ℕ) → Type 0
+SaidAnswered who opened (Ok step) bytes handed now = StepAnswered who opened step bytes handed now
+SaidAnswered who opened (Err fault) bytes handed now = IsObjectedTo opened fault bytes handed now
+
+-- a text is answered by what it says; any other message is answered as a text that is not JSON
+abbrev pub MessageAnswered : Owner → List (List ℕ) → Event → List ℕ → Option Handed → List (List ℕ) → Type 0
+MessageAnswered who opened (events.Text text) bytes handed now =
+    (said : Result Step MessageFault) × IsDecoding (string_bytes text) said × SaidAnswered who opened said bytes handed now
+MessageAnswered who opened other bytes handed now = IsObjectedTo opened NotJson bytes handed now
+
+-- there was no memory for the answer to a step: it was made within one hold, or there was no memory for it, and nothing was made
+abbrev pub StepStopped : Owner → List (List ℕ) → Step → List (List ℕ) → Type 0
+StepStopped who opened step now = ((reply : Reply) × (handed : Option Handed) × WasMade who opened step reply handed now) ⊎ (now ≡ opened)
+
+-- there was no memory for the answer to a message: the step that a text asks for was made, or none was
+abbrev pub MessageStopped : Owner → List (List ℕ) → Event → List (List ℕ) → Type 0
+MessageStopped who opened (events.Text text) now =
+    ((step : Step) × IsDecoding (string_bytes text) (Ok step) × StepStopped who opened step now) ⊎ (now ≡ opened)
+MessageStopped who opened other now = now ≡ opened
+
+-- the answer to a message comes after the texts before
+abbrev pub AnswerSent : Owner → List (List ℕ) → Event → List (List ℕ) → Option Handed → List (List ℕ) → List (List ℕ) → Type 0
+AnswerSent who opened message old handed now new =
+    (bytes : List ℕ) × MessageAnswered who opened message bytes handed now × Gains (Some old) (Some new) bytes
 
 -- an event was heard: a text and a binary message got their answer, and any other changed nothing
-abbrev pub Heard : {K : Type 0} → (Question → Bool → Type 0) → (K → Step → Reply → K → Type 0) → List (List ℕ) → K → Event → List (List ℕ) → List (List ℕ) → K → List (List ℕ) → Type 0
-Heard tells makes opened k (events.Text text) old boards after new = AnswerSent tells makes opened k (events.Text text) old boards after new
-Heard tells makes opened k (events.Binary bytes) old boards after new = AnswerSent tells makes opened k (events.Binary bytes) old boards after new
-Heard tells makes opened k other old boards after new = IsUnmoved opened k boards after × (new ≡ old)
+abbrev pub Heard : Owner → List (List ℕ) → Event → List (List ℕ) → Option Handed → List (List ℕ) → List (List ℕ) → Type 0
+Heard who opened (events.Text text) old handed now new = AnswerSent who opened (events.Text text) old handed now new
+Heard who opened (events.Binary bytes) old handed now new = AnswerSent who opened (events.Binary bytes) old handed now new
+Heard who opened other old handed now new = (handed ≡ None) × (now ≡ opened) × (new ≡ old)
 
--- A talk of a connection that followed nothing ends because it follows directly after the text that tells it so. Otherwise it follows
--- nothing, unless memory or the device failed.
-abbrev pub TalkEnds : TalkEnd → Option FollowerSeat → List (List ℕ) → Type 0
-TalkEnds Follows has texts = HasBeenTold has texts
-TalkEnds (Closed code) has texts = has ≡ None
-TalkEnds Full has texts = has ≡ None
-TalkEnds (Broken breach) has texts = has ≡ None
-TalkEnds Idle has texts = has ≡ None
-TalkEnds Failed has texts = ⊤
+-- a talk ends because the connection follows only directly after the text that tells it so
+abbrev pub TalkEnds : TalkEnd → List (List ℕ) → Type 0
+TalkEnds (Follows spectating) texts = HasBeenTold (Some spectating.source) texts
+TalkEnds other texts = ⊤
+
+-- no board belongs to a connection: it opened none, and if it has a key, one hold of the lock said so
+abbrev pub OwnsNoBoard : Owner → List (List ℕ) → Type 0
+OwnsNoBoard who opened = (opened ≡ []) × MatchOption who.key ⊤ (λ key. IsToldOwner who false)
 
 -- a peer that is sent away because it sent nothing for too long owns nothing
-abbrev pub IsSentAway : (Question → Bool → Type 0) → TalkEnd → List (List ℕ) → Type 0
-IsSentAway tells Idle opened = OwnsNone tells opened
-IsSentAway tells _ opened = ⊤
+abbrev pub IsSentAway : Owner → TalkEnd → List (List ℕ) → Type 0
+IsSentAway who Idle opened = OwnsNoBoard who opened
+IsSentAway who other opened = ⊤
 
 -- a peer that broke the protocol was told so: if its message was too long, it got the answer to a text that is too long; otherwise nothing
 -- was answered
 abbrev pub BreachTold : Breach → List (List ℕ) → List (List ℕ) → Type 0
-BreachTold TooLong old new = Gains (Some old) (Some new) (answer_text (Fault BadField))
+BreachTold TooLong old new = Gains (Some old) (Some new) (answer_text (answers.Fault BadField))
 BreachTold breach old new = new ≡ old

@@ -1,13 +1,13 @@
 //! The followers of one board in a loop.
 
-use crate::broadcast::Broadcast;
+use relay_registry::Registry;
 use std::alloc::Global;
-use std::sync::Arc;
 
 /// The followers of one board in a loop.
 #[derive(Drop)]
 pub(crate) struct Audience {
-    pub(crate) board: Arc<Broadcast, Global>,
+    /// The index of the board, in the order of opening.
+    pub(crate) at: usize,
     /// The board's count of rings when they were last pushed to.
     heard: Option<u64>,
     /// How many followers there are.
@@ -18,10 +18,10 @@ pub(crate) struct Audience {
 }
 
 impl Audience {
-    /// An audience of this board, still without followers.
-    pub(crate) fn new(alloc: Global, board: Arc<Broadcast, Global>) -> Audience {
+    /// An audience of the board of this index, still without followers.
+    pub(crate) fn new(alloc: Global, at: usize) -> Audience {
         Audience {
-            board,
+            at,
             heard: None,
             count: 0,
             ready: Vec::new(alloc),
@@ -29,13 +29,13 @@ impl Audience {
     }
 
     /// How often the board has been rung for.
-    pub(crate) fn rings(&self) -> u64 {
-        self.board.chime.count()
+    pub(crate) fn rings(&self, registry: &Registry) -> u64 {
+        registry.rings(self.at)
     }
 
     /// Whether the board was rung for since the last such call. It is called before they are pushed to: a later ring is reported again.
-    pub(crate) fn has_news(&mut self) -> bool {
-        let rings = self.rings();
+    pub(crate) fn has_news(&mut self, registry: &Registry) -> bool {
+        let rings = self.rings(registry);
         let has_news = self.heard != Some(rings);
         self.heard = Some(rings);
         has_news

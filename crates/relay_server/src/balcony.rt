@@ -2,8 +2,8 @@
 
 ghost use Rattle.std.specs.Prelude.{◌≡◌, ◌<◌, ◌++◌, ◌∷◌, [], true, false, vec_len, vec_capacity};
 
-use crate::lookout::Lookout;
 use crate::spectators::Newcomer;
+use relay_registry::Lookout;
 use std::alloc::Global;
 use std::mem;
 use std::sync::{Arc, Mutex, MutexGuard, Wait};

@@ -2,10 +2,10 @@
 
 use crate::balcony::Balcony;
 use crate::gallery::Gallery;
-use crate::registry::Registry;
 use crate::spectators::Spectators;
 use mio::event::Event;
 use mio::{Events, Poll, Token, Waker};
+use relay_registry::Registry;
 use std::alloc::Global;
 use std::io;
 use std::io::ErrorKind;

@@ -7,18 +7,15 @@ ghost use Rattle.relay_server.specs.Spectating.{HasBeenTold};
 
 use crate::balcony::Balcony;
 use crate::balcony_loop::BalconyLoop;
-use crate::broadcast::Broadcast;
-use crate::connection_keeper::ConnectionKeeper;
 use crate::interruptible::Interruptible;
-use crate::key::Key;
-use crate::lookout::Lookout;
-use crate::registry::Registry;
 use crate::spectating::Spectating;
 use crate::spectator::Spectator;
 use crate::spectators::Newcomer;
 use crate::threads::{OWN_STACK_BYTES, Running, Shared};
+use relay_hall::Owner;
+use relay_registry::{Lookout, Registry};
 use relay_streams::{Socket, SocketOutlet, Wire};
-use std::alloc::Global;
+use std::alloc::{AllocError, Global};
 use std::io;
 use std::io::ErrorKind;
 use std::net::Net;
@@ -88,19 +85,18 @@ impl Gallery {
         self.is_closing.load(Ordering::SeqCst)
     }
 
-    /// The board that a connection follows, if its followers may be moved here. The loops are registered with it before one takes from it:
-    /// any later ring wakes the loop.
-    fn board_of<R>(
+    /// Registers the loops with the board that a connection follows, before one of them takes from it: any later ring wakes the loop.
+    ///
+    /// # Errors
+    ///
+    /// There was no memory.
+    fn listens_to(
         &self,
         alloc: Global,
-        keeper: &ConnectionKeeper<'_, R>,
-    ) -> Option<Arc<Broadcast, Global>> {
-        let Some(spectating) = &keeper.spectating else {
-            return None;
-        };
-        let board = Arc::try_clone(spectating.broadcast()).ok()?;
-        board.is_followed_in(alloc, &self.lookouts).ok()?;
-        Some(board)
+        registry: &Registry,
+        spectating: &Spectating,
+    ) -> Result<(), AllocError> {
+        registry.is_followed_in(spectating.at(), alloc, &self.lookouts)
     }
 
     /// The balcony for the next connection.
@@ -121,27 +117,25 @@ pub(crate) fn hand_over<'a, R: Wait + Clock>(
     registry: &Registry,
     gallery: &Gallery,
     outlet: SocketOutlet<Connection<'a, R>>,
-    keeper: ConnectionKeeper<'a, R>,
-    key: &Option<Key>,
-) -> Option<(SocketOutlet<Connection<'a, R>>, ConnectionKeeper<'a, R>)>
-    requires told { HasBeenTold keeper.follower outlet.texts.items }
-    ensures back { IfSome result (λ back. (back.0.texts.items ≡ outlet.entry.texts.items) × (back.0.buffered ≡ outlet.entry.buffered) × (back.0.peer ≡ outlet.entry.peer) × (back.1.follower ≡ keeper.entry.follower)) }
+    spectating: Spectating,
+    owner: Owner,
+) -> Option<(SocketOutlet<Connection<'a, R>>, Spectating)>
+    requires told { HasBeenTold (Some spectating.source) outlet.texts.items }
+    ensures back { IfSome result (λ back. (back.0.texts.items ≡ outlet.entry.texts.items) × (back.0.buffered ≡ outlet.entry.buffered) × (back.0.peer ≡ outlet.entry.peer) × (back.1.source ≡ spectating.source)) }
 {
-    let Some(board) = gallery.board_of(alloc, &keeper) else {
-        return Some((outlet, keeper));
-    };
+    if gallery.listens_to(alloc, registry, &spectating).is_err() {
+        return Some((outlet, spectating));
+    }
     let Some(balcony) = gallery.next() else {
-        return Some((outlet, keeper));
+        return Some((outlet, spectating));
     };
     let mut inbox = balcony.inbox(rt);
     if !inbox.has_room() {
-        return Some((outlet, keeper));
+        return Some((outlet, spectating));
     }
-    if let Some(spectating) = keeper.part() {
-        match coming_over(outlet, spectating, key, board) {
-            Ok(newcomer) => inbox.put(newcomer),
-            Err(spectator) => spectator.go(rt, registry),
-        }
+    match coming_over(outlet, spectating, owner) {
+        Ok(newcomer) => inbox.put(newcomer),
+        Err(spectator) => spectator.go(rt, registry),
     }
     drop(inbox);
     balcony.lookout.wake();
@@ -156,8 +150,7 @@ pub(crate) fn hand_over<'a, R: Wait + Clock>(
 fn coming_over<R: Clock>(
     outlet: SocketOutlet<Connection<'_, R>>,
     spectating: Spectating,
-    key: &Option<Key>,
-    board: Arc<Broadcast, Global>,
+    owner: Owner,
 ) -> Result<Newcomer, Spectator<Wire>>
     requires told { HasBeenTold (Some spectating.source) outlet.texts.items }
     ensures texts { IfOk result (λ newcomer. newcomer.spectator.texts ≡ outlet.entry.texts.items) }
@@ -170,12 +163,13 @@ fn coming_over<R: Clock>(
     let (stream, outlet) = outlet.unplugged();
     let (wire, is_ready) = Wire::new(stream.into_inner().into_inner());
     let descriptor = wire.descriptor();
-    let spectator = Spectator::new(outlet.onto(wire), spectating, *key);
+    let at = spectating.at();
+    let spectator = Spectator::new(outlet.onto(wire), spectating, owner);
     if is_ready {
         Ok(Newcomer {
             spectator,
             descriptor,
-            board,
+            at,
         })
     } else {
         Err(spectator)
@@ -252,8 +246,8 @@ where
         .spawn(rt, move || {
             balcony_loop.run(&own, &registry, &gallery, at);
             of_thread.has_ended.store(true, Ordering::SeqCst);
-            registry.ended.ring();
-            registry.ended.wake();
+            registry.ended().ring();
+            registry.ended().wake();
         })
         .ok()?;
     running.push_reserved(Running { handle, shared });

@@ -1,11 +1,11 @@
 //! The thread that ends boards when nobody has come back with their key.
 
-use crate::registry::Registry;
 use crate::threads::OwnThread;
+use relay_registry::Registry;
 use std::alloc::Global;
 use std::sync::{Arc, Wait};
 use std::thread::Threads;
-use std::time::{Clock, Instant};
+use std::time::Clock;
 
 /// The thread, if there is one.
 #[derive(Drop)]
@@ -27,7 +27,7 @@ impl Grace {
         }
         let thread = OwnThread::start(rt, registry, |rt, registry| run(rt, registry));
         if thread.is_there() {
-            registry.watch(rt, true);
+            registry.set_watched(true);
         }
         Grace { thread }
     }
@@ -47,20 +47,16 @@ impl Grace {
 /// Ends the boards that have waited long enough. Sleeps until the next ones have, or others begin to wait, until it is over.
 fn run<R: Wait + Clock>(rt: &R, registry: &Registry) {
     for _ in rt.forever() {
-        let heard = registry.waiting.count();
+        let heard = registry.waiting().count();
         if registry.is_over() {
-            registry.watch(rt, false);
-            registry.end_forsaken(rt, None);
+            registry.shut(rt);
             return;
         }
-        let now = Instant::now(rt).ok();
-        registry.end_forsaken(rt, now);
-        match (registry.next(rt), now) {
-            (None, _) => {
-                let _ = registry.waiting.wait(rt, heard);
+        match registry.tick(rt) {
+            None => {
+                let _ = registry.waiting().wait(rt, heard);
             }
-            (Some(next), Some(now)) => registry.waiting.doze(rt, heard, next.duration_since(now)),
-            (Some(_), None) => {}
+            Some(left) => registry.waiting().doze(rt, heard, left),
         }
     }
 }

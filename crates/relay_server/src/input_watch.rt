@@ -1,7 +1,7 @@
 //! The thread that ends serving when standard input ends.
 
-use crate::registry::Registry;
 use crate::threads::OWN_STACK_BYTES;
+use relay_registry::Registry;
 use relay_streams::read_some;
 use std::alloc::Global;
 use std::io::StdinLock;

@@ -2,10 +2,10 @@
 
 ghost use Rattle.std.specs.Prelude.{◌≡◌};
 
-use crate::registry::Registry;
 use relay_streams::{Deadline, Patience, Stream, is_silence};
 use std::io;
 use std::io::{ErrorKind, Read, Write};
+use std::sync::atomic::{AtomicBool, Ordering};
 use std::time::{Clock, Duration};
 
 /// How many seconds a read waits until it checks again whether the server leaves.
@@ -20,7 +20,8 @@ const MARGIN_MILLIS: u64 = 100;
 #[derive(Drop)]
 pub(crate) struct Interruptible<'a, S, C> {
     stream: S,
-    registry: &'a Registry,
+    /// Whether serving is to end early.
+    is_ending: &'a AtomicBool,
     patience: &'a Patience,
     clock: &'a C,
     /// How long a read waits at most, if that is bounded.
@@ -32,16 +33,16 @@ pub(crate) struct Interruptible<'a, S, C> {
 }
 
 impl<'a, S: Stream, C: Clock> Interruptible<'a, S, C> {
-    /// A stream without bounds yet, of a connection to the server with this registry, and with this patience.
+    /// A stream without bounds yet, of a connection to the server that says with this flag whether it is to end, and with this patience.
     pub(crate) fn new(
         stream: S,
-        registry: &'a Registry,
+        is_ending: &'a AtomicBool,
         patience: &'a Patience,
         clock: &'a C,
     ) -> Interruptible<'a, S, C> {
         Interruptible {
             stream,
-            registry,
+            is_ending,
             patience,
             clock,
             most: None,
@@ -60,7 +61,8 @@ impl<'a, S: Stream, C: Clock> Interruptible<'a, S, C> {
 
     /// Whether reads fail because the server leaves.
     fn is_interrupted(&self) -> bool {
-        !self.has_ended && (self.registry.is_ending() || self.patience.is_over(self.clock))
+        !self.has_ended
+            && (self.is_ending.load(Ordering::SeqCst) || self.patience.is_over(self.clock))
     }
 
     /// When a read that begins now gives up, if that is bounded.

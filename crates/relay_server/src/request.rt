@@ -3,8 +3,8 @@
 ghost use Rattle.std.specs.Prelude.{◌≡◌, None, take, IfOk};
 ghost use Rattle.relay_frames.specs.Requests.{Accepts, IsAnswered};
 
-use crate::key::Key;
 use crate::sessions::{SessionEnd, end_unshaken};
+use relay_hall::Key;
 use relay_streams::{HeadFault, Request, Stream, read_request, refuse};
 use std::alloc::Global;
 use std::str;

@@ -1,10 +1,9 @@
 //! The thread that writes the log.
 
-use crate::chronicle::LogNotes;
-use crate::registry::Registry;
 use crate::threads::OwnThread;
 use log::sink::Console;
 use log::{Level, Logged, info};
+use relay_registry::{LogNotes, Registry};
 use relay_streams::Deadline;
 use std::alloc::Global;
 use std::sync::atomic::Ordering;
@@ -27,7 +26,7 @@ impl Scribe {
     where
         R: Threads + Wait + Clock + Eprint + Clone + Send + Drop + 'static,
     {
-        if !registry.chronicle.is_kept {
+        if !registry.chronicle().is_kept {
             return Scribe {
                 thread: OwnThread::none(),
             };
@@ -39,7 +38,7 @@ impl Scribe {
 
     /// Lets the thread write what is left, and joins it.
     pub(crate) fn end<R: Threads>(self, rt: &R, registry: &Registry) {
-        registry.chronicle.end();
+        registry.chronicle().end();
         self.thread.join(rt);
     }
 }
@@ -47,7 +46,7 @@ impl Scribe {
 /// Writes what is noted, and once a minute the counts, until no more notes come.
 fn run<R: Wait + Clock + Eprint>(rt: &R, registry: &Registry) {
     let between = Duration::from_secs(BETWEEN_COUNTS_SECONDS);
-    let chronicle = &registry.chronicle;
+    let chronicle = registry.chronicle();
     let mut due = Deadline::after(rt, between).ok();
     for _ in rt.forever() {
         let heard = chronicle.chime.count();
@@ -84,7 +83,7 @@ fn write_notes<R: Eprint>(rt: &R, notes: &LogNotes) {
 /// Writes how many connections and boards there are.
 fn write_counts<R: Wait + Eprint>(rt: &R, registry: &Registry) {
     let boards = registry.count(rt);
-    let chronicle = &registry.chronicle;
+    let chronicle = registry.chronicle();
     let connections = chronicle.connections.load(Ordering::SeqCst);
     let followers = chronicle.followers.load(Ordering::SeqCst);
     let ended = chronicle.ended.load(Ordering::SeqCst);

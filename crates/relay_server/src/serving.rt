@@ -7,11 +7,11 @@ use crate::gallery::{Connection, Gallery, start_gallery};
 use crate::grace::Grace;
 use crate::input_watch::watch_input;
 use crate::interruptible::Interruptible;
-use crate::registry::Registry;
 use crate::scribe::Scribe;
 use crate::sessions::{Arrival, SessionEnd, attend_or_hand_over, come};
 use crate::threads::{Running, Shared, join_all, join_ended, join_until_due, join_until_ending};
 use relay_pushing::Gate;
+use relay_registry::Registry;
 use relay_streams::{Deadline, Patience, Socket};
 use std::alloc::{AllocError, Global};
 use std::io;
@@ -183,7 +183,7 @@ where
         ensures failed { self.new.failed ≤ self.new.met }
         ensures until { self.new.until_input_ends ≡ self.old.until_input_ends }
     {
-        let heard = self.registry.ended.count();
+        let heard = self.registry.ended().count();
         if turn % BETWEEN_JOINS == 0 {
             join_ended(self.rt, &mut self.running);
         }
@@ -212,7 +212,7 @@ where
         }
         self.tell_of_failure();
         self.registry
-            .ended
+            .ended()
             .doze(self.rt, heard, Duration::from_millis(PAUSE_MILLIS));
         join_ended(self.rt, &mut self.running);
     }
@@ -351,7 +351,7 @@ fn come_in<'a, R: Wait + Clock>(
     let Ok(socket) = Socket::new(own, stream) else {
         return Err(SessionEnd::Failed);
     };
-    let stream = Interruptible::new(socket, registry, patience, own);
+    let stream = Interruptible::new(socket, registry.ending_flag(), patience, own);
     come(own, alloc, registry, stream)
 }
 
@@ -399,7 +399,7 @@ where
     let started = Builder::new()
         .stack_size(STACK_BYTES)
         .spawn(rt, move || {
-            let patience = registry.patience();
+            let patience = Patience::new(registry.idle());
             let arrival = come_in(&own, alloc, &registry, &patience, &*of_thread);
             registry.has_come();
             match arrival {
@@ -409,8 +409,8 @@ where
                 Err(_) => registry.goes(),
             }
             of_thread.has_ended.store(true, Ordering::SeqCst);
-            registry.ended.ring();
-            registry.ended.wake();
+            registry.ended().ring();
+            registry.ended().wake();
         })
         .ok();
     let Some(handle) = started else {

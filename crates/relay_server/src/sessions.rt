@@ -1,26 +1,22 @@
 //! Sessions: one connection from its handshake to its end.
 
-ghost use Rattle.std.specs.Prelude.{◌≡◌, ◌↔◌, if◌then◌else◌, [], None, Some, is_some, true, IfOk};
+ghost use Rattle.std.specs.Prelude.{◌≡◌, ◌↔◌, if◌then◌else◌, [], Some, IfOk};
 ghost use Rattle.std.specs.Io.KnownBytes.{Appends};
 ghost use Rattle.relay_frames.specs.Requests.{acceptance_text};
-ghost use Rattle.relay_pushing.specs.Connections.{Ends};
 ghost use Rattle.relay_streams.specs.Heads.{left};
 ghost use Rattle.relay_streams.specs.BufferedStreams.{written as buffered_written};
 ghost use Rattle.relay_streams.specs.Memory.{LacksMemory};
-ghost use Rattle.relay_server.specs.Keeping.{Replies};
-ghost use Rattle.relay_server.specs.Spectating.{Conversed, Followed, HasBeenTold, Pushed};
+ghost use Rattle.relay_server.specs.Spectating.{Conversed, HasBeenTold, Pushed};
 ghost use Rattle.relay_server.specs.Talking.{TalkEnds};
 
-use crate::chronicle::What;
-use crate::connection_keeper::ConnectionKeeper;
 use crate::gallery::{Connection, Gallery, hand_over};
-use crate::key::Key;
-use crate::registry::Registry;
 use crate::request::{key_of, receive};
 use crate::spectating::Spectating;
 use crate::talk::{Stop, Talk, TalkEnd};
 use relay_frames::Acceptance;
-use relay_pushing::{Conn, Gate, Outlet, PushEnd};
+use relay_hall::Owner;
+use relay_pushing::{Gate, Outlet, PushEnd};
+use relay_registry::{Registry, What};
 use relay_streams::{
     BufferedStream, Head, MOST_SILENT_SECONDS, Patience, Request, SocketOutlet, Stream,
     is_want_of_memory,
@@ -87,7 +83,7 @@ pub fn session<'a, R: Wait + Clock, S: Stream + Drop, G: Gate>(
 #[derive(Drop)]
 pub(crate) struct Arrival<S> {
     outlet: SocketOutlet<S>,
-    key: Option<Key>,
+    owner: Owner,
 }
 
 /// Reads the request and answers it. If the connection has a key, notes that it has come.
@@ -98,7 +94,7 @@ pub(crate) fn come<R: Wait + Clock, S: Stream + Drop>(
     stream: S,
 ) -> Result<Arrival<S>, SessionEnd> {
     let arrival = shake_hands(rt, alloc, registry, stream)?;
-    if let Some(key) = &arrival.key {
+    if let Some(key) = &arrival.owner.key {
         if registry.arrive(rt, key).is_err() {
             return Err(SessionEnd::Failed);
         }
@@ -116,11 +112,12 @@ fn attend<'a, 'g, R: Wait + Clock, S: Stream + Drop, G: Gate>(
     gate: &'g G,
     patience: &'g Patience,
 ) -> SessionEnd {
-    let Arrival { outlet, key } = arrival;
-    let keeper = ConnectionKeeper::new(rt, registry, key);
-    let mut talk = Talk::new(alloc, connection, outlet, keeper, gate, patience);
+    let Arrival { outlet, owner } = arrival;
+    let mut talk = Talk::new(
+        alloc, connection, outlet, rt, registry, owner, gate, patience,
+    );
     let end = converse(rt, &mut talk);
-    end_talk(rt, registry, talk, &key, end)
+    end_talk(rt, talk, end)
 }
 
 /// Answers a connection that has come, until it follows or to its end. If it follows, it moves to a loop if one takes it.
@@ -134,18 +131,20 @@ pub(crate) fn attend_or_hand_over<'a, 'g, R: Wait + Clock, G: Gate>(
     patience: &'g Patience,
     gallery: &Option<Arc<Gallery, Global>>,
 ) {
-    let Arrival { outlet, key } = arrival;
-    let keeper = ConnectionKeeper::new(rt, registry, key);
-    let mut talk = Talk::new(alloc, connection, outlet, keeper, gate, patience);
-    let talked = talk.run(rt);
-    if let (TalkEnd::Follows, Some(gallery)) = (talked, gallery) {
-        // It has opened no board, so none is to be ended after it.
-        let Talk { outlet, keeper, .. } = talk;
-        follow_in_loop(rt, alloc, registry, gallery, outlet, keeper, &key);
-        return;
-    }
-    let end = conclude(rt, &mut talk, talked);
-    let _ = end_talk(rt, registry, talk, &key, end);
+    let Arrival { outlet, owner } = arrival;
+    let mut talk = Talk::new(
+        alloc, connection, outlet, rt, registry, owner, gate, patience,
+    );
+    let end = match (talk.run(rt), gallery) {
+        (TalkEnd::Follows(spectating), Some(gallery)) => {
+            // It has opened no board, so none is to be ended after it.
+            let Talk { outlet, owner, .. } = talk;
+            follow_in_loop(rt, alloc, registry, gallery, outlet, spectating, owner);
+            return;
+        }
+        (talked, _) => conclude(rt, &mut talk, talked),
+    };
+    let _ = end_talk(rt, talk, end);
     registry.goes();
 }
 
@@ -156,73 +155,58 @@ fn follow_in_loop<'a, R: Wait + Clock>(
     registry: &'a Registry,
     gallery: &Gallery,
     outlet: SocketOutlet<Connection<'a, R>>,
-    keeper: ConnectionKeeper<'a, R>,
-    key: &Option<Key>,
+    spectating: Spectating,
+    owner: Owner,
 )
-    requires told { HasBeenTold keeper.follower outlet.texts.items }
+    requires told { HasBeenTold (Some spectating.source) outlet.texts.items }
 {
-    let (mut outlet, mut keeper) = match hand_over(
-        rt, alloc, registry, gallery, outlet, keeper, key,
+    let (mut outlet, mut spectating) = match hand_over(
+        rt, alloc, registry, gallery, outlet, spectating, owner,
     ) {
         Some(back) => back,
         None => return,
     };
-    let end = follow(rt, alloc, &mut outlet, &mut keeper);
-    outlet.give_up();
-    let _ = end_session(rt, registry, outlet, keeper, key, end);
+    let end = push(rt, alloc, registry, &mut outlet, &mut spectating);
+    spectating.leave(registry);
+    let _ = end_session(rt, registry, outlet, &owner, owner.key.is_some(), end);
     registry.goes();
 }
 
-/// Ends a session whose talk has ended in this way: its boards end, unless it has a key, and then its follower leaves.
+/// Ends a session whose talk has ended in this way. One without a key that opened nothing leaves nothing behind.
 fn end_talk<'a, 'g, R: Wait + Clock, S: Stream + Drop, G: Gate>(
     rt: &'a R,
-    registry: &'a Registry,
     talk: Talk<'a, 'g, R, S, G>,
-    key: &Option<Key>,
     end: SessionEnd,
 ) -> SessionEnd {
     let Talk {
-        mut outlet,
+        outlet,
         conn,
-        mut keeper,
+        registry,
+        owner,
         ..
     } = talk;
-    outlet.give_up();
-    end_own(conn, &mut keeper);
-    end_session(rt, registry, outlet, keeper, key, end)
+    let has_boards = owner.key.is_some() || conn.has_opened_any();
+    end_session(rt, registry, outlet, &owner, has_boards, end)
 }
 
-/// Ends a session that ended in this way and whose boards were ended: its follower leaves, and what the peer still sends is read for a
-/// while.
-fn end_session<'a, R: Wait + Clock, S: Stream + Drop>(
-    rt: &'a R,
-    registry: &'a Registry,
+/// Ends a session that ended in this way and follows nothing any more: its boards are ended as abandoned, or wait, and what the peer still
+/// sends is read for a while.
+fn end_session<R: Wait + Clock, S: Stream + Drop>(
+    rt: &R,
+    registry: &Registry,
     mut outlet: SocketOutlet<S>,
-    keeper: ConnectionKeeper<'a, R>,
-    key: &Option<Key>,
+    owner: &Owner,
+    has_boards: bool,
     end: SessionEnd,
 ) -> SessionEnd {
-    keeper.leave();
-    if let Some(key) = key {
-        registry.leave(rt, key);
+    outlet.give_up();
+    if has_boards {
+        registry.leave(rt, owner);
     }
     if end != SessionEnd::Failed {
         outlet.drain(rt);
     }
     end
-}
-
-/// Ends as abandoned the boards that a connection opened, if its keeper has no key. With a key no step is made: its boards may outlive it.
-fn end_own<R: Wait>(conn: Conn, keeper: &mut ConnectionKeeper<'_, R>)
-    ensures unkeyed { keeper.old.key ≡ None → Ends Replies keeper.old conn keeper.new }
-    ensures keyed { is_some keeper.old.key ≡ true → keeper.new ≡ keeper.old }
-    ensures nothing { conn ≡ [] → keeper.new ≡ keeper.old }
-{
-    if keeper.has_key() {
-        let _ = conn.part();
-    } else {
-        conn.finish(keeper);
-    }
 }
 
 /// Reads the request and answers it.
@@ -242,7 +226,10 @@ fn shake_hands<C: Clock, S: Stream + Drop>(
         None
     };
     match welcome(alloc, stream, head, acceptance) {
-        Ok(outlet) => Ok(Arrival { outlet, key }),
+        Ok(outlet) => Ok(Arrival {
+            outlet,
+            owner: registry.owner(key),
+        }),
         Err(_) => Err(SessionEnd::Failed),
     }
 }
@@ -281,7 +268,7 @@ fn converse<'a, R: Wait + Clock, S: Stream + Drop, G: Gate>(
     rt: &'a R,
     talk: &mut Talk<'a, '_, R, S, G>,
 ) -> SessionEnd
-    ensures { talk.old.keeper.follower ≡ None → Conversed talk.new.outlet.texts.items result }
+    ensures { Conversed talk.new.outlet.texts.items result }
 {
     let talked = talk.run(rt);
     conclude(rt, talk, talked)
@@ -293,7 +280,7 @@ fn conclude<'a, R: Wait + Clock, S: Stream + Drop, G: Gate>(
     talk: &mut Talk<'a, '_, R, S, G>,
     talked: TalkEnd,
 ) -> SessionEnd
-    ensures { TalkEnds talked talk.old.keeper.follower talk.old.outlet.texts.items → Conversed talk.new.outlet.texts.items result }
+    ensures { TalkEnds talked talk.old.outlet.texts.items → Conversed talk.new.outlet.texts.items result }
 {
     match talked {
         TalkEnd::Closed(code) => match talk.outlet.put_close(code) {
@@ -308,12 +295,22 @@ fn conclude<'a, R: Wait + Clock, S: Stream + Drop, G: Gate>(
             Ok(()) => SessionEnd::Broken,
             Err(Stop) => SessionEnd::Failed,
         },
-        TalkEnd::Follows => follow(rt, talk.alloc, &mut talk.outlet, &mut talk.keeper),
+        TalkEnd::Follows(mut spectating) => {
+            let end = push(
+                rt,
+                talk.alloc,
+                talk.registry,
+                &mut talk.outlet,
+                &mut spectating,
+            );
+            spectating.leave(talk.registry);
+            end
+        }
         TalkEnd::Idle => {
             let _ = talk.outlet.close(GOING_AWAY);
             SessionEnd::Idle
         }
-        TalkEnd::Failed if talk.keeper.registry().is_ending() => {
+        TalkEnd::Failed if talk.registry.is_ending() => {
             let _ = talk.outlet.close(GOING_AWAY);
             SessionEnd::Ending
         }
@@ -321,23 +318,7 @@ fn conclude<'a, R: Wait + Clock, S: Stream + Drop, G: Gate>(
     }
 }
 
-/// Pushes the moves of the board that it follows to the connection, which is no longer read.
-fn follow<R: Wait, S: Stream + Drop>(
-    rt: &R,
-    alloc: Global,
-    outlet: &mut SocketOutlet<S>,
-    keeper: &mut ConnectionKeeper<'_, R>,
-) -> SessionEnd
-    ensures { Followed keeper.old.follower keeper.new.follower outlet.old.texts.items outlet.new.texts.items result }
-{
-    let registry = keeper.registry();
-    match &mut keeper.spectating {
-        Some(spectating) => push(rt, alloc, registry, outlet, spectating),
-        None => SessionEnd::Failed,
-    }
-}
-
-/// Pushes what is followed to the connection until its end, and closes the connection after `Over` and `Cut`.
+/// Pushes what is followed to the connection, which is no longer read, until its end, and closes the connection after `Over` and `Cut`.
 fn push<R: Wait, S: Stream + Drop>(
     rt: &R,
     alloc: Global,
@@ -347,7 +328,7 @@ fn push<R: Wait, S: Stream + Drop>(
 ) -> SessionEnd
     ensures { Pushed spectating.old.source spectating.new.source outlet.old.texts.items outlet.new.texts.items result }
 {
-    match spectating.push(rt, alloc, outlet) {
+    match spectating.push(rt, alloc, registry, outlet) {
         PushEnd::Over(_) => {
             let _ = outlet.close(code_of_over(registry.is_ending()));
             SessionEnd::Over

@@ -5,14 +5,14 @@ ghost use Rattle.relay_pushing.specs.Pushing.{Turned};
 ghost use Rattle.live_board.specs.Views.{next_of};
 ghost use Rattle.relay_server.specs.Spectating.{Gives, SentUntil};
 
-use crate::broadcast::Broadcast;
-use crate::chime::BoardBell;
 use live_board::Follower;
 use relay_core::{BoardName, Taken};
+use relay_hall::Handed;
 use relay_pushing::{LastText, Outlet, PushEnd, Source, Turn, push_all, push_some};
+use relay_registry::Registry;
 use std::alloc::Global;
 use std::marker::Model;
-use std::sync::{Arc, Wait};
+use std::sync::Wait;
 
 /// A follower as the source of what its connection is sent. It takes without a lock. To a contract it is the follower.
 #[derive(Drop)]
@@ -41,25 +41,39 @@ impl Source for FollowerSource {
 /// A connection's follower, and the board that it follows.
 #[derive(Drop)]
 pub(crate) struct Spectating {
-    broadcast: Arc<Broadcast, Global>,
+    board: BoardName,
+    /// The index of the board, in the order of opening, by which the registry rings and wakes.
+    at: usize,
     source: FollowerSource,
 }
 
 impl Spectating {
-    /// A follower of this board.
-    pub(crate) fn new(broadcast: Arc<Broadcast, Global>, follower: Follower) -> Spectating
-        ensures source { result.source ≡ follower }
-        ensures board { result.broadcast ≡ broadcast }
+    /// The follower that was handed out, of the board of this index.
+    pub(crate) fn new(handed: Handed, at: usize) -> Spectating
+        ensures source { result.source ≡ handed.follower }
+        ensures at { result.at ≡ at }
+        ensures board { result.board ≡ handed.board }
     {
+        let Handed { board, follower } = handed;
         Spectating {
-            broadcast,
+            board,
+            at,
             source: FollowerSource { follower },
         }
     }
 
     /// The name of the board that it follows.
-    pub(crate) fn board(&self) -> BoardName {
-        self.broadcast.name
+    pub(crate) fn board(&self) -> BoardName
+        ensures { result ≡ self.now.board }
+    {
+        self.board
+    }
+
+    /// The index of that board.
+    pub(crate) fn at(&self) -> usize
+        ensures { result ≡ self.now.at }
+    {
+        self.at
     }
 
     /// Sends what the follower takes, until its end: the moves from its next place on, each once and in order, and then the end.
@@ -67,14 +81,12 @@ impl Spectating {
         &mut self,
         rt: &R,
         alloc: Global,
+        registry: &Registry,
         outlet: &mut O,
     ) -> PushEnd
         ensures { SentUntil self.old.source self.new.source (O.sent outlet.old) (O.sent outlet.new) result }
     {
-        let bell = BoardBell {
-            rt,
-            chime: &self.broadcast.chime,
-        };
+        let bell = registry.bell(rt, self.at);
         push_all(rt, alloc, outlet, &mut self.source, &bell)
     }
 
@@ -83,11 +95,6 @@ impl Spectating {
         ensures { Turned Gives self.old.source self.new.source (O.sent outlet.old) (O.sent outlet.new) result }
     {
         push_some(last, outlet, &mut self.source)
-    }
-
-    /// The board that it follows.
-    pub(crate) fn broadcast(&self) -> &Arc<Broadcast, Global> {
-        &self.broadcast
     }
 
     /// The place of the board's log of the move that the follower takes next.
@@ -99,9 +106,9 @@ impl Spectating {
         ))
     }
 
-    /// The follower leaves, and its slot on the board is free.
-    pub(crate) fn leave(self) {
-        self.broadcast.give_back_place();
+    /// The follower leaves, its slot on the board is free, and the registry no longer counts it.
+    pub(crate) fn leave(self, registry: &Registry) {
         let _ = self.source.follower.leave();
+        registry.unfollows();
     }
 }

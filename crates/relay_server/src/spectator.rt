@@ -13,14 +13,13 @@ ghost use Rattle.relay_streams.specs.BufferedStreams.{written as buffered_writte
 ghost use Rattle.relay_server.specs.Served.{Ended, Following, Heeded, IsAnswered, IsClosed, IsGone, IsLeftWith, IsNext, IsPassedOver, IsPeers, IsTakenIn, NoneTakenIn, TookTurn, standing_of};
 ghost use Rattle.relay_server.specs.Spectating.{HasBeenTold, close_code, session_end};
 
-use crate::chronicle::What;
-use crate::key::Key;
-use crate::registry::Registry;
 use crate::sessions::{CUT_OFF, SessionEnd};
 use crate::spectating::Spectating;
 use relay_core::BoardName;
 use relay_frames::{Code, Event};
+use relay_hall::Owner;
 use relay_pushing::{LastText, PushEnd, Turn};
+use relay_registry::{Registry, What};
 use relay_streams::{SocketOutlet, Stream};
 use std::io::{Read, Write};
 use std::marker::Model;
@@ -56,8 +55,8 @@ pub(crate) enum SpectatorState {
 pub(crate) struct Spectator<S: Read + Write> {
     outlet: SocketOutlet<S>,
     state: SpectatorState,
-    /// The key that the connection has.
-    key: Option<Key>,
+    /// The connection as an owner. If it has a key, it counts among that key's holders until it goes.
+    owner: Owner,
     /// How many bytes of unanswered messages it sent.
     unread: u64,
 }
@@ -76,11 +75,7 @@ impl<S: Read + Write> Model for Spectator<S> {
 
 impl<S: Stream + Drop> Spectator<S> {
     /// A spectator that was told of this follower, over a connection that does not wait.
-    pub(crate) fn new(
-        outlet: SocketOutlet<S>,
-        spectating: Spectating,
-        key: Option<Key>,
-    ) -> Spectator<S>
+    pub(crate) fn new(outlet: SocketOutlet<S>, spectating: Spectating, owner: Owner) -> Spectator<S>
         requires told { HasBeenTold (Some spectating.source) outlet.texts.items }
         ensures follows { result.standing ≡ Following spectating.source }
         ensures texts { result.texts ≡ outlet.texts.items }
@@ -93,7 +88,7 @@ impl<S: Stream + Drop> Spectator<S> {
         Spectator {
             outlet,
             state: SpectatorState::Follows(spectating),
-            key,
+            owner,
             unread: 0,
         }
     }
@@ -364,10 +359,14 @@ impl<S: Stream + Drop> Spectator<S> {
 
     /// It goes: it leaves its board, if it has not yet, and its connection is no longer counted.
     pub(crate) fn go<R: Wait + Clock>(self, rt: &R, registry: &Registry) {
-        let Spectator { mut state, key, .. } = self;
+        let Spectator {
+            mut state,
+            owner,
+            ..
+        } = self;
         leave(&mut state, SessionEnd::Failed, registry);
-        if let Some(key) = &key {
-            registry.leave(rt, key);
+        if owner.key.is_some() {
+            registry.leave(rt, &owner);
         }
         registry.goes();
     }
@@ -383,8 +382,7 @@ fn leave(state: &mut SpectatorState, ended: SessionEnd, registry: &Registry)
         return;
     }
     if let SpectatorState::Follows(spectating) = mem::replace(state, SpectatorState::Ended(ended)) {
-        spectating.leave();
-        registry.unfollows();
+        spectating.leave(registry);
     }
 }
 

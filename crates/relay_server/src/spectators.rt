@@ -5,21 +5,20 @@ ghost use Rattle.slab.specs.Slab.{get};
 
 use crate::attendee::{Attendee, Delivery, Intake};
 use crate::audience::Audience;
-use crate::broadcast::Broadcast;
 use crate::courtesy::Courtesy;
-use crate::registry::Registry;
 use crate::spectator::{Lost, Spectator};
 use mio::unix::SourceFd;
 use mio::{Interest, Token};
 use relay_frames::Event;
 use relay_frames::silence::Verdict;
 use relay_pushing::{LastText, PushEnd, Turn};
+use relay_registry::Registry;
 use relay_streams::Wire;
 use slab::Slab;
 use std::alloc::{AllocError, Global};
 use std::mem;
 use std::os::fd::RawFd;
-use std::sync::{Arc, Wait};
+use std::sync::Wait;
 use std::time::Clock;
 
 /// How many pieces of what a spectator sends are read before the others have their turn.
@@ -30,7 +29,8 @@ const MOST_PIECES: u32 = 4;
 pub(crate) struct Newcomer {
     pub(crate) spectator: Spectator<Wire>,
     pub(crate) descriptor: RawFd,
-    pub(crate) board: Arc<Broadcast, Global>,
+    /// The index of the board that it follows, in the order of opening.
+    pub(crate) at: usize,
 }
 
 /// All spectators of a loop. Each is known by its key, which is also the token of its connection.
@@ -87,18 +87,18 @@ impl<'a, R: Wait + Clock> Spectators<'a, R> {
         let Newcomer {
             spectator,
             descriptor,
-            board,
+            at,
         } = newcomer;
-        let Ok(at) = self.audience_of(board) else {
+        let Ok(audience) = self.audience_of(at) else {
             spectator.go(self.rt, self.registry);
             return;
         };
         match self
             .attendees
-            .insert(Attendee::new(spectator, at, self.now))
+            .insert(Attendee::new(spectator, audience, self.now))
         {
             Ok(key) => {
-                self.count_one_more(at);
+                self.count_one_more(audience);
                 if is_registered(poll, descriptor, key) && self.heed_all(key).is_ok() {
                     self.hear(key);
                 } else {
@@ -106,7 +106,7 @@ impl<'a, R: Wait + Clock> Spectators<'a, R> {
                 }
             }
             Err(failed) => {
-                self.drop_if_empty(at);
+                self.drop_if_empty(audience);
                 let attendee = failed.value;
                 attendee.spectator.go(self.rt, self.registry);
             }
@@ -159,15 +159,15 @@ impl<'a, R: Wait + Clock> Spectators<'a, R> {
 
     // ---- Audiences.
 
-    /// The audience of a board, which is created if there is none.
-    fn audience_of(&mut self, board: Arc<Broadcast, Global>) -> Result<usize, AllocError> {
-        for (at, audience) in self.audiences.iter() {
-            if audience.board.name == board.name {
-                return Ok(at);
+    /// The audience of the board of this index, which is created if there is none.
+    fn audience_of(&mut self, at: usize) -> Result<usize, AllocError> {
+        for (known, audience) in self.audiences.iter() {
+            if audience.at == at {
+                return Ok(known);
             }
         }
-        match self.audiences.insert(Audience::new(self.alloc, board)) {
-            Ok(at) => Ok(at),
+        match self.audiences.insert(Audience::new(self.alloc, at)) {
+            Ok(created) => Ok(created),
             Err(_) => Err(AllocError),
         }
     }
@@ -349,7 +349,7 @@ impl<'a, R: Wait + Clock> Spectators<'a, R> {
         let Some(audience) = self.audiences.get_mut(at) else {
             return;
         };
-        if audience.has_news() {
+        if audience.has_news(self.registry) {
             self.serve_ready(at);
         }
     }
@@ -532,7 +532,7 @@ impl<'a, R: Wait + Clock> Spectators<'a, R> {
             return;
         };
         let most = next.saturating_add(self.registry.capacity());
-        if audience.rings() > most {
+        if audience.rings(self.registry) > most {
             let _ = attendee
                 .spectator
                 .push_all(self.rt, &mut self.last, self.registry);

@@ -1,6 +1,6 @@
 //! The threads of sessions, which are joined as they end, and those that are the server's own.
 
-use crate::registry::Registry;
+use relay_registry::Registry;
 use relay_streams::Deadline;
 use std::alloc::Global;
 use std::net::TcpStream;
@@ -79,12 +79,12 @@ pub(crate) fn join_until_ending<R: Threads + Wait>(
     mut running: Vec<Running>,
 ) -> Vec<Running> {
     for _ in rt.forever() {
-        let heard = registry.ended.count();
+        let heard = registry.ended().count();
         join_ended(rt, &mut running);
         if running.is_empty() || registry.is_ending() {
             return running;
         }
-        let _ = registry.ended.wait(rt, heard);
+        let _ = registry.ended().wait(rt, heard);
     }
     unreachable!()
 }
@@ -97,7 +97,7 @@ pub(crate) fn join_until_due<R: Threads + Wait + Clock>(
     deadline: &Deadline,
 ) {
     for _ in rt.forever() {
-        let heard = registry.ended.count();
+        let heard = registry.ended().count();
         join_ended(rt, &mut running);
         if running.is_empty() {
             return;
@@ -105,7 +105,7 @@ pub(crate) fn join_until_due<R: Threads + Wait + Clock>(
         let Ok(left) = deadline.left(rt) else {
             return;
         };
-        registry.ended.doze(rt, heard, left);
+        registry.ended().doze(rt, heard, left);
     }
 }
 

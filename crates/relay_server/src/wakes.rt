@@ -3,16 +3,14 @@
 ghost use Rattle.std.specs.Prelude.{◌≡◌, ◌+◌, ◌<◌, ◌≤◌, Some, true, false, is_some};
 ghost use Rattle.relay_streams.specs.BufferedStreams.{IsOffered};
 
-use crate::broadcast::Broadcast;
+use relay_registry::Registry;
 use relay_streams::SocketOutlet;
-use std::alloc::Global;
-use std::sync::Arc;
 
 /// The wakes that a connection has postponed: those of one board at a time, and at most `most`.
 #[derive(Drop)]
 pub(crate) struct Wakes {
-    /// The board that was rung, whose sleepers have yet to be woken.
-    rung: Option<Arc<Broadcast, Global>>,
+    /// The index of the board that was rung, whose sleepers have yet to be woken.
+    rung: Option<usize>,
     put_off: u16,
     most: u16,
 }
@@ -39,9 +37,9 @@ impl Wakes {
     }
 
     /// Whether others are to be woken before a wake of this board is postponed: the sleepers of another one.
-    pub(crate) fn is_due_before(&self, rung: &Broadcast) -> bool {
-        match &self.rung {
-            Some(earlier) => earlier.name != rung.name && earlier.has_sleepers(),
+    pub(crate) fn is_due_before(&self, registry: &Registry, rung: usize) -> bool {
+        match self.rung {
+            Some(earlier) => earlier != rung && registry.has_sleepers(earlier),
             None => false,
         }
     }
@@ -56,7 +54,7 @@ impl Wakes {
 
     /// Postpones a wake. Another board, on which nobody slept after its last ring, is forgotten: whoever goes to sleep there later has
     /// heard of it.
-    pub(crate) fn put_off(&mut self, rung: Arc<Broadcast, Global>)
+    pub(crate) fn put_off(&mut self, rung: usize)
         ensures kept { self.new.rung ≡ Some rung }
         ensures count { self.new.put_off ≤ self.old.put_off + 1 }
         ensures most { self.new.most ≡ self.old.most }
@@ -67,14 +65,14 @@ impl Wakes {
 
     /// Makes the pending wakes, after an offer of what this outlet keeps back: the player was answered before, as far as its stream took
     /// the answers.
-    pub(crate) fn wake_behind<S>(&mut self, _outlet: &SocketOutlet<S>)
+    pub(crate) fn wake_behind<S>(&mut self, registry: &Registry, _outlet: &SocketOutlet<S>)
         requires offered { IsOffered _outlet.now.buffered }
         ensures none { is_some self.new.rung ≡ false }
         ensures count { self.new.put_off ≡ 0 }
         ensures most { self.new.most ≡ self.old.most }
     {
-        if let Some(rung) = &self.rung {
-            rung.wake();
+        if let Some(rung) = self.rung {
+            registry.wake(rung);
         }
         self.rung = None;
         self.put_off = 0;

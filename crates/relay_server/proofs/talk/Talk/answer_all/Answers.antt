@@ -1,10 +1,12 @@
-use Rattle.std.proofs.Common.{sym, ap, ◌∙◌}
-use Rattle.relay_server.specs.Keeping.{KeeperState}
 use Rattle.relay_server.proofs.Told.{told_once}
 use Rattle.relay_server.proofs.talk.Talk.answer_all.Goals as goal
 
-pub returns-then-follows-clause-follows : goal.returns-then-follows-clause-follows
-returns-then-follows-clause-follows g c start =
-    let none = ap (λ (s : KeeperState). s.follower) c.read.ensures.keeper ∙ c.loop.invariant start in
-    told_once _ c.read.new.self.conn c.hear.new.self.conn c.read.new.self.outlet.texts.items c.hear.new.self.outlet.texts.items c.in-Ok.event c.read.new.self.keeper c.hear.new.self.keeper
-    none c.in-Ok-hear.ensures (sym c.follows.ensures ∙ c.if-follows.true)
+-- what it follows is what it was told of
+pub returns-in-Ok-Some : goal.returns-in-Ok-Some
+returns-in-Ok-Some g c =
+    let read = c.read.new.self in
+    let heard = c.hear.new.self in
+    record {
+      follows = told_once read.owner read.conn heard.conn read.outlet.texts.items heard.outlet.texts.items c.in-Ok.event c.in-Ok-Some.spectating (rw c.in-Ok-Some.field-0-is at c.in-Ok-Some.ensures);
+      idle = tt;
+    }

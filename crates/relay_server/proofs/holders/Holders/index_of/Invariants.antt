@@ -1,7 +1,0 @@
--- None of those looked at so far is the key.
-use Rattle.std.proofs.Common.{◌≡◌, None, take}
-use Rattle.relay_server.specs.Holders.{presence_of}
-use Rattle.relay_server.proofs.holders.Holders.index_of.Given as goal
-
-abbrev pub invariant-loop-at : goal.invariant-loop-at
-invariant-loop-at l = presence_of l.key (take l.at l.self.rows.items) ≡ None
