@@ -1,9 +1,8 @@
-pub mod Accepted
-pub mod Heads
-pub mod Hearings
-pub mod Moves
-pub mod Rules
-pub mod Sent
-pub mod Steps
-pub mod Texts
-pub mod Written
+pub mod lemmas
+mod Accepted
+mod Heads
+mod Moves
+mod Rules
+mod Sent
+mod Texts
+mod Written

@@ -12,13 +12,13 @@ ghost use Rattle.relay_frames.specs.Writing.{behind_bytes, read_written};
 
 /// The events of a peer depend only on the bytes that came from it: fed in any pieces they mean the same as fed at once, and
 /// what is then known of the peer is the same.
-#[tactic(auto, using(crate::proofs::Hearings::pieces_are_one))]
+#[tactic(auto, using(crate::proofs::lemmas::Hearings::pieces_are_one))]
 pub fn however_it_is_cut()
     ensures { (pieces : List (List ℕ)) → hear_pieces pieces ≡ hear_all (fed opened (concat pieces)) }
 {}
 
 /// After a close or a breach there are no events, whatever still comes.
-#[tactic(auto, using(crate::proofs::Hearings::heard_ends_with_the_last))]
+#[tactic(auto, using(crate::proofs::lemmas::Hearings::heard_ends_with_the_last))]
 pub fn nothing_behind_the_last()
     ensures { (pieces : List (List ℕ)) → EndsWithTheLast (hear_pieces pieces).told }
 {}

@@ -5,19 +5,19 @@ use Rattle.websocket.specs.FrameHeader.{decode_header}
 use Rattle.relay_frames.specs.Events.{Told, is_last}
 use Rattle.relay_frames.specs.Reading.{Message, Reading, opened, over, fed, waits, next_step}
 use Rattle.relay_frames.specs.Hearing.{Heard, silence, behind, hear_times, hear_all, hear_piece, hear_pieces, EndsWithTheLast, IsSmall}
-use Rattle.relay_frames.proofs.Steps.{Fits, Steps, Follows, waited, told, tells, steps}
+use Rattle.relay_frames.proofs.lemmas.Steps.{Fits, Steps, Follows, waited, told, tells, steps}
 
 -- one more time: the first step, and what comes from there on
-hear_told : (n : ℕ) (r : Reading) (t : Told) (next : Reading) → next_step r ≡ tells t next → hear_times (suc n) r ≡ behind (t ∷ []) (hear_times n next)
+pub hear_told : (n : ℕ) (r : Reading) (t : Told) (next : Reading) → next_step r ≡ tells t next → hear_times (suc n) r ≡ behind (t ∷ []) (hear_times n next)
 unfolding hear_times
 hear_told n r t next is = rw is refl
 
-hear_waited : (n : ℕ) (r : Reading) → next_step r ≡ waits r → hear_times (suc n) r ≡ silence r
+pub hear_waited : (n : ℕ) (r : Reading) → next_step r ≡ waits r → hear_times (suc n) r ≡ silence r
 unfolding hear_times
 hear_waited n r is = rw is refl
 
 -- more times than there are bytes are enough
-hear_enough : (n m : ℕ) (r : Reading) → length r.unread < n → length r.unread < m → hear_times n r ≡ hear_times m r
+pub hear_enough : (n m : ℕ) (r : Reading) → length r.unread < n → length r.unread < m → hear_times n r ≡ hear_times m r
 hear_enough zero m r hn hm = absurd (omega (arith, hn))
 hear_enough (suc n) zero r hn hm = absurd (omega (arith, hm))
 hear_enough (suc n) (suc m) r hn hm =
@@ -39,7 +39,7 @@ fed_shorter r t next f more =
     ]
 
 -- the events before a piece and after it are those when the piece has come at once
-piece_after : (n : ℕ) (r : Reading) (more : List ℕ) → length r.unread < n → hear_piece (hear_times n r) more ≡ hear_all (fed r more)
+pub piece_after : (n : ℕ) (r : Reading) (more : List ℕ) → length r.unread < n → hear_piece (hear_times n r) more ≡ hear_all (fed r more)
 piece_after zero r more h = absurd (omega (arith, h))
 piece_after (suc n) r more h =
     elim (steps r) [
@@ -68,7 +68,7 @@ pieces_after r (piece ∷ pieces) =
     ∙ pieces_after (fed r piece) pieces
     ∙ ap hear_all (fed_twice r.unread r.begun r.is_over piece (concat pieces))
 
-opened_waits : next_step opened ≡ waits opened
+pub opened_waits : next_step opened ≡ waits opened
 unfolding next_step decode_header
 opened_waits = refl
 

@@ -1,0 +1,40 @@
+-- What a caller does to a hall.
+use Rattle.std.proofs.Common.{ℕ, List, Bool, true, false, Option, inl, inr}
+use Rattle.relay_frames.specs.Events.{Told, fragment, text, binary, ping, pong, closed, broken}
+use Rattle.relay_hall.specs.declared.handed.Handed.{Handed}
+use Rattle.relay_hall.specs.declared.owner.Owner.{Owner}
+use Rattle.relay_hall.specs.Record.{HallRecord}
+use Rattle.relay_hall.specs.Runs.{IsOneStep}
+use Rattle.relay_hall.proofs.lemmas.OneStep.{answered_once, unanswered_once}
+use Rattle.relay_calling.specs.Calling.{CallerRecord, EventAnswered, EventUnanswered, Fails, Heeds, Stays}
+
+module _ (k : HallRecord) (who : Owner) (boards : List (List ℕ)) (handed : Option Handed) (l : HallRecord) (now : List (List ℕ)) where
+  stays_once : Stays k boards handed l now → IsOneStep k who handed l
+  stays_once (none, same, opened) = inr (same, none)
+
+  event_once : (t : Told) (frames : List ℕ) → EventAnswered k who boards t frames handed l now → IsOneStep k who handed l
+  event_once (text s) frames (bytes, answered, rest, is) = answered_once k l rest who boards handed now s bytes answered
+  event_once fragment frames (is, stays) = stays_once stays
+  event_once (binary bytes) frames (is, stays) = stays_once stays
+  event_once (ping bytes) frames (is, stays) = stays_once stays
+  event_once (pong bytes) frames (is, stays) = stays_once stays
+  event_once (closed number) frames (is, stays) = stays_once stays
+  event_once (broken breach) frames (is, stays) = stays_once stays
+
+  lost_once : (t : Told) → EventUnanswered k who boards t handed l now → IsOneStep k who handed l
+  lost_once (text s) (inl un, rest) = unanswered_once k l rest who boards handed now s un
+  lost_once (text s) (inr (bytes, answered), rest) = answered_once k l rest who boards handed now s bytes answered
+  lost_once fragment stays = stays_once stays
+  lost_once (binary bytes) stays = stays_once stays
+  lost_once (ping bytes) stays = stays_once stays
+  lost_once (pong bytes) stays = stays_once stays
+  lost_once (closed number) stays = stays_once stays
+  lost_once (broken breach) stays = stays_once stays
+
+pub heeds_once : (some : Bool) (c : CallerRecord) (k : HallRecord) (handed : Option Handed) (l : HallRecord) (d : CallerRecord) → Heeds some c k handed l d → IsOneStep k c.who handed l
+heeds_once true c k handed l d (t, asking, says, (frames, (answer, answered, is), d-is)) = event_once k c.who c.boards handed l d.boards t answer answered
+heeds_once false c k handed l d (none, same, is, more) = inr (same, none)
+
+pub fails_once : (c : CallerRecord) (k : HallRecord) (handed : Option Handed) (l : HallRecord) (d : CallerRecord) → Fails c k handed l d → IsOneStep k c.who handed l
+fails_once c k handed l d (inl (none, same, is)) = inr (same, none)
+fails_once c k handed l d (inr (t, asking, says, (un, is))) = lost_once k c.who c.boards handed l d.boards t un

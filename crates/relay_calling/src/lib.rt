@@ -1,0 +1,12 @@
+//! A caller: a connection of an operator that a hall answers, without reading and writing. Bytes come in, bytes go out. It takes no lock,
+//! opens no socket, reads no clock and waits for nobody.
+#![tactic(auto)]
+
+mod caller;
+pub mod laws;
+mod output;
+mod stage;
+
+pub use caller::{Caller, MOST_MESSAGES};
+pub use output::MOST_OUTPUT;
+pub use stage::Stage;

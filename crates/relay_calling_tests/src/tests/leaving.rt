@@ -1,0 +1,110 @@
+//! The ends of a connection (RFC 6455, section 7), by bytes, and one that takes little of what it is told.
+
+use crate::tests::frames::{CLOSE, PING, TEXT, asked, tell};
+use c960_game::Limits;
+use relay_calling::{Caller, MOST_OUTPUT, Stage};
+use relay_hall::{Hall, Owner};
+use std::alloc::{AllocError, Global};
+use std::process::Abort;
+
+const BAD_FIELD: &str = "{\"code\":24,\"name\":\"BadField\",\"reply\":\"refused\"}";
+
+/// Bytes, an answer to them if there is one, and the payload of the close behind it. After each is a frame that is not answered.
+const ENDS: [(&[u8], &str, &[u8]); 3] = [
+    // a close with 1000
+    (&[CLOSE, 0x82, 0, 0, 0, 0, 3, 0xe8], "", &[3, 0xe8]),
+    // a text without a mask: 1002
+    (&[TEXT, 1, b'?'], "", &[3, 0xea]),
+    // a text of 65,537 bytes: 1009
+    (
+        &[TEXT, 0xff, 0, 0, 0, 0, 0, 1, 0, 1, 0, 0, 0, 0],
+        BAD_FIELD,
+        &[3, 0xf1],
+    ),
+];
+
+/// A connection without a key, over a hall of its own.
+#[derive(Drop)]
+struct Scene {
+    hall: Hall,
+    caller: Caller,
+}
+
+impl Scene {
+    fn new(rt: &impl Abort, alloc: Global) -> Scene {
+        let limits = Limits::new(4, 4, 4, 64).expect(rt, "limits");
+        let Ok(hall) = Hall::new(alloc, limits, 1000) else {
+            panic!(rt; "no memory");
+        };
+        let owner = Owner {
+            key: None,
+            opener: 1,
+        };
+        Scene {
+            hall,
+            caller: Caller::new(alloc, owner),
+        }
+    }
+
+    /// Feeds bytes, and heeds what they say next. Returns whether they said anything.
+    fn hears(&mut self, bytes: &[u8]) -> Result<bool, AllocError> {
+        self.caller.feed(bytes)?;
+        let (some, _) = self.caller.heed(&mut self.hall);
+        some
+    }
+
+    /// Writes so many of the bytes due, or all. Returns how many are due then.
+    fn writes(&mut self, n: usize) -> usize {
+        let n = n.min(self.caller.due().len());
+        self.caller.wrote(n);
+        self.caller.due().len()
+    }
+}
+
+/// The frames of an answer, if there is one, and of a close.
+fn wanted(alloc: Global, answer: &str, close: &[u8]) -> Result<Vec<u8>, AllocError> {
+    let mut bytes = Vec::new(alloc);
+    if !answer.is_empty() {
+        tell(&mut bytes, TEXT, answer.as_bytes())?;
+    }
+    tell(&mut bytes, CLOSE, close)?;
+    Ok(bytes)
+}
+
+/// These bytes are the last ones that are answered, by these frames.
+fn ends(rt: &impl Abort, alloc: Global, bytes: &[u8], answer: &str, close: &[u8]) {
+    let (Ok(wanted), Ok(ping)) = (wanted(alloc, answer, close), asked(alloc, PING, b"")) else {
+        panic!(rt; "no memory");
+    };
+    let mut scene = Scene::new(rt, alloc);
+    assert!(rt; scene.hears(bytes) == Ok(true));
+    assert!(rt; scene.hears(ping.as_slice()) == Ok(false));
+    assert_eq!(rt; scene.caller.due(), wanted.as_slice());
+    assert!(rt; scene.caller.stage() == Stage::Leaves);
+}
+
+#[test]
+fn each_end_is_told(rt: HostRuntime) {
+    for (bytes, answer, close) in ENDS {
+        ends(&rt, rt.alloc(), bytes, answer, close);
+    }
+}
+
+#[test]
+fn one_that_takes_little_is_full(rt: HostRuntime) {
+    let mut scene = Scene::new(&rt, rt.alloc());
+    let Ok(ping) = asked(rt.alloc(), PING, &[7; 125]) else {
+        panic!(rt; "no memory");
+    };
+    // A pong has 127 bytes, and 130 of them are more than may be due.
+    for n in 1..=130 {
+        assert!(rt; !scene.caller.is_full() && scene.hears(ping.as_slice()) == Ok(true));
+        assert!(rt; scene.caller.is_full() == (n > MOST_OUTPUT / 127));
+    }
+    // It takes as much as comes, again and again, and never all.
+    for _ in 0..1000 {
+        assert!(rt; scene.caller.is_full() && scene.hears(ping.as_slice()) == Ok(true));
+        assert!(rt; scene.writes(127) == 130 * 127);
+    }
+    assert!(rt; scene.writes(127) == 129 * 127 && !scene.caller.is_full());
+}

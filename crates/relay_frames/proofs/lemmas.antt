@@ -1,0 +1,3 @@
+-- The laws that the proofs of other crates cite. All other proofs of this crate are its own.
+pub mod Hearings
+pub mod Steps
