@@ -8,7 +8,7 @@ pub const MOST_HALF_SECONDS: u64 = 10;
 
 /// After how many seconds of silence a peer is sent a ping, and then another one. Peers are looked at once a second, so with 30 a vanished
 /// peer would be noticed only after more than 90. A peer that a session's thread reads is waited for elsewhere (`relay_streams`:
-/// `outlet.rt`).
+/// `hearing.rt`).
 pub const MOST_SILENT_SECONDS: u64 = 29;
 
 /// How many pings in a row are sent to a peer that stays silent.

@@ -7,9 +7,9 @@ use Rattle.relay_pushing.specs.declared.pushing.Turn.TheVariants as turns
 use Rattle.relay_pushing.specs.Pushing.{Going, Turned, Pushed}
 use Rattle.relay_pushing.proofs.lemmas.Turns.{going_on, pushed_on, waiting_goes_on}
 use Rattle.live_board.specs.Seats.{FollowerSeat}
-use Rattle.relay_server.specs.declared.spectating.Spectating.{Spectating}
-use Rattle.relay_server.specs.declared.spectator.SpectatorState.{SpectatorState}
-use Rattle.relay_server.specs.declared.spectator.SpectatorState.TheVariants as states
+use Rattle.relay_server.specs.declared.loops.spectating.Spectating.{Spectating}
+use Rattle.relay_server.specs.declared.loops.spectator.SpectatorState.{SpectatorState}
+use Rattle.relay_server.specs.declared.loops.spectator.SpectatorState.TheVariants as states
 use Rattle.relay_server.specs.Spectating.{Gives, Spectated, session_end}
 use Rattle.relay_server.specs.Served.{Ended, Following, IsSentSoFar, IsServed, Standing, TookTurn, standing_of}
 use Rattle.relay_server.proofs.Stretches.{pushed_sent}

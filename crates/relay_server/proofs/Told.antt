@@ -26,7 +26,7 @@ use Rattle.relay_hall.specs.declared.owner.Owner.{Owner}
 use Rattle.relay_hall.specs.Record.{FloorRecord, HallBoard}
 use Rattle.relay_hall.specs.Steps.{FollowsAs, Hands, Makes, board_limits, following, handed_by, reply_of}
 use Rattle.relay_hall.specs.Talk.{StepReplied, may_make}
-use Rattle.relay_server.specs.declared.spectating.Spectating.{Spectating}
+use Rattle.relay_server.specs.declared.loops.spectating.Spectating.{Spectating}
 use Rattle.relay_server.specs.Spectating.{HasBeenTold, IsToldOf, handed_as}
 use Rattle.relay_server.specs.Talking.{Heard, SaidAnswered}
 

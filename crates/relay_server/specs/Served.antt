@@ -15,8 +15,8 @@ use Rattle.relay_pushing.specs.Pushing.{Going, Turned}
 use Rattle.live_board.specs.Seats.{FollowerSeat}
 use Rattle.relay_server.specs.declared.sessions.SessionEnd.{SessionEnd}
 use Rattle.relay_server.specs.declared.sessions.SessionEnd.TheVariants as ends
-use Rattle.relay_server.specs.declared.spectator.SpectatorState.{SpectatorState}
-use Rattle.relay_server.specs.declared.spectator.SpectatorState.TheVariants as states
+use Rattle.relay_server.specs.declared.loops.spectator.SpectatorState.{SpectatorState}
+use Rattle.relay_server.specs.declared.loops.spectator.SpectatorState.TheVariants as states
 use Rattle.relay_server.specs.Spectating.{Gives, IsToldOf, Spectated, session_end}
 
 -- it follows its board through this follower; or it no longer follows, and ended in this way

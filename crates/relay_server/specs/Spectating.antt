@@ -22,7 +22,7 @@ use Rattle.live_board.specs.Takes.{Stays, Took, TookOfGame}
 use Rattle.relay_hall.specs.declared.handed.Handed.{Handed}
 use Rattle.relay_server.specs.declared.sessions.SessionEnd.{SessionEnd}
 use Rattle.relay_server.specs.declared.sessions.SessionEnd.TheVariants as ends
-use Rattle.relay_server.specs.declared.spectating.Spectating.{Spectating as SpectatingRecord}
+use Rattle.relay_server.specs.declared.loops.spectating.Spectating.{Spectating as SpectatingRecord}
 
 -- a take of the follower gives this answer, and leads from f to g; what it has taken is of a legal game
 abbrev pub Gives : FollowerSeat → Taken → FollowerSeat → Type 0

@@ -15,8 +15,8 @@ use Rattle.relay_frames.specs.declared.event.Event.TheVariants as events
 use Rattle.relay_hall.specs.declared.handed.Handed.{Handed}
 use Rattle.relay_hall.specs.declared.owner.Owner.{Owner}
 use Rattle.relay_registry.specs.Holds.{IsToldOwner, WasMade}
-use Rattle.relay_server.specs.declared.talk.TalkEnd.{TalkEnd}
-use Rattle.relay_server.specs.declared.talk.TalkEnd.TheVariants.{Follows, Idle}
+use Rattle.relay_server.specs.declared.sessions.talk.TalkEnd.{TalkEnd}
+use Rattle.relay_server.specs.declared.sessions.talk.TalkEnd.TheVariants.{Follows, Idle}
 use Rattle.relay_server.specs.Spectating.{HasBeenTold}
 
 -- a step of a connection that has opened these boards is answered by what one hold of the lock makes of it

@@ -9,10 +9,14 @@ ghost use Rattle.relay_streams.specs.Memory.{LacksMemory};
 ghost use Rattle.relay_server.specs.Spectating.{Conversed, HasBeenTold, Pushed};
 ghost use Rattle.relay_server.specs.Talking.{TalkEnds};
 
-use crate::gallery::{Connection, Gallery, hand_over};
-use crate::request::{key_of, receive};
-use crate::spectating::Spectating;
-use crate::talk::{Stop, Talk, TalkEnd};
+mod answering;
+mod request;
+mod talk;
+mod wakes;
+
+use crate::loops::{Connection, Gallery, Spectating, hand_over};
+use crate::sessions::request::{key_of, receive};
+use crate::sessions::talk::{Stop, Talk, TalkEnd};
 use relay_frames::Acceptance;
 use relay_hall::Owner;
 use relay_pushing::{Gate, Outlet, PushEnd};

@@ -4,10 +4,10 @@ ghost use Rattle.std.specs.Prelude.{◌≡◌, ◌≤◌, None, length, take, If
 ghost use Rattle.std.specs.Io.KnownBytes.{Appends};
 ghost use Rattle.relay_frames.specs.Requests.{Accepts, IsAnswered, answer_text};
 
-use crate::buffered_stream::write_out;
 use crate::drain::end_and_drain;
 use crate::head::{Head, HeadFault};
 use crate::stream::Stream;
+use crate::writing::write_out;
 use relay_frames::{Acceptance, RequestRefusal, acceptance_of};
 use std::alloc::Global;
 use std::io;

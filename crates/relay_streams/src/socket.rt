@@ -6,7 +6,7 @@ ghost use Rattle.std.specs.Io.KnownBytes.{ReadConsumes, WriteAppends};
 ghost use Rattle.relay_streams.specs.Dues.{IsStillDue};
 
 use crate::deadline::Deadline;
-use crate::outlet::is_silence;
+use crate::hearing::is_silence;
 use crate::stream::Stream;
 use std::io;
 use std::io::{ErrorKind, Read, Write};

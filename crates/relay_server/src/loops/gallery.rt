@@ -1,0 +1,254 @@
+//! The loops that connections that follow are moved to; each serves many of them.
+
+ghost use Rattle.std.specs.Prelude.{◌≡◌, Some, IfErr, IfOk, IfSome};
+ghost use Rattle.relay_streams.specs.Heads.{left};
+ghost use Rattle.relay_server.specs.Served.{Following};
+ghost use Rattle.relay_server.specs.Spectating.{HasBeenTold};
+
+use crate::loops::balcony::Balcony;
+use crate::loops::balcony_loop::BalconyLoop;
+use crate::loops::spectating::Spectating;
+use crate::loops::spectator::Spectator;
+use crate::loops::spectators::Newcomer;
+use crate::serving::{Interruptible, OWN_STACK_BYTES, Running, Shared};
+use relay_hall::Owner;
+use relay_registry::{Lookout, Registry};
+use relay_streams::{Socket, SocketOutlet, Wire};
+use std::alloc::{AllocError, Global};
+use std::io;
+use std::io::ErrorKind;
+use std::net::Net;
+use std::sync::atomic::{AtomicBool, AtomicU64, Ordering};
+use std::sync::{Arc, Wait};
+use std::thread::{Builder, Threads};
+use std::time::Clock;
+
+/// How many loops there are.
+const BALCONIES: usize = 2;
+
+/// All balconies. Connections that follow are distributed over them in turn.
+#[derive(Drop)]
+pub(crate) struct Gallery {
+    balconies: Vec<Balcony>,
+    /// The lookouts that wake the loops.
+    lookouts: Arc<Vec<Arc<Lookout, Global>>, Global>,
+    next: AtomicU64,
+    is_closing: AtomicBool,
+}
+
+/// A connection, as its thread holds it.
+pub(crate) type Connection<'a, R> = Interruptible<'a, Socket<'a, R>, R>;
+
+impl Gallery {
+    /// A gallery and its loops, which are not running yet.
+    ///
+    /// # Errors
+    ///
+    /// As the system's own calls, or there was no memory.
+    fn open<N: Net>(net: &N, alloc: Global) -> io::Result<(Gallery, Vec<BalconyLoop>)> {
+        let mut balconies = Vec::new(alloc);
+        let mut lookouts = Vec::new(alloc);
+        let mut loops = Vec::new(alloc);
+        for _ in 0..BALCONIES {
+            let (balcony_loop, waker) = BalconyLoop::new(net, alloc)?;
+            let lookout = or_no_memory(Arc::new(alloc, Lookout::new(waker)).ok())?;
+            let of_balcony = or_no_memory(Arc::try_clone(&lookout).ok())?;
+            or_no_memory(balconies.push(Balcony::new(alloc, of_balcony)).ok())?;
+            or_no_memory(lookouts.push(lookout).ok())?;
+            or_no_memory(loops.push(balcony_loop).ok())?;
+        }
+        let gallery = Gallery {
+            balconies,
+            lookouts: or_no_memory(Arc::new(alloc, lookouts).ok())?,
+            next: AtomicU64::new(0),
+            is_closing: AtomicBool::new(false),
+        };
+        Ok((gallery, loops))
+    }
+
+    /// The balcony of this number.
+    pub(crate) fn balcony(&self, at: usize) -> Option<&Balcony> {
+        self.balconies.get(at)
+    }
+
+    /// Closes the gallery: no more connections are moved here. The loops end once they are empty.
+    pub(crate) fn close(&self) {
+        self.is_closing.store(true, Ordering::SeqCst);
+        for lookout in self.lookouts.iter() {
+            lookout.wake();
+        }
+    }
+
+    /// Whether it is closing.
+    pub(crate) fn is_closing(&self) -> bool {
+        self.is_closing.load(Ordering::SeqCst)
+    }
+
+    /// Registers the loops with the board that a connection follows, before one of them takes from it: any later ring wakes the loop.
+    ///
+    /// # Errors
+    ///
+    /// There was no memory.
+    fn listens_to(
+        &self,
+        alloc: Global,
+        registry: &Registry,
+        spectating: &Spectating,
+    ) -> Result<(), AllocError> {
+        registry.is_followed_in(spectating.at(), alloc, &self.lookouts)
+    }
+
+    /// The balcony for the next connection.
+    fn next(&self) -> Option<&Balcony> {
+        let turn = self.next.fetch_add(1, Ordering::SeqCst);
+        let count = self.balconies.len();
+        if count == 0 {
+            return None;
+        }
+        self.balconies.get((turn as usize) % count)
+    }
+}
+
+/// Moves a connection that follows to a loop, with its follower: the same seat. If no loop takes it, it is returned.
+pub(crate) fn hand_over<'a, R: Wait + Clock>(
+    rt: &R,
+    alloc: Global,
+    registry: &Registry,
+    gallery: &Gallery,
+    outlet: SocketOutlet<Connection<'a, R>>,
+    spectating: Spectating,
+    owner: Owner,
+) -> Option<(SocketOutlet<Connection<'a, R>>, Spectating)>
+    requires told { HasBeenTold (Some spectating.source) outlet.texts.items }
+    ensures back { IfSome result (λ back. (back.0.texts.items ≡ outlet.entry.texts.items) × (back.0.buffered ≡ outlet.entry.buffered) × (back.0.peer ≡ outlet.entry.peer) × (back.1.source ≡ spectating.source)) }
+{
+    if gallery.listens_to(alloc, registry, &spectating).is_err() {
+        return Some((outlet, spectating));
+    }
+    let Some(balcony) = gallery.next() else {
+        return Some((outlet, spectating));
+    };
+    let mut inbox = balcony.inbox(rt);
+    if !inbox.has_room() {
+        return Some((outlet, spectating));
+    }
+    match coming_over(outlet, spectating, owner) {
+        Ok(newcomer) => inbox.put(newcomer),
+        Err(spectator) => spectator.go(rt, registry),
+    }
+    drop(inbox);
+    balcony.lookout.wake();
+    None
+}
+
+/// A connection on its way to a loop; it no longer waits.
+///
+/// # Errors
+///
+/// The system refuses, and the connection has to go.
+fn coming_over<R: Clock>(
+    outlet: SocketOutlet<Connection<'_, R>>,
+    spectating: Spectating,
+    owner: Owner,
+) -> Result<Newcomer, Spectator<Wire>>
+    requires told { HasBeenTold (Some spectating.source) outlet.texts.items }
+    ensures texts { IfOk result (λ newcomer. newcomer.spectator.texts ≡ outlet.entry.texts.items) }
+    ensures kept { IfOk result (λ newcomer. newcomer.spectator.kept ≡ outlet.entry.buffered.output.items) }
+    ensures peer { IfOk result (λ newcomer. newcomer.spectator.peer ≡ outlet.entry.peer) }
+    ensures behind { IfOk result (λ newcomer. newcomer.spectator.behind ≡ left outlet.entry.buffered.head) }
+    ensures follows { IfOk result (λ newcomer. newcomer.spectator.standing ≡ Following spectating.source) }
+    ensures refused { IfErr result (λ spectator. (spectator.texts ≡ outlet.entry.texts.items) × (spectator.standing ≡ Following spectating.source)) }
+{
+    let (stream, outlet) = outlet.unplugged();
+    let (wire, is_ready) = Wire::new(stream.into_inner().into_inner());
+    let descriptor = wire.descriptor();
+    let at = spectating.at();
+    let spectator = Spectator::new(outlet.onto(wire), spectating, owner);
+    if is_ready {
+        Ok(Newcomer {
+            spectator,
+            descriptor,
+            at,
+        })
+    } else {
+        Err(spectator)
+    }
+}
+
+/// What was made, or the error that there was no memory for it.
+fn or_no_memory<T: Drop>(made: Option<T>) -> io::Result<T> {
+    match made {
+        Some(made) => Ok(made),
+        None => Err(io::Error::from(ErrorKind::OutOfMemory)),
+    }
+}
+
+/// Starts a gallery, each of its loops on a thread of its own, and returns their threads. There is none if the system has no threads left.
+pub(crate) fn start_gallery<R>(
+    rt: &R,
+    alloc: Global,
+    registry: &Arc<Registry, Global>,
+) -> (Option<Arc<Gallery, Global>>, Vec<Running>)
+where
+    R: Net + Threads + Wait + Clock + Clone + Send + Drop + 'static,
+{
+    let mut running = Vec::new(alloc);
+    let Ok((gallery, loops)) = Gallery::open(rt, alloc) else {
+        return (None, running);
+    };
+    let Ok(gallery) = Arc::new(alloc, gallery) else {
+        return (None, running);
+    };
+    let mut at = 0usize;
+    for balcony_loop in loops {
+        if spawn(
+            rt,
+            alloc,
+            registry,
+            &gallery,
+            at,
+            balcony_loop,
+            &mut running,
+        )
+        .is_none()
+        {
+            if let Some(balcony) = gallery.balcony(at) {
+                balcony.close(rt);
+            }
+        }
+        at = at.saturating_add(1);
+    }
+    (Some(gallery), running)
+}
+
+/// Starts the thread of a loop.
+fn spawn<R>(
+    rt: &R,
+    alloc: Global,
+    registry: &Arc<Registry, Global>,
+    gallery: &Arc<Gallery, Global>,
+    at: usize,
+    balcony_loop: BalconyLoop,
+    running: &mut Vec<Running>,
+) -> Option<()>
+where
+    R: Threads + Wait + Clock + Clone + Send + Drop + 'static,
+{
+    running.reserve(1).ok()?;
+    let shared = Arc::new(alloc, Shared::without_stream()).ok()?;
+    let of_thread = Arc::try_clone(&shared).ok()?;
+    let own = rt.clone().ok()?;
+    let registry = Arc::try_clone(registry).ok()?;
+    let gallery = Arc::try_clone(gallery).ok()?;
+    let handle = Builder::new()
+        .stack_size(OWN_STACK_BYTES)
+        .spawn(rt, move || {
+            balcony_loop.run(&own, &registry, &gallery, at);
+            of_thread.has_ended.store(true, Ordering::SeqCst);
+            registry.ended().ring();
+            registry.ended().wake();
+        })
+        .ok()?;
+    running.push_reserved(Running { handle, shared });
+    Some(())
+}
