@@ -12,8 +12,11 @@ import tempfile
 
 from crates import SOURCES
 
-# A proof takes from one to four gigabytes.
+# A proof takes from one to four gigabytes, and each further job up to one and a half.
 MEMORY_OF_A_PROOF = 4 << 30
+MEMORY_OF_A_JOB = 3 << 29
+# As many jobs as `rt` itself gives a proof at most.
+MOST_JOBS = 4
 
 
 class Workplace:
@@ -65,13 +68,24 @@ def scratch_folder():
         yield pathlib.Path(name)
 
 
-def width_of_machine():
-    """How many proofs run at a time: by the processors, and by the memory that is free."""
+def free_memory():
+    """In bytes."""
     free = 0
     for line in pathlib.Path("/proc/meminfo").read_text().splitlines():
         if line.startswith("MemAvailable:"):
             free = int(line.split()[1]) * 1024
-    return max(min(len(os.sched_getaffinity(0)), free // MEMORY_OF_A_PROOF), 1)
+    return free
+
+
+def width_of_machine():
+    """How many proofs run at a time: by the processors, and by the memory that is free."""
+    return max(min(len(os.sched_getaffinity(0)), free_memory() // MEMORY_OF_A_PROOF), 1)
+
+
+def most_jobs():
+    """How many jobs a proof that begins now may have: by the processors, and by the memory that is free."""
+    further = (free_memory() - MEMORY_OF_A_PROOF) // MEMORY_OF_A_JOB
+    return max(min(len(os.sched_getaffinity(0)), MOST_JOBS, 1 + further), 1)
 
 
 def lock(crates, names):

@@ -8,12 +8,13 @@ import subprocess
 import sys
 import tempfile
 import unittest
+from unittest import mock
 
 TOP = pathlib.Path(__file__).resolve().parents[2]
 sys.path.insert(0, str(TOP / "tools"))
 
 import planted  # noqa: E402
-from workplace import width_of_machine  # noqa: E402
+from workplace import most_jobs, width_of_machine  # noqa: E402
 
 # It writes what it was asked in `calls`, makes what the true one makes, and refuses the crates and the edits that are named in `wrong`.
 RT = r'''#!/usr/bin/env -S python3 -B
@@ -145,6 +146,23 @@ class Run(Commands):
         if (self.state / "meet").exists():
             self.assertLess(max(calls["left"][2], calls["right"][2]), min(calls["left"][3], calls["right"][3]), "not side by side")
 
+    def test_the_crate_that_most_is_to_come_after_has_a_job_for_each_processor(self):
+        """`low` and the program run alone, and `left` takes longer than `right`, which runs beside it if there is memory for two."""
+        if width_of_machine() > 1:
+            write(self.state / "meet", "")
+        self.run_it("run.sh", "start", "0")
+        calls, jobs = {it[0]: it[1] for it in self.calls()}, r"--jobs [1-4]"
+        for name in ("low", "left"):
+            self.assertRegex(calls[name], rf"^lib {jobs}$")
+        self.assertRegex(calls["right"], r"^lib$" if (self.state / "meet").exists() else rf"^lib {jobs}$")
+        self.assertRegex(calls["relay960"], rf"^run {jobs} -- start 0$")
+
+    def test_a_proof_has_no_more_jobs_than_processors_and_than_fit_into_memory(self):
+        for processors, gigabytes, jobs in ((4, 16, 4), (2, 16, 2), (16, 64, 4), (4, 6, 2), (4, 4, 1), (4, 1, 1)):
+            with mock.patch("os.sched_getaffinity", lambda _: range(processors)), \
+                 mock.patch("workplace.free_memory", lambda: gigabytes << 30):
+                self.assertEqual(most_jobs(), jobs, (processors, gigabytes))
+
     def test_what_is_proved_is_not_proved_again_until_it_changes(self):
         self.run_it("run.sh", "start", "0")
         self.calls()
@@ -171,7 +189,7 @@ class Check(Commands):
         self.assertRegex(lines[2], r"^3\. the tests in left_tests \(rt test\): 70 s$")
         self.assertRegex(lines[3], r"^in all 6 min at most")
         self.assertRegex(lines[-1], r"^check\.sh: left holds, after .* \(6 min were named\)$")
-        self.assertEqual([(it[0], it[1]) for it in self.calls()], [("low", "lib"), ("left", "check"), ("left_tests", "test")])
+        self.assertEqual([(it[0], it[1].split()[0]) for it in self.calls()], [("low", "lib"), ("left", "check"), ("left_tests", "test")])
 
     def test_the_verdict_names_the_step_that_fails(self):
         self.is_wrong("left_tests")
@@ -245,7 +263,7 @@ class Quick(Commands):
         self.assertEqual(lines[0], "differ from HEAD: left")
         self.assertRegex(next(it for it in lines if it.startswith("in all")), r"in all \d+ min at most")
         self.assertRegex(lines[-1], r"^\.ci/quick: all holds, after .* were named\)$")
-        calls = [f"{it[0]} {it[1]}" for it in self.calls() if it[0] != "relay960" and it[1] != "lib"]
+        calls = [f"{it[0]} {it[1]}" for it in self.calls() if it[0] != "relay960" and not it[1].startswith("lib")]
         self.assertEqual(calls, ["replay .ci/replay", "replay crates/relay960/replays/all.py", "left_tests check", "left_tests test"])
 
     def test_a_failure_ends_it_and_is_named(self):
