@@ -1,4 +1,4 @@
-use Rattle.relay_server.proofs.sessions.answering.Talk.hear.Goals as goal
+use Rattle.relay_server.proofs.sessions.talk.Talk.hear.Goals as goal
 
 pub returns-in-Text : goal.returns-in-Text
 returns-in-Text g c = rw c.in-Text.is (rw c.in-Text.is at c.reply.ensures)

@@ -1,4 +1,4 @@
-use Rattle.relay_server.proofs.sessions.answering.Talk.make.Goals as goal
+use Rattle.relay_server.proofs.sessions.talk.Talk.make.Goals as goal
 
 -- the step was made within one hold, and its reply is the one that is written
 pub returns-in-Ok-clause-ok : goal.returns-in-Ok-clause-ok
