@@ -1,5 +1,6 @@
 pub mod lemmas
 mod Accepted
+mod Ends
 mod Heads
 mod Moves
 mod Rules

@@ -2,6 +2,7 @@ pub mod Breaches
 pub mod Codes
 pub mod Events
 pub mod Frames
+pub mod Heads
 pub mod Hearing
 pub mod Holding
 pub mod Reading

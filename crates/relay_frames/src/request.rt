@@ -3,6 +3,7 @@
 ghost use Rattle.std.specs.Prelude.{◌≡◌, ◌==◌, ◌≤◌, length, codes, take, None, Some, All, IfOk, IfErr, IfSome};
 ghost use Rattle.httparse.specs.Spans.{IsHeaderWithin, IsRequestWithin, span_bytes};
 ghost use Rattle.websocket.specs.Headers.{eq_ignore_case, fields_of};
+ghost use Rattle.relay_frames.specs.Heads.{head_end_behind};
 ghost use Rattle.relay_frames.specs.Requests.{Accepts, IsAcceptance, IsAnswered, IsJudged, count_of_hosts};
 ghost use Rattle.relay_frames.specs.declared.request.TheConstants.{MOST_HEAD_BYTES};
 
@@ -25,7 +26,9 @@ const BLANK_LINE: &[u8; 4] = b"\r\n\r\n";
 /// The end of the head: after the first blank line, which does not end within the bytes seen before. An end beyond the
 /// greatest number of bytes does not count.
 pub fn end_of_head(bytes: &[u8], seen: usize) -> Option<usize>
+    ensures end { result ≡ head_end_behind seen bytes.now }
     ensures bound { IfSome result (λ end. end ≤ MOST_HEAD_BYTES) }
+    ensures within { IfSome result (λ end. end ≤ length bytes.now) }
 {
     for at in seen.max(3)..bytes.len().min(MOST_HEAD_BYTES) {
         if &bytes[at - 3..at + 1] == BLANK_LINE.as_slice() {
