@@ -75,6 +75,20 @@ pub(crate) fn hand_out(
     hosted.follow(from)
 }
 
+/// The refusal of a follow of a board that, if there is one of this name, has no vacant slot. None is looked for.
+pub(crate) fn turn_away(
+    boards: &IndexMap<BoardKey, Hosted>,
+    board: BoardKey,
+    from: Option<u16>,
+) -> Refusal
+    ensures { HandsAt (lookup (same_name board) boards.now.entries) from (Err result) }
+{
+    match boards.get(&board) {
+        Some(hosted) => hosted.turn_away(from),
+        None => Refusal::NoSuchBoard,
+    }
+}
+
 /// Ends, as abandoned, each game that is not over of those whose owners have left, and rings for each.
 pub(crate) fn end_where<L: Leaver>(
     boards: &mut IndexMap<BoardKey, Hosted>,

@@ -13,7 +13,7 @@ ghost use Rattle.relay_hall.specs.Steps.{StateMakes, in_full, reply_to_end, repl
 ghost use Rattle.relay_hall.specs.Talk.{IsAnsweredBy, IsRepliedBy, IsUnansweredBy, IsUnmade};
 ghost use Rattle.relay_hall.specs.Times.{swept_floor};
 
-use crate::boards::{end, end_where, hand_out, owns_any, play, ring_for};
+use crate::boards::{end, end_where, hand_out, owns_any, play, ring_for, turn_away};
 use crate::handed::Handed;
 use crate::hosted::Hosted;
 use crate::leaver::Leaver;
@@ -163,6 +163,15 @@ impl Floor {
         }
     }
 
+    /// Refuses a follow of a board of which no slot is vacant. None is looked for. Refused: `NoSuchBoard`, `NotYet`, `TooFarBack`,
+    /// `TooManyFollowers`.
+    fn turns_away(&self, board: BoardName, from: Option<u16>) -> HallReply
+        ensures { (who : ℕ) → StateMakes self.now (Follow who board from) (in_full result) self.now }
+    {
+        let refusal = turn_away(&self.boards, BoardKey::of(board), from);
+        HallReply::Said(Reply::Refused(refusal))
+    }
+
     /// Makes a step.
     fn make(&mut self, step: &Step) -> Reply
         ensures { StateMakes self.old step.now result self.new }
@@ -196,7 +205,7 @@ impl Floor {
         conn.answer(text, self)
     }
 
-    /// Replies to a step of a connection, for this speaker.
+    /// Replies to a step of a connection, for this speaker. With `is_full` a follow that may be made is refused, and no slot is looked at.
     ///
     /// # Errors
     ///
@@ -206,6 +215,7 @@ impl Floor {
         conn: &mut Conn,
         who: &Owner,
         step: &Step,
+        is_full: bool,
     ) -> Result<HallReply, AllocError>
         requires empty { self.old.handed ≡ None }
         ensures ok { IfOk result (λ r. IsRepliedBy self.old.floor who.now conn.old step.now (in_full r) self.new.handed self.new.floor conn.new) }
@@ -217,6 +227,7 @@ impl Floor {
         };
         match conn.refusal(step, self) {
             Some(refusal) => Ok(HallReply::Said(Reply::Refused(refusal))),
+            None if is_full => Ok(self.turns_away(board, from)),
             None => Ok(self.joins(board, from)),
         }
     }

@@ -130,7 +130,8 @@ impl Hall {
     }
 
     /// Replies to a step of a connection, for its owner: what `hear` does between reading a text and writing its answer. Returns the reply,
-    /// and the follower that was handed out if a follow was accepted, with the name of its board.
+    /// and the follower that was handed out if a follow was accepted, with the name of its board. `is_full` says that whoever asks knows of
+    /// no vacant slot of the board that a follow names: then the follow is refused, and no slot is looked at.
     ///
     /// # Errors
     ///
@@ -140,13 +141,14 @@ impl Hall {
         conn: &mut Conn,
         who: &Owner,
         step: &Step,
+        is_full: bool,
     ) -> (Result<HallReply, AllocError>, Option<Handed>)
         ensures ok { IfOk result.0 (λ r. IsRepliedBy self.old.floor who.now conn.old step.now (in_full r) result.1 self.new.floor conn.new) }
         ensures err { OnErr result.0 ((result.1 ≡ None) × (self.new ≡ self.old) × (conn.new ≡ conn.old)) }
         ensures rest { self.new ≡ record self.old { floor = self.new.floor } }
         ensures reached { IsReached self.old × IsReached self.new }
     {
-        let replied = self.floor.reply(conn, who, step);
+        let replied = self.floor.reply(conn, who, step, is_full);
         (replied, self.floor.take_handed())
     }
 

@@ -12,6 +12,7 @@ use crate::owner::Owner;
 use c960_board::Move;
 use c960_game::{Ending, Outcome, Refusal, Replaying};
 use live_board::{Board, Follower};
+use relay_core::may_join_at;
 
 /// A board and who opened it.
 #[derive(Drop)]
@@ -51,6 +52,17 @@ impl Hosted {
             unreachable!();
         };
         Ok((follower, replaying))
+    }
+
+    /// The refusal of a follow of a board without a vacant slot. None is looked for.
+    pub(crate) fn turn_away(&self, from: Option<u16>) -> Refusal
+        ensures { Hands (limits_in self.now) (shown_board self.now) from (Err result) }
+    {
+        let len = self.board.len();
+        match may_join_at(len, from.unwrap_or(len), self.board.capacity()) {
+            Ok(()) => Refusal::TooManyFollowers,
+            Err(refusal) => refusal,
+        }
     }
 
     /// Ends the game as abandoned if its owner has left and it is not over. Returns whether it did.

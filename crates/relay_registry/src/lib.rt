@@ -14,6 +14,7 @@ mod rang;
 mod registry;
 mod shown;
 mod signal;
+mod signals;
 
 pub use chime::{BoardBell, Chime};
 pub use chronicle::{Chronicle, LogNote, LogNotes, What};

@@ -15,6 +15,7 @@ ghost use Rattle.relay_registry.specs.Showing.{NewsFrom, found_at, found_under, 
 use crate::found::Found;
 use crate::made::{Made, board_of};
 use crate::rang::{Rang, rung_in};
+use crate::signals::Signals;
 use c960_board::Move;
 use c960_game::{Limits, Outcome, Replaying};
 use relay_core::{BoardName, Step};
@@ -46,22 +47,44 @@ impl Lobby {
 
     // ---- What connections say.
 
-    /// Makes a step of a connection, for its owner, if it may make it.
-    pub(crate) fn makes(&mut self, conn: &mut Conn, who: &Owner, step: &Step) -> Made
+    /// Makes a step of a connection, for its owner, if it may make it. A follower that is handed out is counted at its board's signal.
+    pub(crate) fn makes(
+        &mut self,
+        conn: &mut Conn,
+        who: &Owner,
+        step: &Step,
+        signals: &Signals,
+    ) -> Made
         ensures made { IfOk result.told (λ r. IsRepliedBy self.old.hall.floor who.now conn.old step.now (in_full r) result.handed self.new.hall.floor conn.new) }
         ensures unmade { OnErr result.told ((result.handed ≡ None) × (self.new.hall ≡ self.old.hall) × (conn.new ≡ conn.old)) }
         ensures rest { self.new.hall ≡ record self.old.hall { floor = self.new.hall.floor } }
         ensures index { result.at ≡ index_of self.new.hall.floor (board_of step.now) }
         ensures reached { IsReached self.old.hall × IsReached self.new.hall }
     {
-        let (told, handed) = self.hall.reply(conn, who, step);
+        let is_full = self.has_no_room(step, signals);
+        let (told, handed) = self.hall.reply(conn, who, step, is_full);
         // The reply says whether a game has changed, and there is but one board whose game may have.
         let _ = self.hall.take_rung();
         let at = match board_of(step) {
             Some(board) => self.hall.place_of(&board),
             None => None,
         };
+        if let (Some(_), Some(at)) = (&handed, at) {
+            signals.of(at).follows();
+        }
         Made { told, handed, at }
+    }
+
+    /// Whether a follow that the step asks for would find no vacant slot, as far as followers are counted. Each slot is its own word of
+    /// memory, so that looking at all of them would keep others waiting for the lock.
+    fn has_no_room(&self, step: &Step, signals: &Signals) -> bool {
+        let Step::Follow(_, board, _) = step else {
+            return false;
+        };
+        match self.hall.place_of(board) {
+            Some(at) => signals.is_full(at),
+            None => false,
+        }
     }
 
     /// Whether any board belongs to connections with the key of this one.

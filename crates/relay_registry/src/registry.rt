@@ -197,7 +197,11 @@ impl Registry {
         ensures made { IfOk result.told (λ r. WasMade who.now conn.old step.now (in_full r) result.handed conn.new) }
         ensures unmade { OnErr result.told ((result.handed ≡ None) × (conn.new ≡ conn.old)) }
     {
-        let made = self.house.lobby.lock(rt).makes(conn, who, step);
+        let made = self
+            .house
+            .lobby
+            .lock(rt)
+            .makes(conn, who, step, &self.house.signals);
         self.announce(rt, step, &made);
         made
     }
@@ -205,7 +209,7 @@ impl Registry {
     /// Rings for a board whose game has changed, and notes for the log what was made of a step. Lookouts learn of a new board at once.
     fn announce<R: Wait>(&self, rt: &R, step: &Step, made: &Made) {
         if let Some(at) = made.rung() {
-            self.house.signal(at).chime.ring();
+            self.house.signals.of(at).chime.ring();
         }
         if made.handed.is_some() {
             self.chronicle.followers.fetch_add(1, Ordering::SeqCst);
@@ -291,7 +295,7 @@ impl Registry {
     fn tell<R: Wait>(&self, rt: &R, rang: &Rang) {
         for at in 0..usize::from(MOST_BOARDS) {
             if rang.has(at) {
-                self.house.signal(at).chime.ring();
+                self.house.signals.of(at).chime.ring();
                 self.note_end(rt, at);
                 self.wake(at);
             }
@@ -377,20 +381,20 @@ impl Registry {
 
     /// How often the board was rung for, wrapping: after each move and after the end, before anybody is woken.
     pub fn rings(&self, at: usize) -> u64 {
-        self.house.signal(at).chime.count()
+        self.house.signals.of(at).chime.count()
     }
 
     /// The board's chime as its bell.
     pub fn bell<'a, R>(&'a self, rt: &'a R, at: usize) -> BoardBell<'a, R> {
         BoardBell {
             rt,
-            chime: &self.house.signal(at).chime,
+            chime: &self.house.signals.of(at).chime,
         }
     }
 
     /// Whether anybody may have to be woken after a ring.
     pub fn has_sleepers(&self, at: usize) -> bool {
-        !self.lookouts.is_empty() || self.house.signal(at).has_sleepers()
+        !self.lookouts.is_empty() || self.house.signals.of(at).has_sleepers()
     }
 
     /// From now on these loops are woken when the board is rung for, unless others already are.
@@ -404,12 +408,12 @@ impl Registry {
         alloc: Global,
         loops: &Arc<Vec<Arc<Lookout, Global>>, Global>,
     ) -> Result<(), AllocError> {
-        self.house.signal(at).is_followed_in(alloc, loops)
+        self.house.signals.of(at).is_followed_in(alloc, loops)
     }
 
     /// Wakes all who sleep until the board is rung for, the loops in which it is followed, and all lookouts.
     pub fn wake(&self, at: usize) {
-        self.house.signal(at).wake();
+        self.house.signals.of(at).wake();
         self.wake_lookouts();
     }
 
@@ -432,8 +436,9 @@ impl Registry {
         self.chronicle.note(rt, board, what);
     }
 
-    /// Notes that a connection no longer follows a board.
-    pub fn unfollows(&self) {
+    /// Notes that a connection no longer follows the board of this index: its follower has left, and was counted until now.
+    pub fn unfollows(&self, at: usize) {
+        self.house.signals.of(at).unfollows();
         self.chronicle.followers.fetch_sub(1, Ordering::SeqCst);
     }
 

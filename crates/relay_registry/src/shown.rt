@@ -38,7 +38,7 @@ impl Shown {
 
     /// How often it was rung for, wrapping: after each move and after the end, before anybody is woken.
     pub fn rings(&self) -> u64 {
-        self.house.signal(self.found.at).chime.count()
+        self.house.signals.of(self.found.at).chime.count()
     }
 
     /// Appends the moves of its log from a place on to `moves`. Returns the outcome of its game.

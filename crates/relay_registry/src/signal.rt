@@ -5,6 +5,7 @@ use crate::lookout::Lookout;
 use once_cell::race::OnceBox;
 use std::alloc::{AllocError, Global};
 use std::sync::Arc;
+use std::sync::atomic::{AtomicU32, Ordering};
 
 /// The chime of one board, on which threads that push its moves sleep, and the loops in which it is followed. No lock guards it. A board is
 /// known by its index alone, so that nobody has to share what wakes.
@@ -13,6 +14,8 @@ pub(crate) struct Signal {
     pub(crate) chime: Chime,
     /// The loops in which the board is followed, once it is.
     loops: OnceBox<Arc<Vec<Arc<Lookout, Global>>, Global>>,
+    /// How many followers were handed out and are not known to have left: at least as many as there are slots that are not vacant.
+    followers: AtomicU32,
 }
 
 impl Signal {
@@ -21,7 +24,23 @@ impl Signal {
         Signal {
             chime: Chime::new(),
             loops: OnceBox::new(alloc),
+            followers: AtomicU32::new(0),
         }
+    }
+
+    /// Counts a follower that was handed out.
+    pub(crate) fn follows(&self) {
+        self.followers.fetch_add(1, Ordering::SeqCst);
+    }
+
+    /// Counts a follower that has left no longer.
+    pub(crate) fn unfollows(&self) {
+        self.followers.fetch_sub(1, Ordering::SeqCst);
+    }
+
+    /// How many followers were handed out and are not known to have left.
+    pub(crate) fn followers(&self) -> u32 {
+        self.followers.load(Ordering::SeqCst)
     }
 
     /// Whether anybody who follows the board may have to be woken after a ring.

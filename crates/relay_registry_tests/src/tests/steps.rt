@@ -46,8 +46,12 @@ fn a_follower_is_counted_and_its_slot_is_free_once_it_leaves(rt: HostRuntime) ->
     let full = second.is_told(&rt, &registry, follow);
     assert!(rt; full == Reply::Refused(Refusal::TooManyFollowers));
     assert!(rt; followers.load(Ordering::SeqCst) == 1);
+    let early = second.is_told(&rt, &registry, Step::Follow(7, name, Some(1)));
+    assert!(rt; early == Reply::Refused(Refusal::NotYet));
     leaves(&rt, joins);
-    registry.unfollows();
+    let counted = second.is_told(&rt, &registry, follow);
+    assert!(rt; counted == Reply::Refused(Refusal::TooManyFollowers));
+    registry.unfollows(0);
     assert!(rt; followers.load(Ordering::SeqCst) == 0);
     let joins = second.makes(&rt, &registry, follow);
     leaves(&rt, joins);

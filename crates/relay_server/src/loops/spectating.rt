@@ -109,6 +109,6 @@ impl Spectating {
     /// The follower leaves, its slot on the board is free, and the registry no longer counts it.
     pub(crate) fn leave(self, registry: &Registry) {
         let _ = self.source.follower.leave();
-        registry.unfollows();
+        registry.unfollows(self.at);
     }
 }

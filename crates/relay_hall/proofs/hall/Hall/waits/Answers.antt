@@ -1,4 +1,4 @@
-use Rattle.std.proofs.Common.{◌≡◌, ℕ, Option, None, Some, refl, ◌∙◌}
+use Rattle.std.proofs.Common.{◌≡◌, Option, None, Some, refl, ◌∙◌}
 use Rattle.relay_hall.specs.declared.presence.Presence.{Presence}
 use Rattle.relay_hall.specs.declared.presence.Presence.TheVariants.{Here, Waits}
 use Rattle.relay_hall.specs.Holders.{has_run_out, is_waiting, presence_of}
