@@ -1,16 +1,20 @@
 -- Each of any number of callers runs as if it were alone, and all of them make one run of the hall.
-use Rattle.std.proofs.Common.{◌≡◌, inl, inr, ℕ, nat_eq, List, [], ◌∷◌, Bool, true, false, cond, Option, refl, sym, ap, ◌∙◌, subst}
+use Rattle.std.proofs.Common.{◌≡◌, inl, inr, ℕ, nat_eq, List, [], ◌∷◌, Bool, true, false, true≢false, cond, Option, refl, sym, ap, ◌∙◌, subst}
 use Rattle.std.proofs.lemmas.Bool.{eqb-true}
 use Rattle.relay_core.specs.History.{History}
 use Rattle.relay_hall.specs.declared.handed.Handed.{Handed}
 use Rattle.relay_hall.specs.declared.owner.Owner.{Owner}
 use Rattle.relay_hall.specs.Record.{HallRecord}
 use Rattle.relay_hall.specs.Runs.{HallEvent, HallRuns, HallTold, IsOneStep, Replied, Says, history_after}
-use Rattle.relay_calling.specs.Calling.{CallerRecord, newcomer}
+use Rattle.relay_calling.specs.Calling.{CallerRecord, asks, newcomer}
+use Rattle.relay_calling.specs.Coming.{comes}
+use Rattle.relay_calling.specs.declared.stage.Stage.{Stage}
+use Rattle.relay_calling.specs.declared.stage.Stage.TheVariants.{Comes, Asks, HandsOver, Leaves}
 use Rattle.relay_calling.specs.Crowd.{AreEventsOf, CrowdRecord, IsAt, IsOneRun, OneOrNone, OthersStay, Turn, Turns, deeds_of, happens, passes}
-use Rattle.relay_calling.specs.Running.{Deed, IsDone, IsSent, Moment, Runs, came, failed, heeded, wrote}
-use Rattle.relay_calling.proofs.Sending.{is_sent}
-use Rattle.relay_calling.proofs.Stepping.{fails_once, heeds_once}
+use Rattle.relay_calling.specs.Running.{Deed, IsDone, IsServed, Moment, Runs, came, failed, heeded, wrote}
+use Rattle.relay_calling.proofs.Sending.{fed_behind, has_come_still}
+use Rattle.relay_calling.proofs.Serving.{is_served}
+use Rattle.relay_calling.proofs.Stepping.{fails_as, heeds_as}
 
 -- ---- Each alone.
 
@@ -27,30 +31,36 @@ runs_of i f (happens j x ∷ xs) g (mid, (done, others, leads), turns) =
 runs_of i f (passes e told ∷ xs) g (mid, (step, same), turns) =
     subst (λ (cs : ℕ → CallerRecord). Runs (cs i) (deeds_of i xs) (g.callers i)) same (runs_of i mid xs g turns)
 
-pub each_is_sent : (f : CrowdRecord) (turns : List Turn) (g : CrowdRecord) → Turns f turns g → (i : ℕ) (who : Owner) (first : List ℕ) → f.callers i ≡ newcomer who first
-    → IsSent who first (deeds_of i turns) (g.callers i)
-each_is_sent f turns g run i who first new =
-    is_sent who first (deeds_of i turns) (g.callers i) (subst (λ (c : CallerRecord). Runs c (deeds_of i turns) (g.callers i)) new (runs_of i f turns g run))
+pub each_is_served : (f : CrowdRecord) (turns : List Turn) (g : CrowdRecord) → Turns f turns g → (i : ℕ) (opener : ℕ) (takes_keys : Bool) → f.callers i ≡ newcomer opener takes_keys
+    → IsServed opener takes_keys (deeds_of i turns) (g.callers i)
+each_is_served f turns g run i opener takes_keys new =
+    is_served opener takes_keys (deeds_of i turns) (g.callers i) (subst (λ (c : CallerRecord). Runs c (deeds_of i turns) (g.callers i)) new (runs_of i f turns g run))
 
--- ---- A caller stays who it is.
+-- ---- A caller whose request is answered stays who it is.
 
-who_stays : (c : CallerRecord) (x : Deed) (d : CallerRecord) → IsDone c x d → d.who ≡ c.who
-who_stays c (came bytes) d is = ap (λ (e : CallerRecord). e.who) is
-who_stays c (wrote bytes) d (n, first, is) = ap (λ (e : CallerRecord). e.who) is
-who_stays c (heeded true m) d (t, asking, says, (frames, met, is)) = ap (λ (e : CallerRecord). e.who) is
-who_stays c (heeded false m) d (none, same, is, more) = ap (λ (e : CallerRecord). e.who) is
-who_stays c (failed m) d (inl (none, same, is)) = ap (λ (e : CallerRecord). e.who) is
-who_stays c (failed m) d (inr (t, asking, says, (un, is))) = ap (λ (e : CallerRecord). e.who) is
+who_stays : (c : CallerRecord) (x : Deed) (d : CallerRecord) → comes c.stage ≡ false → IsDone c x d → d.who ≡ c.who
+who_stays c (came bytes) d behind_it feeds = ap (λ (e : CallerRecord). e.who) (fed_behind c bytes d behind_it feeds)
+who_stays c (wrote bytes) d behind_it (n, first, is) = ap (λ (e : CallerRecord). e.who) is
+who_stays c (heeded true m) d behind_it (t, asking, says, (frames, met, is)) = ap (λ (e : CallerRecord). e.who) is
+who_stays c (heeded false m) d behind_it (none, same, is, more) = ap (λ (e : CallerRecord). e.who) is
+who_stays c (failed m) d behind_it (inl (none, same, is)) = ap (λ (e : CallerRecord). e.who) is
+who_stays c (failed m) d behind_it (inr (t, asking, says, (un, is))) = ap (λ (e : CallerRecord). e.who) is
 
-abbrev AreThose : (ℕ → Owner) → (ℕ → CallerRecord) → Type 0
-AreThose who callers = (i : ℕ) → (callers i).who ≡ who i
+who_stays_on : (c : CallerRecord) (deeds : List Deed) (d : CallerRecord) → comes c.stage ≡ false → Runs c deeds d → d.who ≡ c.who
+who_stays_on c [] d behind_it is = ap (λ (e : CallerRecord). e.who) is
+who_stays_on c (x ∷ xs) d behind_it (mid, done, runs) = who_stays_on mid xs d (has_come_still c x mid behind_it done) runs ∙ who_stays c x mid behind_it done
 
-those_stay : (who : ℕ → Owner) (i : ℕ) (x : Deed) (before after : ℕ → CallerRecord) → AreThose who before → IsDone (before i) x (after i) → OthersStay i before after → AreThose who after
-those_stay who i x before after those done others j = by (nat_eq i j) refl
-  where
-    by : (b : Bool) → nat_eq i j ≡ b → (after j).who ≡ who j
-    by true is = subst (λ (n : ℕ). (after n).who ≡ who n) (eqb-true i j is) (who_stays (before i) x (after i) done ∙ those i)
-    by false is = ap (λ (c : CallerRecord). c.who) (others j is) ∙ those j
+asking_has_come : (s : Stage) → asks s ≡ true → comes s ≡ false
+asking_has_come Comes asking = absurd (true≢false (sym asking))
+asking_has_come Asks asking = refl
+asking_has_come HandsOver asking = refl
+asking_has_come Leaves asking = refl
+
+-- one that asks is the one that it is in the end
+asks_as : (i : ℕ) (f : CrowdRecord) (turns : List Turn) (g : CrowdRecord) (one : Owner) → (g.callers i).who ≡ one → Turns f turns g
+    → asks (f.callers i).stage ≡ true → (f.callers i).who ≡ one
+asks_as i f turns g one is run asking =
+    sym (who_stays_on (f.callers i) (deeds_of i turns) (g.callers i) (asking_has_come (f.callers i).stage asking) (runs_of i f turns g run)) ∙ is
 
 -- ---- All together.
 
@@ -100,30 +110,31 @@ moment_before f mid m (before, after) one once who turns g later h =
     (subst (λ (k : HallRecord). IsOneStep k one m.handed mid) before (subst (λ (l : HallRecord). IsOneStep m.before one m.handed l) (sym after) once))
     who turns g later h
 
-one_run : (who : ℕ → Owner) (f : CrowdRecord) (xs : List Turn) (g : CrowdRecord) → AreThose who f.callers → Turns f xs g → RunsFrom f.hall who xs g.hall
+abbrev AreThose : (ℕ → Owner) → CrowdRecord → Type 0
+AreThose who g = (i : ℕ) → (g.callers i).who ≡ who i
+
+one_run : (who : ℕ → Owner) (f : CrowdRecord) (xs : List Turn) (g : CrowdRecord) → AreThose who g → Turns f xs g → RunsFrom f.hall who xs g.hall
 one_run who f [] g those is h = record { events = []; told = []; history = h; run = (refl, ap (λ (x : CrowdRecord). x.hall) is); made = refl }
 one_run who f (passes e told ∷ xs) g those (mid, (step, same), turns) h =
-    let r = one_run who mid xs g (λ i. ap (λ (cs : ℕ → CallerRecord). (cs i).who) same ∙ those i) turns (history_after f.hall e told mid.hall h) in
+    let r = one_run who mid xs g those turns (history_after f.hall e told mid.hall h) in
     record { events = e ∷ r.events; told = told ∷ r.told; history = r.history; run = (mid.hall, step, r.run); made = (r.events, refl, r.made) }
 one_run who f (happens i (came bytes) ∷ xs) g those (mid, (done, others, stays), turns) h =
-    let r = one_run who mid xs g (those_stay who i (came bytes) f.callers mid.callers those done others) turns h in
+    let r = one_run who mid xs g those turns h in
     record { events = r.events; told = r.told; history = r.history; run = subst (λ (x : HallRecord). HallRuns x h r.events r.told r.history g.hall) stays r.run; made = r.made }
 one_run who f (happens i (wrote bytes) ∷ xs) g those (mid, (done, others, stays), turns) h =
-    let r = one_run who mid xs g (those_stay who i (wrote bytes) f.callers mid.callers those done others) turns h in
+    let r = one_run who mid xs g those turns h in
     record { events = r.events; told = r.told; history = r.history; run = subst (λ (x : HallRecord). HallRuns x h r.events r.told r.history g.hall) stays r.run; made = r.made }
 one_run who f (happens i (heeded some m) ∷ xs) g those (mid, (done, others, at), turns) h =
-    let once : IsOneStep m.before (who i) m.handed m.after =
-    subst (λ (o : Owner). IsOneStep m.before o m.handed m.after) (those i) (heeds_once some (f.callers i) m.before m.handed m.after (mid.callers i) done) in
-    let r = moment_before f.hall mid.hall m at (who i) once who xs g.hall
-    (one_run who mid xs g (those_stay who i (heeded some m) f.callers mid.callers those done others) turns) h in
+    let as_one = asks_as i f (happens i (heeded some m) ∷ xs) g (who i) (those i) (mid, (done, others, at), turns) in
+    let once : IsOneStep m.before (who i) m.handed m.after = heeds_as some (f.callers i) m.before m.handed m.after (mid.callers i) (who i) as_one done in
+    let r = moment_before f.hall mid.hall m at (who i) once who xs g.hall (one_run who mid xs g those turns) h in
     record { events = r.events; told = r.told; history = r.history; run = r.run; made = (r.rest, r.first, r.made) }
 one_run who f (happens i (failed m) ∷ xs) g those (mid, (done, others, at), turns) h =
-    let once : IsOneStep m.before (who i) m.handed m.after =
-    subst (λ (o : Owner). IsOneStep m.before o m.handed m.after) (those i) (fails_once (f.callers i) m.before m.handed m.after (mid.callers i) done) in
-    let r = moment_before f.hall mid.hall m at (who i) once who xs g.hall
-    (one_run who mid xs g (those_stay who i (failed m) f.callers mid.callers those done others) turns) h in
+    let as_one = asks_as i f (happens i (failed m) ∷ xs) g (who i) (those i) (mid, (done, others, at), turns) in
+    let once : IsOneStep m.before (who i) m.handed m.after = fails_as (f.callers i) m.before m.handed m.after (mid.callers i) (who i) as_one done in
+    let r = moment_before f.hall mid.hall m at (who i) once who xs g.hall (one_run who mid xs g those turns) h in
     record { events = r.events; told = r.told; history = r.history; run = r.run; made = (r.rest, r.first, r.made) }
 
-pub are_one_run : (f : CrowdRecord) (turns : List Turn) (g : CrowdRecord) → Turns f turns g → (who : ℕ → Owner) → ((i : ℕ) → (f.callers i).who ≡ who i) → (h : History)
+pub are_one_run : (f : CrowdRecord) (turns : List Turn) (g : CrowdRecord) → Turns f turns g → (who : ℕ → Owner) → ((i : ℕ) → (g.callers i).who ≡ who i) → (h : History)
     → IsOneRun f.hall who turns g.hall h
 are_one_run f turns g run who those h = one_run who f turns g those run h

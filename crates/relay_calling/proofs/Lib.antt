@@ -1,8 +1,11 @@
 pub mod Answering
+pub mod Arriving
 pub mod Crowding
 pub mod Dues
 pub mod Handing
 pub mod Heeding
+pub mod Keying
 pub mod Owning
 pub mod Sending
+pub mod Serving
 pub mod Stepping

@@ -1,16 +1,16 @@
--- What a caller is sent, by induction over all that happens.
+-- What a caller is sent whose request is answered, by induction over all that happens.
 use Rattle.std.proofs.Common.{◌≡◌, ◌≤◌, ◌<◌, ◌||◌, ◌==◌, inl, inr, Bool, true, false, true≢false, cond, ℕ, zero, suc, List, [], ◌∷◌, ◌++◌, take, drop, fold, is_some, Some, refl, sym, ◌∙◌, ap, subst, append_assoc, append-nil, arith}
 use Rattle.std.proofs.lemmas.List.{take-append-drop}
 use Rattle.relay_frames.specs.Events.{Told, fragment, text, binary, ping, pong, closed, broken, is_last}
-use Rattle.relay_frames.specs.Hearing.{Heard, behind, hear_all, hear_piece, hear_pieces}
+use Rattle.relay_frames.specs.Hearing.{Heard, behind, hear_all, hear_piece}
 use Rattle.relay_frames.specs.Reading.{fed, next_step}
 use Rattle.relay_frames.proofs.lemmas.Hearings.{piece_after}
-use Rattle.relay_hall.specs.declared.owner.Owner.{Owner}
-use Rattle.relay_calling.specs.Calling.{CallerRecord, EventMet, after_feed, after_write, asks, has_left, is_the_last, left_after, moved_on, newcomer, stage_after}
+use Rattle.relay_calling.specs.Calling.{CallerRecord, EventMet, after_feed, after_write, asks, has_left, is_the_last, is_through, left_after, moved_on, stage_after}
+use Rattle.relay_calling.specs.Coming.{FedWhile, Feeds, comes}
 use Rattle.relay_calling.specs.declared.stage.Stage.{Stage}
-use Rattle.relay_calling.specs.declared.stage.Stage.TheVariants.{Asks, HandsOver, Leaves}
-use Rattle.relay_calling.specs.Running.{AreAnswered, Deed, IsSent, Moment, Runs, came, failed, heeded, messages_in, moments_of, pieces_of, written_of, wrote}
-use Rattle.relay_calling.proofs.Heeding.{hear_next, hear_no_more, opened_is_silent, pieces_behind}
+use Rattle.relay_calling.specs.declared.stage.Stage.TheVariants.{Comes, Asks, HandsOver, Leaves}
+use Rattle.relay_calling.specs.Running.{AreAnswered, Deed, IsDone, Moment, Runs, came, failed, heeded, messages_in, moments_of, pieces_of, written_of, wrote}
+use Rattle.relay_calling.proofs.Heeding.{hear_next, pieces_behind}
 
 -- ---- How many messages it may still send.
 
@@ -45,48 +45,66 @@ no_more_than : (b : Bool) (n left : ℕ) → n ≤ cond b left 0 → n ≤ left
 no_more_than true n left few = few
 no_more_than false n left few = omega (arith, few)
 
--- ---- One that does not ask.
+-- ---- One that follows or leaves.
 
-leaves : {A : Type 0} (s : Stage) → asks s ≡ false → asks s ≡ true → A
-leaves s not-it asking = absurd (true≢false (sym asking ∙ not-it))
+leaves : {A : Type 0} (s : Stage) → is_through s ≡ true → asks s ≡ true → A
+leaves Comes through asking = absurd (true≢false (sym through))
+leaves Asks through asking = absurd (true≢false (sym through))
+leaves HandsOver through asking = absurd (true≢false (sym asking))
+leaves Leaves through asking = absurd (true≢false (sym asking))
 
--- whatever happens to it is no answer, it never asks again, and it is sent nothing but what is due
+pub through_has_come : (s : Stage) → is_through s ≡ true → comes s ≡ false
+through_has_come Comes through = absurd (true≢false (sym through))
+through_has_come Asks through = refl
+through_has_come HandsOver through = refl
+through_has_come Leaves through = refl
+
+-- bytes that come to one whose request is answered come behind it
+pub fed_behind : (c : CallerRecord) (bytes : List ℕ) (d : CallerRecord) → comes c.stage ≡ false → Feeds c bytes d → d ≡ after_feed c bytes
+fed_behind c bytes d behind_it feeds = subst (λ (b : Bool). FedWhile b c bytes d) behind_it feeds
+
+-- whatever happens to it is no answer, it stays as far as it has come, and it is sent nothing but what is due
 pub record IsSilent (c : CallerRecord) (deeds : List Deed) (d : CallerRecord) : Type 0 where
   pub none : moments_of deeds ≡ []
-  pub quiet : asks d.stage ≡ false
+  pub there : d.stage ≡ c.stage
   pub sent : written_of deeds ++ d.due ≡ c.due
 
-module _ (c : CallerRecord) (quiet : asks c.stage ≡ false) (mid : CallerRecord) (xs : List Deed) (d : CallerRecord) where
-  silent_on : (x : Deed) → moments_of (x ∷ xs) ≡ moments_of xs → written_of (x ∷ xs) ≡ written_of xs → mid.due ≡ c.due → IsSilent mid xs d → IsSilent c (x ∷ xs) d
-  silent_on x moments writes due s = record {
+module _ (c : CallerRecord) (mid : CallerRecord) (xs : List Deed) (d : CallerRecord) where
+  silent_on : (x : Deed) → moments_of (x ∷ xs) ≡ moments_of xs → written_of (x ∷ xs) ≡ written_of xs → mid.stage ≡ c.stage → mid.due ≡ c.due
+      → IsSilent mid xs d → IsSilent c (x ∷ xs) d
+  silent_on x moments writes stage due s = record {
     none = moments ∙ s.none;
-    quiet = s.quiet;
+    there = s.there ∙ stage;
     sent = ap (λ (ys : List ℕ). ys ++ d.due) writes ∙ s.sent ∙ due;
   }
 
-silent : (c : CallerRecord) (deeds : List Deed) (d : CallerRecord) → asks c.stage ≡ false → Runs c deeds d → IsSilent c deeds d
-silent c [] d quiet is = record { none = refl; quiet = ap (λ (e : CallerRecord). asks e.stage) is ∙ quiet; sent = ap (λ (e : CallerRecord). e.due) is }
-silent c (came piece ∷ xs) d quiet (mid, is, runs) =
-    silent_on c quiet mid xs d (came piece) refl refl (ap (λ (e : CallerRecord). e.due) is) (silent mid xs d (ap (λ (e : CallerRecord). asks e.stage) is ∙ quiet) runs)
-silent c (heeded false m ∷ xs) d quiet (mid, (none, same, is, more), runs) =
-    silent_on c quiet mid xs d (heeded false m) refl refl (ap (λ (e : CallerRecord). e.due) is) (silent mid xs d (ap (λ (e : CallerRecord). asks e.stage) is ∙ quiet) runs)
-silent c (failed m ∷ xs) d quiet (mid, inl (none, same, is), runs) =
-    silent_on c quiet mid xs d (failed m) refl refl (ap (λ (e : CallerRecord). e.due) is) (silent mid xs d (ap (λ (e : CallerRecord). asks e.stage) is ∙ quiet) runs)
-silent c (wrote bytes ∷ xs) d quiet (mid, (n, first, is), runs) =
-    let s = silent mid xs d (ap (λ (e : CallerRecord). asks e.stage) is ∙ quiet) runs in
+pub silent : (c : CallerRecord) (deeds : List Deed) (d : CallerRecord) → is_through c.stage ≡ true → Runs c deeds d → IsSilent c deeds d
+silent c [] d through is = record { none = refl; there = ap (λ (e : CallerRecord). e.stage) is; sent = ap (λ (e : CallerRecord). e.due) is }
+silent c (came piece ∷ xs) d through (mid, feeds, runs) =
+    let is = fed_behind c piece mid (through_has_come c.stage through) feeds in
+    silent_on c mid xs d (came piece) refl refl (ap (λ (e : CallerRecord). e.stage) is) (ap (λ (e : CallerRecord). e.due) is)
+    (silent mid xs d (ap (λ (e : CallerRecord). is_through e.stage) is ∙ through) runs)
+silent c (heeded false m ∷ xs) d through (mid, (none, same, is, more), runs) =
+    silent_on c mid xs d (heeded false m) refl refl (ap (λ (e : CallerRecord). e.stage) is) (ap (λ (e : CallerRecord). e.due) is)
+    (silent mid xs d (ap (λ (e : CallerRecord). is_through e.stage) is ∙ through) runs)
+silent c (failed m ∷ xs) d through (mid, inl (none, same, is), runs) =
+    silent_on c mid xs d (failed m) refl refl (ap (λ (e : CallerRecord). e.stage) is) (ap (λ (e : CallerRecord). e.due) is)
+    (silent mid xs d (ap (λ (e : CallerRecord). is_through e.stage) is ∙ through) runs)
+silent c (wrote bytes ∷ xs) d through (mid, (n, first, is), runs) =
+    let s = silent mid xs d (ap (λ (e : CallerRecord). is_through e.stage) is ∙ through) runs in
     record {
       none = s.none;
-      quiet = s.quiet;
+      there = s.there ∙ ap (λ (e : CallerRecord). e.stage) is;
       sent =
           append_assoc bytes (written_of xs) d.due
           ∙ ap (λ (ys : List ℕ). bytes ++ ys) (s.sent ∙ ap (λ (e : CallerRecord). e.due) is)
           ∙ ap (λ (ys : List ℕ). ys ++ drop n c.due) first ∙ take-append-drop n c.due;
     }
-silent c (heeded true m ∷ xs) d quiet (mid, (t, asking, says, met), runs) = leaves c.stage quiet asking
-silent c (failed m ∷ xs) d quiet (mid, inr (t, asking, says, lost), runs) = leaves c.stage quiet asking
+silent c (heeded true m ∷ xs) d through (mid, (t, asking, says, met), runs) = leaves c.stage through asking
+silent c (failed m ∷ xs) d through (mid, inr (t, asking, says, lost), runs) = leaves c.stage through asking
 
-pub never_heeded : (c : CallerRecord) (deeds : List Deed) (d : CallerRecord) → asks c.stage ≡ false → Runs c deeds d → (moments_of deeds ≡ []) × (asks d.stage ≡ false)
-never_heeded c deeds d quiet runs = ((silent c deeds d quiet runs).none, (silent c deeds d quiet runs).quiet)
+pub never_heeded : (c : CallerRecord) (deeds : List Deed) (d : CallerRecord) → is_through c.stage ≡ true → Runs c deeds d → (moments_of deeds ≡ []) × (d.stage ≡ c.stage)
+never_heeded c deeds d through runs = let s = silent c deeds d through runs in (s.none, s.there)
 
 -- ---- From any caller on.
 
@@ -172,64 +190,67 @@ when_heeded c m t frames boards xs d asking says answer g =
     }
 
 -- it asks no more
-when_silent : (c : CallerRecord) (deeds : List Deed) (d : CallerRecord) → IsSilent c deeds d → GoesOn c deeds d
-when_silent c deeds d s = record {
+when_silent : (c : CallerRecord) (deeds : List Deed) (d : CallerRecord) → is_through d.stage ≡ true → moments_of deeds ≡ [] → written_of deeds ++ d.due ≡ c.due → GoesOn c deeds d
+when_silent c deeds d through none sent = record {
   events = [];
   bytes = [];
   rest = fold hear_piece (hear_all c.reading) (pieces_of deeds);
   heard = refl;
   few = λ may. omega arith;
-  answered = subst (λ (ms : List Moment). AreAnswered c.who c.boards c.left [] ms []) (sym s.none) refl;
-  sent = s.sent ∙ sym (append-nil c.due);
-  still = λ asking. leaves d.stage s.quiet asking;
+  answered = subst (λ (ms : List Moment). AreAnswered c.who c.boards c.left [] ms []) (sym none) refl;
+  sent = sent ∙ sym (append-nil c.due);
+  still = λ asking. leaves d.stage through asking;
 }
 
 -- the next event was lost, and it left
-when_lost : (c : CallerRecord) (m : Moment) (xs : List Deed) (mid d : CallerRecord) → mid.due ≡ c.due → IsSilent mid xs d → GoesOn c (failed m ∷ xs) d
-when_lost c m xs mid d kept s = when_silent c (failed m ∷ xs) d (record { none = s.none; quiet = s.quiet; sent = s.sent ∙ kept })
+when_lost : (c : CallerRecord) (m : Moment) (xs : List Deed) (mid d : CallerRecord) → mid.stage ≡ Leaves → mid.due ≡ c.due → IsSilent mid xs d → GoesOn c (failed m ∷ xs) d
+when_lost c m xs mid d left kept s = when_silent c (failed m ∷ xs) d (ap is_through (s.there ∙ left)) s.none (s.sent ∙ kept)
 
-left_is_quiet : (s : Stage) → has_left s ≡ true → asks s ≡ false
-left_is_quiet Asks is = absurd (true≢false (sym is))
-left_is_quiet HandsOver is = refl
-left_is_quiet Leaves is = refl
+left_is_through : (s : Stage) → has_left s ≡ true → is_through s ≡ true
+left_is_through Comes is = absurd (true≢false (sym is))
+left_is_through Asks is = absurd (true≢false (sym is))
+left_is_through HandsOver is = absurd (true≢false (sym is))
+left_is_through Leaves is = refl
 
 -- bytes came, and were dropped or not
 when_fed : (c : CallerRecord) (piece : List ℕ) (xs : List Deed) (mid d : CallerRecord) → mid ≡ after_feed c piece → Runs mid xs d → GoesOn mid xs d
     → (b : Bool) → has_left c.stage ≡ b → GoesOn c (came piece ∷ xs) d
-when_fed c piece xs mid d is runs g true left = when_silent c (came piece ∷ xs) d (silent c (came piece ∷ xs) d (left_is_quiet c.stage left) (mid, is, runs))
+when_fed c piece xs mid d is runs g true left =
+    let there : mid.stage ≡ c.stage = ap (λ (e : CallerRecord). e.stage) is in
+    let through : is_through mid.stage ≡ true = ap is_through there ∙ left_is_through c.stage left in
+    let s = silent mid xs d through runs in
+    when_silent c (came piece ∷ xs) d (ap is_through s.there ∙ through) s.none (s.sent ∙ ap (λ (e : CallerRecord). e.due) is)
 when_fed c piece xs mid d is runs g false on =
     when_came c piece xs d
     (subst (λ (m : CallerRecord). GoesOn m xs d) (is ∙ ap (λ (b : Bool). record c { reading = cond b c.reading (fed c.reading piece) }) on) g)
 
-pub goes_on : (c : CallerRecord) (deeds : List Deed) (d : CallerRecord) → Runs c deeds d → GoesOn c deeds d
-goes_on c [] d is = subst (λ (e : CallerRecord). GoesOn c [] e) (sym is) (nothing_done c)
-goes_on c (came piece ∷ xs) d (mid, is, runs) = when_fed c piece xs mid d is runs (goes_on mid xs d runs) (has_left c.stage) refl
-goes_on c (wrote bytes ∷ xs) d (mid, (n, first, is), runs) =
-    when_wrote c bytes n xs d first (subst (λ (m : CallerRecord). GoesOn m xs d) is (goes_on mid xs d runs))
-goes_on c (heeded false m ∷ xs) d (mid, (none, same, is, more), runs) =
-    when_rested c m xs d (subst (λ (m : CallerRecord). GoesOn m xs d) is (goes_on mid xs d runs))
-goes_on c (failed m ∷ xs) d (mid, inl (none, same, is), runs) =
-    when_failed c m xs d (subst (λ (m : CallerRecord). GoesOn m xs d) is (goes_on mid xs d runs))
-goes_on c (failed m ∷ xs) d (mid, inr (t, asking, says, (un, is)), runs) =
-    when_lost c m xs mid d (ap (λ (e : CallerRecord). e.due) is) (silent mid xs d (ap (λ (e : CallerRecord). asks e.stage) is) runs)
-goes_on c (heeded true m ∷ xs) d (mid, (t, asking, says, (frames, answer, is)), runs) =
-    when_heeded c m t frames mid.boards xs d asking says answer
-    (subst (λ (m : CallerRecord). GoesOn m xs d) is (goes_on mid xs d runs))
+after_has_come : (has last : Bool) → comes (stage_after has last) ≡ false
+after_has_come true last = refl
+after_has_come false true = refl
+after_has_come false false = refl
 
-pub is_sent : (who : Owner) (first : List ℕ) (deeds : List Deed) (d : CallerRecord) → Runs (newcomer who first) deeds d → IsSent who first deeds d
-is_sent who first deeds d runs =
-    let g : GoesOn (newcomer who first) deeds d = goes_on (newcomer who first) deeds d runs in
-    let heard : behind g.events g.rest ≡ hear_pieces (pieces_of deeds) = g.heard ∙ ap (λ h. fold hear_piece h (pieces_of deeds)) opened_is_silent in
-    record {
-      events = g.events;
-      frames = g.bytes;
-      rest = g.rest;
-      heard = heard;
-      few = g.few (λ asking. omega arith);
-      answered = g.answered;
-      sent = g.sent;
-      all = λ asking none.
-          sym (append-nil g.events)
-          ∙ ap (λ ts. g.events ++ ts) (sym (ap (λ (h : Heard). h.told) (g.still asking) ∙ hear_no_more d.reading none))
-          ∙ ap (λ (h : Heard). h.told) heard;
-    }
+-- whatever happens to a caller whose request is answered, it is answered
+pub has_come_still : (c : CallerRecord) (x : Deed) (d : CallerRecord) → comes c.stage ≡ false → IsDone c x d → comes d.stage ≡ false
+has_come_still c (came bytes) d behind_it feeds = ap (λ (e : CallerRecord). comes e.stage) (fed_behind c bytes d behind_it feeds) ∙ behind_it
+has_come_still c (wrote bytes) d behind_it (n, first, is) = ap (λ (e : CallerRecord). comes e.stage) is ∙ behind_it
+has_come_still c (heeded true m) d behind_it (t, asking, says, (frames, met, is)) =
+    ap (λ (e : CallerRecord). comes e.stage) is ∙ after_has_come (is_some m.handed) (is_the_last (left_after c.left t) t)
+has_come_still c (heeded false m) d behind_it (none, same, is, more) = ap (λ (e : CallerRecord). comes e.stage) is ∙ behind_it
+has_come_still c (failed m) d behind_it (inl (none, same, is)) = ap (λ (e : CallerRecord). comes e.stage) is ∙ behind_it
+has_come_still c (failed m) d behind_it (inr (t, asking, says, (un, is))) = ap (λ (e : CallerRecord). comes e.stage) is
+
+pub goes_on : (c : CallerRecord) (deeds : List Deed) (d : CallerRecord) → comes c.stage ≡ false → Runs c deeds d → GoesOn c deeds d
+goes_on c [] d behind_it is = subst (λ (e : CallerRecord). GoesOn c [] e) (sym is) (nothing_done c)
+goes_on c (came piece ∷ xs) d behind_it (mid, feeds, runs) =
+    when_fed c piece xs mid d (fed_behind c piece mid behind_it feeds) runs (goes_on mid xs d (has_come_still c (came piece) mid behind_it feeds) runs) (has_left c.stage) refl
+goes_on c (wrote bytes ∷ xs) d behind_it (mid, (n, first, is), runs) =
+    when_wrote c bytes n xs d first (subst (λ (m : CallerRecord). GoesOn m xs d) is (goes_on mid xs d (has_come_still c (wrote bytes) mid behind_it (n, first, is)) runs))
+goes_on c (heeded false m ∷ xs) d behind_it (mid, (none, same, is, more), runs) =
+    when_rested c m xs d (subst (λ (m : CallerRecord). GoesOn m xs d) is (goes_on mid xs d (has_come_still c (heeded false m) mid behind_it (none, same, is, more)) runs))
+goes_on c (failed m ∷ xs) d behind_it (mid, inl (none, same, is), runs) =
+    when_failed c m xs d (subst (λ (m : CallerRecord). GoesOn m xs d) is (goes_on mid xs d (has_come_still c (failed m) mid behind_it (inl (none, same, is))) runs))
+goes_on c (failed m ∷ xs) d behind_it (mid, inr (t, asking, says, (un, is)), runs) =
+    when_lost c m xs mid d (ap (λ (e : CallerRecord). e.stage) is) (ap (λ (e : CallerRecord). e.due) is) (silent mid xs d (ap (λ (e : CallerRecord). is_through e.stage) is) runs)
+goes_on c (heeded true m ∷ xs) d behind_it (mid, (t, asking, says, (frames, answer, is)), runs) =
+    when_heeded c m t frames mid.boards xs d asking says answer
+    (subst (λ (m : CallerRecord). GoesOn m xs d) is (goes_on mid xs d (has_come_still c (heeded true m) mid behind_it (t, asking, says, (frames, answer, is))) runs))

@@ -1,12 +1,12 @@
 -- What a caller does to a hall.
-use Rattle.std.proofs.Common.{ℕ, List, Bool, true, false, Option, inl, inr}
+use Rattle.std.proofs.Common.{◌≡◌, ℕ, List, Bool, true, false, Option, inl, inr, subst}
 use Rattle.relay_frames.specs.Events.{Told, fragment, text, binary, ping, pong, closed, broken}
 use Rattle.relay_hall.specs.declared.handed.Handed.{Handed}
 use Rattle.relay_hall.specs.declared.owner.Owner.{Owner}
 use Rattle.relay_hall.specs.Record.{HallRecord}
 use Rattle.relay_hall.specs.Runs.{IsOneStep}
 use Rattle.relay_hall.proofs.lemmas.OneStep.{answered_once, unanswered_once}
-use Rattle.relay_calling.specs.Calling.{CallerRecord, EventAnswered, EventUnanswered, Fails, Heeds, Stays}
+use Rattle.relay_calling.specs.Calling.{CallerRecord, EventAnswered, EventUnanswered, Fails, Heeds, Stays, asks}
 
 module _ (k : HallRecord) (who : Owner) (boards : List (List ℕ)) (handed : Option Handed) (l : HallRecord) (now : List (List ℕ)) where
   stays_once : Stays k boards handed l now → IsOneStep k who handed l
@@ -38,3 +38,16 @@ heeds_once false c k handed l d (none, same, is, more) = inr (same, none)
 pub fails_once : (c : CallerRecord) (k : HallRecord) (handed : Option Handed) (l : HallRecord) (d : CallerRecord) → Fails c k handed l d → IsOneStep k c.who handed l
 fails_once c k handed l d (inl (none, same, is)) = inr (same, none)
 fails_once c k handed l d (inr (t, asking, says, (un, is))) = lost_once k c.who c.boards handed l d.boards t un
+
+-- ---- Said by one who is known while it asks.
+
+module _ (c : CallerRecord) (k : HallRecord) (handed : Option Handed) (l : HallRecord) (d : CallerRecord) (one : Owner) (is : asks c.stage ≡ true → c.who ≡ one) where
+  pub fails_as : Fails c k handed l d → IsOneStep k one handed l
+  fails_as (inl (none, same, stays)) = inr (same, none)
+  fails_as (inr (t, asking, says, (un, then))) = subst (λ (who : Owner). IsOneStep k who handed l) (is asking) (lost_once k c.who c.boards handed l d.boards t un)
+
+pub heeds_as : (some : Bool) (c : CallerRecord) (k : HallRecord) (handed : Option Handed) (l : HallRecord) (d : CallerRecord) (one : Owner) → (asks c.stage ≡ true → c.who ≡ one)
+    → Heeds some c k handed l d → IsOneStep k one handed l
+heeds_as true c k handed l d one is (t, asking, says, (frames, (answer, answered, met), then)) =
+    subst (λ (who : Owner). IsOneStep k who handed l) (is asking) (event_once k c.who c.boards handed l d.boards t answer answered)
+heeds_as false c k handed l d one is (none, same, stays, more) = inr (same, none)

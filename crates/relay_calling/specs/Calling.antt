@@ -18,11 +18,13 @@ use Rattle.relay_hall.specs.Record.{HallRecord}
 use Rattle.relay_hall.specs.Talk.{IsAnsweredBy, IsUnansweredBy}
 use Rattle.relay_calling.specs.declared.caller.TheConstants.{MOST_MESSAGES}
 use Rattle.relay_calling.specs.declared.stage.Stage.{Stage}
-use Rattle.relay_calling.specs.declared.stage.Stage.TheVariants.{Asks, HandsOver, Leaves}
+use Rattle.relay_calling.specs.declared.stage.Stage.TheVariants.{Comes, Asks, HandsOver, Leaves}
 
--- what has been read of a caller's bytes, the boards that it opened, who it is, the bytes that have yet to be written to it, how many
--- messages it may still send, and what it does
+-- what has come of a caller's request until that is answered, whether it may name a key, what has been read of the bytes behind it, the
+-- boards that it opened, who it is, the bytes that have yet to be written to it, how many messages it may still send, and what it does
 pub record CallerRecord : Type 0 where
+  pub head : List ℕ
+  pub takes_keys : Bool
   pub reading : Reading
   pub boards : List (List ℕ)
   pub who : Owner
@@ -30,16 +32,30 @@ pub record CallerRecord : Type 0 where
   pub left : ℕ
   pub stage : Stage
 
--- nothing has come yet, and this is due
-abbrev pub newcomer : Owner → List ℕ → CallerRecord
-newcomer who first = record { reading = opened; boards = []; who = who; due = first; left = MOST_MESSAGES; stage = Asks }
+-- who a connection with this number is before its request is read
+abbrev pub nobody : ℕ → Owner
+nobody opener = record { key = None; opener = opener }
+
+-- nothing has come yet of a connection with this number
+abbrev pub newcomer : ℕ → Bool → CallerRecord
+newcomer opener takes_keys = record {
+  head = [];
+  takes_keys = takes_keys;
+  reading = opened;
+  boards = [];
+  who = nobody opener;
+  due = [];
+  left = MOST_MESSAGES;
+  stage = Comes;
+}
 
 abbrev pub has_left : Stage → Bool
+has_left Comes = false
 has_left Asks = false
 has_left HandsOver = false
 has_left Leaves = true
 
--- bytes came; those of one that leaves are dropped
+-- bytes came, behind the request; those of one that leaves are dropped
 abbrev pub after_feed : CallerRecord → List ℕ → CallerRecord
 after_feed c bytes = record c { reading = cond (has_left c.stage) c.reading (fed c.reading bytes) }
 
@@ -153,9 +169,17 @@ abbrev pub stage_after : Bool → Bool → Stage
 stage_after has_handed is_last = cond has_handed HandsOver (cond is_last Leaves Asks)
 
 abbrev pub asks : Stage → Bool
+asks Comes = false
 asks Asks = true
 asks HandsOver = false
 asks Leaves = false
+
+-- it follows or leaves, so that it neither asks nor is going to
+abbrev pub is_through : Stage → Bool
+is_through Comes = false
+is_through Asks = false
+is_through HandsOver = true
+is_through Leaves = true
 
 -- behind the next event
 abbrev pub moved_on : CallerRecord → CallerRecord

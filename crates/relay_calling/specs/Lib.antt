@@ -1,3 +1,6 @@
 pub mod Calling
-pub mod Running
+pub mod Coming
 pub mod Crowd
+pub mod Inner
+pub mod Keys
+pub mod Running

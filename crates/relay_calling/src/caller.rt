@@ -3,18 +3,20 @@
 ghost use Rattle.std.specs.Prelude.{◌≡◌, ◌≤◌, ◌||◌, [], length, nat_lt, not, take, true, IfOk, OnErr, OnOk};
 ghost use Rattle.relay_frames.specs.Events.{number_of, told, text as told_text};
 ghost use Rattle.relay_frames.specs.Frames.{close_frame, pong_frame, text_frame};
-ghost use Rattle.relay_frames.specs.Requests.{acceptance_text};
 ghost use Rattle.relay_messages.specs.declared.fault.MessageFault.TheVariants.{BadField, NotJson};
 ghost use Rattle.relay_pushing.specs.Connections.{OwnsAny};
 ghost use Rattle.relay_hall.specs.Steps.{tells_of};
 ghost use Rattle.relay_hall.specs.Talk.{are_none};
-ghost use Rattle.relay_calling.specs.Calling.{Answers, AnswersInFull, AnswersNot, Fails, Heeds, Meets, MeetsNot, after_feed, after_write, apology, breach_frames, farewell, fault_frame, is_the_last, left_after, newcomer, stage_after, with_due};
+ghost use Rattle.relay_calling.specs.Calling.{Answers, AnswersInFull, AnswersNot, Fails, Heeds, Meets, MeetsNot, after_write, apology, breach_frames, farewell, fault_frame, is_the_last, left_after, newcomer, stage_after, with_due};
+ghost use Rattle.relay_calling.specs.Coming.{Feeds};
 ghost use Rattle.relay_calling.specs.declared.stage.Stage.TheVariants.{Leaves};
 ghost use Rattle.relay_calling.specs.declared.output.TheConstants.{MOST_OUTPUT};
 
+mod coming;
+
 use crate::output::Output;
 use crate::stage::Stage;
-use relay_frames::{Acceptance, Breach, Code, Event, Peer};
+use relay_frames::{Breach, Code, Event, Peer};
 use relay_hall::{Hall, Handed, Owner};
 use relay_pushing::Conn;
 use std::alloc::{AllocError, Global};
@@ -23,10 +25,15 @@ use std::marker::Model;
 /// How many messages a connection may send, with pings and pongs. The fragments of one message are not counted.
 pub const MOST_MESSAGES: u32 = 1_000_000;
 
-/// A connection that has shaken hands. It is fed the bytes that came, heeds what they say, and offers the bytes that are due to the peer.
+/// A connection, from its first byte on. It is fed the bytes that came, heeds what they say, and offers the bytes that are due to the peer.
 /// Contracts see a `CallerRecord`.
 #[derive(Drop)]
 pub struct Caller {
+    alloc: Global,
+    /// What has come of its request, until that is answered.
+    head: Vec<u8>,
+    /// Whether its request may name a key.
+    takes_keys: bool,
     peer: Peer,
     conn: Conn,
     owner: Owner,
@@ -41,7 +48,9 @@ impl Model for Caller {
 
     ghost Value = { CallerRecord };
 
-    ghost view = { λ c. record { reading = c.peer; boards = c.conn; who = c.owner; due = c.output; left = c.left; stage = c.stage } };
+    ghost use Rattle.relay_calling.specs.Inner.{caller_of};
+
+    ghost view = { caller_of };
 }
 
 /// How many messages may still be sent after an event, if so many might be before.
@@ -55,51 +64,39 @@ fn left_after(left: u32, event: &Event) -> u32
 }
 
 impl Caller {
-    /// A connection of which nothing has been read after its request.
-    pub fn new(alloc: Global, owner: Owner) -> Caller
-        ensures { result ≡ newcomer owner [] }
+    /// A connection of which nothing has been read, with its number, and whether its request may name a key.
+    pub fn new(alloc: Global, opener: u64, takes_keys: bool) -> Caller
+        ensures { result ≡ newcomer opener takes_keys }
     {
         Caller {
+            alloc,
+            head: Vec::new(alloc),
+            takes_keys,
             peer: Peer::new(alloc),
             conn: Conn::new(alloc),
-            owner,
+            owner: Owner { key: None, opener },
             output: Output::new(alloc),
             left: MOST_MESSAGES,
-            stage: Stage::Asks,
+            stage: Stage::Comes,
         }
     }
 
-    /// A connection whose request is accepted (RFC 6455, section 4.2.2), of which nothing has been read after its request.
-    ///
-    /// # Errors
-    ///
-    /// There was no memory.
-    pub fn accepted(
-        alloc: Global,
-        owner: Owner,
-        acceptance: &Acceptance,
-    ) -> Result<Caller, AllocError>
-        ensures { IfOk result (λ c. c ≡ newcomer owner (acceptance_text acceptance.now.value)) }
-    {
-        let mut caller = Caller::new(alloc, owner);
-        caller.output.accept(acceptance)?;
-        Ok(caller)
-    }
-
-    /// These bytes came. Those of a connection that leaves are dropped (RFC 6455, sections 1.4 and 7.1.7). What one has sent that follows
-    /// is kept, for whatever goes on with it.
+    /// These bytes came. First they are its request, which is answered once its head is whole, or is refused. What follows the head is what
+    /// it asks. Bytes of a connection that leaves are dropped (RFC 6455, sections 1.4 and 7.1.7). What one has sent that follows is kept,
+    /// for whatever goes on with it.
     ///
     /// # Errors
     ///
     /// There was no memory. Then nothing has changed.
     pub fn feed(&mut self, bytes: &[u8]) -> Result<(), AllocError>
-        ensures fed { OnOk result (self.new ≡ after_feed self.old bytes.now) }
+        ensures fed { OnOk result (Feeds self.old bytes.now self.new) }
         ensures unchanged { OnErr result (self.new ≡ self.old) }
     {
-        if self.stage.has_left() {
-            return Ok(());
+        match self.stage {
+            Stage::Comes => self.arrive(bytes),
+            Stage::Asks | Stage::HandsOver => self.peer.feed(bytes),
+            Stage::Leaves => Ok(()),
         }
-        self.peer.feed(bytes)
     }
 
     /// Answers what the bytes say next, while the connection asks. Returns whether it did, and the follower that was handed out, with the
@@ -333,9 +330,8 @@ impl Caller {
         self.output.is_full()
     }
 
-    /// The first `n` of the bytes due were written.
+    /// The first `n` of the bytes due were written, or all if they are fewer.
     pub fn wrote(&mut self, n: usize)
-        requires { n ≤ length self.old.due }
         ensures { self.new ≡ after_write self.old n }
     {
         self.output.wrote(n);

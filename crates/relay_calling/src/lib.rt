@@ -3,6 +3,7 @@
 #![tactic(auto)]
 
 mod caller;
+mod key;
 pub mod laws;
 mod output;
 mod stage;

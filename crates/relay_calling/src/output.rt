@@ -3,9 +3,9 @@
 ghost use Rattle.std.specs.Prelude.{◌≡◌, ◌≤◌, ◌++◌, [], drop, length, nat_lt, take, OnErr, OnOk};
 ghost use Rattle.relay_frames.specs.Events.{number_of};
 ghost use Rattle.relay_frames.specs.Frames.{close_frame, pong_frame, text_frame};
-ghost use Rattle.relay_frames.specs.Requests.{acceptance_text};
+ghost use Rattle.relay_frames.specs.Requests.{acceptance_text, answer_text};
 
-use relay_frames::{Acceptance, Code, outgoing};
+use relay_frames::{Acceptance, Code, RequestRefusal, outgoing};
 use std::alloc::{AllocError, Global};
 use std::marker::Model;
 
@@ -95,6 +95,15 @@ impl Output {
         acceptance.write(&mut self.bytes)
     }
 
+    /// Puts the answer to a request that is refused.
+    #[tactic(auto, using(crate::proofs::Dues::due_more))]
+    pub(crate) fn refuse(&mut self, refusal: RequestRefusal) -> Result<(), AllocError>
+        ensures ok { OnOk result (self.new ≡ self.old ++ answer_text refusal) }
+        ensures err { OnErr result (self.new ≡ self.old) }
+    {
+        self.bytes.extend_from_slice(refusal.answer())
+    }
+
     /// Puts the frame of a text (RFC 6455, section 5.6).
     #[tactic(auto, using(crate::proofs::Dues::due_more))]
     pub(crate) fn text(&mut self, text: &str) -> Result<(), AllocError>
@@ -131,13 +140,12 @@ impl Output {
         self.bytes.truncate(self.written + n);
     }
 
-    /// The first `n` bytes that were due are written.
+    /// The first `n` bytes that were due are written, or all if they are fewer.
     #[tactic(auto, using(crate::proofs::Dues::due_later))]
     pub(crate) fn wrote(&mut self, n: usize)
-        requires { n ≤ length self.old }
         ensures { self.new ≡ drop n self.old }
     {
-        self.written += n;
+        self.written = self.written.saturating_add(n).min(self.bytes.len());
         self.let_go();
     }
 

@@ -1,16 +1,19 @@
 //! How far a caller has come.
 
 ghost use Rattle.std.specs.Prelude.{◌≡◌};
-ghost use Rattle.relay_calling.specs.Calling.{asks, has_left, stage_after};
+ghost use Rattle.relay_calling.specs.Calling.{asks, stage_after};
 
 /// What a connection does.
 #[derive(Clone, Copy, Debug, PartialEq, Eq)]
 pub enum Stage {
+    /// Its request has yet to come, or some of it.
+    Comes,
     /// It asks, and is answered.
     Asks,
     /// It follows a board: what was handed out is its own, and it asks no more.
     HandsOver,
-    /// It closed, broke the protocol, has sent as many messages as it may, or could not be answered for want of memory. It says no more.
+    /// Its request was refused, it closed, broke the protocol, has sent as many messages as it may, or could not be answered for want of
+    /// memory. It says no more.
     Leaves,
 }
 
@@ -33,12 +36,5 @@ impl Stage {
         ensures { result ≡ asks self }
     {
         matches!(self, Stage::Asks)
-    }
-
-    /// Whether it leaves.
-    pub(crate) fn has_left(self) -> bool
-        ensures { result ≡ has_left self }
-    {
-        matches!(self, Stage::Leaves)
     }
 }

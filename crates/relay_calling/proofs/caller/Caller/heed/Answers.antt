@@ -1,12 +1,11 @@
 use Rattle.std.proofs.Common.{rules}
-use Rattle.relay_calling.specs.Calling.{CallerRecord}
+use Rattle.relay_calling.specs.Inner.{caller_of}
 use Rattle.relay_calling.proofs.Answering.{event_fails, event_heeded, none_heeded, onto_each, onto_err}
 use Rattle.relay_calling.proofs.caller.Caller.heed.Goals as goal
 
 pub returns-in-Ok-Some-clause-ok : goal.returns-in-Ok-Some-clause-ok
 returns-in-Ok-Some-clause-ok c =
-    let i = c.self.inside in
-    let mine : CallerRecord = record { reading = i.peer; boards = i.conn; who = i.owner; due = i.output; left = i.left; stage = i.stage } in
+    let mine = caller_of c.self.inside in
     let next = c.in-Ok-Some in
     rw (← c.self.view_is)
     (onto_each (event_heeded mine c.args.hall.now c.take_in.result.1 _ next.event next.field-0 c.next.new.self c.take_in.new.self
@@ -14,8 +13,7 @@ returns-in-Ok-Some-clause-ok c =
 
 pub returns-in-Ok-Some-clause-err : goal.returns-in-Ok-Some-clause-err
 returns-in-Ok-Some-clause-err c =
-    let i = c.self.inside in
-    let mine : CallerRecord = record { reading = i.peer; boards = i.conn; who = i.owner; due = i.output; left = i.left; stage = i.stage } in
+    let mine = caller_of c.self.inside in
     let next = c.in-Ok-Some in
     rw (← c.self.view_is)
     (onto_err (event_fails mine c.args.hall.now c.take_in.result.1 _ next.event next.field-0 c.next.new.self c.take_in.new.self
@@ -23,8 +21,7 @@ returns-in-Ok-Some-clause-err c =
 
 pub returns-in-Ok-None-clause-ok : goal.returns-in-Ok-None-clause-ok
 returns-in-Ok-None-clause-ok c =
-    let i = c.self.inside in
-    let mine : CallerRecord = record { reading = i.peer; boards = i.conn; who = i.owner; due = i.output; left = i.left; stage = i.stage } in
+    let mine = caller_of c.self.inside in
     let next = c.in-Ok-None in
     rw (← c.self.view_is)
     (none_heeded mine c.args.hall.now next.field-0 c.next.new.self next.ensures.told next.field-0-is next.ensures.then)
