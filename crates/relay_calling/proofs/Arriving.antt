@@ -1,5 +1,5 @@
 -- How a request is answered.
-use Rattle.std.proofs.Common.{◌≡◌, ℕ, List, take, None, Some, inl, inr, sym, subst, Option}
+use Rattle.std.proofs.Common.{◌≡◌, ℕ, List, take, None, Some, inl, inr, subst}
 use Rattle.relay_frames.specs.declared.request_refusal.RequestRefusal.{RequestRefusal}
 use Rattle.relay_frames.specs.Requests.{Accepts, IsAnswered}
 use Rattle.relay_calling.specs.Calling.{CallerRecord}

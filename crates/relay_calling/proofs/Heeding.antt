@@ -2,9 +2,9 @@
 use Rattle.std.proofs.Common.{◌≡◌, ℕ, suc, List, [], ◌∷◌, length, fold, None, Some, refl, sym, ◌∙◌, ap, arith, append_assoc}
 use Rattle.std.proofs.lemmas.Option.{none-some}
 use Rattle.relay_frames.specs.Events.{Told}
-use Rattle.relay_frames.specs.Hearing.{Heard, silence, behind, hear_all, hear_piece}
-use Rattle.relay_frames.specs.Reading.{Reading, fed, opened, next_step}
-use Rattle.relay_frames.proofs.lemmas.Hearings.{hear_told, hear_waited, hear_enough, opened_waits}
+use Rattle.relay_frames.specs.Hearing.{Heard, behind, hear_all, hear_piece}
+use Rattle.relay_frames.specs.Reading.{Reading, fed, next_step}
+use Rattle.relay_frames.proofs.lemmas.Hearings.{hear_told, hear_waited, hear_enough}
 use Rattle.relay_frames.proofs.lemmas.Steps.{waited, told, steps}
 
 abbrev mk_heard : List Told → Reading → Heard
@@ -47,6 +47,3 @@ pub pieces_behind : (before : List Told) (h : Heard) (pieces : List (List ℕ)) 
 pieces_behind before h [] = refl
 pieces_behind before h (piece ∷ pieces) =
     ap (λ x. fold hear_piece x pieces) (piece_behind before h piece) ∙ pieces_behind before (hear_piece h piece) pieces
-
-pub opened_is_silent : hear_all opened ≡ silence opened
-opened_is_silent = hear_waited 0 opened opened_waits

@@ -1,24 +1,23 @@
 -- What a connection is sent from its first byte on, by induction over all that happens.
-use Rattle.std.proofs.Common.{◌≡◌, ◌≤◌, inl, inr, Bool, true, false, true≢false, ℕ, List, [], ◌∷◌, ◌++◌, length, take, drop, fold, refl, sym, ◌∙◌, ap, subst, append_assoc, append-nil, arith}
-use Rattle.std.specs.List.{concat}
+use Rattle.std.proofs.Common.{◌≡◌, inl, inr, Bool, true, false, true≢false, ℕ, List, [], ◌∷◌, ◌++◌, take, drop, refl, sym, ◌∙◌, ap, subst, append_assoc, append-nil, arith}
 use Rattle.std.specs.Prelude.{◌⊎◌, None, Some}
 use Rattle.std.proofs.Math.Seq.{drop-nil, take-nil}
 use Rattle.relay_frames.specs.declared.head.HeadSoFar.{HeadSoFar}
 use Rattle.relay_frames.specs.declared.head.HeadSoFar.TheVariants.{Part, Whole, Refused}
 use Rattle.relay_frames.specs.declared.request_refusal.RequestRefusal.{RequestRefusal}
-use Rattle.relay_frames.specs.Heads.{head_so_far, head_so_far_behind}
-use Rattle.relay_frames.specs.Hearing.{Heard, behind, hear_all, hear_piece}
-use Rattle.relay_frames.specs.Reading.{fed, next_step, opened}
+use Rattle.relay_frames.specs.Heads.{head_so_far}
+use Rattle.relay_frames.specs.Hearing.{Heard, behind, hear_all}
+use Rattle.relay_frames.specs.Reading.{fed, opened}
 use Rattle.relay_frames.specs.Requests.{Accepts, IsAnswered, acceptance_text, answer_text}
 use Rattle.relay_frames.proofs.lemmas.Coming.{nothing_is_part, part_later, refused_still, same_head, same_rest, whole_still, whole_within}
 use Rattle.relay_frames.proofs.lemmas.Hearings.{pieces_are_one}
 use Rattle.relay_hall.specs.declared.owner.Owner.{Owner}
 use Rattle.relay_calling.specs.Calling.{CallerRecord, asks, is_through, newcomer, nobody}
-use Rattle.relay_calling.specs.Coming.{Judged, Settled, grown, owner_by, turned_away, welcomed}
+use Rattle.relay_calling.specs.Coming.{Judged, Settled, owner_by, turned_away, welcomed}
 use Rattle.relay_calling.specs.declared.caller.TheConstants.{MOST_MESSAGES}
 use Rattle.relay_calling.specs.declared.stage.Stage.{Stage}
-use Rattle.relay_calling.specs.declared.stage.Stage.TheVariants.{Comes, Asks, HandsOver, Leaves}
-use Rattle.relay_calling.specs.Running.{AreAnswered, Deed, IsSent, IsSentOnly, IsServed, IsServedAt, IsServedBehind, Runs, Moment, bytes_of, came, failed, heeded, moments_of, pieces_of, written_of, wrote}
+use Rattle.relay_calling.specs.declared.stage.Stage.TheVariants.{Comes, Leaves}
+use Rattle.relay_calling.specs.Running.{AreAnswered, Deed, IsSent, IsSentOnly, IsServed, IsServedAt, Runs, Moment, bytes_of, came, failed, heeded, moments_of, pieces_of, written_of, wrote}
 use Rattle.relay_calling.proofs.Heeding.{hear_no_more}
 use Rattle.relay_calling.proofs.Sending.{GoesOn, goes_on, silent}
 

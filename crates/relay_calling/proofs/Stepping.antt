@@ -1,5 +1,5 @@
 -- What a caller does to a hall.
-use Rattle.std.proofs.Common.{◌≡◌, ℕ, List, Bool, true, false, Option, inl, inr, subst}
+use Rattle.std.proofs.Common.{◌≡◌, ℕ, List, Bool, true, false, Option, inl, inr, refl, subst}
 use Rattle.relay_frames.specs.Events.{Told, fragment, text, binary, ping, pong, closed, broken}
 use Rattle.relay_hall.specs.declared.handed.Handed.{Handed}
 use Rattle.relay_hall.specs.declared.owner.Owner.{Owner}
@@ -31,14 +31,6 @@ module _ (k : HallRecord) (who : Owner) (boards : List (List ℕ)) (handed : Opt
   lost_once (closed number) stays = stays_once stays
   lost_once (broken breach) stays = stays_once stays
 
-pub heeds_once : (some : Bool) (c : CallerRecord) (k : HallRecord) (handed : Option Handed) (l : HallRecord) (d : CallerRecord) → Heeds some c k handed l d → IsOneStep k c.who handed l
-heeds_once true c k handed l d (t, asking, says, (frames, (answer, answered, is), d-is)) = event_once k c.who c.boards handed l d.boards t answer answered
-heeds_once false c k handed l d (none, same, is, more) = inr (same, none)
-
-pub fails_once : (c : CallerRecord) (k : HallRecord) (handed : Option Handed) (l : HallRecord) (d : CallerRecord) → Fails c k handed l d → IsOneStep k c.who handed l
-fails_once c k handed l d (inl (none, same, is)) = inr (same, none)
-fails_once c k handed l d (inr (t, asking, says, (un, is))) = lost_once k c.who c.boards handed l d.boards t un
-
 -- ---- Said by one who is known while it asks.
 
 module _ (c : CallerRecord) (k : HallRecord) (handed : Option Handed) (l : HallRecord) (d : CallerRecord) (one : Owner) (is : asks c.stage ≡ true → c.who ≡ one) where
@@ -51,3 +43,11 @@ pub heeds_as : (some : Bool) (c : CallerRecord) (k : HallRecord) (handed : Optio
 heeds_as true c k handed l d one is (t, asking, says, (frames, (answer, answered, met), then)) =
     subst (λ (who : Owner). IsOneStep k who handed l) (is asking) (event_once k c.who c.boards handed l d.boards t answer answered)
 heeds_as false c k handed l d one is (none, same, stays, more) = inr (same, none)
+
+-- ---- Said by itself.
+
+pub heeds_once : (some : Bool) (c : CallerRecord) (k : HallRecord) (handed : Option Handed) (l : HallRecord) (d : CallerRecord) → Heeds some c k handed l d → IsOneStep k c.who handed l
+heeds_once some c k handed l d heeds = heeds_as some c k handed l d c.who (λ asking. refl) heeds
+
+pub fails_once : (c : CallerRecord) (k : HallRecord) (handed : Option Handed) (l : HallRecord) (d : CallerRecord) → Fails c k handed l d → IsOneStep k c.who handed l
+fails_once c k handed l d fails = fails_as c k handed l d c.who (λ asking. refl) fails

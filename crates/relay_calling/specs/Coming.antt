@@ -1,5 +1,5 @@
 -- How the request of a caller comes and is answered, before it asks: RFC 6455 section 4.2.
-use Rattle.std.specs.Prelude.{◌≡◌, ◌⊎◌, ℕ, List, [], ◌++◌, length, take, drop, cond, Bool, true, false, Option, None, Some}
+use Rattle.std.specs.Prelude.{◌≡◌, ◌⊎◌, ℕ, List, [], ◌++◌, length, take, drop, cond, Bool, true, false, None, Some}
 use Rattle.relay_frames.specs.declared.head.HeadSoFar.{HeadSoFar}
 use Rattle.relay_frames.specs.declared.head.HeadSoFar.TheVariants.{Part, Whole, Refused}
 use Rattle.relay_frames.specs.declared.request_refusal.RequestRefusal.{RequestRefusal}

@@ -1,5 +1,5 @@
-use Rattle.std.proofs.Common.{◌≡◌, ◌<◌, suc, None, Some, length, drop, sym, ap, ◌∙◌, arith, length-drop}
-use Rattle.relay_calling.specs.Keys.{behind_first, fields_of, first_key, in_front, key_in}
+use Rattle.std.proofs.Common.{◌≡◌, ◌<◌, suc, None, length, sym, ap, ◌∙◌, arith, length-drop}
+use Rattle.relay_calling.specs.Keys.{fields_of, first_key, in_front, key_in}
 use Rattle.relay_calling.proofs.Keying.{first_found, found_later, none_found}
 use Rattle.relay_calling.proofs.key.first_key.Goals as goal
 
