@@ -1,9 +1,10 @@
 //! The ends of a connection (RFC 6455, section 7), by bytes, and one that takes little of what it is told.
 
 use crate::tests::frames::{CLOSE, PING, TEXT, asked, tell};
+use crate::tests::requests::shaken;
 use c960_game::Limits;
 use relay_calling::{Caller, MOST_OUTPUT, Stage};
-use relay_hall::{Hall, Owner};
+use relay_hall::Hall;
 use std::alloc::{AllocError, Global};
 use std::process::Abort;
 
@@ -36,14 +37,10 @@ impl Scene {
         let Ok(hall) = Hall::new(alloc, limits, 1000) else {
             panic!(rt; "no memory");
         };
-        let owner = Owner {
-            key: None,
-            opener: 1,
+        let Ok(caller) = shaken(alloc, 1) else {
+            panic!(rt; "no memory");
         };
-        Scene {
-            hall,
-            caller: Caller::new(alloc, owner),
-        }
+        Scene { hall, caller }
     }
 
     /// Feeds bytes, and heeds what they say next. Returns whether they said anything.
@@ -55,7 +52,6 @@ impl Scene {
 
     /// Writes so many of the bytes due, or all. Returns how many are due then.
     fn writes(&mut self, n: usize) -> usize {
-        let n = n.min(self.caller.due().len());
         self.caller.wrote(n);
         self.caller.due().len()
     }

@@ -1,9 +1,10 @@
 //! Two callers over one hall, by bytes. The texts are those of docs/PROTOCOL.md.
 
 use crate::tests::frames::{BINARY, CLOSE, PING, PONG, TEXT, asked, told};
+use crate::tests::requests::shaken;
 use c960_game::Limits;
 use relay_calling::{Caller, Stage};
-use relay_hall::{Hall, Handed, Owner};
+use relay_hall::{Hall, Handed};
 use std::alloc::{AllocError, Global};
 use std::process::Abort;
 
@@ -37,15 +38,6 @@ const TURNS: [Turn; 7] = [
     (false, (CLOSE, ""), (CLOSE, ""), Stage::Leaves),
 ];
 
-/// A connection without a key.
-fn caller(alloc: Global, number: u64) -> Caller {
-    let owner = Owner {
-        key: None,
-        opener: number,
-    };
-    Caller::new(alloc, owner)
-}
-
 /// Feeds a piece, and heeds what it says. Returns whether it said anything, and what was handed out.
 fn hears(
     caller: &mut Caller,
@@ -55,12 +47,6 @@ fn hears(
     caller.feed(piece)?;
     let (some, handed) = caller.heed(hall);
     Ok((some?, handed))
-}
-
-/// Writes so many of the bytes due, or all.
-fn writes(caller: &mut Caller, n: usize) {
-    let n = n.min(caller.due().len());
-    caller.wrote(n);
 }
 
 /// The connection sends a frame in two pieces. It is answered after the second one, and what is due is taken in two pieces as well.
@@ -81,12 +67,12 @@ fn takes_turn(rt: &impl Abort, alloc: Global, caller: &mut Caller, hall: &mut Ha
     };
     leaves(rt, handed, then);
     assert_eq!(rt; caller.due(), wanted.as_slice());
-    writes(caller, 1);
+    caller.wrote(1);
     assert_eq!(rt;
         caller.due(),
         wanted.as_slice().split_at(1.min(wanted.len())).1
     );
-    writes(caller, wanted.len());
+    caller.wrote(wanted.len());
     assert!(rt; caller.due().is_empty() && caller.stage() == then);
 }
 
@@ -106,8 +92,9 @@ fn each_is_answered_in_turn(rt: HostRuntime) {
     let Ok(mut hall) = Hall::new(alloc, limits, 1000) else {
         panic!(rt; "no memory");
     };
-    let mut first = caller(alloc, 1);
-    let mut second = caller(alloc, 2);
+    let (Ok(mut first), Ok(mut second)) = (shaken(alloc, 1), shaken(alloc, 2)) else {
+        panic!(rt; "no memory");
+    };
     for turn in TURNS {
         let caller = if turn.0 { &mut second } else { &mut first };
         takes_turn(&rt, alloc, caller, &mut hall, turn);
