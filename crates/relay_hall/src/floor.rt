@@ -1,6 +1,6 @@
 //! The boards of a hall, and what the steps of connections make of them.
 
-ghost use Rattle.std.specs.Prelude.{◌≡◌, ℕ, [], None, is_some, length, option_map, slice_get, IfOk, IfSome, OnErr, string_bytes};
+ghost use Rattle.std.specs.Prelude.{◌≡◌, ℕ, [], None, true, is_some, length, option_map, slice_get, IfOk, IfSome, OnErr, string_bytes};
 ghost use Rattle.std.specs.List.{list_any};
 ghost use Rattle.std.specs.Map.{lookup};
 ghost use Rattle.relay_core.specs.Name.{same_name};
@@ -30,6 +30,7 @@ use relay_messages::{Answer, MessageFault, encode};
 use relay_pushing::{Conn, Keeper};
 use std::alloc::{AllocError, Global};
 use std::marker::Model;
+use std::mem;
 
 /// The boards, and whose text is answered. Contracts see a `FloorState`.
 #[derive(Drop)]
@@ -45,6 +46,8 @@ pub(crate) struct Floor {
     speaker: Owner,
     /// The follower of the last accepted follow, until it is taken.
     handed: Option<Handed>,
+    /// Whether a follow that might be made was refused since that was last asked.
+    has_turned_away: bool,
 }
 
 impl Model for Floor {
@@ -102,6 +105,7 @@ impl Floor {
                 opener: 0,
             },
             handed: None,
+            has_turned_away: false,
         })
     }
 
@@ -159,16 +163,21 @@ impl Floor {
                 self.handed = Some(Handed { board, follower });
                 HallReply::Joins { joined, replaying }
             }
-            Err(refusal) => HallReply::Said(Reply::Refused(refusal)),
+            Err(refusal) => {
+                self.has_turned_away = true;
+                HallReply::Said(Reply::Refused(refusal))
+            }
         }
     }
 
     /// Refuses a follow of a board of which no slot is vacant. None is looked for. Refused: `NoSuchBoard`, `NotYet`, `TooFarBack`,
     /// `TooManyFollowers`.
-    fn turns_away(&self, board: BoardName, from: Option<u16>) -> HallReply
-        ensures { (who : ℕ) → StateMakes self.now (Follow who board from) (in_full result) self.now }
+    fn turns_away(&mut self, board: BoardName, from: Option<u16>) -> HallReply
+        ensures makes { (who : ℕ) → StateMakes self.old (Follow who board from) (in_full result) self.new }
+        ensures unchanged { self.new ≡ self.old }
     {
         let refusal = turn_away(&self.boards, BoardKey::of(board), from);
+        self.has_turned_away = true;
         HallReply::Said(Reply::Refused(refusal))
     }
 
@@ -220,6 +229,7 @@ impl Floor {
         requires empty { self.old.handed ≡ None }
         ensures ok { IfOk result (λ r. IsRepliedBy self.old.floor who.now conn.old step.now (in_full r) self.new.handed self.new.floor conn.new) }
         ensures err { OnErr result (IsUnmade self.old.floor conn.old self.new.handed self.new.floor conn.new) }
+        ensures full { is_full ≡ true → self.new.handed ≡ None }
     {
         self.speaker = *who;
         let Step::Follow(_, board, from) = *step else {
@@ -246,6 +256,13 @@ impl Floor {
         ensures { self.new ≡ self.old }
     {
         self.rung.take()
+    }
+
+    /// Whether a follow that might be made was refused since the last such call.
+    pub(crate) fn take_turned_away(&mut self) -> bool
+        ensures { self.new ≡ self.old }
+    {
+        mem::replace(&mut self.has_turned_away, false)
     }
 
     /// Ends, as abandoned, each game that is not over of those whose owners have left.

@@ -145,6 +145,7 @@ impl Hall {
     ) -> (Result<HallReply, AllocError>, Option<Handed>)
         ensures ok { IfOk result.0 (λ r. IsRepliedBy self.old.floor who.now conn.old step.now (in_full r) result.1 self.new.floor conn.new) }
         ensures err { OnErr result.0 ((result.1 ≡ None) × (self.new ≡ self.old) × (conn.new ≡ conn.old)) }
+        ensures full { is_full ≡ true → result.1 ≡ None }
         ensures rest { self.new ≡ record self.old { floor = self.new.floor } }
         ensures reached { IsReached self.old × IsReached self.new }
     {
@@ -180,6 +181,14 @@ impl Hall {
         ensures { self.new ≡ self.old }
     {
         self.floor.take_rung()
+    }
+
+    /// Whether a connection that might follow was refused since the last such call. It says how soon one of those is read again, and is no
+    /// promise.
+    pub fn take_turned_away(&mut self) -> bool
+        ensures { self.new ≡ self.old }
+    {
+        self.floor.take_turned_away()
     }
 
     /// Whether any board belongs to connections with the key of this one. None does if it has no key.

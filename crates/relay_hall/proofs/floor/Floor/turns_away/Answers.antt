@@ -9,8 +9,8 @@ use Rattle.relay_hall.proofs.Floors.{follow_makes}
 use Rattle.relay_hall.proofs.floor.Floor.turns_away.Goals as goal
 
 -- nothing has changed, and the refusal is one that a follow of the board may get
-pub returns : goal.returns
-returns c who =
+pub returns-clause-makes : goal.returns-clause-makes
+returns-clause-makes c who =
     let a = c.self.inside in
     let hands = subst (λ (n : List ℕ). HandsAt (lookup (same_name n) a.boards.entries) c.args.from (Err c.turn_away-refusal.result)) c.of.ensures c.turn_away-refusal.ensures in
     rw (← c.self.view_is)
