@@ -1,17 +1,5 @@
-//! `sessions` has tables of what happens and what is answered; `random` and `memory` have the events drawn by `chance`, which happen in a
-//! `scene`, beside the model of `plain`.
+//! The tests, a module for each crate that is tested: `hall` of `relay_hall`, `registry` of `relay_registry`, `calling` of `relay_calling`.
 
-mod answers;
-mod chance;
-mod command;
-mod comparing;
-mod keys;
-mod memory;
-mod plain;
-mod random;
-mod scene;
-mod seen;
-mod sessions;
-mod speaking;
-mod threads;
-mod values;
+mod calling;
+mod hall;
+mod registry;

@@ -1,11 +1,11 @@
 //! A hall in plain terms: boards in a row, each with the number of its moves.
 
-use crate::tests::answers::{
+use crate::tests::hall::answers::{
     BAD_START, BOARD_EXISTS, CLAIM_REFUSED, GAME_OVER, ILLEGAL, LOG_FULL, NO_SUCH_BOARD, NOT_YET,
     NOT_YOUR_BOARD, OPENED, TOO_FAR_BACK, TOO_MANY_BOARDS, TOO_MANY_FOLLOWERS, WRONG_MODE,
 };
-use crate::tests::command::{Command, ENDINGS};
-use crate::tests::seen::Seen;
+use crate::tests::hall::command::{Command, ENDINGS};
+use crate::tests::hall::seen::Seen;
 use c960_game::Outcome;
 use std::alloc::{AllocError, Global};
 

@@ -1,7 +1,7 @@
 //! Whether a hall shows and answers what the model has.
 
-use crate::tests::plain::{Answer, BOARDS, CAPACITY, Plain, Row};
-use crate::tests::values::{POSITIONS, Values};
+use crate::tests::hall::plain::{Answer, BOARDS, CAPACITY, Plain, Row};
+use crate::tests::hall::values::{POSITIONS, Values};
 use c960_board::Move;
 use live_board::Follower;
 use relay_core::Taken;

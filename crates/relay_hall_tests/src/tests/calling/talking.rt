@@ -1,7 +1,7 @@
 //! Two callers over one hall, by bytes. The texts are those of docs/PROTOCOL.md.
 
-use crate::tests::frames::{BINARY, CLOSE, PING, PONG, TEXT, asked, told};
-use crate::tests::requests::shaken;
+use crate::tests::calling::frames::{BINARY, CLOSE, PING, PONG, TEXT, asked, told};
+use crate::tests::calling::requests::shaken;
 use c960_game::Limits;
 use relay_calling::{Caller, Stage};
 use relay_hall::{Hall, Handed};

@@ -1,10 +1,10 @@
 //! What a connection in a scene sends, and what it gets.
 
-use crate::tests::answers::NO_MEMORY;
-use crate::tests::command::Command;
-use crate::tests::comparing::{is_text_of, shows};
-use crate::tests::plain::Answer;
-use crate::tests::scene::{Person, Scene};
+use crate::tests::hall::answers::NO_MEMORY;
+use crate::tests::hall::command::Command;
+use crate::tests::hall::comparing::{is_text_of, shows};
+use crate::tests::hall::plain::Answer;
+use crate::tests::hall::scene::{Person, Scene};
 use relay_hall::Handed;
 use std::alloc::AllocError;
 use std::process::Abort;

@@ -1,6 +1,6 @@
 //! A registry is shared by threads.
 
-use crate::tests::people::{Person, board, registry};
+use crate::tests::registry::people::{Person, board, registry};
 use relay_core::{Reply, Step};
 use relay_registry::Registry;
 use std::alloc::Global;

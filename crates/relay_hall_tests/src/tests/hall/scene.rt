@@ -1,10 +1,10 @@
 //! A hall among its connections, and the model beside it. At most one allocation is refused; whoever was refused asks again.
 
-use crate::tests::chance::Dice;
-use crate::tests::command::Command;
-use crate::tests::comparing::{last_of, rings, shows, takes, tells};
-use crate::tests::plain::{BOARDS, CAPACITY, FOLLOWERS, KEYS, PLIES, Plain, Speaker};
-use crate::tests::values::Values;
+use crate::tests::hall::chance::Dice;
+use crate::tests::hall::command::Command;
+use crate::tests::hall::comparing::{last_of, rings, shows, takes, tells};
+use crate::tests::hall::plain::{BOARDS, CAPACITY, FOLLOWERS, KEYS, PLIES, Plain, Speaker};
+use crate::tests::hall::values::Values;
 use c960_board::Move;
 use c960_game::Limits;
 use live_board::Follower;

@@ -1,12 +1,12 @@
 //! Random events: sixty connections, six keys, three graces. After each event the hall shows what the plain model has.
 
-use crate::tests::answers::{
+use crate::tests::hall::answers::{
     AGREED, BAD_START, BLACK_RESIGNS, BOARD_EXISTS, CLAIM_REFUSED, GAME_OVER, ILLEGAL, LOG_FULL,
     NO_SUCH_BOARD, NOT_YET, NOT_YOUR_BOARD, OPENED, THREEFOLD, TOO_FAR_BACK, TOO_MANY_BOARDS,
     TOO_MANY_FOLLOWERS, WRONG_MODE,
 };
-use crate::tests::scene::Scene;
-use crate::tests::seen::Seen;
+use crate::tests::hall::scene::Scene;
+use crate::tests::hall::seen::Seen;
 use std::alloc::Global;
 use std::process::Abort;
 use std::test::Fail;

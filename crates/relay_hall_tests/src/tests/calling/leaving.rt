@@ -1,7 +1,7 @@
 //! The ends of a connection (RFC 6455, section 7), by bytes, and one that takes little of what it is told.
 
-use crate::tests::frames::{CLOSE, PING, TEXT, asked, tell};
-use crate::tests::requests::shaken;
+use crate::tests::calling::frames::{CLOSE, PING, TEXT, asked, tell};
+use crate::tests::calling::requests::shaken;
 use c960_game::Limits;
 use relay_calling::{Caller, MOST_OUTPUT, Stage};
 use relay_hall::Hall;

@@ -1,7 +1,7 @@
 //! The request of a connection, by bytes (RFC 9112, sections 2 and 3; RFC 6455, section 4).
 
-use crate::tests::frames::{PING, PONG, TEXT, asked, tell};
-use crate::tests::requests::{ACCEPTED, REQUEST, with_target};
+use crate::tests::calling::frames::{PING, PONG, TEXT, asked, tell};
+use crate::tests::calling::requests::{ACCEPTED, REQUEST, with_target};
 use c960_game::Limits;
 use relay_calling::{Caller, Stage};
 use relay_hall::Hall;

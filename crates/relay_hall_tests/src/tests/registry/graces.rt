@@ -1,6 +1,6 @@
 //! How long boards of a key wait.
 
-use crate::tests::people::{Person, board, key, registry};
+use crate::tests::registry::people::{Person, board, key, registry};
 use relay_core::{Reply, Step};
 use relay_registry::Registry;
 use std::process::Abort;

@@ -1,6 +1,6 @@
 //! What is made of steps, who is rung for, and what is shown.
 
-use crate::tests::people::{Person, a_move, board, registry};
+use crate::tests::registry::people::{Person, a_move, board, registry};
 use c960_game::{Outcome, Refusal};
 use relay_core::{Reply, Step};
 use relay_registry::Made;

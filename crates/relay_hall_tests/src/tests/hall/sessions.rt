@@ -1,10 +1,10 @@
 //! Sessions as tables: what happens to a hall, one deed after another, and what it answers.
 
-use crate::tests::answers::{
+use crate::tests::hall::answers::{
     AGREED, BAD_FIELD, BOARD_EXISTS, GAME_OVER, ILLEGAL, LOG_FULL, NO_SUCH_BOARD, NOT_JSON,
     NOT_YET, NOT_YOUR_BOARD, OPENED, TOO_FAR_BACK, TOO_MANY_BOARDS, TOO_MANY_FOLLOWERS, WRONG_MODE,
 };
-use crate::tests::sessions::Deed::{Comes, Due, Ends, Gets, Goes, Overs, Says, Shuts, Time};
+use crate::tests::hall::sessions::Deed::{Comes, Due, Ends, Gets, Goes, Overs, Says, Shuts, Time};
 use c960_board::read_move;
 use c960_game::{Limits, Outcome};
 use live_board::Follower;

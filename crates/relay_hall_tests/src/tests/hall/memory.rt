@@ -1,8 +1,8 @@
 //! Lack of memory, with few random events. If one allocation is refused (`rt try --test --fail-alloc N`, for each N in turn), whoever asked
 //! for it is told so, finds nothing changed or the step made, and goes on; the hall stays what the plain model is.
 
-use crate::tests::answers::OPENED;
-use crate::tests::scene::Scene;
+use crate::tests::hall::answers::OPENED;
+use crate::tests::hall::scene::Scene;
 use std::alloc::{AllocError, Global};
 use std::process::Abort;
 use std::test::Fail;

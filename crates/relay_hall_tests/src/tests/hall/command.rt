@@ -1,9 +1,9 @@
 //! What a connection asks for.
 
-use crate::tests::answers::{AGREED, BLACK_RESIGNS, THREEFOLD};
-use crate::tests::chance::Dice;
-use crate::tests::plain::{Plain, Speaker};
-use crate::tests::values::{MOVES, NAMES};
+use crate::tests::hall::answers::{AGREED, BLACK_RESIGNS, THREEFOLD};
+use crate::tests::hall::chance::Dice;
+use crate::tests::hall::plain::{Plain, Speaker};
+use crate::tests::hall::values::{MOVES, NAMES};
 use c960_board::Colour;
 use c960_game::Outcome;
 use std::alloc::{AllocError, Global};

@@ -1,6 +1,0 @@
-//! The tests.
-
-mod graces;
-mod people;
-mod steps;
-mod threads;
