@@ -1,7 +1,6 @@
 -- What contracts see of a caller, how each of its events is answered by a hall, and what the caller then is.
 use Rattle.std.specs.Prelude.{◌≡◌, ◌⊎◌, ℕ, ◌-◌, ◌==◌, List, [], ◌++◌, length, take, drop, cond, is_some, not, ◌||◌, Bool, true, false, Option, None, Some}
-use Rattle.c960_board.specs.declared.parts.Parts.{Parts}
-use Rattle.relay_core.specs.declared.reply.Reply.TheVariants.{Following}
+use Rattle.relay_core.specs.declared.reply.Reply.{Reply}
 use Rattle.relay_frames.specs.Breaches.{code_of}
 use Rattle.relay_frames.specs.declared.breach.Breach.{Breach}
 use Rattle.relay_frames.specs.declared.breach.Breach.TheVariants.{NoHead, ReservedBit, Unmasked, ControlInFragments, LongControl, NothingToContinue, MessageWithinMessage, BadClose, NotUtf8, TooLong, TooManyFragments}
@@ -16,6 +15,7 @@ use Rattle.relay_hall.specs.declared.handed.Handed.{Handed}
 use Rattle.relay_hall.specs.declared.owner.Owner.{Owner}
 use Rattle.relay_hall.specs.Record.{HallRecord}
 use Rattle.relay_hall.specs.Talk.{IsAnsweredBy, IsUnansweredBy}
+use Rattle.relay_hall.specs.Telling.{Tells}
 use Rattle.relay_calling.specs.declared.caller.TheConstants.{MOST_MESSAGES}
 use Rattle.relay_calling.specs.declared.stage.Stage.{Stage}
 use Rattle.relay_calling.specs.declared.stage.Stage.TheVariants.{Comes, Asks, HandsOver, Leaves}
@@ -217,5 +217,4 @@ Fails c k handed l d =
 
 -- behind all that was due, the text that tells of what was handed out
 abbrev pub IsTold : List ℕ → Handed → List ℕ → Type 0
-IsTold due handed now =
-    (position : Parts) × (now ≡ due ++ text_frame (answer_text (answers.Reply (Following handed.follower.part.joined position))))
+IsTold due handed now = (reply : Reply) × Tells handed.follower reply × (now ≡ due ++ text_frame (answer_text (answers.Reply reply)))

@@ -6,3 +6,4 @@ pub mod InTime
 pub mod OneStep
 pub mod Counting
 pub mod Reached
+pub mod Telling

@@ -10,3 +10,4 @@ pub mod Talk
 pub mod Reading
 pub mod Runs
 pub mod Inner
+pub mod Telling
