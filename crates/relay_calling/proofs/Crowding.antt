@@ -11,8 +11,8 @@ use Rattle.relay_calling.specs.Coming.{comes}
 use Rattle.relay_calling.specs.declared.stage.Stage.{Stage}
 use Rattle.relay_calling.specs.declared.stage.Stage.TheVariants.{Comes, Asks, HandsOver, Leaves}
 use Rattle.relay_calling.specs.Crowd.{AreEventsOf, CrowdRecord, IsAt, IsOneRun, OneOrNone, OthersStay, Turn, Turns, deeds_of, happens, passes}
-use Rattle.relay_calling.specs.Running.{Deed, IsDone, IsServed, Moment, Runs, came, failed, heeded, wrote}
-use Rattle.relay_calling.proofs.Sending.{fed_behind, has_come_still}
+use Rattle.relay_calling.specs.Running.{Deed, IsDone, IsServed, Moment, Runs, came, failed, heeded, was_pinged, was_sent_away, wrote}
+use Rattle.relay_calling.proofs.Sending.{close_put, fed_behind, has_come_still, ping_put}
 use Rattle.relay_calling.proofs.Serving.{is_served}
 use Rattle.relay_calling.proofs.Stepping.{fails_as, heeds_as}
 
@@ -45,6 +45,10 @@ who_stays c (heeded true m) d behind_it (t, asking, says, (frames, met, is)) = a
 who_stays c (heeded false m) d behind_it (none, same, is, more) = ap (λ (e : CallerRecord). e.who) is
 who_stays c (failed m) d behind_it (inl (none, same, is)) = ap (λ (e : CallerRecord). e.who) is
 who_stays c (failed m) d behind_it (inr (t, asking, says, (un, is))) = ap (λ (e : CallerRecord). e.who) is
+who_stays c (was_pinged true) d behind_it (asked, pings) = ap (λ (e : CallerRecord). e.who) (ping_put c d true asked pings)
+who_stays c (was_pinged false) d behind_it (asked, pings) = ap (λ (e : CallerRecord). e.who) (ping_put c d false asked pings)
+who_stays c (was_sent_away true code) d behind_it (asked, closes) = ap (λ (e : CallerRecord). e.who) (close_put c d true code asked closes)
+who_stays c (was_sent_away false code) d behind_it (asked, closes) = ap (λ (e : CallerRecord). e.who) (close_put c d false code asked closes)
 
 who_stays_on : (c : CallerRecord) (deeds : List Deed) (d : CallerRecord) → comes c.stage ≡ false → Runs c deeds d → d.who ≡ c.who
 who_stays_on c [] d behind_it is = ap (λ (e : CallerRecord). e.who) is
@@ -122,6 +126,12 @@ one_run who f (happens i (came bytes) ∷ xs) g those (mid, (done, others, stays
     let r = one_run who mid xs g those turns h in
     record { events = r.events; told = r.told; history = r.history; run = subst (λ (x : HallRecord). HallRuns x h r.events r.told r.history g.hall) stays r.run; made = r.made }
 one_run who f (happens i (wrote bytes) ∷ xs) g those (mid, (done, others, stays), turns) h =
+    let r = one_run who mid xs g those turns h in
+    record { events = r.events; told = r.told; history = r.history; run = subst (λ (x : HallRecord). HallRuns x h r.events r.told r.history g.hall) stays r.run; made = r.made }
+one_run who f (happens i (was_pinged some) ∷ xs) g those (mid, (done, others, stays), turns) h =
+    let r = one_run who mid xs g those turns h in
+    record { events = r.events; told = r.told; history = r.history; run = subst (λ (x : HallRecord). HallRuns x h r.events r.told r.history g.hall) stays r.run; made = r.made }
+one_run who f (happens i (was_sent_away some code) ∷ xs) g those (mid, (done, others, stays), turns) h =
     let r = one_run who mid xs g those turns h in
     record { events = r.events; told = r.told; history = r.history; run = subst (λ (x : HallRecord). HallRuns x h r.events r.told r.history g.hall) stays r.run; made = r.made }
 one_run who f (happens i (heeded some m) ∷ xs) g those (mid, (done, others, at), turns) h =

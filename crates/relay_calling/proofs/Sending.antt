@@ -2,14 +2,15 @@
 use Rattle.std.proofs.Common.{◌≡◌, ◌≤◌, ◌<◌, ◌||◌, ◌==◌, inl, inr, Bool, true, false, true≢false, cond, ℕ, zero, suc, List, [], ◌∷◌, ◌++◌, take, drop, fold, is_some, Some, refl, sym, ◌∙◌, ap, subst, append_assoc, append-nil, arith}
 use Rattle.std.proofs.lemmas.List.{take-append-drop}
 use Rattle.relay_frames.specs.Events.{Told, fragment, text, binary, ping, pong, closed, broken, is_last}
+use Rattle.relay_frames.specs.Frames.{close_frame, ping_frame}
 use Rattle.relay_frames.specs.Hearing.{Heard, behind, hear_all, hear_piece}
 use Rattle.relay_frames.specs.Reading.{fed, next_step}
 use Rattle.relay_frames.proofs.lemmas.Hearings.{piece_after}
-use Rattle.relay_calling.specs.Calling.{CallerRecord, EventMet, after_feed, after_write, asks, has_left, is_the_last, is_through, left_after, moved_on, stage_after}
+use Rattle.relay_calling.specs.Calling.{CallerRecord, EventMet, after_feed, after_write, asks, has_left, is_the_last, is_through, left_after, moved_on, pinged, sent_away, stage_after, with_due}
 use Rattle.relay_calling.specs.Coming.{FedWhile, Feeds, comes}
 use Rattle.relay_calling.specs.declared.stage.Stage.{Stage}
 use Rattle.relay_calling.specs.declared.stage.Stage.TheVariants.{Comes, Asks, HandsOver, Leaves}
-use Rattle.relay_calling.specs.Running.{AreAnswered, Deed, IsDone, Moment, Runs, came, failed, heeded, messages_in, moments_of, pieces_of, written_of, wrote}
+use Rattle.relay_calling.specs.Running.{AreSent, Cause, Deed, IsDone, Moment, Runs, came, causes_of, failed, heeded, messages_in, pieces_of, was_pinged, was_sent_away, written_of, wrote}
 use Rattle.relay_calling.proofs.Heeding.{hear_next, pieces_behind}
 
 -- ---- How many messages it may still send.
@@ -45,6 +46,18 @@ no_more_than : (b : Bool) (n left : ℕ) → n ≤ cond b left 0 → n ≤ left
 no_more_than true n left few = few
 no_more_than false n left few = omega (arith, few)
 
+-- ---- What is put unasked.
+
+pub ping_put : (c d : CallerRecord) (some : Bool) → asks c.stage ≡ some → d ≡ pinged c → d ≡ cond some (with_due c (ping_frame [])) c
+ping_put c d some asked is = is ∙ ap (λ (b : Bool). cond b (with_due c (ping_frame [])) c) asked
+
+-- behind a close
+abbrev gone : CallerRecord → ℕ → CallerRecord
+gone c code = record c { due = c.due ++ close_frame (Some code); stage = Leaves }
+
+pub close_put : (c d : CallerRecord) (some : Bool) (code : ℕ) → asks c.stage ≡ some → d ≡ sent_away c code → d ≡ cond some (gone c code) c
+close_put c d some code asked is = is ∙ ap (λ (b : Bool). cond b (gone c code) c) asked
+
 -- ---- One that follows or leaves.
 
 leaves : {A : Type 0} (s : Stage) → is_through s ≡ true → asks s ≡ true → A
@@ -63,20 +76,24 @@ through_has_come Leaves through = refl
 pub fed_behind : (c : CallerRecord) (bytes : List ℕ) (d : CallerRecord) → comes c.stage ≡ false → Feeds c bytes d → d ≡ after_feed c bytes
 fed_behind c bytes d behind_it feeds = subst (λ (b : Bool). FedWhile b c bytes d) behind_it feeds
 
--- whatever happens to it is no answer, it stays as far as it has come, and it is sent nothing but what is due
+-- whatever happens nothing more is due to it, it stays as far as it has come, and it is sent what was due
 pub record IsSilent (c : CallerRecord) (deeds : List Deed) (d : CallerRecord) : Type 0 where
-  pub none : moments_of deeds ≡ []
+  pub none : causes_of deeds ≡ []
   pub there : d.stage ≡ c.stage
   pub sent : written_of deeds ++ d.due ≡ c.due
 
 module _ (c : CallerRecord) (mid : CallerRecord) (xs : List Deed) (d : CallerRecord) where
-  silent_on : (x : Deed) → moments_of (x ∷ xs) ≡ moments_of xs → written_of (x ∷ xs) ≡ written_of xs → mid.stage ≡ c.stage → mid.due ≡ c.due
+  silent_on : (x : Deed) → causes_of (x ∷ xs) ≡ causes_of xs → written_of (x ∷ xs) ≡ written_of xs → mid.stage ≡ c.stage → mid.due ≡ c.due
       → IsSilent mid xs d → IsSilent c (x ∷ xs) d
-  silent_on x moments writes stage due s = record {
-    none = moments ∙ s.none;
+  silent_on x causes writes stage due s = record {
+    none = causes ∙ s.none;
     there = s.there ∙ stage;
     sent = ap (λ (ys : List ℕ). ys ++ d.due) writes ∙ s.sent ∙ due;
   }
+
+  -- it is as it was
+  silent_still : (x : Deed) → causes_of (x ∷ xs) ≡ causes_of xs → written_of (x ∷ xs) ≡ written_of xs → mid ≡ c → IsSilent mid xs d → IsSilent c (x ∷ xs) d
+  silent_still x causes writes is s = silent_on x causes writes (ap (λ (e : CallerRecord). e.stage) is) (ap (λ (e : CallerRecord). e.due) is) s
 
 pub silent : (c : CallerRecord) (deeds : List Deed) (d : CallerRecord) → is_through c.stage ≡ true → Runs c deeds d → IsSilent c deeds d
 silent c [] d through is = record { none = refl; there = ap (λ (e : CallerRecord). e.stage) is; sent = ap (λ (e : CallerRecord). e.due) is }
@@ -85,11 +102,15 @@ silent c (came piece ∷ xs) d through (mid, feeds, runs) =
     silent_on c mid xs d (came piece) refl refl (ap (λ (e : CallerRecord). e.stage) is) (ap (λ (e : CallerRecord). e.due) is)
     (silent mid xs d (ap (λ (e : CallerRecord). is_through e.stage) is ∙ through) runs)
 silent c (heeded false m ∷ xs) d through (mid, (none, same, is, more), runs) =
-    silent_on c mid xs d (heeded false m) refl refl (ap (λ (e : CallerRecord). e.stage) is) (ap (λ (e : CallerRecord). e.due) is)
-    (silent mid xs d (ap (λ (e : CallerRecord). is_through e.stage) is ∙ through) runs)
+    silent_still c mid xs d (heeded false m) refl refl is (silent mid xs d (ap (λ (e : CallerRecord). is_through e.stage) is ∙ through) runs)
 silent c (failed m ∷ xs) d through (mid, inl (none, same, is), runs) =
-    silent_on c mid xs d (failed m) refl refl (ap (λ (e : CallerRecord). e.stage) is) (ap (λ (e : CallerRecord). e.due) is)
-    (silent mid xs d (ap (λ (e : CallerRecord). is_through e.stage) is ∙ through) runs)
+    silent_still c mid xs d (failed m) refl refl is (silent mid xs d (ap (λ (e : CallerRecord). is_through e.stage) is ∙ through) runs)
+silent c (was_pinged false ∷ xs) d through (mid, (asked, pings), runs) =
+    let is = ping_put c mid false asked pings in
+    silent_still c mid xs d (was_pinged false) refl refl is (silent mid xs d (ap (λ (e : CallerRecord). is_through e.stage) is ∙ through) runs)
+silent c (was_sent_away false code ∷ xs) d through (mid, (asked, closes), runs) =
+    let is = close_put c mid false code asked closes in
+    silent_still c mid xs d (was_sent_away false code) refl refl is (silent mid xs d (ap (λ (e : CallerRecord). is_through e.stage) is ∙ through) runs)
 silent c (wrote bytes ∷ xs) d through (mid, (n, first, is), runs) =
     let s = silent mid xs d (ap (λ (e : CallerRecord). is_through e.stage) is ∙ through) runs in
     record {
@@ -102,20 +123,22 @@ silent c (wrote bytes ∷ xs) d through (mid, (n, first, is), runs) =
     }
 silent c (heeded true m ∷ xs) d through (mid, (t, asking, says, met), runs) = leaves c.stage through asking
 silent c (failed m ∷ xs) d through (mid, inr (t, asking, says, lost), runs) = leaves c.stage through asking
+silent c (was_pinged true ∷ xs) d through (mid, (asking, pings), runs) = leaves c.stage through asking
+silent c (was_sent_away true code ∷ xs) d through (mid, (asking, closes), runs) = leaves c.stage through asking
 
-pub never_heeded : (c : CallerRecord) (deeds : List Deed) (d : CallerRecord) → is_through c.stage ≡ true → Runs c deeds d → (moments_of deeds ≡ []) × (d.stage ≡ c.stage)
+pub never_heeded : (c : CallerRecord) (deeds : List Deed) (d : CallerRecord) → is_through c.stage ≡ true → Runs c deeds d → (causes_of deeds ≡ []) × (d.stage ≡ c.stage)
 never_heeded c deeds d through runs = let s = silent c deeds d through runs in (s.none, s.there)
 
 -- ---- From any caller on.
 
--- what is written and then due is what was due, and then the frames of the answers
+-- what is written and then due is what was due, and then the frames of the answers and what is put unasked
 pub record GoesOn (c : CallerRecord) (deeds : List Deed) (d : CallerRecord) : Type 0 where
   pub events : List Told
   pub bytes : List ℕ
   pub rest : Heard
   pub heard : behind events rest ≡ fold hear_piece (hear_all c.reading) (pieces_of deeds)
   pub few : MaySend c → messages_in events ≤ may_send c
-  pub answered : AreAnswered c.who c.boards c.left events (moments_of deeds) bytes
+  pub answered : AreSent c.who c.boards c.left (causes_of deeds) events bytes
   pub sent : written_of deeds ++ d.due ≡ c.due ++ bytes
   pub still : asks d.stage ≡ true → rest ≡ hear_all d.reading
 
@@ -126,7 +149,7 @@ nothing_done c = record {
   rest = hear_all c.reading;
   heard = refl;
   few = λ may. omega arith;
-  answered = refl;
+  answered = (refl, refl);
   sent = sym (append-nil c.due);
   still = λ asking. refl;
 }
@@ -158,11 +181,31 @@ when_wrote c bytes n xs d is g = record {
   still = g.still;
 }
 
-when_rested : (c : CallerRecord) (m : Moment) (xs : List Deed) (d : CallerRecord) → GoesOn c xs d → GoesOn c (heeded false m ∷ xs) d
-when_rested c m xs d g = record { events = g.events; bytes = g.bytes; rest = g.rest; heard = g.heard; few = g.few; answered = g.answered; sent = g.sent; still = g.still }
+-- nothing has changed
+when_still : (c : CallerRecord) (x : Deed) (xs : List Deed) (d : CallerRecord) → pieces_of (x ∷ xs) ≡ pieces_of xs → causes_of (x ∷ xs) ≡ causes_of xs
+    → written_of (x ∷ xs) ≡ written_of xs → GoesOn c xs d → GoesOn c (x ∷ xs) d
+when_still c x xs d pieces causes writes g = record {
+  events = g.events;
+  bytes = g.bytes;
+  rest = g.rest;
+  heard = g.heard ∙ ap (λ (ps : List (List ℕ)). fold hear_piece (hear_all c.reading) ps) (sym pieces);
+  few = g.few;
+  answered = subst (λ (cs : List Cause). AreSent c.who c.boards c.left cs g.events g.bytes) (sym causes) g.answered;
+  sent = ap (λ (ys : List ℕ). ys ++ d.due) writes ∙ g.sent;
+  still = g.still;
+}
 
-when_failed : (c : CallerRecord) (m : Moment) (xs : List Deed) (d : CallerRecord) → GoesOn c xs d → GoesOn c (failed m ∷ xs) d
-when_failed c m xs d g = record { events = g.events; bytes = g.bytes; rest = g.rest; heard = g.heard; few = g.few; answered = g.answered; sent = g.sent; still = g.still }
+when_pinged : (c : CallerRecord) (xs : List Deed) (d : CallerRecord) → GoesOn (with_due c (ping_frame [])) xs d → GoesOn c (was_pinged true ∷ xs) d
+when_pinged c xs d g = record {
+  events = g.events;
+  bytes = ping_frame [] ++ g.bytes;
+  rest = g.rest;
+  heard = g.heard;
+  few = g.few;
+  answered = (g.bytes, g.answered, refl);
+  sent = g.sent ∙ append_assoc c.due (ping_frame []) g.bytes;
+  still = g.still;
+}
 
 -- behind an event that was answered by these frames
 abbrev answered_by : CallerRecord → Told → List (List ℕ) → List ℕ → Stage → CallerRecord
@@ -189,15 +232,27 @@ when_heeded c m t frames boards xs d asking says answer g =
       still = g.still;
     }
 
+when_sent_away : (c : CallerRecord) (code : ℕ) (xs : List Deed) (mid d : CallerRecord) → mid ≡ gone c code → IsSilent mid xs d → GoesOn c (was_sent_away true code ∷ xs) d
+when_sent_away c code xs mid d is s = record {
+  events = [];
+  bytes = close_frame (Some code);
+  rest = fold hear_piece (hear_all c.reading) (pieces_of xs);
+  heard = refl;
+  few = λ may. omega arith;
+  answered = (s.none, refl, refl);
+  sent = s.sent ∙ ap (λ (e : CallerRecord). e.due) is;
+  still = λ asking. leaves d.stage (ap is_through (s.there ∙ ap (λ (e : CallerRecord). e.stage) is)) asking;
+}
+
 -- it asks no more
-when_silent : (c : CallerRecord) (deeds : List Deed) (d : CallerRecord) → is_through d.stage ≡ true → moments_of deeds ≡ [] → written_of deeds ++ d.due ≡ c.due → GoesOn c deeds d
+when_silent : (c : CallerRecord) (deeds : List Deed) (d : CallerRecord) → is_through d.stage ≡ true → causes_of deeds ≡ [] → written_of deeds ++ d.due ≡ c.due → GoesOn c deeds d
 when_silent c deeds d through none sent = record {
   events = [];
   bytes = [];
   rest = fold hear_piece (hear_all c.reading) (pieces_of deeds);
   heard = refl;
   few = λ may. omega arith;
-  answered = subst (λ (ms : List Moment). AreAnswered c.who c.boards c.left [] ms []) (sym none) refl;
+  answered = subst (λ (cs : List Cause). AreSent c.who c.boards c.left cs [] []) (sym none) (refl, refl);
   sent = sent ∙ sym (append-nil c.due);
   still = λ asking. leaves d.stage through asking;
 }
@@ -238,6 +293,10 @@ has_come_still c (heeded true m) d behind_it (t, asking, says, (frames, met, is)
 has_come_still c (heeded false m) d behind_it (none, same, is, more) = ap (λ (e : CallerRecord). comes e.stage) is ∙ behind_it
 has_come_still c (failed m) d behind_it (inl (none, same, is)) = ap (λ (e : CallerRecord). comes e.stage) is ∙ behind_it
 has_come_still c (failed m) d behind_it (inr (t, asking, says, (un, is))) = ap (λ (e : CallerRecord). comes e.stage) is
+has_come_still c (was_pinged true) d behind_it (asked, pings) = ap (λ (e : CallerRecord). comes e.stage) (ping_put c d true asked pings) ∙ behind_it
+has_come_still c (was_pinged false) d behind_it (asked, pings) = ap (λ (e : CallerRecord). comes e.stage) (ping_put c d false asked pings) ∙ behind_it
+has_come_still c (was_sent_away true code) d behind_it (asked, closes) = ap (λ (e : CallerRecord). comes e.stage) (close_put c d true code asked closes)
+has_come_still c (was_sent_away false code) d behind_it (asked, closes) = ap (λ (e : CallerRecord). comes e.stage) (close_put c d false code asked closes) ∙ behind_it
 
 pub goes_on : (c : CallerRecord) (deeds : List Deed) (d : CallerRecord) → comes c.stage ≡ false → Runs c deeds d → GoesOn c deeds d
 goes_on c [] d behind_it is = subst (λ (e : CallerRecord). GoesOn c [] e) (sym is) (nothing_done c)
@@ -246,11 +305,23 @@ goes_on c (came piece ∷ xs) d behind_it (mid, feeds, runs) =
 goes_on c (wrote bytes ∷ xs) d behind_it (mid, (n, first, is), runs) =
     when_wrote c bytes n xs d first (subst (λ (m : CallerRecord). GoesOn m xs d) is (goes_on mid xs d (has_come_still c (wrote bytes) mid behind_it (n, first, is)) runs))
 goes_on c (heeded false m ∷ xs) d behind_it (mid, (none, same, is, more), runs) =
-    when_rested c m xs d (subst (λ (m : CallerRecord). GoesOn m xs d) is (goes_on mid xs d (has_come_still c (heeded false m) mid behind_it (none, same, is, more)) runs))
+    when_still c (heeded false m) xs d refl refl refl (subst (λ (m : CallerRecord). GoesOn m xs d) is (goes_on mid xs d (has_come_still c (heeded false m) mid behind_it (none, same, is, more)) runs))
 goes_on c (failed m ∷ xs) d behind_it (mid, inl (none, same, is), runs) =
-    when_failed c m xs d (subst (λ (m : CallerRecord). GoesOn m xs d) is (goes_on mid xs d (has_come_still c (failed m) mid behind_it (inl (none, same, is))) runs))
+    when_still c (failed m) xs d refl refl refl (subst (λ (m : CallerRecord). GoesOn m xs d) is (goes_on mid xs d (has_come_still c (failed m) mid behind_it (inl (none, same, is))) runs))
 goes_on c (failed m ∷ xs) d behind_it (mid, inr (t, asking, says, (un, is)), runs) =
     when_lost c m xs mid d (ap (λ (e : CallerRecord). e.stage) is) (ap (λ (e : CallerRecord). e.due) is) (silent mid xs d (ap (λ (e : CallerRecord). is_through e.stage) is) runs)
 goes_on c (heeded true m ∷ xs) d behind_it (mid, (t, asking, says, (frames, answer, is)), runs) =
     when_heeded c m t frames mid.boards xs d asking says answer
     (subst (λ (m : CallerRecord). GoesOn m xs d) is (goes_on mid xs d (has_come_still c (heeded true m) mid behind_it (t, asking, says, (frames, answer, is))) runs))
+goes_on c (was_pinged true ∷ xs) d behind_it (mid, (asked, pings), runs) =
+    let on : GoesOn mid xs d = goes_on mid xs d (has_come_still c (was_pinged true) mid behind_it (asked, pings)) runs in
+    when_pinged c xs d (subst (λ (m : CallerRecord). GoesOn m xs d) (ping_put c mid true asked pings) on)
+goes_on c (was_pinged false ∷ xs) d behind_it (mid, (asked, pings), runs) =
+    let on : GoesOn mid xs d = goes_on mid xs d (has_come_still c (was_pinged false) mid behind_it (asked, pings)) runs in
+    when_still c (was_pinged false) xs d refl refl refl (subst (λ (m : CallerRecord). GoesOn m xs d) (ping_put c mid false asked pings) on)
+goes_on c (was_sent_away true code ∷ xs) d behind_it (mid, (asked, closes), runs) =
+    let is = close_put c mid true code asked closes in
+    when_sent_away c code xs mid d is (silent mid xs d (ap (λ (e : CallerRecord). is_through e.stage) is) runs)
+goes_on c (was_sent_away false code ∷ xs) d behind_it (mid, (asked, closes), runs) =
+    let on : GoesOn mid xs d = goes_on mid xs d (has_come_still c (was_sent_away false code) mid behind_it (asked, closes)) runs in
+    when_still c (was_sent_away false code) xs d refl refl refl (subst (λ (m : CallerRecord). GoesOn m xs d) (close_put c mid false code asked closes) on)

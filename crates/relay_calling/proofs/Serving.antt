@@ -17,15 +17,15 @@ use Rattle.relay_calling.specs.Coming.{Judged, Settled, owner_by, turned_away, w
 use Rattle.relay_calling.specs.declared.caller.TheConstants.{MOST_MESSAGES}
 use Rattle.relay_calling.specs.declared.stage.Stage.{Stage}
 use Rattle.relay_calling.specs.declared.stage.Stage.TheVariants.{Comes, Leaves}
-use Rattle.relay_calling.specs.Running.{AreAnswered, Deed, IsSent, IsSentOnly, IsServed, IsServedAt, Runs, Moment, bytes_of, came, failed, heeded, moments_of, pieces_of, written_of, wrote}
+use Rattle.relay_calling.specs.Running.{AreSent, Cause, Deed, IsSent, IsSentOnly, IsServed, IsServedAt, Runs, bytes_of, came, causes_of, failed, heeded, pieces_of, was_pinged, was_sent_away, written_of, wrote}
 use Rattle.relay_calling.proofs.Heeding.{hear_no_more}
 use Rattle.relay_calling.proofs.Sending.{GoesOn, goes_on, silent}
 
--- ---- What came before is no answer.
+-- ---- Nothing more was due for what came before.
 
-module _ (x : Deed) (xs : List Deed) (d : CallerRecord) (moments : moments_of (x ∷ xs) ≡ moments_of xs) (writes : written_of (x ∷ xs) ≡ written_of xs) where
+module _ (x : Deed) (xs : List Deed) (d : CallerRecord) (causes : causes_of (x ∷ xs) ≡ causes_of xs) (writes : written_of (x ∷ xs) ≡ written_of xs) where
   only_on : (answer : List ℕ) (stage : Stage) → IsSentOnly answer stage xs d → IsSentOnly answer stage (x ∷ xs) d
-  only_on answer stage s = record { none = moments ∙ s.none; sent = ap (λ (ys : List ℕ). ys ++ d.due) writes ∙ s.sent; there = s.there }
+  only_on answer stage s = record { none = causes ∙ s.none; sent = ap (λ (ys : List ℕ). ys ++ d.due) writes ∙ s.sent; there = s.there }
 
   sent_on : (who : Owner) (first bytes : List ℕ) → IsSent who first bytes xs d → IsSent who first bytes (x ∷ xs) d
   sent_on who first bytes s = record {
@@ -34,7 +34,7 @@ module _ (x : Deed) (xs : List Deed) (d : CallerRecord) (moments : moments_of (x
     rest = s.rest;
     heard = s.heard;
     few = s.few;
-    answered = subst (λ (ms : List Moment). AreAnswered who [] MOST_MESSAGES s.events ms s.frames) (sym moments) s.answered;
+    answered = subst (λ (cs : List Cause). AreSent who [] MOST_MESSAGES cs s.events s.frames) (sym causes) s.answered;
     sent = ap (λ (ys : List ℕ). ys ++ d.due) writes ∙ s.sent;
     all = s.all;
   }
@@ -47,13 +47,13 @@ module _ (opener : ℕ) (takes_keys : Bool) where
   abbrev IsServedBy : List ℕ → List Deed → CallerRecord → Type 0
   IsServedBy bytes deeds d = IsServedAt (head_so_far bytes) opener takes_keys bytes deeds d
 
-  served_on : (x : Deed) (xs : List Deed) (d : CallerRecord) → moments_of (x ∷ xs) ≡ moments_of xs → written_of (x ∷ xs) ≡ written_of xs
+  served_on : (x : Deed) (xs : List Deed) (d : CallerRecord) → causes_of (x ∷ xs) ≡ causes_of xs → written_of (x ∷ xs) ≡ written_of xs
       → (s : HeadSoFar) (bytes : List ℕ) → IsServedAt s opener takes_keys bytes xs d → IsServedAt s opener takes_keys bytes (x ∷ xs) d
-  served_on x xs d moments writes Part bytes only = only_on x xs d moments writes [] Comes only
-  served_on x xs d moments writes (Refused refusal) bytes only = only_on x xs d moments writes (answer_text refusal) Leaves only
-  served_on x xs d moments writes (Whole end) bytes (inl (let_in, (value, accepts, sent))) =
-      inl (let_in, (value, accepts, sent_on x xs d moments writes (owner_by takes_keys (take end bytes) (nobody opener)) (acceptance_text value) (drop end bytes) sent))
-  served_on x xs d moments writes (Whole end) bytes (inr (refusal, refused, only)) = inr (refusal, refused, only_on x xs d moments writes (answer_text refusal) Leaves only)
+  served_on x xs d causes writes Part bytes only = only_on x xs d causes writes [] Comes only
+  served_on x xs d causes writes (Refused refusal) bytes only = only_on x xs d causes writes (answer_text refusal) Leaves only
+  served_on x xs d causes writes (Whole end) bytes (inl (let_in, (value, accepts, sent))) =
+      inl (let_in, (value, accepts, sent_on x xs d causes writes (owner_by takes_keys (take end bytes) (nobody opener)) (acceptance_text value) (drop end bytes) sent))
+  served_on x xs d causes writes (Whole end) bytes (inr (refusal, refused, only)) = inr (refusal, refused, only_on x xs d causes writes (answer_text refusal) Leaves only)
 
   -- ---- Its head.
 
@@ -137,6 +137,12 @@ module _ (opener : ℕ) (takes_keys : Bool) where
       served_on (heeded false m) xs d refl refl (head_so_far (head ++ bytes_of xs)) (head ++ bytes_of xs) (serves head part xs d (subst (λ (m : CallerRecord). Runs m xs d) is runs))
   serves head part (failed m ∷ xs) d (mid, inl (none, same, is), runs) =
       served_on (failed m) xs d refl refl (head_so_far (head ++ bytes_of xs)) (head ++ bytes_of xs) (serves head part xs d (subst (λ (m : CallerRecord). Runs m xs d) is runs))
+  serves head part (was_pinged false ∷ xs) d (mid, (asked, is), runs) =
+      served_on (was_pinged false) xs d refl refl (head_so_far (head ++ bytes_of xs)) (head ++ bytes_of xs) (serves head part xs d (subst (λ (m : CallerRecord). Runs m xs d) is runs))
+  serves head part (was_sent_away false code ∷ xs) d (mid, (asked, is), runs) =
+      served_on (was_sent_away false code) xs d refl refl (head_so_far (head ++ bytes_of xs)) (head ++ bytes_of xs) (serves head part xs d (subst (λ (m : CallerRecord). Runs m xs d) is runs))
+  serves head part (was_pinged true ∷ xs) d (mid, (asking, is), runs) = never_asks asking
+  serves head part (was_sent_away true code ∷ xs) d (mid, (asking, is), runs) = never_asks asking
   serves head part (heeded true m ∷ xs) d (mid, (t, asking, says, met), runs) = never_asks asking
   serves head part (failed m ∷ xs) d (mid, inr (t, asking, says, lost), runs) = never_asks asking
 

@@ -5,7 +5,7 @@ use Rattle.relay_frames.specs.Breaches.{code_of}
 use Rattle.relay_frames.specs.declared.breach.Breach.{Breach}
 use Rattle.relay_frames.specs.declared.breach.Breach.TheVariants.{NoHead, ReservedBit, Unmasked, ControlInFragments, LongControl, NothingToContinue, MessageWithinMessage, BadClose, NotUtf8, TooLong, TooManyFragments}
 use Rattle.relay_frames.specs.Events.{Told, fragment, text, binary, ping, pong, closed, broken, is_last}
-use Rattle.relay_frames.specs.Frames.{text_frame, pong_frame, close_frame}
+use Rattle.relay_frames.specs.Frames.{text_frame, ping_frame, pong_frame, close_frame}
 use Rattle.relay_frames.specs.Reading.{Reading, fed, next_step, opened}
 use Rattle.relay_messages.specs.Answers.{answer_text}
 use Rattle.relay_messages.specs.declared.answer.Answer.TheVariants as answers
@@ -173,6 +173,16 @@ asks Comes = false
 asks Asks = true
 asks HandsOver = false
 asks Leaves = false
+
+-- ---- What it is sent unasked. Nothing is done to one that asks no more, or not yet: a frame may only come behind the acceptance.
+
+-- a ping is due behind all that was due
+abbrev pub pinged : CallerRecord → CallerRecord
+pinged c = cond (asks c.stage) (with_due c (ping_frame [])) c
+
+-- a close with this code is due behind all that was due, and it leaves
+abbrev pub sent_away : CallerRecord → ℕ → CallerRecord
+sent_away c code = cond (asks c.stage) (record c { due = c.due ++ close_frame (Some code); stage = Leaves }) c
 
 -- it follows or leaves, so that it neither asks nor is going to
 abbrev pub is_through : Stage → Bool

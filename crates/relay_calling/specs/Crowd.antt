@@ -6,7 +6,7 @@ use Rattle.relay_hall.specs.declared.owner.Owner.{Owner}
 use Rattle.relay_hall.specs.Record.{HallRecord}
 use Rattle.relay_hall.specs.Runs.{HallEvent, HallRuns, HallStep, HallTold, Says}
 use Rattle.relay_calling.specs.Calling.{CallerRecord}
-use Rattle.relay_calling.specs.Running.{Deed, IsDone, Moment, came, failed, heeded, wrote}
+use Rattle.relay_calling.specs.Running.{Deed, IsDone, Moment, came, failed, heeded, was_pinged, was_sent_away, wrote}
 
 -- the hall as it stands, and the callers by their numbers
 pub record CrowdRecord : Type 0 where
@@ -29,6 +29,8 @@ LeadsHall k (came bytes) l = l ≡ k
 LeadsHall k (heeded some m) l = IsAt k m l
 LeadsHall k (failed m) l = IsAt k m l
 LeadsHall k (wrote bytes) l = l ≡ k
+LeadsHall k (was_pinged some) l = l ≡ k
+LeadsHall k (was_sent_away some code) l = l ≡ k
 
 abbrev pub OthersStay : ℕ → (ℕ → CallerRecord) → (ℕ → CallerRecord) → Type 0
 OthersStay i before after = (j : ℕ) → nat_eq i j ≡ false → after j ≡ before j
@@ -60,6 +62,8 @@ AreEventsOf who (happens i (came bytes) ∷ xs) events = AreEventsOf who xs even
 AreEventsOf who (happens i (heeded some m) ∷ xs) events = (rest : List HallEvent) × OneOrNone (who i) events rest × AreEventsOf who xs rest
 AreEventsOf who (happens i (failed m) ∷ xs) events = (rest : List HallEvent) × OneOrNone (who i) events rest × AreEventsOf who xs rest
 AreEventsOf who (happens i (wrote bytes) ∷ xs) events = AreEventsOf who xs events
+AreEventsOf who (happens i (was_pinged some) ∷ xs) events = AreEventsOf who xs events
+AreEventsOf who (happens i (was_sent_away some code) ∷ xs) events = AreEventsOf who xs events
 AreEventsOf who (passes e told ∷ xs) events = (rest : List HallEvent) × (events ≡ e ∷ rest) × AreEventsOf who xs rest
 
 -- from this hall and this history the turns are a run of the hall

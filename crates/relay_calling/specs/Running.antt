@@ -5,6 +5,7 @@ use Rattle.relay_frames.specs.declared.head.HeadSoFar.{HeadSoFar}
 use Rattle.relay_frames.specs.declared.head.HeadSoFar.TheVariants.{Part, Whole, Refused}
 use Rattle.relay_frames.specs.declared.request_refusal.RequestRefusal.{RequestRefusal}
 use Rattle.relay_frames.specs.Events.{Told, fragment}
+use Rattle.relay_frames.specs.Frames.{close_frame, ping_frame}
 use Rattle.relay_frames.specs.Heads.{head_so_far}
 use Rattle.relay_frames.specs.Hearing.{Heard, behind, hear_all}
 use Rattle.relay_frames.specs.Reading.{fed, next_step, opened}
@@ -12,7 +13,7 @@ use Rattle.relay_frames.specs.Requests.{Accepts, IsAnswered, acceptance_text, an
 use Rattle.relay_hall.specs.declared.handed.Handed.{Handed}
 use Rattle.relay_hall.specs.declared.owner.Owner.{Owner}
 use Rattle.relay_hall.specs.Record.{HallRecord}
-use Rattle.relay_calling.specs.Calling.{CallerRecord, EventMet, Fails, Heeds, after_write, asks, left_after, nobody}
+use Rattle.relay_calling.specs.Calling.{CallerRecord, EventMet, Fails, Heeds, after_write, asks, left_after, nobody, pinged, sent_away}
 use Rattle.relay_calling.specs.Coming.{Feeds, owner_by}
 use Rattle.relay_calling.specs.declared.caller.TheConstants.{MOST_MESSAGES}
 use Rattle.relay_calling.specs.declared.stage.Stage.{Stage}
@@ -33,6 +34,10 @@ pub data Deed : Type 0 where
   failed : Moment → Deed
   -- these bytes were written
   wrote : List ℕ → Deed
+  -- a ping was put, if it asked
+  was_pinged : Bool → Deed
+  -- a close with this code was put and it left, if it asked
+  was_sent_away : Bool → ℕ → Deed
 
 -- each as the call says
 abbrev pub IsDone : CallerRecord → Deed → CallerRecord → Type 0
@@ -40,6 +45,8 @@ IsDone c (came bytes) d = Feeds c bytes d
 IsDone c (heeded some m) d = Heeds some c m.before m.handed m.after d
 IsDone c (failed m) d = Fails c m.before m.handed m.after d
 IsDone c (wrote bytes) d = (n : ℕ) × (bytes ≡ take n c.due) × (d ≡ after_write c n)
+IsDone c (was_pinged some) d = (asks c.stage ≡ some) × (d ≡ pinged c)
+IsDone c (was_sent_away some code) d = (asks c.stage ≡ some) × (d ≡ sent_away c code)
 
 -- one after another, in any order
 abbrev pub Runs : CallerRecord → List Deed → CallerRecord → Type 0
@@ -54,6 +61,8 @@ pieces_of (came bytes ∷ xs) = bytes ∷ pieces_of xs
 pieces_of (heeded some m ∷ xs) = pieces_of xs
 pieces_of (failed m ∷ xs) = pieces_of xs
 pieces_of (wrote bytes ∷ xs) = pieces_of xs
+pieces_of (was_pinged some ∷ xs) = pieces_of xs
+pieces_of (was_sent_away some code ∷ xs) = pieces_of xs
 
 -- all bytes that came
 abbrev pub bytes_of : List Deed → List ℕ
@@ -65,27 +74,39 @@ written_of (came bytes ∷ xs) = written_of xs
 written_of (heeded some m ∷ xs) = written_of xs
 written_of (failed m ∷ xs) = written_of xs
 written_of (wrote bytes ∷ xs) = bytes ++ written_of xs
+written_of (was_pinged some ∷ xs) = written_of xs
+written_of (was_sent_away some code ∷ xs) = written_of xs
 
--- when its events were answered
-abbrev pub moments_of : List Deed → List Moment
-moments_of [] = []
-moments_of (came bytes ∷ xs) = moments_of xs
-moments_of (heeded true m ∷ xs) = m ∷ moments_of xs
-moments_of (heeded false m ∷ xs) = moments_of xs
-moments_of (failed m ∷ xs) = moments_of xs
-moments_of (wrote bytes ∷ xs) = moments_of xs
+-- for what more was due to it: an event that was answered at this moment, a ping that was put, or a close with this code
+pub data Cause : Type 0 where
+  an_event : Moment → Cause
+  a_ping : Cause
+  a_close : ℕ → Cause
+
+abbrev pub causes_of : List Deed → List Cause
+causes_of [] = []
+causes_of (came bytes ∷ xs) = causes_of xs
+causes_of (heeded true m ∷ xs) = an_event m ∷ causes_of xs
+causes_of (heeded false m ∷ xs) = causes_of xs
+causes_of (failed m ∷ xs) = causes_of xs
+causes_of (wrote bytes ∷ xs) = causes_of xs
+causes_of (was_pinged true ∷ xs) = a_ping ∷ causes_of xs
+causes_of (was_pinged false ∷ xs) = causes_of xs
+causes_of (was_sent_away true code ∷ xs) = a_close code ∷ causes_of xs
+causes_of (was_sent_away false code ∷ xs) = causes_of xs
 
 -- ---- What a caller is sent.
 
--- these bytes are the frames of the answers to these events, each at the hall as it stood, in order, for one that had opened these boards
--- and might send so many messages
-abbrev pub AreAnswered : Owner → List (List ℕ) → ℕ → List Told → List Moment → List ℕ → Type 0
-AreAnswered who boards left [] [] bytes = bytes ≡ []
-AreAnswered who boards left [] (m ∷ ms) bytes = ⊥
-AreAnswered who boards left (t ∷ ts) [] bytes = ⊥
-AreAnswered who boards left (t ∷ ts) (m ∷ ms) bytes =
+-- These bytes are, in the order of their causes, the frames of the answers to these events, each at the hall as it stood, for one that had
+-- opened these boards and might send so many messages; each ping that was put; and a close that was put, behind which nothing is due.
+abbrev pub AreSent : Owner → List (List ℕ) → ℕ → List Cause → List Told → List ℕ → Type 0
+AreSent who boards left [] ts bytes = (ts ≡ []) × (bytes ≡ [])
+AreSent who boards left (an_event m ∷ cs) [] bytes = ⊥
+AreSent who boards left (an_event m ∷ cs) (t ∷ ts) bytes =
     (frames : List ℕ) × (rest : List ℕ) × (now : List (List ℕ)) × EventMet m.before who boards (left_after left t) t frames m.handed m.after now
-    × AreAnswered who now (left_after left t) ts ms rest × (bytes ≡ frames ++ rest)
+    × AreSent who now (left_after left t) cs ts rest × (bytes ≡ frames ++ rest)
+AreSent who boards left (a_ping ∷ cs) ts bytes = (rest : List ℕ) × AreSent who boards left cs ts rest × (bytes ≡ ping_frame [] ++ rest)
+AreSent who boards left (a_close code ∷ cs) ts bytes = (cs ≡ []) × (ts ≡ []) × (bytes ≡ close_frame (Some code))
 
 -- how many messages the events are, with pings and pongs
 abbrev pub messages_in : List Told → ℕ
@@ -95,20 +116,21 @@ messages_in (_ ∷ ts) = messages_in ts + 1
 
 -- An owner's caller to which first this was due, and which asks with these bytes. Some events were answered, and these are the first of
 -- those of the bytes, and no more than so many messages. What was written to it, and then what is due, are what was due first, and then the
--- frames of their answers. If it still asks and nothing more can be heeded, they are all the events of the bytes.
+-- frames of their answers, with what was put unasked between them where that was. If it still asks and nothing more can be heeded, they are
+-- all the events of the bytes.
 pub record IsSent (who : Owner) (first : List ℕ) (bytes : List ℕ) (deeds : List Deed) (d : CallerRecord) : Type 0 where
   pub events : List Told
   pub frames : List ℕ
   pub rest : Heard
   pub heard : behind events rest ≡ hear_all (fed opened bytes)
   pub few : messages_in events ≤ MOST_MESSAGES
-  pub answered : AreAnswered who [] MOST_MESSAGES events (moments_of deeds) frames
+  pub answered : AreSent who [] MOST_MESSAGES (causes_of deeds) events frames
   pub sent : written_of deeds ++ d.due ≡ first ++ frames
   pub all : asks d.stage ≡ true → (next_step d.reading).told ≡ None → events ≡ (hear_all (fed opened bytes)).told
 
--- this was written to a caller, and then is due, and nothing else; nothing was heeded, and it has come so far
+-- this was written to a caller, and then is due, and nothing else; nothing was heeded or put unasked, and it has come so far
 pub record IsSentOnly (answer : List ℕ) (stage : Stage) (deeds : List Deed) (d : CallerRecord) : Type 0 where
-  pub none : moments_of deeds ≡ []
+  pub none : causes_of deeds ≡ []
   pub sent : written_of deeds ++ d.due ≡ answer
   pub there : d.stage ≡ stage
 

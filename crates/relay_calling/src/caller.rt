@@ -3,6 +3,7 @@
 ghost use Rattle.std.specs.Prelude.{◌≡◌, ◌≤◌, ◌||◌, [], length, nat_lt, not, take, true, IfOk, OnErr, OnOk};
 ghost use Rattle.relay_frames.specs.Events.{number_of, told, text as told_text};
 ghost use Rattle.relay_frames.specs.Frames.{close_frame, pong_frame, text_frame};
+ghost use Rattle.relay_frames.specs.Reading.{is_midway};
 ghost use Rattle.relay_messages.specs.declared.fault.MessageFault.TheVariants.{BadField, NotJson};
 ghost use Rattle.relay_pushing.specs.Connections.{OwnsAny};
 ghost use Rattle.relay_hall.specs.Steps.{tells_of};
@@ -13,6 +14,7 @@ ghost use Rattle.relay_calling.specs.declared.stage.Stage.TheVariants.{Leaves};
 ghost use Rattle.relay_calling.specs.declared.output.TheConstants.{MOST_OUTPUT};
 
 mod coming;
+mod unasked;
 
 use crate::output::Output;
 use crate::stage::Stage;
@@ -21,6 +23,7 @@ use relay_hall::{Hall, Handed, Owner};
 use relay_pushing::Conn;
 use std::alloc::{AllocError, Global};
 use std::marker::Model;
+use std::mem;
 
 /// How many messages a connection may send, with pings and pongs. The fragments of one message are not counted.
 pub const MOST_MESSAGES: u32 = 1_000_000;
@@ -41,6 +44,8 @@ pub struct Caller {
     /// How many messages it may still send.
     left: u32,
     stage: Stage,
+    /// Whether a text or a binary message was answered since that was last asked.
+    has_said: bool,
 }
 
 impl Model for Caller {
@@ -63,6 +68,11 @@ fn left_after(left: u32, event: &Event) -> u32
     }
 }
 
+/// Whether an event is a whole text or binary message.
+fn is_said(event: &Event) -> bool {
+    matches!(event, Event::Text(_) | Event::Binary(_))
+}
+
 impl Caller {
     /// A connection of which nothing has been read, with its number, and whether its request may name a key.
     pub fn new(alloc: Global, opener: u64, takes_keys: bool) -> Caller
@@ -78,6 +88,7 @@ impl Caller {
             output: Output::new(alloc),
             left: MOST_MESSAGES,
             stage: Stage::Comes,
+            has_said: false,
         }
     }
 
@@ -155,6 +166,7 @@ impl Caller {
     fn go_on(&mut self, event: &Event, has_handed: bool)
         ensures { self.new ≡ record self.old { stage = stage_after has_handed (is_the_last self.old.left (told event.now)) } }
     {
+        self.has_said = self.has_said || is_said(event);
         let is_last = event.is_last() || self.left == 0;
         self.stage = Stage::after(has_handed, is_last);
     }
@@ -307,6 +319,21 @@ impl Caller {
         ensures { result ≡ (not (are_none self.now.boards) || tells_of hall.now.floor self.now.who OwnsAny) }
     {
         self.conn.has_opened_any() || hall.owns_any(&self.owner)
+    }
+
+    /// Whether a whole text or binary message was answered since the last such call. By that a driver measures how long a connection has
+    /// asked for nothing. It is no part of what contracts see.
+    pub fn take_said(&mut self) -> bool
+        ensures { self.new ≡ self.old }
+    {
+        mem::replace(&mut self.has_said, false)
+    }
+
+    /// Whether behind its request it is in the middle of a frame or of a message, so that more has to come soon.
+    pub fn is_midway(&self) -> bool
+        ensures { result ≡ is_midway self.now.reading }
+    {
+        self.peer.is_midway()
     }
 
     /// What the connection does.

@@ -9,21 +9,22 @@ ghost use Rattle.relay_hall.specs.Runs.{IsOneStep};
 ghost use Rattle.relay_calling.specs.Calling.{CallerRecord, Fails, Heeds, IsTold, is_through, newcomer};
 ghost use Rattle.relay_calling.specs.Crowd.{CrowdRecord, IsOneRun, Turn, Turns, deeds_of};
 ghost use Rattle.relay_calling.specs.declared.stage.Stage.TheVariants.{HandsOver};
-ghost use Rattle.relay_calling.specs.Running.{Deed, IsServed, Runs, moments_of};
+ghost use Rattle.relay_calling.specs.Running.{Deed, IsServed, Runs, causes_of};
 
 /// For any pieces in which the bytes of a connection come, from its first byte on, any halls at which they are heeded, and any sizes in
-/// which bytes are written, in any order, also if memory was refused: what was written, and then what is due, are the answer to the request
-/// of the bytes up to the end of its head, and if that is accepted then the frames of the answers to the events of the bytes behind it, as
-/// far as they were answered, each at the hall as it stood, in order.
+/// which bytes are written, and whatever is put unasked, in any order, also if memory was refused: what was written, and then what is due,
+/// are the answer to the request of the bytes up to the end of its head, and if that is accepted then the frames of the answers to the events
+/// of the bytes behind it, as far as they were answered, each at the hall as it stood, in order. Between them stand the pings that were put,
+/// each where it was, and behind them all a close, if one was put.
 pub fn whatever_is_read()
     ensures { (opener : ℕ) (takes_keys : Bool) (deeds : List Deed) (d : CallerRecord) → Runs (newcomer opener takes_keys) deeds d
         → IsServed opener takes_keys deeds d }
 {}
 
-/// A caller that follows or leaves is heeded no more, whatever comes, and stays as far as it has come.
+/// A caller that follows or leaves is heeded no more, whatever comes, nor sent anything unasked, and stays as far as it has come.
 pub fn one_that_is_through_is_never_heeded()
     ensures { (c : CallerRecord) (deeds : List Deed) (d : CallerRecord) → is_through c.stage ≡ true → Runs c deeds d
-        → (moments_of deeds ≡ []) × (d.stage ≡ c.stage) }
+        → (causes_of deeds ≡ []) × (d.stage ≡ c.stage) }
 {}
 
 /// A caller for which something was handed out was told so, behind all that was due before, and hands over.

@@ -2,7 +2,7 @@
 
 ghost use Rattle.std.specs.Prelude.{◌≡◌, ◌≤◌, ◌++◌, [], drop, length, nat_lt, take, OnErr, OnOk};
 ghost use Rattle.relay_frames.specs.Events.{number_of};
-ghost use Rattle.relay_frames.specs.Frames.{close_frame, pong_frame, text_frame};
+ghost use Rattle.relay_frames.specs.Frames.{close_frame, ping_frame, pong_frame, text_frame};
 ghost use Rattle.relay_frames.specs.Requests.{acceptance_text, answer_text};
 
 use relay_frames::{Acceptance, Code, RequestRefusal, outgoing};
@@ -120,6 +120,15 @@ impl Output {
         ensures err { OnErr result (self.new ≡ self.old) }
     {
         outgoing::pong(payload, &mut self.bytes)
+    }
+
+    /// Puts a ping (RFC 6455, section 5.5.2).
+    #[tactic(auto, using(crate::proofs::Dues::due_more))]
+    pub(crate) fn ping(&mut self) -> Result<(), AllocError>
+        ensures ok { OnOk result (self.new ≡ self.old ++ ping_frame []) }
+        ensures err { OnErr result (self.new ≡ self.old) }
+    {
+        outgoing::ping(b"", &mut self.bytes)
     }
 
     /// Puts a close with this code or none (RFC 6455, section 5.5.1).

@@ -12,8 +12,8 @@ pub enum Stage {
     Asks,
     /// It follows a board: what was handed out is its own, and it asks no more.
     HandsOver,
-    /// Its request was refused, it closed, broke the protocol, has sent as many messages as it may, or could not be answered for want of
-    /// memory. It says no more.
+    /// Its request was refused, it closed, broke the protocol, has sent as many messages as it may, was sent away, or could not be answered
+    /// for want of memory. It says no more.
     Leaves,
 }
 

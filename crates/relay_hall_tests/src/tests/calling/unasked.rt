@@ -1,0 +1,239 @@
+//! What a connection is sent unasked, by bytes: pings and closes (RFC 6455, sections 5.5.1 and 5.5.2). And what a driver asks of it, to know
+//! when.
+
+use crate::tests::calling::frames::{BINARY, CLOSE, PING, PONG, TEXT, asked, tell};
+use crate::tests::calling::requests::{ACCEPTED, REQUEST, shaken};
+use c960_game::Limits;
+use relay_calling::{Caller, Stage};
+use relay_frames::Code;
+use relay_hall::Hall;
+use std::alloc::{AllocError, Global};
+use std::process::Abort;
+
+/// The first byte of a text that goes on in further frames (RFC 6455, section 5.4).
+const FIRST_PART: u8 = 0x01;
+
+/// Of the last frame of a message that was begun.
+const LAST_PART: u8 = 0x80;
+
+const OPEN: &str = "{\"cmd\":\"open\",\"board\":\"a\",\"start\":518}";
+
+const FOLLOW: &str = "{\"cmd\":\"follow\",\"board\":\"a\",\"spectator\":7}";
+
+const NOT_JSON: &str = "{\"code\":21,\"name\":\"NotJson\",\"reply\":\"refused\"}";
+
+/// What happens to a connection.
+#[derive(Clone, Copy)]
+enum Deed {
+    /// It sends this frame.
+    Sends(u8, &'static str),
+    Pinged,
+    /// With 1001.
+    SentAway,
+    /// It takes so many of the bytes that are due.
+    Takes(usize),
+}
+
+/// Pings and a close among messages, and frames and calls behind the close.
+const DEEDS: [Deed; 11] = [
+    Deed::Pinged,
+    Deed::Sends(PING, "a"),
+    Deed::Pinged,
+    Deed::Takes(3),
+    Deed::Sends(BINARY, "?"),
+    Deed::Sends(PING, "b"),
+    Deed::Pinged,
+    Deed::Pinged,
+    Deed::SentAway,
+    Deed::Pinged,
+    Deed::Sends(PING, "c"),
+];
+
+/// What it is sent for that.
+const SENT: [(u8, &[u8]); 8] = [
+    (PING, b""),
+    (PONG, b"a"),
+    (PING, b""),
+    (TEXT, NOT_JSON.as_bytes()),
+    (PONG, b"b"),
+    (PING, b""),
+    (PING, b""),
+    (CLOSE, &[3, 0xe9]),
+];
+
+/// A connection without a key, over a hall of its own, and what it has taken.
+#[derive(Drop)]
+struct Scene {
+    alloc: Global,
+    hall: Hall,
+    caller: Caller,
+    taken: Vec<u8>,
+}
+
+impl Scene {
+    fn new(rt: &impl Abort, alloc: Global) -> Scene {
+        let limits = Limits::new(4, 4, 4, 64).expect(rt, "limits");
+        let Ok(hall) = Hall::new(alloc, limits, 1000) else {
+            panic!(rt; "no memory");
+        };
+        let Ok(caller) = shaken(alloc, 1) else {
+            panic!(rt; "no memory");
+        };
+        Scene {
+            alloc,
+            hall,
+            caller,
+            taken: Vec::new(alloc),
+        }
+    }
+
+    /// The connection sends a frame. Returns whether that is heeded. A follower that is handed out leaves.
+    fn sends(&mut self, first: u8, payload: &[u8]) -> Result<bool, AllocError> {
+        let bytes = asked(self.alloc, first, payload)?;
+        self.caller.feed(bytes.as_slice())?;
+        self.heeds()
+    }
+
+    fn heeds(&mut self) -> Result<bool, AllocError> {
+        let (some, handed) = self.caller.heed(&mut self.hall);
+        if let Some(handed) = handed {
+            let _ = handed.follower.leave();
+        }
+        some
+    }
+
+    fn takes(&mut self, n: usize) -> Result<(), AllocError> {
+        let due = self.caller.due();
+        let (first, _) = due.split_at(n.min(due.len()));
+        self.taken.extend_from_slice(first)?;
+        self.caller.wrote(n);
+        Ok(())
+    }
+
+    fn goes_on(&mut self, deed: Deed) -> Result<(), AllocError> {
+        match deed {
+            Deed::Sends(first, payload) => {
+                self.sends(first, payload.as_bytes())?;
+                Ok(())
+            }
+            Deed::Pinged => self.caller.ping(),
+            Deed::SentAway => self.caller.send_away(Code::AWAY),
+            Deed::Takes(n) => self.takes(n),
+        }
+    }
+}
+
+/// Frames as a server sends them.
+fn frames(alloc: Global, wanted: &[(u8, &[u8])]) -> Result<Vec<u8>, AllocError> {
+    let mut bytes = Vec::new(alloc);
+    for (first, payload) in wanted {
+        tell(&mut bytes, *first, payload)?;
+    }
+    Ok(bytes)
+}
+
+#[test]
+fn each_ping_stands_where_it_was_put_and_a_close_is_the_last(rt: HostRuntime) {
+    let alloc = rt.alloc();
+    let mut scene = Scene::new(&rt, alloc);
+    let Ok(wanted) = frames(alloc, &SENT) else {
+        panic!(rt; "no memory");
+    };
+    for deed in DEEDS {
+        assert!(rt; scene.goes_on(deed).is_ok());
+    }
+    assert!(rt; scene.takes(1000).is_ok());
+    assert_eq!(rt; scene.taken.as_slice(), wanted.as_slice());
+    assert!(rt; scene.caller.stage() == Stage::Leaves);
+}
+
+/// A connection that has sent a ping, which was answered, is sent away with this code. Returns whether it has the pong and then the close,
+/// leaves, and is heeded no more.
+fn is_sent_away(rt: &impl Abort, alloc: Global, code: Code, payload: &[u8]) -> bool {
+    let mut scene = Scene::new(rt, alloc);
+    let Ok(wanted) = frames(alloc, &[(PONG, b"a"), (CLOSE, payload)]) else {
+        panic!(rt; "no memory");
+    };
+    scene.sends(PING, b"a") == Ok(true)
+        && scene.caller.send_away(code).is_ok()
+        && scene.sends(PING, b"b") == Ok(false)
+        && scene.caller.due() == wanted.as_slice()
+        && scene.caller.stage() == Stage::Leaves
+}
+
+#[test]
+fn one_that_is_sent_away_is_told_the_code(rt: HostRuntime) {
+    let alloc = rt.alloc();
+    assert!(rt; is_sent_away(&rt, alloc, Code::NORMAL, &[3, 0xe8]));
+    assert!(rt; is_sent_away(&rt, alloc, Code::AWAY, &[3, 0xe9]));
+    assert!(rt; is_sent_away(&rt, alloc, Code::POLICY, &[3, 0xf0]));
+    assert!(rt; is_sent_away(&rt, alloc, Code::AGAIN, &[3, 0xf5]));
+}
+
+/// Whether neither a ping nor a close changes what is due to a connection and what it does.
+fn stays(caller: &mut Caller, due: &[u8], stage: Stage) -> bool {
+    caller.ping().is_ok()
+        && caller.send_away(Code::AWAY).is_ok()
+        && caller.due() == due
+        && caller.stage() == stage
+}
+
+#[test]
+fn before_its_request_is_answered_it_is_sent_nothing_unasked(rt: HostRuntime) {
+    let mut caller = Caller::new(rt.alloc(), 1, true);
+    let (first, second) = REQUEST.split_at(REQUEST.len() / 2);
+    assert!(rt; stays(&mut caller, b"", Stage::Comes));
+    assert!(rt; caller.feed(first).is_ok() && stays(&mut caller, b"", Stage::Comes));
+    assert!(rt; caller.feed(second).is_ok());
+    assert_eq!(rt; caller.due(), ACCEPTED);
+    assert!(rt; caller.stage() == Stage::Asks);
+}
+
+#[test]
+fn one_that_follows_or_leaves_is_sent_nothing_unasked(rt: HostRuntime) {
+    let mut first = Scene::new(&rt, rt.alloc());
+    assert!(rt; first.sends(TEXT, OPEN.as_bytes()) == Ok(true));
+    assert!(rt; first.sends(TEXT, FOLLOW.as_bytes()) == Ok(true));
+    first.caller.wrote(1000);
+    assert!(rt; stays(&mut first.caller, b"", Stage::HandsOver));
+    let mut second = Scene::new(&rt, rt.alloc());
+    assert!(rt; second.sends(CLOSE, b"") == Ok(true));
+    assert!(rt; stays(&mut second.caller, &[CLOSE, 0], Stage::Leaves));
+}
+
+/// Frames in order, and whether a whole text or binary message was then answered since the last one.
+const SAID: [(u8, &[u8], bool); 7] = [
+    (TEXT, b"?", true),
+    (PING, b"", false),
+    (BINARY, b"?", true),
+    (PONG, b"", false),
+    (FIRST_PART, b"?", false),
+    (LAST_PART, b"?", true),
+    (CLOSE, b"", false),
+];
+
+#[test]
+fn what_it_has_said_is_told_once(rt: HostRuntime) {
+    let mut scene = Scene::new(&rt, rt.alloc());
+    assert!(rt; !scene.caller.take_said());
+    for (first, payload, has_said) in SAID {
+        assert!(rt; scene.sends(first, payload) == Ok(true));
+        assert!(rt; scene.caller.take_said() == has_said && !scene.caller.take_said());
+    }
+}
+
+#[test]
+fn it_is_midway_until_its_message_is_whole(rt: HostRuntime) {
+    let mut scene = Scene::new(&rt, rt.alloc());
+    let Ok(ping) = asked(rt.alloc(), PING, b"a") else {
+        panic!(rt; "no memory");
+    };
+    let (first, second) = ping.as_slice().split_at(ping.len() / 2);
+    assert!(rt; !scene.caller.is_midway());
+    assert!(rt; scene.caller.feed(first).is_ok() && scene.heeds() == Ok(false));
+    assert!(rt; scene.caller.is_midway());
+    assert!(rt; scene.caller.feed(second).is_ok() && scene.heeds() == Ok(true));
+    assert!(rt; !scene.caller.is_midway());
+    assert!(rt; scene.sends(FIRST_PART, b"?") == Ok(true) && scene.caller.is_midway());
+    assert!(rt; scene.sends(LAST_PART, b"?") == Ok(true) && !scene.caller.is_midway());
+}
