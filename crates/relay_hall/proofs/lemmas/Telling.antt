@@ -41,8 +41,8 @@ joins limits b from r answer =
     let next : next_of r.0.part ≡ r.0.part.joined = omega (arith, ap length taken) in
     let made = made_here b.game.start b.game.log r.0.part.joined r.1 answer.position in
     let position : r.1 ≡ last_position r.0.part.setup.start r.0.part.before =
-        made ∙ ap (λ n. last_position b.game.start (take n b.game.log)) joined
-        ∙ sym (ap (λ (p : Part). last_position p.setup.start p.before) part) in
+    made ∙ ap (λ n. last_position b.game.start (take n b.game.log)) joined
+    ∙ sym (ap (λ (p : Part). last_position p.setup.start p.before) part) in
     record { is = ap (λ n. Following n r.1) (sym next) ∙ ap (λ (p : Parts). Following (next_of r.0.part) p) position; joined = next }
 
 handed_tells : (limits : BoardLimits) (b : HallBoard) (name : List ℕ) (from : Option ℕ) (answer : Result (FollowerSeat × Parts) Refusal) (reply : Reply) (h : Handed) → Hands limits b from answer
