@@ -13,9 +13,9 @@ ghost use Rattle.relay_calling.specs.Running.{Deed, IsServed, Runs, causes_of};
 
 /// For any pieces in which the bytes of a connection come, from its first byte on, any halls at which they are heeded, and any sizes in
 /// which bytes are written, and whatever is put unasked, in any order, also if memory was refused: what was written, and then what is due,
-/// are the answer to the request of the bytes up to the end of its head, and if that is accepted then the frames of the answers to the events
-/// of the bytes behind it, as far as they were answered, each at the hall as it stood, in order. Between them stand the pings that were put,
-/// each where it was, and behind them all a close, if one was put.
+/// are the answer to the request of the bytes up to the end of its head, and if that is accepted then the frames of the answers to the
+/// events of the bytes behind it, as far as they were answered, each at the hall as it stood, in order. Between them stand the pings that
+/// were put, each where it was, and behind them all a close, if one was put.
 pub fn whatever_is_read()
     ensures { (opener : ℕ) (takes_keys : Bool) (deeds : List Deed) (d : CallerRecord) → Runs (newcomer opener takes_keys) deeds d
         → IsServed opener takes_keys deeds d }

@@ -1,5 +1,5 @@
-//! What a connection is sent unasked, as time passes. Before its request is answered there is no WebSocket, so no frame may be sent; and one
-//! that follows is sent frames by whoever goes on with it. So only one that asks is sent something.
+//! What a connection is sent unasked, as time passes. Before its request is answered there is no WebSocket, so no frame may be sent; and
+//! one that follows is sent frames by whoever goes on with it. So only one that asks is sent something.
 
 ghost use Rattle.std.specs.Prelude.{◌≡◌, OnErr, OnOk};
 ghost use Rattle.relay_calling.specs.Calling.{pinged, sent_away};
@@ -27,9 +27,9 @@ impl Caller {
         }
     }
 
-    /// Puts a close with this code behind what is due and leaves, if the connection asks. Otherwise nothing is done. One that leaves has had
-    /// its close, or the answer that refused its request. Before the request is answered a close would be no frame to the peer (RFC 6455,
-    /// section 4.1), so whoever wants such a connection to end just closes it.
+    /// Puts a close with this code behind what is due and leaves, if the connection asks. Otherwise nothing is done. One that leaves has
+    /// had its close, or the answer that refused its request. Before the request is answered a close would be no frame to the peer (RFC
+    /// 6455, section 4.1), so whoever wants such a connection to end just closes it.
     ///
     /// # Errors
     ///

@@ -1,5 +1,5 @@
-//! What a connection is sent unasked, by bytes: pings and closes (RFC 6455, sections 5.5.1 and 5.5.2). And what a driver asks of it, to know
-//! when.
+//! What a connection is sent unasked, by bytes: pings and closes (RFC 6455, sections 5.5.1 and 5.5.2). And what a driver asks of it, to
+//! know when.
 
 use crate::tests::calling::frames::{BINARY, CLOSE, PING, PONG, TEXT, asked, tell};
 use crate::tests::calling::requests::{ACCEPTED, REQUEST, shaken};
