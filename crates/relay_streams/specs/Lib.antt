@@ -1,5 +1,7 @@
 pub mod Dues
-pub mod Heads
+pub mod Handing
 pub mod Hearing
+pub mod Inner
 pub mod BufferedStreams
 pub mod Memory
+pub mod Records

@@ -1,10 +1,9 @@
 //! A stream that keeps its output back until the peer is waited for.
 
-ghost use Rattle.std.specs.Prelude.{◌≡◌, ◌+◌, ◌≤◌, ◌<◌, ◌⊎◌, ◌↔◌, IsTrue, true, false, [], None, Some, is_some, length, vec_capacity, IfOk, OnOk, OnErr, IsErr, IsOk};
+ghost use Rattle.std.specs.Prelude.{◌≡◌, ◌+◌, ◌≤◌, ◌<◌, ◌⊎◌, ◌↔◌, IsTrue, true, false, [], None, Some, is_some, length, IfOk, OnOk, OnErr, IsErr, IsOk};
 ghost use Rattle.std.specs.Io.{ReadsAtMost, WritesAtMost};
 ghost use Rattle.std.specs.Io.KnownBytes.{Appends, Keeps, ReadConsumes, WriteAppends};
 ghost use Rattle.relay_frames.specs.Frames.{text_frame};
-ghost use Rattle.relay_streams.specs.Heads.{left};
 ghost use Rattle.relay_streams.specs.BufferedStreams.{IsOffered, IsSilent, ReadsLast, ReadsOn, Sends, written};
 
 use crate::head::Head;
@@ -14,6 +13,7 @@ use relay_frames::outgoing;
 use std::alloc::{AllocError, Global};
 use std::io;
 use std::io::{ErrorKind, Read, Write};
+use std::marker::Model;
 use std::time::Duration;
 
 /// How many bytes of output are kept back at most for a stream that waits, besides the last piece written.
@@ -26,6 +26,7 @@ const MOST_ROOM: usize = 4096;
 /// much has been kept back. So the answers to commands that arrived in one piece leave in one piece.
 ///
 /// The bytes written to it are those written to the stream, followed by those kept back: nothing is lost or duplicated.
+/// Contracts see a `BufferedRecord`.
 #[derive(Drop)]
 pub struct BufferedStream<S> {
     alloc: Global,
@@ -40,11 +41,24 @@ pub struct BufferedStream<S> {
     is_stuck: bool,
 }
 
+impl<S> Model for BufferedStream<S> {
+    ghost use Rattle.relay_streams.specs.Records.{BufferedRecord};
+
+    ghost Value = { BufferedRecord S };
+
+    ghost use Rattle.relay_streams.specs.Inner.{buffered_of};
+
+    ghost view = { buffered_of };
+}
+
 impl<S: Read + Write> BufferedStream<S> {
     /// The stream after this head, which is answered by these bytes. They are the first that were written to it.
     pub fn new(alloc: Global, stream: S, head: Head, answer: Vec<u8>) -> BufferedStream<S>
         ensures answered { Appends (S.contents stream) (written S.contents result) answer.items }
-        ensures behind { left result.head ≡ left head }
+        ensures behind { result.behind ≡ head.left }
+        ensures stream { result.stream ≡ stream }
+        ensures kept { result.kept ≡ answer.items }
+        ensures failed { result.has_failed ≡ false }
     {
         BufferedStream {
             alloc,
@@ -64,10 +78,10 @@ impl<S: Read + Write> BufferedStream<S> {
     /// The stream failed, now or before. What it did not take is still kept back.
     pub(crate) fn send_now(&mut self) -> io::Result<()>
         ensures bytes { Keeps (written S.contents self.old) (written S.contents self.new) }
-        ensures sent { OnOk result (self.new.output.items ≡ []) }
+        ensures sent { OnOk result (self.new.kept ≡ []) }
         ensures failed { OnErr result (self.new.has_failed ≡ true) }
         ensures silent { self.old.has_failed ≡ true → IsErr result × IsSilent self.old self.new }
-        ensures front { Sends S.contents self.old self.new.stream self.new.output.items }
+        ensures front { Sends S.contents self.old self.new.stream self.new.kept }
     {
         if self.has_failed {
             return Err(io::Error::from(ErrorKind::BrokenPipe));
@@ -81,7 +95,7 @@ impl<S: Read + Write> BufferedStream<S> {
     pub(crate) fn offer(&mut self)
         ensures bytes { Keeps (written S.contents self.old) (written S.contents self.new) }
         ensures silent { self.old.has_failed ≡ true → IsSilent self.old self.new }
-        ensures front { Sends S.contents self.old self.new.stream self.new.output.items }
+        ensures front { Sends S.contents self.old self.new.stream self.new.kept }
         ensures offered { IsOffered self.new }
     {
         if !self.has_failed {
@@ -92,8 +106,8 @@ impl<S: Read + Write> BufferedStream<S> {
     /// Writes what is kept back in one write.
     fn write_once(&mut self) -> io::Result<()>
         ensures bytes { Keeps (written S.contents self.old) (written S.contents self.new) }
-        ensures front { Sends S.contents self.old self.new.stream self.new.output.items }
-        ensures offered { OnOk result ((self.new.output.items ≡ []) ⊎ (self.new.is_stuck ≡ true)) }
+        ensures front { Sends S.contents self.old self.new.stream self.new.kept }
+        ensures offered { OnOk result ((self.new.kept ≡ []) ⊎ (self.new.is_stuck ≡ true)) }
     {
         if self.output.is_empty() {
             return Ok(());
@@ -110,9 +124,9 @@ impl<S: Read + Write> BufferedStream<S> {
     /// Writes what was kept back to the stream, and keeps back whatever that did not take.
     fn send_output(&mut self) -> io::Result<()>
         ensures bytes { Keeps (written S.contents self.old) (written S.contents self.new) }
-        ensures sent { OnOk result (self.new.output.items ≡ []) }
-        ensures freed { OnOk result (vec_capacity self.new.output ≤ 4096) }
-        ensures front { Sends S.contents self.old self.new.stream self.new.output.items }
+        ensures sent { OnOk result (self.new.kept ≡ []) }
+        ensures freed { OnOk result (self.new.room ≤ 4096) }
+        ensures front { Sends S.contents self.old self.new.stream self.new.kept }
     {
         if !self.output.is_empty() {
             let (taken, done) = write_out(self.output.as_slice(), &mut self.stream);
@@ -126,9 +140,9 @@ impl<S: Read + Write> BufferedStream<S> {
 
     /// Frees the room for output if there is much of it.
     fn give_back(&mut self)
-        requires { self.old.output.items ≡ [] }
-        ensures empty { self.new.output.items ≡ [] }
-        ensures freed { vec_capacity self.new.output ≤ 4096 }
+        requires { self.old.kept ≡ [] }
+        ensures empty { self.new.kept ≡ [] }
+        ensures freed { self.new.room ≤ 4096 }
         ensures stream { self.new.stream ≡ self.old.stream }
     {
         if self.output.capacity() > MOST_ROOM {
@@ -145,7 +159,7 @@ impl<S: Read + Write> BufferedStream<S> {
     fn make_room(&mut self) -> io::Result<()>
         ensures bytes { Keeps (written S.contents self.old) (written S.contents self.new) }
         ensures silent { self.old.has_failed ≡ true → IsErr result × IsSilent self.old self.new }
-        ensures front { Sends S.contents self.old self.new.stream self.new.output.items }
+        ensures front { Sends S.contents self.old self.new.stream self.new.kept }
     {
         if self.has_failed || self.is_full() {
             self.send_now()
@@ -185,7 +199,7 @@ impl<S: Read + Write> BufferedStream<S> {
     fn keep_back(&mut self, bytes: &[u8]) -> io::Result<()>
         ensures ok { OnOk result (Appends (written S.contents self.old) (written S.contents self.new) bytes.now) }
         ensures err { OnErr result (Keeps (written S.contents self.old) (written S.contents self.new)) }
-        ensures kept { OnErr result ((self.new.stream ≡ self.old.stream) × (self.new.output.items ≡ self.old.output.items)) }
+        ensures kept { OnErr result ((self.new.stream ≡ self.old.stream) × (self.new.kept ≡ self.old.kept)) }
         ensures unoffered { OnOk result (self.new.is_stuck ≡ false) }
     {
         let done = self.output.extend_from_slice(bytes);
@@ -196,7 +210,7 @@ impl<S: Read + Write> BufferedStream<S> {
     fn note_kept(&mut self, done: Result<(), AllocError>) -> io::Result<()>
         ensures done { IsOk result ↔ IsOk done }
         ensures stream { self.new.stream ≡ self.old.stream }
-        ensures output { self.new.output ≡ self.old.output }
+        ensures output { (self.new.kept ≡ self.old.kept) × (self.new.room ≡ self.old.room) }
         ensures unoffered { OnOk result (self.new.is_stuck ≡ false) }
     {
         match done {
@@ -224,10 +238,10 @@ impl<S: Read + Write> BufferedStream<S> {
     /// The stream failed, now or before. What it did not take is still kept back.
     pub(crate) fn send_some(&mut self) -> io::Result<bool>
         ensures bytes { Keeps (written S.contents self.old) (written S.contents self.new) }
-        ensures all { IfOk result (λ all. IsTrue all ↔ (self.new.output.items ≡ [])) }
+        ensures all { IfOk result (λ all. IsTrue all ↔ (self.new.kept ≡ [])) }
         ensures failed { OnErr result (self.new.has_failed ≡ true) }
         ensures silent { self.old.has_failed ≡ true → IsErr result × IsSilent self.old self.new }
-        ensures front { Sends S.contents self.old self.new.stream self.new.output.items }
+        ensures front { Sends S.contents self.old self.new.stream self.new.kept }
     {
         if self.failed_before() {
             return Err(io::Error::from(ErrorKind::BrokenPipe));
@@ -249,7 +263,7 @@ impl<S: Read + Write> BufferedStream<S> {
     pub(crate) fn read_on(&mut self, buf: &mut [u8]) -> io::Result<usize>
         ensures bound { ReadsAtMost result buf.new }
         ensures next { ReadsOn S.remaining self.old self.new result buf.new }
-        ensures output { self.new.output ≡ self.old.output }
+        ensures output { (self.new.kept ≡ self.old.kept) × (self.new.room ≡ self.old.room) }
     {
         let given = self.head.give(buf);
         if given > 0 {
@@ -261,7 +275,7 @@ impl<S: Read + Write> BufferedStream<S> {
 
     /// How many bytes are kept back.
     pub(crate) fn kept(&self) -> usize
-        ensures { result ≡ length self.now.output.items }
+        ensures { result ≡ length self.now.kept }
     {
         self.output.len()
     }
@@ -269,8 +283,8 @@ impl<S: Read + Write> BufferedStream<S> {
     /// The stream, and what is buffered without it, ready for another stream in its place.
     pub(crate) fn unplugged(self) -> (S, BufferedStream<()>)
         ensures stream { result.0 ≡ self.stream }
-        ensures output { result.1.output.items ≡ self.output.items }
-        ensures behind { left result.1.head ≡ left self.head }
+        ensures output { result.1.kept ≡ self.kept }
+        ensures behind { result.1.behind ≡ self.behind }
         ensures failed { result.1.has_failed ≡ self.has_failed }
     {
         let BufferedStream {
@@ -293,16 +307,29 @@ impl<S: Read + Write> BufferedStream<S> {
         };
         (stream, buffered)
     }
+
+    /// A stream that does not wait, whose output was kept elsewhere until now. These bytes of it only `send_some` sends.
+    pub(crate) fn going_on(alloc: Global, stream: S, unsent: Vec<u8>) -> BufferedStream<S>
+        ensures stream { result.stream ≡ stream }
+        ensures output { result.kept ≡ unsent.items }
+        ensures behind { result.behind ≡ [] }
+        ensures failed { result.has_failed ≡ false }
+        ensures unbounded { result.most_kept ≡ usize.MAX }
+    {
+        let mut buffered = BufferedStream::new(alloc, stream, Head::read_elsewhere(alloc), unsent);
+        buffered.most_output = usize::MAX;
+        buffered
+    }
 }
 
 impl BufferedStream<()> {
     /// The same output over this stream, which does not wait. Whatever it keeps back, however much, only `send_some` sends.
     pub(crate) fn onto<S>(self, stream: S) -> BufferedStream<S>
         ensures stream { result.stream ≡ stream }
-        ensures output { result.output.items ≡ self.output.items }
-        ensures behind { left result.head ≡ left self.head }
+        ensures output { result.kept ≡ self.kept }
+        ensures behind { result.behind ≡ self.behind }
         ensures failed { result.has_failed ≡ self.has_failed }
-        ensures unbounded { result.most_output ≡ usize.MAX }
+        ensures unbounded { result.most_kept ≡ usize.MAX }
     {
         let BufferedStream {
             alloc,
@@ -349,7 +376,7 @@ impl<S: Read + Write> Write for BufferedStream<S> {
         ensures bytes { WriteAppends (written S.contents self.old) (written S.contents self.new) result buf.now }
         ensures whole { IfOk result (λ n. n ≡ length buf.now) }
         ensures silent { self.old.has_failed ≡ true → IsErr result × IsSilent self.old self.new }
-        ensures front { OnErr result (Sends S.contents self.old self.new.stream self.new.output.items) }
+        ensures front { OnErr result (Sends S.contents self.old self.new.stream self.new.kept) }
     {
         self.make_room()?;
         self.keep_back(buf)?;

@@ -1,7 +1,6 @@
 //! The head of a request (RFC 9112, section 2), gathered whole before it is read.
 
-ghost use Rattle.std.specs.Prelude.{◌≡◌, ◌≤◌, ◌<◌, ◌++◌, [], length, take, vec_capacity, vec_len, IfOk};
-ghost use Rattle.relay_streams.specs.Heads.{left};
+ghost use Rattle.std.specs.Prelude.{◌≡◌, ◌≤◌, ◌<◌, ◌++◌, [], length, take, IfOk};
 
 use crate::deadline::Deadline;
 use crate::stream::{Stream, read_some};
@@ -9,6 +8,7 @@ use relay_frames::{MOST_HEAD_BYTES, RequestRefusal, end_of_head};
 use std::alloc::Global;
 use std::io;
 use std::io::ErrorKind;
+use std::marker::Model;
 use std::time::{Clock, Duration};
 
 /// How many seconds a peer may take to send its head.
@@ -30,6 +30,7 @@ impl From<io::Error> for HeadFault {
 }
 
 /// A request's head, and what followed it in the same pieces. It gives out only the latter: the head itself is read in place.
+/// Contracts see a `HeadRecord`.
 #[derive(Drop)]
 pub struct Head {
     alloc: Global,
@@ -38,6 +39,16 @@ pub struct Head {
     end: usize,
     /// How many bytes were read in place or given out.
     given: usize,
+}
+
+impl Model for Head {
+    ghost use Rattle.relay_streams.specs.Records.{HeadRecord};
+
+    ghost Value = { HeadRecord };
+
+    ghost use Rattle.relay_streams.specs.Inner.{head_of};
+
+    ghost view = { head_of };
 }
 
 impl Head {
@@ -51,8 +62,8 @@ impl Head {
         alloc: Global,
         stream: &mut S,
     ) -> Result<Head, HeadFault>
-        ensures bound { IfOk result (λ head. head.end ≤ MOST_HEAD_BYTES) }
-        ensures unread { IfOk result (λ head. head.given ≡ head.end) }
+        ensures bound { IfOk result (λ head. length head.request ≤ MOST_HEAD_BYTES) }
+        ensures unread { IfOk result (λ head. head.left ≡ head.followed) }
     {
         let deadline = Deadline::after(clock, Duration::from_secs(MOST_HEAD_SECONDS))?;
         let mut bytes = Vec::new(alloc);
@@ -82,9 +93,21 @@ impl Head {
         Err(HeadFault::Refused(RequestRefusal::HeadTooLarge))
     }
 
+    /// A head that was read elsewhere, with all that followed it.
+    pub(crate) fn read_elsewhere(alloc: Global) -> Head
+        ensures { result.left ≡ [] }
+    {
+        Head {
+            alloc,
+            bytes: Vec::new(alloc),
+            end: 0,
+            given: 0,
+        }
+    }
+
     /// The bytes of the head, without those that followed it.
     pub fn request(&self) -> &[u8]
-        ensures { result.now ≡ take self.now.end self.now.bytes.items }
+        ensures { result.now ≡ self.now.request }
     {
         let all = self.bytes.as_slice();
         &all[..self.end.min(all.len())]
@@ -93,9 +116,9 @@ impl Head {
     /// Gives out bytes that followed the head, and none once all have been given.
     pub(crate) fn give(&mut self, buf: &mut [u8]) -> usize
         ensures bound { result ≤ length buf.new }
-        ensures next { left self.old ≡ take result buf.new ++ left self.new }
-        ensures all { result ≡ 0 → 0 < length buf.old → left self.old ≡ [] }
-        ensures same { (self.new.bytes ≡ self.old.bytes) × (self.new.end ≡ self.old.end) }
+        ensures next { self.old.left ≡ take result buf.new ++ self.new.left }
+        ensures all { result ≡ 0 → 0 < length buf.old → self.old.left ≡ [] }
+        ensures same { (self.new.request ≡ self.old.request) × (self.new.followed ≡ self.old.followed) × (self.new.room ≡ self.old.room) }
     {
         let all = self.bytes.as_slice();
         if self.given >= all.len() {
@@ -110,8 +133,8 @@ impl Head {
 
     /// Frees the bytes once all have been given out.
     pub(crate) fn let_go(&mut self)
-        ensures same { left self.new ≡ left self.old }
-        ensures freed { vec_len self.old.bytes ≤ self.old.given → vec_capacity self.new.bytes ≡ 0 }
+        ensures same { self.new.left ≡ self.old.left }
+        ensures freed { self.old.left ≡ [] → self.new.room ≡ 0 }
     {
         if self.given >= self.bytes.len() {
             self.bytes = Vec::new(self.alloc);

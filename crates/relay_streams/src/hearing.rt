@@ -54,7 +54,7 @@ impl<S: Read + Write + Drop> SocketOutlet<S> {
     pub fn take_in(&mut self) -> io::Result<usize>
         ensures came { IfOk result (λ n. TakesIn S.remaining self.old self.new n) }
         ensures nothing { IfErr result (λ error. TakesNone S.remaining self.old self.new error) }
-        ensures kept { self.new.buffered.output ≡ self.old.buffered.output }
+        ensures kept { (self.new.buffered.kept ≡ self.old.buffered.kept) × (self.new.buffered.room ≡ self.old.buffered.room) }
         ensures texts { self.new.texts ≡ self.old.texts }
     {
         let mut piece = [0; READ_BYTES];

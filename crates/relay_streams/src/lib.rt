@@ -27,4 +27,5 @@ pub use patience::Patience;
 pub use request::{Request, read_request, refuse};
 pub use socket::Socket;
 pub use stream::{Stream, read_some};
+pub use texts::Texts;
 pub use wire::Wire;

@@ -1,14 +1,14 @@
 //! The outlet over a WebSocket.
 
-ghost use Rattle.std.specs.Prelude.{◌≡◌, [], ◌∷◌, ◌++◌, ◌<◌, ◌↔◌, IsTrue, Some, Err, length, IfOk, OnOk, OnErr, if◌then◌else◌};
+ghost use Rattle.std.specs.Prelude.{◌≡◌, false, [], ◌∷◌, ◌++◌, ◌<◌, ◌↔◌, IsTrue, Some, Err, length, IfOk, OnOk, OnErr, if◌then◌else◌};
 ghost use Rattle.std.specs.Io.KnownBytes.{Appends, Keeps};
 ghost use Rattle.relay_frames.specs.Breaches.{code_of};
 ghost use Rattle.relay_frames.specs.Events.{number_of};
 ghost use Rattle.relay_frames.specs.Frames.{close_frame, ping_frame, pong_frame, text_frame};
 ghost use Rattle.relay_pushing.specs.Sending.{Counts};
 ghost use Rattle.relay_pushing.specs.declared.outlet.SendFault.TheVariants.{Device};
-ghost use Rattle.relay_streams.specs.Heads.{left};
-ghost use Rattle.relay_streams.specs.BufferedStreams.{IsOffered, Sends, written as buffered_written};
+ghost use Rattle.relay_streams.specs.BufferedStreams.{IsOffered, Sends, written};
+ghost use Rattle.relay_streams.specs.Handing.{EndInTheLast};
 ghost use Rattle.relay_streams.specs.Memory.{IsToldOf};
 
 use crate::buffered_stream::BufferedStream;
@@ -22,13 +22,14 @@ use relay_pushing::{Outlet, SendFault};
 use std::alloc::Global;
 use std::io;
 use std::io::{Read, Write};
+use std::marker::Model;
 use std::time::Clock;
 use tungstenite::Error;
 
 /// How many bytes at least are kept back for a peer that is pushed to by turns, before it has no room.
 const ROOM_BYTES: usize = 4096;
 
-/// An outlet over a WebSocket, from the end of its handshake on. Its model is the texts whose frames it put into the stream's buffer.
+/// An outlet over a WebSocket, from the end of its handshake on. Contracts see an `OutletRecord`.
 #[derive(Drop)]
 pub struct SocketOutlet<S> {
     alloc: Global,
@@ -41,13 +42,24 @@ pub struct SocketOutlet<S> {
     /// How many bytes may be kept back while there is still room for one more text.
     room: usize,
     failures: u64,
+    /// The texts whose frames were put into the stream's buffer.
     texts: Texts,
+}
+
+impl<S> Model for SocketOutlet<S> {
+    ghost use Rattle.relay_streams.specs.Records.{OutletRecord};
+
+    ghost Value = { OutletRecord S };
+
+    ghost use Rattle.relay_streams.specs.Inner.{outlet_of};
+
+    ghost view = { outlet_of };
 }
 
 impl<S: Read + Write + Drop> SocketOutlet<S> {
     /// The outlet over a stream whose handshake is done and whose device has not failed yet. No text has been put into it.
     pub fn new(alloc: Global, buffered: BufferedStream<S>) -> SocketOutlet<S>
-        ensures texts { result.texts.items ≡ [] }
+        ensures texts { result.texts ≡ [] }
         ensures failures { result.failures ≡ 0 }
         ensures buffered { result.buffered ≡ buffered }
     {
@@ -65,8 +77,8 @@ impl<S: Read + Write + Drop> SocketOutlet<S> {
 
     /// Writes a ping (RFC 6455, section 5.5.2). It leaves before the next read waits.
     pub fn ping(&mut self) -> Result<(), Error>
-        ensures given { OnOk result (Appends (buffered_written S.contents self.old.buffered) (buffered_written S.contents self.new.buffered) (ping_frame [])) }
-        ensures ungiven { OnErr result (Keeps (buffered_written S.contents self.old.buffered) (buffered_written S.contents self.new.buffered)) }
+        ensures given { OnOk result (Appends (written S.contents self.old.buffered) (written S.contents self.new.buffered) (ping_frame [])) }
+        ensures ungiven { OnErr result (Keeps (written S.contents self.old.buffered) (written S.contents self.new.buffered)) }
         ensures peer { self.new.peer ≡ self.old.peer }
         ensures texts { self.new.texts ≡ self.old.texts }
         ensures due { self.new.due ≡ self.old.due }
@@ -83,8 +95,8 @@ impl<S: Read + Write + Drop> SocketOutlet<S> {
     ///
     /// The stream took no more, or there was no memory.
     pub fn pong(&mut self, payload: &[u8]) -> Result<(), Error>
-        ensures given { OnOk result (Appends (buffered_written S.contents self.old.buffered) (buffered_written S.contents self.new.buffered) (pong_frame payload.now)) }
-        ensures ungiven { OnErr result (Keeps (buffered_written S.contents self.old.buffered) (buffered_written S.contents self.new.buffered)) }
+        ensures given { OnOk result (Appends (written S.contents self.old.buffered) (written S.contents self.new.buffered) (pong_frame payload.now)) }
+        ensures ungiven { OnErr result (Keeps (written S.contents self.old.buffered) (written S.contents self.new.buffered)) }
         ensures peer { self.new.peer ≡ self.old.peer }
         ensures texts { self.new.texts ≡ self.old.texts }
     {
@@ -97,8 +109,8 @@ impl<S: Read + Write + Drop> SocketOutlet<S> {
     /// Offers the stream what is kept back, in one write.
     pub fn offer(&mut self)
         ensures offered { IsOffered self.new.buffered }
-        ensures bytes { Keeps (buffered_written S.contents self.old.buffered) (buffered_written S.contents self.new.buffered) }
-        ensures front { Sends S.contents self.old.buffered self.new.buffered.stream self.new.buffered.output.items }
+        ensures bytes { Keeps (written S.contents self.old.buffered) (written S.contents self.new.buffered) }
+        ensures front { Sends S.contents self.old.buffered self.new.buffered.stream self.new.buffered.kept }
         ensures peer { self.new.peer ≡ self.old.peer }
         ensures texts { self.new.texts ≡ self.old.texts }
     {
@@ -123,8 +135,8 @@ impl<S: Read + Write + Drop> SocketOutlet<S> {
     ///
     /// The stream took no more, or there was no memory.
     fn hand_over(&mut self, text: &str) -> Result<(), Error>
-        ensures noted { OnOk result (self.new.texts.items ≡ self.old.texts.items ++ text.now ∷ []) }
-        ensures given { OnOk result (Appends (buffered_written S.contents self.old.buffered) (buffered_written S.contents self.new.buffered) (text_frame text.now)) }
+        ensures noted { OnOk result (self.new.texts ≡ self.old.texts ++ text.now ∷ []) }
+        ensures given { OnOk result (Appends (written S.contents self.old.buffered) (written S.contents self.new.buffered) (text_frame text.now)) }
         ensures unnoted { OnErr result (self.new.texts ≡ self.old.texts) }
         ensures failures { self.new.failures ≡ self.old.failures }
     {
@@ -139,8 +151,8 @@ impl<S: Read + Write + Drop> SocketOutlet<S> {
     ///
     /// The stream took no more, or there was no memory.
     pub fn put_close(&mut self, code: Option<Code>) -> Result<(), Error>
-        ensures given { OnOk result (Appends (buffered_written S.contents self.old.buffered) (buffered_written S.contents self.new.buffered) (close_frame (number_of code))) }
-        ensures ungiven { OnErr result (Keeps (buffered_written S.contents self.old.buffered) (buffered_written S.contents self.new.buffered)) }
+        ensures given { OnOk result (Appends (written S.contents self.old.buffered) (written S.contents self.new.buffered) (close_frame (number_of code))) }
+        ensures ungiven { OnErr result (Keeps (written S.contents self.old.buffered) (written S.contents self.new.buffered)) }
         ensures peer { self.new.peer ≡ self.old.peer }
         ensures texts { self.new.texts ≡ self.old.texts }
         ensures failures { self.new.failures ≡ self.old.failures }
@@ -157,7 +169,7 @@ impl<S: Read + Write + Drop> SocketOutlet<S> {
     ///
     /// The stream took no more, or there was no memory.
     pub fn put_breach(&mut self, breach: Breach) -> Result<(), Error>
-        ensures given { OnOk result (Appends (buffered_written S.contents self.old.buffered) (buffered_written S.contents self.new.buffered) (close_frame (Some (code_of breach)))) }
+        ensures given { OnOk result (Appends (written S.contents self.old.buffered) (written S.contents self.new.buffered) (close_frame (Some (code_of breach)))) }
         ensures texts { self.new.texts ≡ self.old.texts }
     {
         self.put_close(Some(breach.code()))
@@ -205,9 +217,9 @@ impl<S: Read + Write + Drop> SocketOutlet<S> {
     ///
     /// The stream failed, now or before. What it did not take is still kept back.
     pub fn send_some(&mut self) -> io::Result<bool>
-        ensures bytes { Keeps (buffered_written S.contents self.old.buffered) (buffered_written S.contents self.new.buffered) }
-        ensures all { IfOk result (λ all. IsTrue all ↔ (self.new.buffered.output.items ≡ [])) }
-        ensures front { Sends S.contents self.old.buffered self.new.buffered.stream self.new.buffered.output.items }
+        ensures bytes { Keeps (written S.contents self.old.buffered) (written S.contents self.new.buffered) }
+        ensures all { IfOk result (λ all. IsTrue all ↔ (self.new.buffered.kept ≡ [])) }
+        ensures front { Sends S.contents self.old.buffered self.new.buffered.stream self.new.buffered.kept }
         ensures peer { self.new.peer ≡ self.old.peer }
         ensures texts { self.new.texts ≡ self.old.texts }
     {
@@ -216,7 +228,7 @@ impl<S: Read + Write + Drop> SocketOutlet<S> {
 
     /// How many bytes are kept back.
     pub fn kept(&self) -> usize
-        ensures { result ≡ length self.now.buffered.output.items }
+        ensures { result ≡ length self.now.buffered.kept }
     {
         self.buffered.kept()
     }
@@ -234,8 +246,8 @@ impl<S: Read + Write + Drop> SocketOutlet<S> {
     /// The stream, and the outlet without it, ready for another stream in its place.
     pub fn unplugged(self) -> (S, SocketOutlet<()>)
         ensures stream { result.0 ≡ self.buffered.stream }
-        ensures kept { result.1.buffered.output.items ≡ self.buffered.output.items }
-        ensures behind { left result.1.buffered.head ≡ left self.buffered.head }
+        ensures kept { result.1.buffered.kept ≡ self.buffered.kept }
+        ensures behind { result.1.buffered.behind ≡ self.buffered.behind }
         ensures failed { result.1.buffered.has_failed ≡ self.buffered.has_failed }
         ensures peer { result.1.peer ≡ self.peer }
         ensures failures { result.1.failures ≡ self.failures }
@@ -266,14 +278,41 @@ impl<S: Read + Write + Drop> SocketOutlet<S> {
     }
 }
 
+impl<S: Read + Write + Drop> SocketOutlet<S> {
+    /// The outlet over a stream that does not wait, of a connection that was served elsewhere until now: with what has been read of its
+    /// peer, the bytes that are due to it, and the texts that it was sent, if the last of these is the last thing that is due.
+    pub fn going_on(
+        alloc: Global,
+        stream: S,
+        peer: Peer,
+        unsent: Vec<u8>,
+        texts: Texts,
+    ) -> SocketOutlet<S>
+        ensures stream { result.buffered.stream ≡ stream }
+        ensures kept { result.buffered.kept ≡ unsent.items }
+        ensures behind { result.buffered.behind ≡ [] }
+        ensures failed { result.buffered.has_failed ≡ false }
+        ensures unbounded { result.buffered.most_kept ≡ usize.MAX }
+        ensures peer { result.peer ≡ peer }
+        ensures failures { result.failures ≡ 0 }
+        ensures texts { EndInTheLast texts.items unsent.items → result.texts ≡ texts.items }
+    {
+        let buffered = BufferedStream::going_on(alloc, stream, unsent);
+        let mut outlet = SocketOutlet::new(alloc, buffered);
+        outlet.peer = peer;
+        outlet.texts = texts;
+        outlet
+    }
+}
+
 impl SocketOutlet<()> {
     /// The same outlet over this stream, which does not wait.
     pub fn onto<S>(self, stream: S) -> SocketOutlet<S>
         ensures stream { result.buffered.stream ≡ stream }
-        ensures kept { result.buffered.output.items ≡ self.buffered.output.items }
-        ensures behind { left result.buffered.head ≡ left self.buffered.head }
+        ensures kept { result.buffered.kept ≡ self.buffered.kept }
+        ensures behind { result.buffered.behind ≡ self.buffered.behind }
         ensures failed { result.buffered.has_failed ≡ self.buffered.has_failed }
-        ensures unbounded { result.buffered.most_output ≡ usize.MAX }
+        ensures unbounded { result.buffered.most_kept ≡ usize.MAX }
         ensures peer { result.peer ≡ self.peer }
         ensures failures { result.failures ≡ self.failures }
         ensures texts { result.texts ≡ self.texts }
@@ -319,13 +358,13 @@ impl<S: Stream + Drop> SocketOutlet<S> {
 }
 
 impl<S: Read + Write + Drop> Outlet for SocketOutlet<S> {
-    ghost sent = { λ s. Some s.texts.items };
+    ghost sent = { λ s. Some s.texts };
 
     ghost failures = { λ s. s.failures };
 
     /// An outlet that waits for room while it sends need not be asked.
     fn has_room(&self) -> bool
-        ensures { IsTrue result ↔ (length self.now.buffered.output.items < self.now.room) }
+        ensures { IsTrue result ↔ (length self.now.buffered.kept < self.now.room) }
     {
         self.buffered.kept() < self.room
     }

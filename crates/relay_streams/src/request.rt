@@ -1,6 +1,6 @@
 //! The request that begins a connection, and the answer to one that is refused.
 
-ghost use Rattle.std.specs.Prelude.{◌≡◌, ◌≤◌, None, length, take, IfOk, OnOk};
+ghost use Rattle.std.specs.Prelude.{◌≡◌, ◌≤◌, None, length, IfOk, OnOk};
 ghost use Rattle.std.specs.Io.KnownBytes.{Appends};
 ghost use Rattle.relay_frames.specs.Requests.{Accepts, IsAnswered, answer_text};
 
@@ -27,9 +27,9 @@ pub fn read_request<C: Clock, S: Stream>(
     alloc: Global,
     stream: &mut S,
 ) -> Result<Request, HeadFault>
-    ensures let_in { IfOk result (λ request. IsAnswered (take request.head.end request.head.bytes.items) None) }
-    ensures accepted { IfOk result (λ request. Accepts (take request.head.end request.head.bytes.items) request.acceptance.value) }
-    ensures unread { IfOk result (λ request. request.head.given ≡ request.head.end) }
+    ensures let_in { IfOk result (λ request. IsAnswered request.head.request None) }
+    ensures accepted { IfOk result (λ request. Accepts request.head.request request.acceptance.value) }
+    ensures unread { IfOk result (λ request. request.head.left ≡ request.head.followed) }
 {
     let head = Head::read(clock, alloc, stream)?;
     match acceptance_of(head.request()) {

@@ -10,6 +10,7 @@ use crate::hearing::is_silence;
 use crate::stream::Stream;
 use std::io;
 use std::io::{ErrorKind, Read, Write};
+use std::marker::Model;
 use std::net::{Shutdown, TcpStream};
 use std::time::{Clock, Duration};
 
@@ -21,7 +22,7 @@ const MOMENT_MILLIS: u64 = 10;
 
 /// A socket whose peer has one deadline for what it is sent, from the first write to the flush after the last one, however often it takes
 /// some of it. The first write waits only for a moment: if the peer takes nothing then, it is reported as interrupted, so that it is
-/// retried.
+/// retried. Contracts see a `SocketRecord`.
 #[derive(Drop)]
 pub struct Socket<'a, C> {
     clock: &'a C,
@@ -30,6 +31,15 @@ pub struct Socket<'a, C> {
     due: Option<Deadline>,
     /// Whether the next write waits until then, and not just for a moment.
     is_bounded: bool,
+}
+
+impl<'a, C> Model for Socket<'a, C> {
+    ghost use Rattle.std.specs.Net.Tcp.{stream_raw_fd};
+    ghost use Rattle.relay_streams.specs.Records.{SocketRecord};
+
+    ghost Value = { SocketRecord };
+
+    ghost view = { λ s. record { descriptor = stream_raw_fd s.stream; due = s.due; is_bounded = s.is_bounded } };
 }
 
 impl<'a, C: Clock> Socket<'a, C> {

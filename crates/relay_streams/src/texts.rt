@@ -8,7 +8,8 @@ use std::marker::Model;
 /// Texts, one after another. Only clauses read them: they take no memory, and nothing is done with them at run time.
 #[derive(Drop)]
 pub struct Texts {
-    ghost items: { List (List ℕ) },
+    /// The texts, the first one first.
+    pub ghost items: { List (List ℕ) },
 }
 
 impl Model for Texts {

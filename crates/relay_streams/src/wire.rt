@@ -28,6 +28,11 @@ impl Wire {
         (wire, is_ready)
     }
 
+    /// The connection of a loop, which does not wait.
+    pub fn of_loop(stream: TcpStream) -> Wire {
+        Wire { stream }
+    }
+
     /// The connection's descriptor.
     pub fn descriptor(&self) -> RawFd {
         self.stream.as_raw_fd()
