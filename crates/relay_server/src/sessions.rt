@@ -3,7 +3,6 @@
 ghost use Rattle.std.specs.Prelude.{◌≡◌, ◌↔◌, if◌then◌else◌, [], Some, IfOk};
 ghost use Rattle.std.specs.Io.KnownBytes.{Appends};
 ghost use Rattle.relay_frames.specs.Requests.{acceptance_text};
-ghost use Rattle.relay_streams.specs.Heads.{left};
 ghost use Rattle.relay_streams.specs.BufferedStreams.{written as buffered_written};
 ghost use Rattle.relay_streams.specs.Memory.{LacksMemory};
 ghost use Rattle.relay_server.specs.Spectating.{Conversed, HasBeenTold, Pushed};
@@ -162,7 +161,7 @@ fn follow_in_loop<'a, R: Wait + Clock>(
     spectating: Spectating,
     owner: Owner,
 )
-    requires told { HasBeenTold (Some spectating.source) outlet.texts.items }
+    requires told { HasBeenTold (Some spectating.source) outlet.texts }
 {
     let (mut outlet, mut spectating) = match hand_over(
         rt, alloc, registry, gallery, outlet, spectating, owner,
@@ -246,8 +245,8 @@ fn welcome<S: Read + Write + Drop>(
     acceptance: Acceptance,
 ) -> Result<SocketOutlet<S>, AllocError>
     ensures answered { IfOk result (λ outlet. Appends (S.contents stream) (buffered_written S.contents outlet.buffered) (acceptance_text acceptance.value)) }
-    ensures behind { IfOk result (λ outlet. left outlet.buffered.head ≡ left head) }
-    ensures texts { IfOk result (λ outlet. outlet.texts.items ≡ []) }
+    ensures behind { IfOk result (λ outlet. outlet.buffered.behind ≡ head.left) }
+    ensures texts { IfOk result (λ outlet. outlet.texts ≡ []) }
 {
     let mut answer = Vec::new(alloc);
     acceptance.write(&mut answer)?;
@@ -272,7 +271,7 @@ fn converse<'a, R: Wait + Clock, S: Stream + Drop, G: Gate>(
     rt: &'a R,
     talk: &mut Talk<'a, '_, R, S, G>,
 ) -> SessionEnd
-    ensures { Conversed talk.new.outlet.texts.items result }
+    ensures { Conversed talk.new.outlet.texts result }
 {
     let talked = talk.run(rt);
     conclude(rt, talk, talked)
@@ -284,7 +283,7 @@ fn conclude<'a, R: Wait + Clock, S: Stream + Drop, G: Gate>(
     talk: &mut Talk<'a, '_, R, S, G>,
     talked: TalkEnd,
 ) -> SessionEnd
-    ensures { TalkEnds talked talk.old.outlet.texts.items → Conversed talk.new.outlet.texts.items result }
+    ensures { TalkEnds talked talk.old.outlet.texts → Conversed talk.new.outlet.texts result }
 {
     match talked {
         TalkEnd::Closed(code) => match talk.outlet.put_close(code) {
@@ -330,7 +329,7 @@ fn push<R: Wait, S: Stream + Drop>(
     outlet: &mut SocketOutlet<S>,
     spectating: &mut Spectating,
 ) -> SessionEnd
-    ensures { Pushed spectating.old.source spectating.new.source outlet.old.texts.items outlet.new.texts.items result }
+    ensures { Pushed spectating.old.source spectating.new.source outlet.old.texts outlet.new.texts result }
 {
     match spectating.push(rt, alloc, registry, outlet) {
         PushEnd::Over(_) => {

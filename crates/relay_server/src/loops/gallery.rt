@@ -1,7 +1,6 @@
 //! The loops that connections that follow are moved to; each serves many of them.
 
 ghost use Rattle.std.specs.Prelude.{◌≡◌, Some, IfErr, IfOk, IfSome};
-ghost use Rattle.relay_streams.specs.Heads.{left};
 ghost use Rattle.relay_server.specs.Served.{Following};
 ghost use Rattle.relay_server.specs.Spectating.{HasBeenTold};
 
@@ -119,8 +118,8 @@ pub(crate) fn hand_over<'a, R: Wait + Clock>(
     spectating: Spectating,
     owner: Owner,
 ) -> Option<(SocketOutlet<Connection<'a, R>>, Spectating)>
-    requires told { HasBeenTold (Some spectating.source) outlet.texts.items }
-    ensures back { IfSome result (λ back. (back.0.texts.items ≡ outlet.entry.texts.items) × (back.0.buffered ≡ outlet.entry.buffered) × (back.0.peer ≡ outlet.entry.peer) × (back.1.source ≡ spectating.source)) }
+    requires told { HasBeenTold (Some spectating.source) outlet.texts }
+    ensures back { IfSome result (λ back. (back.0.texts ≡ outlet.entry.texts) × (back.0.buffered ≡ outlet.entry.buffered) × (back.0.peer ≡ outlet.entry.peer) × (back.1.source ≡ spectating.source)) }
 {
     if gallery.listens_to(alloc, registry, &spectating).is_err() {
         return Some((outlet, spectating));
@@ -151,13 +150,13 @@ fn coming_over<R: Clock>(
     spectating: Spectating,
     owner: Owner,
 ) -> Result<Newcomer, Spectator<Wire>>
-    requires told { HasBeenTold (Some spectating.source) outlet.texts.items }
-    ensures texts { IfOk result (λ newcomer. newcomer.spectator.texts ≡ outlet.entry.texts.items) }
-    ensures kept { IfOk result (λ newcomer. newcomer.spectator.kept ≡ outlet.entry.buffered.output.items) }
+    requires told { HasBeenTold (Some spectating.source) outlet.texts }
+    ensures texts { IfOk result (λ newcomer. newcomer.spectator.texts ≡ outlet.entry.texts) }
+    ensures kept { IfOk result (λ newcomer. newcomer.spectator.kept ≡ outlet.entry.buffered.kept) }
     ensures peer { IfOk result (λ newcomer. newcomer.spectator.peer ≡ outlet.entry.peer) }
-    ensures behind { IfOk result (λ newcomer. newcomer.spectator.behind ≡ left outlet.entry.buffered.head) }
+    ensures behind { IfOk result (λ newcomer. newcomer.spectator.behind ≡ outlet.entry.buffered.behind) }
     ensures follows { IfOk result (λ newcomer. newcomer.spectator.standing ≡ Following spectating.source) }
-    ensures refused { IfErr result (λ spectator. (spectator.texts ≡ outlet.entry.texts.items) × (spectator.standing ≡ Following spectating.source)) }
+    ensures refused { IfErr result (λ spectator. (spectator.texts ≡ outlet.entry.texts) × (spectator.standing ≡ Following spectating.source)) }
 {
     let (stream, outlet) = outlet.unplugged();
     let (wire, is_ready) = Wire::new(stream.into_inner().into_inner());

@@ -8,7 +8,6 @@ ghost use Rattle.relay_pushing.specs.declared.pushing.Turn.TheVariants as turns;
 ghost use Rattle.live_board.specs.Views.{next_of};
 ghost use Rattle.live_board.specs.Seats.{FollowerSeat};
 ghost use Rattle.relay_frames.specs.Reading.{is_midway};
-ghost use Rattle.relay_streams.specs.Heads.{left};
 ghost use Rattle.relay_streams.specs.BufferedStreams.{written as buffered_written};
 ghost use Rattle.relay_server.specs.Served.{Following, Heeded, IsAnswered, IsClosed, IsGone, IsLeftWith, IsNext, IsPassedOver, IsPeers, IsTakenIn, NoneTakenIn, TookTurn, standing_of};
 ghost use Rattle.relay_server.specs.Spectating.{HasBeenTold, close_code};
@@ -62,27 +61,26 @@ pub(crate) struct Spectator<S: Read + Write> {
 }
 
 impl<S: Read + Write> Model for Spectator<S> {
-    ghost use Rattle.relay_streams.specs.Heads.{left};
     ghost use Rattle.relay_streams.specs.BufferedStreams.{written as buffered_written};
     ghost use Rattle.relay_server.specs.Served.{IsServed, Served, standing_of};
 
     ghost Value = { Served };
 
-    ghost view = { λ s. record { standing = standing_of s.state; texts = s.outlet.texts.items; written = buffered_written S.contents s.outlet.buffered; kept = s.outlet.buffered.output.items; peer = s.outlet.peer; behind = left s.outlet.buffered.head; remaining = S.remaining s.outlet.buffered.stream; unread = s.unread } };
+    ghost view = { λ s. record { standing = standing_of s.state; texts = s.outlet.texts; written = buffered_written S.contents s.outlet.buffered; kept = s.outlet.buffered.kept; peer = s.outlet.peer; behind = s.outlet.buffered.behind; remaining = S.remaining s.outlet.buffered.stream; unread = s.unread } };
 
-    ghost invariant = { λ s. IsServed (standing_of s.state) s.outlet.texts.items };
+    ghost invariant = { λ s. IsServed (standing_of s.state) s.outlet.texts };
 }
 
 impl<S: Stream + Drop> Spectator<S> {
     /// A spectator that was told of this follower, over a connection that does not wait.
     pub(crate) fn new(outlet: SocketOutlet<S>, spectating: Spectating, owner: Owner) -> Spectator<S>
-        requires told { HasBeenTold (Some spectating.source) outlet.texts.items }
+        requires told { HasBeenTold (Some spectating.source) outlet.texts }
         ensures follows { result.standing ≡ Following spectating.source }
-        ensures texts { result.texts ≡ outlet.texts.items }
+        ensures texts { result.texts ≡ outlet.texts }
         ensures written { result.written ≡ buffered_written S.contents outlet.buffered }
-        ensures kept { result.kept ≡ outlet.buffered.output.items }
+        ensures kept { result.kept ≡ outlet.buffered.kept }
         ensures peer { result.peer ≡ outlet.peer }
-        ensures behind { result.behind ≡ left outlet.buffered.head }
+        ensures behind { result.behind ≡ outlet.buffered.behind }
         ensures unread { result.unread ≡ 0 }
     {
         Spectator {

@@ -32,7 +32,7 @@ impl<'a, 'g, R: Wait, S: Stream + Drop, G: Gate> Talk<'a, 'g, R, S, G> {
     /// Answers what the peer said: a text or a binary message with a text, a ping with a pong. Returns what the connection follows then, if
     /// it does.
     pub(super) fn hear(&mut self, event: &Event) -> Result<Option<Spectating>, Stop>
-        ensures { IfOk result (λ follows. Heard self.old.owner self.old.conn event.now self.old.outlet.texts.items (option_map handed_as follows) self.new.conn self.new.outlet.texts.items) }
+        ensures { IfOk result (λ follows. Heard self.old.owner self.old.conn event.now self.old.outlet.texts (option_map handed_as follows) self.new.conn self.new.outlet.texts) }
     {
         match event {
             Event::Text(_) => self.reply(event),
@@ -60,7 +60,7 @@ impl<'a, 'g, R: Wait, S: Stream + Drop, G: Gate> Talk<'a, 'g, R, S, G> {
 
     /// Hands the answer to a message to the socket. Returns what the connection follows then, if it does.
     fn reply(&mut self, event: &Event) -> Result<Option<Spectating>, Stop>
-        ensures { IfOk result (λ follows. AnswerSent self.old.owner self.old.conn event.now self.old.outlet.texts.items (option_map handed_as follows) self.new.conn self.new.outlet.texts.items) }
+        ensures { IfOk result (λ follows. AnswerSent self.old.owner self.old.conn event.now self.old.outlet.texts (option_map handed_as follows) self.new.conn self.new.outlet.texts) }
     {
         if !self.is_open {
             self.gate.before(self.connection);
@@ -90,7 +90,7 @@ impl<'a, 'g, R: Wait, S: Stream + Drop, G: Gate> Talk<'a, 'g, R, S, G> {
     fn deliver(&mut self, answer: &str) -> Result<(), Stop>
         ensures conn { OnOk result (self.new.conn ≡ self.old.conn) }
         ensures owner { OnOk result (self.new.owner ≡ self.old.owner) }
-        ensures texts { OnOk result (Gains (Some self.old.outlet.texts.items) (Some self.new.outlet.texts.items) answer.now) }
+        ensures texts { OnOk result (Gains (Some self.old.outlet.texts) (Some self.new.outlet.texts) answer.now) }
     {
         self.hand_over(answer)?;
         self.answered()
@@ -100,7 +100,7 @@ impl<'a, 'g, R: Wait, S: Stream + Drop, G: Gate> Talk<'a, 'g, R, S, G> {
     fn hand_over(&mut self, answer: &str) -> Result<(), Stop>
         ensures conn { OnOk result (self.new.conn ≡ self.old.conn) }
         ensures owner { OnOk result (self.new.owner ≡ self.old.owner) }
-        ensures texts { OnOk result (Gains (Some self.old.outlet.texts.items) (Some self.new.outlet.texts.items) answer.now) }
+        ensures texts { OnOk result (Gains (Some self.old.outlet.texts) (Some self.new.outlet.texts) answer.now) }
     {
         self.wake_where_full();
         let sent = self.outlet.send(answer);
@@ -161,7 +161,7 @@ impl<'a, 'g, R: Wait, S: Stream + Drop, G: Gate> Talk<'a, 'g, R, S, G> {
         ensures ok { IfOk result (λ said. MessageAnswered self.old.owner self.old.conn event.now (string_bytes said.text) (option_map handed_as said.follows) self.new.conn) }
         ensures err { OnErr result (MessageStopped self.old.owner self.old.conn event.now self.new.conn) }
         ensures owner { self.new.owner ≡ self.old.owner }
-        ensures texts { self.new.outlet.texts.items ≡ self.old.outlet.texts.items }
+        ensures texts { self.new.outlet.texts ≡ self.old.outlet.texts }
     {
         match event {
             Event::Text(text) => match self.conn.read(text.as_str().as_bytes()) {
@@ -196,7 +196,7 @@ impl<'a, 'g, R: Wait, S: Stream + Drop, G: Gate> Talk<'a, 'g, R, S, G> {
         ensures ok { IfOk result (λ said. StepAnswered self.old.owner self.old.conn step.now (string_bytes said.text) (option_map handed_as said.follows) self.new.conn) }
         ensures err { OnErr result (StepStopped self.old.owner self.old.conn step.now self.new.conn) }
         ensures owner { self.new.owner ≡ self.old.owner }
-        ensures texts { self.new.outlet.texts.items ≡ self.old.outlet.texts.items }
+        ensures texts { self.new.outlet.texts ≡ self.old.outlet.texts }
     {
         let made = self
             .registry
@@ -219,7 +219,7 @@ impl<'a, 'g, R: Wait, S: Stream + Drop, G: Gate> Talk<'a, 'g, R, S, G> {
     fn answered(&mut self) -> Result<(), Stop>
         ensures conn { self.new.conn ≡ self.old.conn }
         ensures owner { self.new.owner ≡ self.old.owner }
-        ensures texts { self.new.outlet.texts.items ≡ self.old.outlet.texts.items }
+        ensures texts { self.new.outlet.texts ≡ self.old.outlet.texts }
     {
         if self.is_open {
             return Ok(());

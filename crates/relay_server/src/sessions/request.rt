@@ -1,6 +1,6 @@
 //! The request that begins a connection: one that is refused is answered, and one that is accepted may name a key.
 
-ghost use Rattle.std.specs.Prelude.{◌≡◌, None, take, IfOk};
+ghost use Rattle.std.specs.Prelude.{◌≡◌, None, IfOk};
 ghost use Rattle.relay_frames.specs.Requests.{Accepts, IsAnswered};
 
 use crate::sessions::{SessionEnd, end_unshaken};
@@ -17,9 +17,9 @@ pub(crate) fn receive<C: Clock, S: Stream>(
     alloc: Global,
     stream: &mut S,
 ) -> Result<Request, SessionEnd>
-    ensures let_in { IfOk result (λ request. IsAnswered (take request.head.end request.head.bytes.items) None) }
-    ensures accepted { IfOk result (λ request. Accepts (take request.head.end request.head.bytes.items) request.acceptance.value) }
-    ensures unread { IfOk result (λ request. request.head.given ≡ request.head.end) }
+    ensures let_in { IfOk result (λ request. IsAnswered request.head.request None) }
+    ensures accepted { IfOk result (λ request. Accepts request.head.request request.acceptance.value) }
+    ensures unread { IfOk result (λ request. request.head.left ≡ request.head.followed) }
 {
     match read_request(clock, alloc, stream) {
         Ok(request) => Ok(request),

@@ -101,7 +101,7 @@ impl<'a, 'g, R: Wait, S: Stream + Drop, G: Gate> Talk<'a, 'g, R, S, G> {
 
     /// Reads and answers. The text that makes the connection follow is the last one that it reads. At the end nobody is left asleep.
     pub(crate) fn run<C: Clock>(&mut self, clock: &C) -> TalkEnd
-        ensures follows { TalkEnds result self.new.outlet.texts.items }
+        ensures follows { TalkEnds result self.new.outlet.texts }
         ensures idle { IsSentAway self.new.owner result self.new.conn }
         ensures woken { is_some self.new.wakes.rung ≡ false }
     {
@@ -112,7 +112,7 @@ impl<'a, 'g, R: Wait, S: Stream + Drop, G: Gate> Talk<'a, 'g, R, S, G> {
 
     /// Reads and answers, until the text that makes the connection follow or the end.
     fn answer_all<C: Clock>(&mut self, clock: &C) -> TalkEnd
-        ensures follows { TalkEnds result self.new.outlet.texts.items }
+        ensures follows { TalkEnds result self.new.outlet.texts }
         ensures idle { IsSentAway self.new.owner result self.new.conn }
     {
         self.be_patient(clock);
@@ -223,7 +223,7 @@ impl<'a, 'g, R: Wait, S: Stream + Drop, G: Gate> Talk<'a, 'g, R, S, G> {
     ///
     /// The device failed, or there was no memory.
     pub(crate) fn break_off(&mut self, breach: Breach) -> Result<(), Stop>
-        ensures { OnOk result (BreachTold breach self.old.outlet.texts.items self.new.outlet.texts.items) }
+        ensures { OnOk result (BreachTold breach self.old.outlet.texts self.new.outlet.texts) }
     {
         if breach == Breach::TooLong {
             self.refuse()?;
@@ -236,7 +236,7 @@ impl<'a, 'g, R: Wait, S: Stream + Drop, G: Gate> Talk<'a, 'g, R, S, G> {
 
     /// Answers a message that is too long to be read, as a text that is too long.
     fn refuse(&mut self) -> Result<(), Stop>
-        ensures { OnOk result (Gains (Some self.old.outlet.texts.items) (Some self.new.outlet.texts.items) (answer_text (Fault BadField))) }
+        ensures { OnOk result (Gains (Some self.old.outlet.texts) (Some self.new.outlet.texts) (answer_text (Fault BadField))) }
     {
         let Ok(text) = encode(self.alloc, &Answer::Fault(MessageFault::BadField)) else {
             return Err(Stop);

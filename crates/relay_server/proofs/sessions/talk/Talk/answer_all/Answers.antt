@@ -7,6 +7,6 @@ returns-in-Ok-Some g c =
     let read = c.read.new.self in
     let heard = c.hear.new.self in
     record {
-      follows = told_once read.owner read.conn heard.conn read.outlet.texts.items heard.outlet.texts.items c.in-Ok.event c.in-Ok-Some.spectating (rw c.in-Ok-Some.field-0-is at c.in-Ok-Some.ensures);
+      follows = told_once read.owner read.conn heard.conn read.outlet.texts heard.outlet.texts c.in-Ok.event c.in-Ok-Some.spectating (rw c.in-Ok-Some.field-0-is at c.in-Ok-Some.ensures);
       idle = tt;
     }
