@@ -1,3 +1,5 @@
+pub mod lemmas
+pub mod HandedOver
 pub mod Stretches
-pub mod Told
+pub mod ToldOnce
 pub mod Served

@@ -1,3 +1,4 @@
+pub mod Handing
 pub mod Served
 pub mod Spectating
 pub mod Talking

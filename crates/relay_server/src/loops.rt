@@ -11,7 +11,9 @@ mod since;
 mod spectating;
 mod spectator;
 mod spectators;
+mod told;
 mod turns;
 
-pub(crate) use gallery::{Connection, Gallery, hand_over, start_gallery};
+pub(crate) use gallery::{Connection, Gallery, hand_over, start_gallery, take_over};
 pub(crate) use spectating::Spectating;
+pub use told::Told;

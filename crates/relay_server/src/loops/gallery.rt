@@ -9,6 +9,7 @@ use crate::loops::balcony_loop::BalconyLoop;
 use crate::loops::spectating::Spectating;
 use crate::loops::spectator::Spectator;
 use crate::loops::spectators::Newcomer;
+use crate::loops::told::{Told, newcomer_of};
 use crate::serving::{Interruptible, OWN_STACK_BYTES, Running, Shared};
 use relay_hall::Owner;
 use relay_registry::{Lookout, Registry};
@@ -97,6 +98,25 @@ impl Gallery {
         registry.is_followed_in(spectating.at(), alloc, &self.lookouts)
     }
 
+    /// Puts a newcomer into the inbox of a loop that takes it, and wakes that loop. If none does, the newcomer is returned.
+    fn put<R: Wait>(&self, rt: &R, newcomer: Newcomer) -> Option<Newcomer>
+        ensures back { IfSome result (λ back. back ≡ newcomer) }
+    {
+        for _ in 0..self.balconies.len() {
+            let Some(balcony) = self.next() else {
+                break;
+            };
+            let mut inbox = balcony.inbox(rt);
+            if inbox.has_room() {
+                inbox.put(newcomer);
+                drop(inbox);
+                balcony.lookout.wake();
+                return None;
+            }
+        }
+        Some(newcomer)
+    }
+
     /// The balcony for the next connection.
     fn next(&self) -> Option<&Balcony> {
         let turn = self.next.fetch_add(1, Ordering::SeqCst);
@@ -138,6 +158,27 @@ pub(crate) fn hand_over<'a, R: Wait + Clock>(
     drop(inbox);
     balcony.lookout.wake();
     None
+}
+
+/// Takes a connection over that was told elsewhere that it follows. If there is no memory for it, or no loop is left, it goes.
+pub(crate) fn take_over<R: Wait + Clock>(
+    rt: &R,
+    alloc: Global,
+    registry: &Registry,
+    gallery: &Gallery,
+    told: Told,
+) {
+    let newcomer = newcomer_of(alloc, told);
+    if registry
+        .is_followed_in(newcomer.at, alloc, &gallery.lookouts)
+        .is_err()
+    {
+        newcomer.spectator.go(rt, registry);
+        return;
+    }
+    if let Some(refused) = gallery.put(rt, newcomer) {
+        refused.spectator.go(rt, registry);
+    }
 }
 
 /// A connection on its way to a loop; it no longer waits.

@@ -43,7 +43,7 @@ where
     let _ = Builder::new()
         .stack_size(OWN_STACK_BYTES)
         .spawn(rt, move || {
-            read_to_end(&own);
+            read_input_to_end(&own);
             registry.set_ending();
             registry.end_all(&own);
             knock(&own, &registry, &port);
@@ -53,7 +53,7 @@ where
 }
 
 /// Reads standard input to its end, or until it fails.
-fn read_to_end<R: Input<Reader = StdinLock<'static>>>(rt: &R) {
+pub fn read_input_to_end<R: Input<Reader = StdinLock<'static>>>(rt: &R) {
     let mut reader = rt.reader();
     let mut bytes = [0; READ_BYTES];
     for _ in 0..u64::MAX {

@@ -1,4 +1,4 @@
-use Rattle.relay_server.proofs.Told.{told_once}
+use Rattle.relay_server.proofs.ToldOnce.{told_once}
 use Rattle.relay_server.proofs.sessions.talk.Talk.answer_all.Goals as goal
 
 -- what it follows is what it was told of

@@ -1,5 +1,5 @@
--- A connection that gets a follower by a message is told of that very follower.
-use Rattle.std.proofs.Common.{◌≡◌, ℕ, List, [], ◌∷◌, ◌++◌, Bool, true, false, cond, length, take, Option, None, Some, Result, Ok, Err, option_map, sym, subst, ap, ◌∙◌, arith}
+-- What is replied to the step by which a follower is handed out tells of that very follower.
+use Rattle.std.proofs.Common.{◌≡◌, ◌++◌, ℕ, List, Bool, true, false, cond, length, take, Option, None, Some, Result, Ok, Err, sym, subst, ap, ◌∙◌, arith}
 use Rattle.std.specs.Prelude.{nat_le}
 use Rattle.std.specs.Map.{lookup}
 use Rattle.std.proofs.lemmas.Option.{none-some, same_Some}
@@ -12,11 +12,9 @@ use Rattle.relay_core.specs.declared.step.Step.{Step}
 use Rattle.relay_core.specs.declared.step.Step.TheVariants.{Open, Submit, End, Follow, Take, Leave}
 use Rattle.relay_core.specs.declared.reply.Reply.{Reply}
 use Rattle.relay_core.specs.declared.reply.Reply.TheVariants.{Following}
-use Rattle.relay_messages.specs.declared.answer.Answer.TheVariants as answers
-use Rattle.relay_messages.specs.declared.fault.MessageFault.{MessageFault}
+use Rattle.relay_frames.specs.Frames.{text_frame}
 use Rattle.relay_messages.specs.Answers.{answer_text}
-use Rattle.relay_frames.specs.declared.event.Event.{Event}
-use Rattle.relay_frames.specs.declared.event.Event.TheVariants as events
+use Rattle.relay_messages.specs.declared.answer.Answer.TheVariants as answers
 use Rattle.live_board.specs.Views.{next_of}
 use Rattle.live_board.specs.declared.limits.BoardLimits.{BoardLimits}
 use Rattle.live_board.specs.declared.view.Part.{Part}
@@ -25,10 +23,8 @@ use Rattle.relay_hall.specs.declared.handed.Handed.{Handed}
 use Rattle.relay_hall.specs.declared.owner.Owner.{Owner}
 use Rattle.relay_hall.specs.Record.{FloorRecord, HallBoard}
 use Rattle.relay_hall.specs.Steps.{FollowsAs, Hands, Makes, board_limits, following, handed_by, reply_of}
-use Rattle.relay_hall.specs.Talk.{StepReplied, may_make}
-use Rattle.relay_server.specs.declared.loops.spectating.Spectating.{Spectating}
-use Rattle.relay_server.specs.Spectating.{HasBeenTold, IsToldOf, handed_as}
-use Rattle.relay_server.specs.Talking.{Heard, SaidAnswered}
+use Rattle.relay_hall.specs.Talk.{StepReplied}
+use Rattle.relay_server.specs.Handing.{IsToldIn}
 
 -- if there is a position, it is the one after that many of the moves
 made_here : (n : ℕ) (l : List Triple) (place : ℕ) (p : Parts) → position_at n l place ≡ Some p → p ≡ last_position n (take place l)
@@ -40,11 +36,11 @@ made_here n l place p e = by (nat_le place (length l)) e
     by false e = absurd (none-some p e)
 
 -- a reply reports this follower: the place from which it takes, where it joined, and the position there
-record Tells (f : FollowerSeat) (reply : Reply) : Type 0 where
-  position : Parts
-  is : reply ≡ Following (next_of f.part) position
-  joined : next_of f.part ≡ f.part.joined
-  position_is : position ≡ last_position f.part.setup.start f.part.before
+pub record Tells (f : FollowerSeat) (reply : Reply) : Type 0 where
+  pub position : Parts
+  pub is : reply ≡ Following (next_of f.part) position
+  pub joined : next_of f.part ≡ f.part.joined
+  pub position_is : position ≡ last_position f.part.setup.start f.part.before
 
 -- the reply to a connection that joins reports the follower that joined
 joins : (limits : BoardLimits) (b : HallBoard) (from : Option ℕ) (r : FollowerSeat × Parts) → Hands limits b from (Ok r) → Tells r.0 (following r)
@@ -84,36 +80,16 @@ made_tells f l who (Take follower) reply h made = absurd (none-some h (sym made.
 made_tells f l who (Leave follower) reply h made = absurd (none-some h (sym made.2))
 
 -- and only one that the connection may make
-replied_tells : (b : Bool) (f l : FloorRecord) (who : Owner) (opened now : List (List ℕ)) (step : Step) (reply : Reply) (h : Handed) → StepReplied b f who opened step reply (Some h) l now → Tells h.follower reply
+pub replied_tells : (b : Bool) (f l : FloorRecord) (who : Owner) (opened now : List (List ℕ)) (step : Step) (reply : Reply) (h : Handed) → StepReplied b f who opened step reply (Some h) l now → Tells h.follower reply
 replied_tells true f l who opened now step reply h replied = made_tells f l who step reply h replied.0
 replied_tells false f l who opened now step reply h replied = absurd (none-some h (sym replied.1.0))
 
--- a text that was handed over last reports the follower if its reply does
-told_last : (f : FollowerSeat) (old new : List (List ℕ)) (bytes : List ℕ) (reply : Reply) → Some new ≡ Some (old ++ bytes ∷ []) → bytes ≡ answer_text (answers.Reply reply) → Tells f reply → IsToldOf f new
-told_last f old new bytes reply gained says tells = record {
-  earlier = old;
-  position = tells.position;
-  told = same_Some _ _ gained ∙ ap (λ b. old ++ b ∷ []) (says ∙ ap (λ r. answer_text (answers.Reply r)) tells.is);
+-- if the frame of such a reply comes last, they end by telling of the follower
+pub told_in : (f : FollowerSeat) (reply : Reply) (before unsent : List ℕ) → Tells f reply → unsent ≡ before ++ text_frame (answer_text (answers.Reply reply)) → IsToldIn unsent f
+told_in f reply before unsent tells ends = record {
+  before = before;
+  ends =
+      ends ∙ ap (λ r. before ++ text_frame (answer_text (answers.Reply r))) tells.is
+      ∙ ap (λ p. before ++ text_frame (answer_text (answers.Reply (Following (next_of f.part) p)))) tells.position_is;
   joined = tells.joined;
-  position_is = tells.position_is;
 }
-
-said_tells : (who : Owner) (opened now old new : List (List ℕ)) (said : Result Step MessageFault) (bytes : List ℕ) (h : Handed) → Some new ≡ Some (old ++ bytes ∷ [])
-    → SaidAnswered who opened said bytes (Some h) now → IsToldOf h.follower new
-said_tells who opened now old new (Ok step) bytes h gained (reply, made, says) =
-    told_last h.follower old new bytes reply gained says (replied_tells (may_make made.before.floor who opened step) made.before.floor made.after.floor who opened now step reply h made.made)
-said_tells who opened now old new (Err fault) bytes h gained objected = absurd (none-some h (sym objected.1))
-
--- a message hands out a follower only with an answer that reports it
-heard_tells : (who : Owner) (opened now old new : List (List ℕ)) (message : Event) (h : Handed) → Heard who opened message old (Some h) now new → IsToldOf h.follower new
-heard_tells who opened now old new (events.Text text) h (bytes, (said, decodes, answered), gained) = said_tells who opened now old new said bytes h gained answered
-heard_tells who opened now old new (events.Binary payload) h (bytes, objected, gained) = absurd (none-some h (sym objected.1))
-heard_tells who opened now old new events.Fragment h heard = absurd (none-some h (sym heard.0))
-heard_tells who opened now old new (events.Ping payload) h heard = absurd (none-some h (sym heard.0))
-heard_tells who opened now old new (events.Pong payload) h heard = absurd (none-some h (sym heard.0))
-heard_tells who opened now old new (events.Closed code) h heard = absurd (none-some h (sym heard.0))
-heard_tells who opened now old new (events.Broken breach) h heard = absurd (none-some h (sym heard.0))
-
--- hence what the connection follows from then on is what it was told of
-pub told_once : (who : Owner) (opened now old new : List (List ℕ)) (message : Event) (spectating : Spectating) → Heard who opened message old (option_map handed_as (Some spectating)) now new → HasBeenTold (Some spectating.source) new
-told_once who opened now old new message spectating heard = heard_tells who opened now old new message (handed_as spectating) heard
