@@ -16,17 +16,17 @@ const FIRST_PART: u8 = 0x01;
 /// Of the last frame of a message that was begun.
 const LAST_PART: u8 = 0x80;
 
-const OPEN: &str = "{\"cmd\":\"open\",\"board\":\"a\",\"start\":518}";
+const OPEN: &[u8] = b"{\"cmd\":\"open\",\"board\":\"a\",\"start\":518}";
 
-const FOLLOW: &str = "{\"cmd\":\"follow\",\"board\":\"a\",\"spectator\":7}";
+const FOLLOW: &[u8] = b"{\"cmd\":\"follow\",\"board\":\"a\",\"spectator\":7}";
 
-const NOT_JSON: &str = "{\"code\":21,\"name\":\"NotJson\",\"reply\":\"refused\"}";
+const NOT_JSON: &[u8] = b"{\"code\":21,\"name\":\"NotJson\",\"reply\":\"refused\"}";
 
 /// What happens to a connection.
 #[derive(Clone, Copy)]
 enum Deed {
     /// It sends this frame.
-    Sends(u8, &'static str),
+    Sends(u8, &'static [u8]),
     Pinged,
     /// With 1001.
     SentAway,
@@ -37,16 +37,16 @@ enum Deed {
 /// Pings and a close among messages, and frames and calls behind the close.
 const DEEDS: [Deed; 11] = [
     Deed::Pinged,
-    Deed::Sends(PING, "a"),
+    Deed::Sends(PING, b"a"),
     Deed::Pinged,
     Deed::Takes(3),
-    Deed::Sends(BINARY, "?"),
-    Deed::Sends(PING, "b"),
+    Deed::Sends(BINARY, b"?"),
+    Deed::Sends(PING, b"b"),
     Deed::Pinged,
     Deed::Pinged,
     Deed::SentAway,
     Deed::Pinged,
-    Deed::Sends(PING, "c"),
+    Deed::Sends(PING, b"c"),
 ];
 
 /// What it is sent for that.
@@ -54,7 +54,7 @@ const SENT: [(u8, &[u8]); 8] = [
     (PING, b""),
     (PONG, b"a"),
     (PING, b""),
-    (TEXT, NOT_JSON.as_bytes()),
+    (TEXT, NOT_JSON),
     (PONG, b"b"),
     (PING, b""),
     (PING, b""),
@@ -113,7 +113,7 @@ impl Scene {
     fn goes_on(&mut self, deed: Deed) -> Result<(), AllocError> {
         match deed {
             Deed::Sends(first, payload) => {
-                self.sends(first, payload.as_bytes())?;
+                self.sends(first, payload)?;
                 Ok(())
             }
             Deed::Pinged => self.caller.ping(),
@@ -123,11 +123,11 @@ impl Scene {
     }
 }
 
-/// Frames as a server sends them.
-fn frames(alloc: Global, wanted: &[(u8, &[u8])]) -> Result<Vec<u8>, AllocError> {
+/// The frames that it is sent.
+fn all_sent(alloc: Global) -> Result<Vec<u8>, AllocError> {
     let mut bytes = Vec::new(alloc);
-    for (first, payload) in wanted {
-        tell(&mut bytes, *first, payload)?;
+    for (first, payload) in SENT {
+        tell(&mut bytes, first, payload)?;
     }
     Ok(bytes)
 }
@@ -136,7 +136,7 @@ fn frames(alloc: Global, wanted: &[(u8, &[u8])]) -> Result<Vec<u8>, AllocError> 
 fn each_ping_stands_where_it_was_put_and_a_close_is_the_last(rt: HostRuntime) {
     let alloc = rt.alloc();
     let mut scene = Scene::new(&rt, alloc);
-    let Ok(wanted) = frames(alloc, &SENT) else {
+    let Ok(wanted) = all_sent(alloc) else {
         panic!(rt; "no memory");
     };
     for deed in DEEDS {
@@ -147,43 +147,51 @@ fn each_ping_stands_where_it_was_put_and_a_close_is_the_last(rt: HostRuntime) {
     assert!(rt; scene.caller.stage() == Stage::Leaves);
 }
 
-/// A connection that has sent a ping, which was answered, is sent away with this code. Returns whether it has the pong and then the close,
-/// leaves, and is heeded no more.
-fn is_sent_away(rt: &impl Abort, alloc: Global, code: Code, payload: &[u8]) -> bool {
+/// A pong, and a close with this payload.
+fn pong_and_close(alloc: Global, payload: &[u8]) -> Result<Vec<u8>, AllocError> {
+    let mut bytes = Vec::new(alloc);
+    tell(&mut bytes, PONG, b"a")?;
+    tell(&mut bytes, CLOSE, payload)?;
+    Ok(bytes)
+}
+
+/// A connection that has sent a ping, which was answered, is sent away with this code, and is heeded no more.
+fn is_sent_away(rt: &impl Abort, alloc: Global, code: Code, payload: &[u8]) {
     let mut scene = Scene::new(rt, alloc);
-    let Ok(wanted) = frames(alloc, &[(PONG, b"a"), (CLOSE, payload)]) else {
+    let Ok(wanted) = pong_and_close(alloc, payload) else {
         panic!(rt; "no memory");
     };
-    scene.sends(PING, b"a") == Ok(true)
-        && scene.caller.send_away(code).is_ok()
-        && scene.sends(PING, b"b") == Ok(false)
-        && scene.caller.due() == wanted.as_slice()
-        && scene.caller.stage() == Stage::Leaves
+    assert!(rt; scene.sends(PING, b"a") == Ok(true));
+    assert!(rt; scene.caller.send_away(code).is_ok());
+    assert!(rt; scene.sends(PING, b"b") == Ok(false));
+    assert_eq!(rt; scene.caller.due(), wanted.as_slice());
+    assert!(rt; scene.caller.stage() == Stage::Leaves);
 }
 
 #[test]
 fn one_that_is_sent_away_is_told_the_code(rt: HostRuntime) {
     let alloc = rt.alloc();
-    assert!(rt; is_sent_away(&rt, alloc, Code::NORMAL, &[3, 0xe8]));
-    assert!(rt; is_sent_away(&rt, alloc, Code::AWAY, &[3, 0xe9]));
-    assert!(rt; is_sent_away(&rt, alloc, Code::POLICY, &[3, 0xf0]));
-    assert!(rt; is_sent_away(&rt, alloc, Code::AGAIN, &[3, 0xf5]));
+    is_sent_away(&rt, alloc, Code::NORMAL, &[3, 0xe8]);
+    is_sent_away(&rt, alloc, Code::AWAY, &[3, 0xe9]);
+    is_sent_away(&rt, alloc, Code::POLICY, &[3, 0xf0]);
+    is_sent_away(&rt, alloc, Code::AGAIN, &[3, 0xf5]);
 }
 
-/// Whether neither a ping nor a close changes what is due to a connection and what it does.
-fn stays(caller: &mut Caller, due: &[u8], stage: Stage) -> bool {
-    caller.ping().is_ok()
-        && caller.send_away(Code::AWAY).is_ok()
-        && caller.due() == due
-        && caller.stage() == stage
+/// Neither a ping nor a close changes what is due to a connection and what it does.
+fn stays(rt: &impl Abort, caller: &mut Caller, due: &[u8], stage: Stage) {
+    assert!(rt; caller.ping().is_ok());
+    assert!(rt; caller.send_away(Code::AWAY).is_ok());
+    assert_eq!(rt; caller.due(), due);
+    assert!(rt; caller.stage() == stage);
 }
 
 #[test]
 fn before_its_request_is_answered_it_is_sent_nothing_unasked(rt: HostRuntime) {
     let mut caller = Caller::new(rt.alloc(), 1, true);
     let (first, second) = REQUEST.split_at(REQUEST.len() / 2);
-    assert!(rt; stays(&mut caller, b"", Stage::Comes));
-    assert!(rt; caller.feed(first).is_ok() && stays(&mut caller, b"", Stage::Comes));
+    stays(&rt, &mut caller, b"", Stage::Comes);
+    assert!(rt; caller.feed(first).is_ok());
+    stays(&rt, &mut caller, b"", Stage::Comes);
     assert!(rt; caller.feed(second).is_ok());
     assert_eq!(rt; caller.due(), ACCEPTED);
     assert!(rt; caller.stage() == Stage::Asks);
@@ -192,13 +200,13 @@ fn before_its_request_is_answered_it_is_sent_nothing_unasked(rt: HostRuntime) {
 #[test]
 fn one_that_follows_or_leaves_is_sent_nothing_unasked(rt: HostRuntime) {
     let mut first = Scene::new(&rt, rt.alloc());
-    assert!(rt; first.sends(TEXT, OPEN.as_bytes()) == Ok(true));
-    assert!(rt; first.sends(TEXT, FOLLOW.as_bytes()) == Ok(true));
+    assert!(rt; first.sends(TEXT, OPEN) == Ok(true));
+    assert!(rt; first.sends(TEXT, FOLLOW) == Ok(true));
     first.caller.wrote(1000);
-    assert!(rt; stays(&mut first.caller, b"", Stage::HandsOver));
+    stays(&rt, &mut first.caller, b"", Stage::HandsOver);
     let mut second = Scene::new(&rt, rt.alloc());
     assert!(rt; second.sends(CLOSE, b"") == Ok(true));
-    assert!(rt; stays(&mut second.caller, &[CLOSE, 0], Stage::Leaves));
+    stays(&rt, &mut second.caller, &[CLOSE, 0], Stage::Leaves);
 }
 
 /// Frames in order, and whether a whole text or binary message was then answered since the last one.
