@@ -28,7 +28,7 @@ enum Deed {
     /// It sends this frame.
     Sends(u8, &'static [u8]),
     Pinged,
-    /// With 1001.
+    /// With 1001 (RFC 6455, section 7.4.1).
     SentAway,
     /// It takes so many of the bytes that are due.
     Takes(usize),
@@ -68,6 +68,15 @@ struct Scene {
     hall: Hall,
     caller: Caller,
     taken: Vec<u8>,
+    away: Code,
+}
+
+/// The code with this number, which may be sent.
+fn code(rt: &impl Abort, number: u16) -> Code {
+    let Some(code) = Code::new(number) else {
+        panic!(rt; "no code");
+    };
+    code
 }
 
 impl Scene {
@@ -84,6 +93,7 @@ impl Scene {
             hall,
             caller,
             taken: Vec::new(alloc),
+            away: code(rt, 1001),
         }
     }
 
@@ -127,7 +137,7 @@ impl Scene {
                 Ok(())
             }
             Deed::Pinged => self.caller.ping(),
-            Deed::SentAway => self.caller.send_away(Code::AWAY),
+            Deed::SentAway => self.caller.send_away(self.away),
             Deed::Takes(n) => self.takes(n),
         }
     }
@@ -166,13 +176,13 @@ fn pong_and_close(alloc: Global, payload: &[u8]) -> Result<Vec<u8>, AllocError> 
 }
 
 /// A connection that has sent a ping, which was answered, is sent away with this code, and is heeded no more.
-fn is_sent_away(rt: &impl Abort, alloc: Global, code: Code, payload: &[u8]) {
+fn is_sent_away(rt: &impl Abort, alloc: Global, number: u16, payload: &[u8]) {
     let mut scene = Scene::new(rt, alloc);
     let Ok(wanted) = pong_and_close(alloc, payload) else {
         panic!(rt; "no memory");
     };
     assert!(rt; scene.sends(PING, b"a") == Ok(true));
-    assert!(rt; scene.caller.send_away(code).is_ok());
+    assert!(rt; scene.caller.send_away(code(rt, number)).is_ok());
     assert!(rt; scene.sends(PING, b"b") == Ok(false));
     assert_eq!(rt; scene.caller.due(), wanted.as_slice());
     assert!(rt; scene.caller.stage() == Stage::Leaves);
@@ -181,16 +191,16 @@ fn is_sent_away(rt: &impl Abort, alloc: Global, code: Code, payload: &[u8]) {
 #[test]
 fn one_that_is_sent_away_is_told_the_code(rt: HostRuntime) {
     let alloc = rt.alloc();
-    is_sent_away(&rt, alloc, Code::NORMAL, &[3, 0xe8]);
-    is_sent_away(&rt, alloc, Code::AWAY, &[3, 0xe9]);
-    is_sent_away(&rt, alloc, Code::POLICY, &[3, 0xf0]);
-    is_sent_away(&rt, alloc, Code::AGAIN, &[3, 0xf5]);
+    is_sent_away(&rt, alloc, 1000, &[3, 0xe8]);
+    is_sent_away(&rt, alloc, 1001, &[3, 0xe9]);
+    is_sent_away(&rt, alloc, 1008, &[3, 0xf0]);
+    is_sent_away(&rt, alloc, 1013, &[3, 0xf5]);
 }
 
 /// Neither a ping nor a close changes what is due to a connection and what it does.
 fn stays(rt: &impl Abort, caller: &mut Caller, due: &[u8], stage: Stage) {
     assert!(rt; caller.ping().is_ok());
-    assert!(rt; caller.send_away(Code::AWAY).is_ok());
+    assert!(rt; caller.send_away(code(rt, 1001)).is_ok());
     assert_eq!(rt; caller.due(), due);
     assert!(rt; caller.stage() == stage);
 }
