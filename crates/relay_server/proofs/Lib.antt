@@ -1,5 +1,5 @@
 pub mod lemmas
-pub mod HandedOver
-pub mod Stretches
-pub mod ToldOnce
-pub mod Served
+mod HandedOver
+mod Stretches
+mod ToldOnce
+mod Served
