@@ -13,7 +13,7 @@ use std::io;
 use std::io::{Read, Write};
 
 /// The result of reading the arguments.
-#[derive(Clone, Copy, PartialEq, Eq, Debug)]
+#[derive(Clone, Copy)]
 pub enum Course {
     /// What they ask for is done, with this status.
     Ended(Status),

@@ -4,7 +4,7 @@ use c960_game::Limits;
 use std::net::SocketAddr;
 
 /// What the arguments ask for.
-#[derive(Clone, Copy, PartialEq, Eq, Debug)]
+#[derive(Clone, Copy)]
 pub enum Order<'a> {
     /// To do a job over the program's own streams.
     Run(Job<'a>),
@@ -13,7 +13,7 @@ pub enum Order<'a> {
 }
 
 /// A job with a reader and a writer.
-#[derive(Clone, Copy, PartialEq, Eq, Debug)]
+#[derive(Clone, Copy)]
 pub enum Job<'a> {
     /// To print the starting position with that number.
     Start(u16),
@@ -28,7 +28,7 @@ pub enum Job<'a> {
 }
 
 /// What is served: a relay with these limits, on this port of 127.0.0.1.
-#[derive(Clone, Copy, PartialEq, Eq, Debug)]
+#[derive(Clone, Copy)]
 pub struct Service {
     /// The port.
     pub port: u16,
@@ -49,7 +49,7 @@ pub struct Service {
 }
 
 /// The watch port: another port, on which spectators may only watch.
-#[derive(Clone, Copy, PartialEq, Eq, Debug)]
+#[derive(Clone, Copy)]
 pub struct WatchPort {
     /// The address and port on which it listens.
     pub address: SocketAddr,
@@ -60,7 +60,7 @@ pub struct WatchPort {
 }
 
 /// How many connections are accepted before serving ends.
-#[derive(Clone, Copy, PartialEq, Eq, Debug)]
+#[derive(Clone, Copy)]
 pub enum Connections {
     /// This many.
     Count(u32),

@@ -4,7 +4,7 @@ ghost use Rattle.std.specs.Prelude.{◌≡◌};
 ghost use Rattle.relay960_words.specs.Statuses.{status_code};
 
 /// The exit status of the program.
-#[derive(Clone, Copy, PartialEq, Eq, Debug)]
+#[derive(Clone, Copy)]
 pub enum Status {
     /// What was asked for is done; refused and faulty lines of `play` and `script` do not matter for this.
     Done,

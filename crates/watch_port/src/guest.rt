@@ -14,7 +14,7 @@ use std::net::Shutdown;
 const AGAIN: u16 = 1013;
 
 /// How a connection took what was written to it.
-#[derive(Clone, Copy, PartialEq, Eq, Debug)]
+#[derive(Clone, Copy, PartialEq, Eq)]
 pub(crate) enum Delivery {
     /// It took everything that is due.
     All,
@@ -25,7 +25,7 @@ pub(crate) enum Delivery {
 }
 
 /// What came from a connection.
-#[derive(Clone, Copy, PartialEq, Eq, Debug)]
+#[derive(Clone, Copy)]
 pub(crate) enum Intake {
     /// This many bytes came.
     Bytes(usize),

@@ -16,7 +16,7 @@ const MOST_CLOSE_SECONDS: u64 = 10;
 const TRIED_AFTER_SECONDS: u64 = 5;
 
 /// What is to be done with a guest.
-#[derive(Clone, Copy, PartialEq, Eq, Debug)]
+#[derive(Clone, Copy)]
 pub(crate) enum Verdict {
     /// Nothing.
     Stays,
@@ -33,7 +33,7 @@ pub(crate) enum Verdict {
 }
 
 /// Since when the loop has waited for a guest.
-#[derive(Clone, Copy, Debug)]
+#[derive(Clone, Copy)]
 pub(crate) struct Patience {
     /// When it came, shook hands, or was sent everything: each stage has its own time.
     pub(crate) stage_began: u64,
@@ -48,7 +48,7 @@ pub(crate) struct Patience {
 }
 
 /// The stage of a guest.
-#[derive(Clone, Copy, PartialEq, Eq, Debug)]
+#[derive(Clone, Copy)]
 pub(crate) enum Stage {
     /// It sends its request.
     Comes,

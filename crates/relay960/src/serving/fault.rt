@@ -6,7 +6,7 @@ ghost use Rattle.relay960.specs.ServeFaults.{serve_fault_code, serve_fault_name}
 use std::fmt;
 
 /// Why nothing was served. It is shown as `fault 41 Device`, with its number and its name.
-#[derive(Clone, Copy, PartialEq, Eq, Debug)]
+#[derive(Clone, Copy)]
 pub enum ServeFault {
     /// The server cannot listen on the port.
     Device,

@@ -6,7 +6,7 @@ use relay_streams::Wire;
 use std::io::ErrorKind;
 
 /// How a connection took what was kept for it.
-#[derive(Clone, Copy, PartialEq, Eq, Debug)]
+#[derive(Clone, Copy)]
 pub(crate) enum Delivery {
     /// It took everything.
     All,
@@ -17,7 +17,7 @@ pub(crate) enum Delivery {
 }
 
 /// What came from a connection.
-#[derive(Clone, Copy, PartialEq, Eq, Debug)]
+#[derive(Clone, Copy)]
 pub(crate) enum Intake {
     /// Some bytes came.
     Bytes,

@@ -6,7 +6,7 @@ use relay_frames::silence::{MOST_LEAVING_SECONDS, Silence, Verdict, has_passed};
 const MOST_WAIT_SECONDS: u64 = 30;
 
 /// Since when the server has waited for a peer.
-#[derive(Clone, Copy, Debug)]
+#[derive(Clone, Copy)]
 pub(crate) struct Since {
     /// Since when nothing has come from it.
     pub(crate) silence: Silence,
