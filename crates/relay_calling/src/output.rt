@@ -12,8 +12,8 @@ use std::marker::Model;
 /// How many bytes may be due to a peer before it is no longer read.
 pub const MOST_OUTPUT: usize = 16384;
 
-/// How many bytes of room are kept while nothing is due.
-const MOST_ROOM: usize = 4096;
+/// How many bytes of room are kept while nothing is due: enough for most answers, and little for a connection at rest.
+const MOST_ROOM: usize = 512;
 
 /// The frames that were put, without the bytes of them that were written. Contracts see what is due.
 #[derive(Drop)]

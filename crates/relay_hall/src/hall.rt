@@ -211,7 +211,8 @@ impl Hall {
 
     /// How many boards there are. Their indices are below this.
     pub fn len(&self) -> usize
-        ensures { result ≡ length self.now.floor.boards }
+        ensures len { result ≡ length self.now.floor.boards }
+        ensures reached { IsReached self.now }
     {
         self.floor.len()
     }

@@ -18,6 +18,7 @@ mod signals;
 
 pub use chime::{BoardBell, Chime};
 pub use chronicle::{Chronicle, LogNote, LogNotes, What};
+pub use lobby::Lobby;
 pub use lookout::Lookout;
 pub use made::Made;
 pub use registry::Registry;

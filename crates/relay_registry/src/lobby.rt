@@ -27,8 +27,8 @@ use std::alloc::{AllocError, Global};
 /// A hall behind a lock. Each method is what is done within one hold, and waits for nobody. Whenever the lock is taken, some run of events
 /// has led to the hall, since one leads to every hall: so all that `relay_hall::laws::whatever_happens` says is true of it.
 #[derive(Drop)]
-pub(crate) struct Lobby {
-    hall: Hall,
+pub struct Lobby {
+    pub hall: Hall,
 }
 
 impl Lobby {

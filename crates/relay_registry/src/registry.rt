@@ -9,6 +9,7 @@ use crate::chime::{BoardBell, Chime};
 use crate::chronicle::{Chronicle, What};
 use crate::found::Found;
 use crate::house::House;
+use crate::lobby::Lobby;
 use crate::lookout::Lookout;
 use crate::made::{Made, board_of};
 use crate::rang::Rang;
@@ -20,7 +21,7 @@ use relay_pushing::Conn;
 use std::alloc::{AllocError, Global};
 use std::marker::Model;
 use std::sync::atomic::{AtomicBool, AtomicU32, AtomicU64, Ordering};
-use std::sync::{Arc, Wait};
+use std::sync::{Arc, MutexGuard, Wait};
 use std::time::{Clock, Duration};
 
 /// How many milliseconds a second has.
@@ -204,6 +205,12 @@ impl Registry {
             .makes(conn, who, step, &self.house.signals);
         self.announce(rt, step, &made);
         made
+    }
+
+    /// The hall, for one who hears what connections say as long as it holds the lock. Whoever does rings for each board that the hall has
+    /// rung for, and makes the wakes and the notes for the log once it no longer holds it.
+    pub fn lobby<R: Wait>(&self, rt: &R) -> MutexGuard<'_, Lobby> {
+        self.house.lobby.lock(rt)
     }
 
     /// Rings for a board whose game has changed, and notes for the log what was made of a step. Lookouts learn of a new board at once.
@@ -417,8 +424,13 @@ impl Registry {
         self.wake_lookouts();
     }
 
+    /// Rings for the board of this index, whose game has changed: once for each change. Nobody is woken yet.
+    pub fn ring(&self, at: usize) {
+        self.house.signals.of(at).chime.ring();
+    }
+
     /// Wakes all lookouts.
-    fn wake_lookouts(&self) {
+    pub fn wake_lookouts(&self) {
         for lookout in self.lookouts.iter() {
             lookout.wake();
         }
@@ -434,6 +446,12 @@ impl Registry {
     /// Notes for the log what happened to a board.
     pub fn note<R: Wait>(&self, rt: &R, board: BoardName, what: What) {
         self.chronicle.note(rt, board, what);
+    }
+
+    /// Notes that a connection follows the board of this index: its follower was handed out, and is counted from now on.
+    pub fn follows(&self, at: usize) {
+        self.house.signals.of(at).follows();
+        self.chronicle.followers.fetch_add(1, Ordering::SeqCst);
     }
 
     /// Notes that a connection no longer follows the board of this index: its follower has left, and was counted until now.

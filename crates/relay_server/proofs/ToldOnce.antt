@@ -1,6 +1,7 @@
 -- A connection that gets a follower by a message is told of that very follower.
-use Rattle.std.proofs.Common.{◌≡◌, ℕ, List, [], ◌∷◌, ◌++◌, Option, None, Some, Result, Ok, Err, option_map, sym, ap, ◌∙◌}
+use Rattle.std.proofs.Common.{◌≡◌, ℕ, List, [], ◌∷◌, ◌++◌, Option, None, Some, Result, Ok, Err, option_map, sym, ap, refl, ◌∙◌}
 use Rattle.std.proofs.lemmas.Option.{none-some, same_Some}
+use Rattle.c960_game.specs.Positions.{last_position}
 use Rattle.relay_core.specs.declared.step.Step.{Step}
 use Rattle.relay_core.specs.declared.reply.Reply.{Reply}
 use Rattle.relay_messages.specs.declared.answer.Answer.TheVariants as answers
@@ -12,19 +13,20 @@ use Rattle.live_board.specs.Seats.{FollowerSeat}
 use Rattle.relay_hall.specs.declared.handed.Handed.{Handed}
 use Rattle.relay_hall.specs.declared.owner.Owner.{Owner}
 use Rattle.relay_hall.specs.Talk.{may_make}
+use Rattle.relay_hall.specs.Telling.{Tells}
+use Rattle.relay_hall.proofs.lemmas.Telling.{replied_tells}
 use Rattle.relay_server.specs.declared.loops.spectating.Spectating.{Spectating}
 use Rattle.relay_server.specs.Spectating.{HasBeenTold, IsToldOf, handed_as}
 use Rattle.relay_server.specs.Talking.{Heard, SaidAnswered}
-use Rattle.relay_server.proofs.lemmas.Telling.{Tells, replied_tells}
 
 -- a text that was handed over last reports the follower if its reply does
 told_last : (f : FollowerSeat) (old new : List (List ℕ)) (bytes : List ℕ) (reply : Reply) → Some new ≡ Some (old ++ bytes ∷ []) → bytes ≡ answer_text (answers.Reply reply) → Tells f reply → IsToldOf f new
 told_last f old new bytes reply gained says tells = record {
   earlier = old;
-  position = tells.position;
+  position = last_position f.part.setup.start f.part.before;
   told = same_Some _ _ gained ∙ ap (λ b. old ++ b ∷ []) (says ∙ ap (λ r. answer_text (answers.Reply r)) tells.is);
   joined = tells.joined;
-  position_is = tells.position_is;
+  position_is = refl;
 }
 
 said_tells : (who : Owner) (opened now old new : List (List ℕ)) (said : Result Step MessageFault) (bytes : List ℕ) (h : Handed) → Some new ≡ Some (old ++ bytes ∷ [])

@@ -35,7 +35,7 @@ pub record OutletRecord (S : Type 0) : Type 0 where
   pub failures : ℕ
   pub texts : List (List ℕ)
 
--- the socket of a connection: its descriptor; by when the output that was begun has to be taken; and whether the next write waits until then
+-- the socket of a connection: its descriptor; by when the output that was begun has to be taken; whether the next write waits until then
 pub record SocketRecord : Type 0 where
   pub descriptor : ℤ
   pub due : Option Deadline
