@@ -17,13 +17,13 @@ mod coming;
 mod unasked;
 
 use crate::output::Output;
+use crate::progress::Progress;
 use crate::stage::Stage;
 use relay_frames::{Breach, Code, Event, Peer};
 use relay_hall::{Hall, Handed, Owner};
 use relay_pushing::Conn;
 use std::alloc::{AllocError, Global};
 use std::marker::Model;
-use std::mem;
 
 /// How many messages a connection may send, with pings and pongs. The fragments of one message are not counted.
 pub const MOST_MESSAGES: u32 = 1_000_000;
@@ -44,8 +44,7 @@ pub struct Caller {
     /// How many messages it may still send.
     left: u32,
     stage: Stage,
-    /// Whether a text or a binary message was answered since that was last asked.
-    has_said: bool,
+    progress: Progress,
 }
 
 impl Model for Caller {
@@ -68,11 +67,6 @@ fn left_after(left: u32, event: &Event) -> u32
     }
 }
 
-/// Whether an event is a whole text or binary message.
-fn is_said(event: &Event) -> bool {
-    matches!(event, Event::Text(_) | Event::Binary(_))
-}
-
 impl Caller {
     /// A connection of which nothing has been read, with its number, and whether its request may name a key.
     pub fn new(alloc: Global, opener: u64, takes_keys: bool) -> Caller
@@ -88,7 +82,7 @@ impl Caller {
             output: Output::new(alloc),
             left: MOST_MESSAGES,
             stage: Stage::Comes,
-            has_said: false,
+            progress: Progress::new(),
         }
     }
 
@@ -166,7 +160,7 @@ impl Caller {
     fn go_on(&mut self, event: &Event, has_handed: bool)
         ensures { self.new ≡ record self.old { stage = stage_after has_handed (is_the_last self.old.left (told event.now)) } }
     {
-        self.has_said = self.has_said || is_said(event);
+        self.progress.note(event);
         let is_last = event.is_last() || self.left == 0;
         self.stage = Stage::after(has_handed, is_last);
     }
@@ -326,7 +320,15 @@ impl Caller {
     pub fn take_said(&mut self) -> bool
         ensures { self.new ≡ self.old }
     {
-        mem::replace(&mut self.has_said, false)
+        self.progress.take_said()
+    }
+
+    /// Whether something that came whole was answered since the last such call: a message, or a ping, a pong or a close that is not between
+    /// the parts of one. By that a driver measures how long the rest of a message takes. It is no part of what contracts see.
+    pub fn take_whole(&mut self) -> bool
+        ensures { self.new ≡ self.old }
+    {
+        self.progress.take_whole()
     }
 
     /// Whether behind its request it is in the middle of a frame or of a message, so that more has to come soon.

@@ -6,6 +6,7 @@ mod caller;
 mod key;
 pub mod laws;
 mod output;
+mod progress;
 mod stage;
 
 pub use caller::{Caller, MOST_MESSAGES};

@@ -229,24 +229,27 @@ fn one_that_follows_or_leaves_is_sent_nothing_unasked(rt: HostRuntime) {
     stays(&rt, &mut second.caller, &[CLOSE, 0], Stage::Leaves);
 }
 
-/// Frames in order, and whether a whole text or binary message was then answered since the last one.
-const SAID: [(u8, &[u8], bool); 7] = [
-    (TEXT, b"?", true),
-    (PING, b"", false),
-    (BINARY, b"?", true),
-    (PONG, b"", false),
-    (FIRST_PART, b"?", false),
-    (LAST_PART, b"?", true),
-    (CLOSE, b"", false),
+/// Frames in order; whether a whole text or binary message was then answered since the last one; and whether anything that came whole and
+/// not between the parts of a message.
+const SAID: [(u8, &[u8], bool, bool); 8] = [
+    (TEXT, b"?", true, true),
+    (PING, b"", false, true),
+    (BINARY, b"?", true, true),
+    (PONG, b"", false, true),
+    (FIRST_PART, b"?", false, false),
+    (PING, b"", false, false),
+    (LAST_PART, b"?", true, true),
+    (CLOSE, b"", false, true),
 ];
 
 #[test]
-fn what_it_has_said_is_told_once(rt: HostRuntime) {
+fn what_came_whole_of_it_is_told_once(rt: HostRuntime) {
     let mut scene = Scene::new(&rt, rt.alloc());
-    assert!(rt; !scene.caller.take_said());
-    for (first, payload, has_said) in SAID {
+    assert!(rt; !scene.caller.take_said() && !scene.caller.take_whole());
+    for (first, payload, has_said, is_whole) in SAID {
         assert!(rt; scene.sends(first, payload) == Ok(true));
         assert!(rt; scene.caller.take_said() == has_said && !scene.caller.take_said());
+        assert!(rt; scene.caller.take_whole() == is_whole && !scene.caller.take_whole());
     }
 }
 
