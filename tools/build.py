@@ -1,9 +1,8 @@
 #!/usr/bin/env -S python3 -B
 """Proves and builds the program and each crate below it, those that do not depend on one another side by side.
 
-Each crate is proved in its own workplace, and its new `out/` is put in the old one's place. The library that most is to come after gets a
-job for each processor, so that none is idle while it runs alone. The others and the program have as many jobs as `rt` chooses: each job of
-the program reads anew all that is below it, which takes longer than its few functions.
+Each crate is proved in its own workplace, and its new `out/` is put in the old one's place. The one that most is to come after gets a job
+for each processor, so that none is idle while it runs alone. The others have as many jobs as `rt` chooses.
 
 All output goes to standard error, and the status is 0 if everything is proved. For a crate that is proved, `out/proved` keeps a sum
 of everything that it was made from and one of what was made. If both still hold, `rt` is not called for it.
@@ -156,7 +155,7 @@ class Build:
         # `rt` reckons with more memory than a proof takes, and gives the topmost crates one job or two.
         leads = all(self.plan.weights[name] >= self.plan.weights[it] for it in self.running)
         jobs = ["--jobs", str(most_jobs())] if leads else []
-        words = ["rt", "run", "--", "start", "0"] if self.crates.is_program(name) else ["rt", "lib", *jobs]
+        words = ["rt", "run", *jobs, "--", "start", "0"] if self.crates.is_program(name) else ["rt", "lib", *jobs]
         with log.open("w") as out:
             run = subprocess.Popen(words, cwd=place.own, stdin=subprocess.DEVNULL, stdout=out, stderr=out)
         self.running[name] = run, log, time.monotonic()
