@@ -1,0 +1,8 @@
+pub mod Answered
+pub mod Guests
+pub mod Handing
+pub mod Lines
+pub mod RestFacts
+pub mod Serving
+pub mod Turning
+pub mod Writing

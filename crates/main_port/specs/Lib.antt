@@ -1,0 +1,9 @@
+pub mod Handing
+pub mod Heeding
+pub mod Inner
+pub mod Lines
+pub mod Meeting
+pub mod Others
+pub mod Queue
+pub mod Reading
+pub mod Resting

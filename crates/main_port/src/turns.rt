@@ -1,0 +1,162 @@
+//! The turns of the loop.
+
+ghost use Rattle.std.specs.Prelude.{◌≡◌, false, true};
+ghost use Rattle.main_port.specs.Meeting.{IsOfTheSame};
+
+use crate::crowd::Crowd;
+use crate::entrance::Entrance;
+use crate::events::MOST_EVENTS;
+use mio::Events;
+use relay_registry::{Lookout, Registry};
+use std::sync::Wait;
+use std::thread::Threads;
+use std::time::{Clock, Duration};
+
+/// How many milliseconds a turn waits at most.
+const TURN_MILLIS: u64 = 500;
+
+/// After how many milliseconds the hall is told the time at the latest.
+const TICK_MILLIS: u64 = 1000;
+
+/// How many seconds connections have to leave once serving is to end.
+const MOST_LEAVING_SECONDS: u64 = 4;
+
+/// The turns of the loop.
+#[derive(Drop)]
+pub(crate) struct Turns<'a, R> {
+    pub(crate) rt: &'a R,
+    pub(crate) registry: &'a Registry,
+    pub(crate) lookout: &'a Lookout,
+    pub(crate) crowd: Crowd<'a, R>,
+    pub(crate) entrance: Entrance,
+    /// When the system was asked last, in milliseconds.
+    pub(crate) asked: u64,
+    /// Everything that connections had sent by this millisecond has been heard.
+    pub(crate) heard_by: u64,
+    /// When the hall is told the time next.
+    pub(crate) ticks_at: Duration,
+    /// Whether nobody can come back any more.
+    pub(crate) is_shut: bool,
+    /// When the loop ends even if connections remain, once serving is to end.
+    pub(crate) ends_at: Option<Duration>,
+}
+
+impl<'a, R> Turns<'a, R>
+where
+    R: Threads + Wait + Clock + Eprint + Clone + Send + Drop + 'static,
+{
+    /// How long the next turn waits at most.
+    pub(crate) fn patience(&self) -> Duration {
+        if self.crowd.has_due() || self.crowd.is_looking() {
+            return Duration::ZERO;
+        }
+        let passed = self.crowd.passed();
+        let mut most = Duration::from_millis(TURN_MILLIS).min(self.ticks_at.saturating_sub(passed));
+        if let Some(ends_at) = self.ends_at {
+            most = most.min(ends_at.saturating_sub(passed));
+        }
+        if let Some(accepts) = self.entrance.accepts_in(self.crowd.now()) {
+            most = most.min(Duration::from_millis(accepts));
+        }
+        if let Some(rest) = self.crowd.next_rest() {
+            // The system waits in whole milliseconds, and this one has begun.
+            most = most.min(Duration::from_millis(rest.saturating_add(1)));
+        }
+        most
+    }
+
+    /// Tells the hall the time, once a second and when boards have waited long enough. Boards that begin to wait meanwhile do so for a
+    /// second at least.
+    fn tick(&mut self)
+        ensures { self.new.entrance ≡ self.old.entrance }
+    {
+        let now = self.crowd.passed();
+        if now < self.ticks_at {
+            return;
+        }
+        let most = Duration::from_millis(TICK_MILLIS);
+        let next = match self.registry.tick(self.rt) {
+            Some(due) => most.min(due.saturating_add(Duration::from_millis(1))),
+            None => most,
+        };
+        self.ticks_at = now.saturating_add(next);
+    }
+
+    /// Handles what the system reported, and what is due. Returns whether it was the last turn, which none is while newcomers come in.
+    pub(crate) fn take(&mut self, events: &Events) -> bool
+        ensures same { IsOfTheSame self.old.entrance self.new.entrance }
+        ensures last { result ≡ true → self.new.entrance.is_open ≡ false }
+    {
+        let before = self.asked;
+        self.asked = self.crowd.now();
+        // This comes before looking: whoever wakes the loop from now on wakes it again.
+        self.lookout.heed();
+        self.crowd.look_at_clock();
+        // What the system reports now may have come right after it was asked the time before.
+        let report = self.crowd.note(events, before);
+        if report.has_newcomers {
+            self.entrance.looks();
+        }
+        self.crowd.end_rests();
+        self.crowd.serve_owners();
+        self.crowd.serve_others();
+        // Owners that come back in time are heard before their boards are ended.
+        self.tick();
+        if report.told < MOST_EVENTS {
+            // The system has reported everything that had arrived when it was asked.
+            self.heard_by = self.heard_by.max(self.crowd.heard_by(self.asked));
+        }
+        self.entrance.accept(&mut self.crowd, report.told);
+        // However long a turn took, or the program was suspended, nobody is dropped for what it had sent in time.
+        if self.crowd.look_around(self.heard_by) {
+            // An accept that failed is tried again.
+            self.entrance.looks();
+        }
+        self.is_over()
+    }
+
+    // ---- The end.
+
+    /// Does what is due at the end. Returns whether that is over.
+    fn is_over(&mut self) -> bool
+        ensures same { IsOfTheSame self.old.entrance self.new.entrance }
+        ensures over { result ≡ true → self.new.entrance.is_open ≡ false }
+    {
+        if !self.entrance.is_closed(self.rt, self.registry) {
+            return false;
+        }
+        if !self.is_shut && self.registry.is_over() {
+            self.is_shut = true;
+            self.registry.shut(self.rt);
+        }
+        if self.entrance.is_ending(self.registry) {
+            return self.has_ended();
+        }
+        self.crowd.is_empty()
+    }
+
+    /// Serving is to end. All boards are ended, connections are told, and then waited for. Returns whether this is over.
+    fn has_ended(&mut self) -> bool
+        ensures { self.new.entrance ≡ self.old.entrance }
+    {
+        let now = self.crowd.passed();
+        let ends_at = match self.ends_at {
+            Some(ends_at) => ends_at,
+            None => {
+                self.registry.end_all(self.rt);
+                self.crowd.tell_of_the_end();
+                now.saturating_add(Duration::from_secs(MOST_LEAVING_SECONDS))
+            }
+        };
+        self.ends_at = Some(ends_at);
+        self.crowd.is_empty() || now >= ends_at
+    }
+
+    /// For how long those that follow are waited for, once serving is to end.
+    pub(crate) fn left(&self) -> Duration {
+        match self.ends_at {
+            Some(ends_at) => ends_at.saturating_sub(self.crowd.passed()),
+            None => Duration::from_secs(MOST_LEAVING_SECONDS),
+        }
+    }
+}
