@@ -42,6 +42,8 @@ pub struct Service {
     pub idle: u32,
     /// Whether what happens to boards is written to standard error.
     pub log: bool,
+    /// Whether one loop answers all connections, in place of a thread for each.
+    pub by_loop: bool,
     /// The limits of the relay.
     pub limits: Limits,
     /// The watch port, if there is one.

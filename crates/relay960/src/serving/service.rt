@@ -1,11 +1,12 @@
 //! Serving.
 
-ghost use Rattle.std.specs.Prelude.{IfOk};
+ghost use Rattle.std.specs.Prelude.{◌≡◌, ◌≤◌, ◌+◌, IfOk, IfSome, false};
 ghost use Rattle.relay960.specs.Serving.{MeetsWith};
 
 use crate::serving::fault::ServeFault;
 use crate::serving::watching::{Loops, Watch};
-use relay_server::{OpenGate, Registry, ServeEnd, serve};
+use main_port::MainPort;
+use relay_server::{OpenGate, Registry, ServeEnd, Staff, serve};
 use relay960_words::{Connections, Service};
 use std::alloc::{AllocError, Global};
 use std::io;
@@ -53,18 +54,56 @@ where
         Connections::Count(most) => Some(most),
         Connections::Forever => None,
     };
-    let until_input_ends = service.until_input_ends;
-    let end = serve(
+    let end = attend(
         rt,
         alloc,
         listener,
         &registry,
         &gate,
         most,
-        until_input_ends,
+        service.until_input_ends,
+        service.by_loop,
     );
     end_loops(rt, loops);
     Ok(end)
+}
+
+/// Serves the main port: by one loop if that is asked for and the system has what it takes, and otherwise by a thread for each connection.
+fn attend<R>(
+    rt: &R,
+    alloc: Global,
+    listener: TcpListener,
+    registry: &Arc<Registry, Global>,
+    gate: &Arc<OpenGate, Global>,
+    most: Option<u32>,
+    until_input_ends: bool,
+    by_loop: bool,
+) -> ServeEnd
+where
+    R: Net<Listener = TcpListener, Stream = TcpStream>
+        + Input<Reader = StdinLock<'static>>
+        + Eprint
+        + Threads
+        + Wait
+        + Clock
+        + Clone
+        + Send
+        + Drop
+        + 'static,
+    ensures most { IfSome most (λ n. result.served + result.failed ≤ n) }
+    ensures all { until_input_ends ≡ false → IfSome most (λ n. result.served + result.failed ≡ n) }
+{
+    if !by_loop {
+        return serve(rt, alloc, listener, registry, gate, most, until_input_ends);
+    }
+    let listener = match MainPort::open(rt, alloc, listener) {
+        Ok(port) => match Staff::start(rt, alloc, registry) {
+            Some(staff) => return port.attend(rt, registry, staff, most, until_input_ends),
+            None => port.close(),
+        },
+        Err(listener) => listener,
+    };
+    serve(rt, alloc, listener, registry, gate, most, until_input_ends)
 }
 
 /// Listens on the watch port, if there is to be one.
