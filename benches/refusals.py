@@ -3,9 +3,10 @@
 
     benches/refusals.py [MOST]        those of its jobs, until a run meets no refusal; then 1 to MOST (600) of the server with its start
     benches/refusals.py --watching    those of the loop of a watch port, until nothing is refused any more
+    benches/refusals.py --main        those of the loop of the main port (--loop), in the same way
     benches/refusals.py --tests       those of each test that must hold then too, until a run meets no refusal
 
-The gate does all of these. refused_jobs.py says what a job may do then, and refused_watching.py what a loop may do.
+The gate does all of these. refused_jobs.py says what a job may do then, and refused_watching.py and refused_main.py what a loop may do.
 
 The server has room for one board and one follower. In each run an owner opens the board, plays a move and closes; then three guests, one
 after another, follow from the first place. If the owner was answered in full, at least two guests get the move, the end as abandoned and
@@ -31,6 +32,7 @@ CRATES = HERE.parent / "crates"
 sys.path[:0] = [str(HERE.parent / "tools"), str(CRATES / "relay960/replays")]
 
 from refused_jobs import refuse_in_jobs, run_refused  # noqa: E402
+from refused_main import refuse_in_main  # noqa: E402
 from refused_watching import refuse_in_watching  # noqa: E402
 from relay_client.frames import REQUEST, frame, read_frame  # noqa: E402
 from relay_client.program import PATIENCE  # noqa: E402
@@ -183,8 +185,8 @@ def refuse_in_tests(allocator, mark):
 
 
 def main():
-    tests, watching = (sys.argv[1:] == [word] for word in ("--tests", "--watching"))
-    most = int(sys.argv[1]) if len(sys.argv) > 1 and not tests and not watching else 600
+    tests, watching, of_main = (sys.argv[1:] == [word] for word in ("--tests", "--watching", "--main"))
+    most = int(sys.argv[1]) if len(sys.argv) > 1 and not (tests or watching or of_main) else 600
     counts, last = collections.Counter(), 0
     with tempfile.TemporaryDirectory() as room:
         allocator = f"{room}/refuse.so"
@@ -194,6 +196,8 @@ def main():
             return refuse_in_tests(allocator, mark)
         if watching:
             return 1 if refuse_in_watching(allocator, mark) else 0
+        if of_main:
+            return 1 if refuse_in_main(allocator, mark) else 0
         wrong = refuse_in_jobs(allocator, mark)
         for refused in range(1, most + 1):
             who = met(refused, allocator)

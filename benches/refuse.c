@@ -1,8 +1,10 @@
 // An allocator for benches/refusals.py, by LD_PRELOAD: the allocation of the number REFUSED is refused once, all others are the C
 // library's. If that happens, the file MARK is made.
 //
-// Where SHEET names a file, the numbers in it say which one is refused, and only the allocations of the watch port's loop count. So one
-// server may be refused one after another. The loop's thread is the one that has waited for epoll.
+// Where SHEET names a file, the numbers in it say which one is refused, and only the allocations of a port's loop count. So one server may
+// be refused one after another. The loop's thread is the one that has waited for epoll. Where LOOP is set, it is the loop of the main port,
+// which has the process's first thread; the loops of those who follow have waited too, and are none then.
+#define _GNU_SOURCE
 #include <errno.h>
 #include <fcntl.h>
 #include <stdlib.h>
@@ -23,12 +25,14 @@ struct sheet {
 
 static long count;
 static struct sheet *sheet;
+static int is_of_main;
 // Found without a call, which would ask for memory itself.
 static __thread int is_loop __attribute__((tls_model("initial-exec")));
 
 __attribute__((constructor)) static void open_sheet(void) {
     const char *path = getenv("SHEET");
     if (!path) return;
+    is_of_main = getenv("LOOP") != NULL;
     int file = open(path, O_RDWR);
     sheet = mmap(NULL, sizeof *sheet, PROT_READ | PROT_WRITE, MAP_SHARED, file, 0);
     if (sheet == MAP_FAILED) abort();
@@ -36,10 +40,10 @@ __attribute__((constructor)) static void open_sheet(void) {
 }
 
 int epoll_wait(int poll, struct epoll_event *events, int most, int timeout) {
-    is_loop = 1;
-    if (sheet) sheet->waits = 1;
+    is_loop = !is_of_main || gettid() == getpid();
+    if (sheet && is_loop) sheet->waits = 1;
     int ready = epoll_pwait(poll, events, most, timeout, NULL);
-    if (sheet) sheet->waits = 0;
+    if (sheet && is_loop) sheet->waits = 0;
     return ready;
 }
 

@@ -303,7 +303,7 @@ class Gate(Commands):
         self.assertEqual(done.returncode, 0, done.stdout + done.stderr)
         replays, tables, sessions, refusals = self.CALLED
         called = self.called()
-        self.assertEqual(called, [replays, tables, "proofs ci", sessions, refusals, refusals, refusals])
+        self.assertEqual(called, [replays, tables, "proofs ci", sessions, sessions, refusals, refusals, refusals, refusals])
 
     def test_replays_that_failed_beside_proofs_are_tried_again(self):
         write(self.state / "all.py", "")

@@ -12,7 +12,7 @@ import unittest
 
 from relay_client.connection import Connection
 from relay_client.frames import request
-from relay_client.program import PATIENCE, PROGRAM
+from relay_client.program import BY_LOOP, PATIENCE, PROGRAM
 from relay_client.server import Server, last_has_come
 from relay_client.texts import NOT_OBJECT
 from relay_client.waiting import is_readable
@@ -123,6 +123,7 @@ class Connections(unittest.TestCase):
             time.sleep(0.5)
             Connection(server.port).asks("[]", NOT_OBJECT)
 
+    @unittest.skipIf(BY_LOOP, "no newcomer has a thread there")
     def test_a_newcomer_without_a_thread_is_told_so_and_later_ones_are_served(self):
         """There is memory for all but the thread's stack. Who is connected stays, and standard error has one line. Before, the connection
         ended without a word, and there was no line."""

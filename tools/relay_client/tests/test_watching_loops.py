@@ -409,7 +409,15 @@ class Sharing(unittest.TestCase):
                 if os.readlink(descriptor) == "anon_inode:[eventpoll]":
                     told = pathlib.Path(f"/proc/{server.process.pid}/fdinfo/{descriptor.name}").read_text()
                     watched.add(frozenset(re.findall(r"tfd: +(\d+) .* ino:([0-9a-f]+) ", told)))
-        return [loop for loop in watched if len(loop) > 1]
+        return [loop for loop in watched if self.listener(server) in {inode for _, inode in loop}]
+
+    def listener(self, server):
+        """The inode of the port's listener, as the system tells it of an epoll."""
+        for line in pathlib.Path("/proc/net/tcp").read_text().splitlines()[1:]:
+            words = line.split()
+            if words[1].endswith(f":{server.watch_port:04X}") and words[3] == "0A":
+                return f"{int(words[9]):x}"
+        raise AssertionError("nobody listens on the port")
 
     def guests(self, server):
         return sorted(len(loop) - 2 for loop in self.loops(server))
