@@ -11,6 +11,7 @@ import tempfile
 import unittest
 
 from relay_client.connection import Connection
+from relay_client.program import BY_LOOP
 from relay_client.server import Server
 from relay_client.tests.sessions import owner_of
 from relay_client.texts import NO_BOARD, follows, refused, submits
@@ -58,6 +59,7 @@ def instructions_of_a_stranger(place, boards):
 
 
 class Comparing(unittest.TestCase):
+    @unittest.skipIf(BY_LOOP, "no stranger has a thread whose instructions could be counted")
     def test_a_strangers_key_takes_as_long_wherever_it_differs(self):
         """Less than an instruction for each two keys that are compared, where any other number of bytes would take more. That they are
         compared at all is seen by how many instructions more boards take."""
