@@ -11,9 +11,9 @@ const MOST_HALF_MILLIS: u64 = 10_000;
 /// How many milliseconds a connection may take over what is due, however often it takes some of it.
 const MOST_WAIT_MILLIS: u64 = 30_000;
 
-/// After how many milliseconds of silence a connection is sent a ping, and then another one. Connections are looked at twice a second, so
-/// with 30,000 a vanished one would be noticed only after more than 90 seconds.
-const MOST_SILENT_MILLIS: u64 = 29_700;
+/// After how many milliseconds of silence a connection is sent a ping, and then another one. Connections are looked at twice a second, by
+/// what was heard half a second before: with 30,000 a vanished one would be noticed only after more than 90 seconds.
+const MOST_SILENT_MILLIS: u64 = 29_650;
 
 /// How many milliseconds a connection that was sent everything may take to end.
 const MOST_LEAVING_MILLIS: u64 = 10_000;
@@ -133,8 +133,8 @@ fn each_stage_has_its_time(rt: HostRuntime) {
         (Stage::Comes, 10_100, Verdict::Gone),
         (Stage::HasLeft, 10_099, Verdict::Stays),
         (Stage::HasLeft, 10_100, Verdict::Gone),
-        (Stage::Asks, 29_799, Verdict::Stays),
-        (Stage::Asks, 29_800, Verdict::Ping),
+        (Stage::Asks, 29_749, Verdict::Stays),
+        (Stage::Asks, 29_750, Verdict::Ping),
         (Stage::Asks, 60_100, Verdict::Idle),
         (Stage::Leaves, 1_000_100, Verdict::Stays),
     ];
@@ -148,12 +148,12 @@ fn each_stage_has_its_time(rt: HostRuntime) {
 fn one_that_is_silent_has_two_pings_and_has_gone_before_ninety_seconds(rt: HostRuntime) {
     let mut patience = Patience::new(0);
     for (now, verdict) in [
-        (29_699, Verdict::Stays),
-        (29_700, Verdict::Ping),
-        (29_701, Verdict::Stays),
-        (59_400, Verdict::Ping),
-        (89_099, Verdict::Stays),
-        (89_100, Verdict::Gone),
+        (29_649, Verdict::Stays),
+        (29_650, Verdict::Ping),
+        (29_651, Verdict::Stays),
+        (59_300, Verdict::Ping),
+        (88_949, Verdict::Stays),
+        (88_950, Verdict::Gone),
     ] {
         assert_eq!(&rt; patience.verdict(now, Stage::Asks, None), verdict);
     }
