@@ -1,5 +1,4 @@
 pub mod Answered
-pub mod Guests
 pub mod Handing
 pub mod Lines
 pub mod RestFacts
