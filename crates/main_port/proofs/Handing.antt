@@ -5,7 +5,6 @@ use Rattle.relay_hall.specs.Record.{HallRecord}
 use Rattle.relay_calling.specs.Calling.{CallerRecord, Heeds, IsTold}
 use Rattle.relay_calling.specs.declared.stage.Stage.TheVariants.{HandsOver}
 use Rattle.main_port.specs.declared.guest.Guest.{Guest}
-use Rattle.main_port.specs.declared.heeding.Heeding.{Heeding}
 use Rattle.main_port.specs.declared.heeding.Heeding.TheVariants.{IsSilent, Follows}
 use Rattle.main_port.specs.Handing.{ToldAt}
 use Rattle.main_port.specs.Heeding.{HeededAt}

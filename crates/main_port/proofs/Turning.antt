@@ -1,5 +1,5 @@
 -- What is done with one guest of a slab, as a fact of the slab.
-use Rattle.std.proofs.Common.{◌≡◌, ℕ, List, Option, Some, None, is_some, sym, ap, subst, Result, IfOk, OnErr}
+use Rattle.std.proofs.Common.{◌≡◌, ℕ, List, Option, Some, is_some, sym, ap, subst, Result, IfOk, OnErr}
 use Rattle.std.proofs.lemmas.Result.{MatchResult-from_both}
 use Rattle.slab.specs.Slab.{Slab, get, with_value}
 use Rattle.slab.proofs.SlabLemmas.{Updates-with_value}

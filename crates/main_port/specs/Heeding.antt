@@ -1,5 +1,5 @@
 -- How a connection is heeded while the hall is held.
-use Rattle.std.specs.Prelude.{◌≡◌, ◌≤◌, ℕ, ◌+◌, nat_lt, List, [], ◌∷◌, length, Option, None, Some, true, false, IfSome}
+use Rattle.std.specs.Prelude.{◌≡◌, nat_lt, List, [], ◌∷◌, length, Option, None, Some, true, false, IfSome}
 use Rattle.relay_calling.specs.Calling.{CallerRecord, Fails, Heeds}
 use Rattle.relay_calling.specs.declared.output.TheConstants.{MOST_OUTPUT}
 use Rattle.relay_hall.specs.Reading.{place_of}

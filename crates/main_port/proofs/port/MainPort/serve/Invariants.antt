@@ -1,4 +1,3 @@
-use Rattle.std.proofs.Common.{◌≡◌}
 use Rattle.main_port.specs.Meeting.{IsOfTheSame}
 use Rattle.main_port.proofs.port.MainPort.serve.Given as goal
 
