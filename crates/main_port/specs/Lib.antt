@@ -7,3 +7,4 @@ pub mod Others
 pub mod Queue
 pub mod Reading
 pub mod Resting
+pub mod Waiting

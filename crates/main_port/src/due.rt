@@ -98,19 +98,3 @@ impl Due {
         Some(self.others.front()?.since)
     }
 }
-
-#[test]
-fn owners_are_apart_and_the_others_in_their_order(rt: HostRuntime) {
-    let mut due = Due::new(rt.alloc());
-    assert!(&rt; due.add(1, false, 3).is_ok());
-    assert!(&rt; due.add(2, true, 4).is_ok());
-    assert!(&rt; due.add(3, false, 5).is_ok());
-    assert_eq!(&rt; due.since(), Some(3));
-    let owners = due.take_owners();
-    assert_eq!(&rt; owners.len(), 1);
-    assert_eq!(&rt; owners.first().copied(), Some(2));
-    assert_eq!(&rt; due.take_other(), Some(1));
-    assert_eq!(&rt; due.since(), Some(5));
-    assert_eq!(&rt; due.take_other(), Some(3));
-    assert!(&rt; due.is_empty());
-}

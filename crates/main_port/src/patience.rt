@@ -1,6 +1,10 @@
 //! How long a connection is waited for, in milliseconds of the loop's clock. A clock of whole seconds would end a time up to one too early.
 
-use relay_frames::silence::{MOST_PINGS, Silence, has_passed};
+ghost use Rattle.std.specs.Prelude.{◌≡◌, ◌-◌, None, cond};
+ghost use Rattle.main_port.specs.Waiting.{counted_by, has_lasted, kept_waiting, ping_of, verdict_asking, verdict_of};
+ghost use Rattle.main_port.specs.declared.patience.Verdict.TheVariants.{Gone, Stays};
+
+use relay_frames::silence::{MOST_PINGS, Silence};
 
 /// How many milliseconds a request may take.
 const MOST_REQUEST_MILLIS: u64 = 10_000;
@@ -57,7 +61,11 @@ pub(crate) struct Patience {
 
 impl Patience {
     /// Of a connection that comes now.
-    pub(crate) fn new(now: u64) -> Patience {
+    pub(crate) fn new(now: u64) -> Patience
+        ensures began { result.stage_began ≡ now }
+        ensures heard { result.silence.heard_at ≡ now }
+        ensures waits { result.waits_since ≡ None }
+    {
         Patience {
             stage_began: now,
             silence: Silence::new(now),
@@ -66,50 +74,71 @@ impl Patience {
     }
 
     /// Another stage begins, or its time begins again.
-    pub(crate) fn begins(&mut self, now: u64) {
+    pub(crate) fn begins(&mut self, now: u64)
+        ensures { self.new ≡ record self.old { stage_began = now } }
+    {
         self.stage_began = now;
     }
 
     /// Its connection took everything that was due.
-    pub(crate) fn is_served(&mut self) {
+    pub(crate) fn is_served(&mut self)
+        ensures { self.new ≡ record self.old { waits_since = None } }
+    {
         self.waits_since = None;
     }
 
     /// Its connection did not take everything that is due.
-    pub(crate) fn is_kept_waiting(&mut self, now: u64) {
+    pub(crate) fn is_kept_waiting(&mut self, now: u64)
+        ensures { self.new ≡ record self.old { waits_since = kept_waiting self.old.waits_since now } }
+    {
         if self.waits_since.is_none() {
             self.waits_since = Some(now);
         }
     }
 
+    /// For how many milliseconds its stage has lasted.
+    fn staged(&self, now: u64) -> u64
+        ensures { result ≡ now - self.now.stage_began }
+    {
+        now.saturating_sub(self.stage_began)
+    }
+
     /// What is to be done with a connection at this stage now. One that sends no message is waited for `most_idle` milliseconds, or for
     /// ever without that.
-    pub(crate) fn verdict(&mut self, now: u64, stage: Stage, most_idle: Option<u64>) -> Verdict {
-        let staged = now.saturating_sub(self.stage_began);
+    pub(crate) fn verdict(&mut self, now: u64, stage: Stage, most_idle: Option<u64>) -> Verdict
+        ensures verdict { result ≡ verdict_of self.old now stage most_idle }
+        ensures counted { self.new ≡ counted_by result self.old }
+    {
         match stage {
-            Stage::Comes if staged >= MOST_REQUEST_MILLIS => return Verdict::Gone,
-            Stage::HasLeft if staged >= MOST_LEAVING_MILLIS => return Verdict::Gone,
-            Stage::Comes | Stage::HasLeft => return Verdict::Stays,
-            Stage::Asks | Stage::Leaves => {}
+            Stage::Comes => gone_if(self.staged(now) >= MOST_REQUEST_MILLIS),
+            Stage::HasLeft => gone_if(self.staged(now) >= MOST_LEAVING_MILLIS),
+            Stage::Leaves => gone_if(is_over(self.waits_since, now, MOST_WAIT_MILLIS)),
+            Stage::Asks => self.verdict_if_it_asks(now, most_idle),
         }
-        if has_passed(self.waits_since, now, MOST_WAIT_MILLIS) {
-            return Verdict::Gone;
-        }
-        if stage == Stage::Leaves {
-            return Verdict::Stays;
-        }
-        if has_passed(self.silence.midway_since, now, MOST_HALF_MILLIS) {
+    }
+
+    /// What is to be done with one that asks.
+    fn verdict_if_it_asks(&mut self, now: u64, most_idle: Option<u64>) -> Verdict
+        ensures verdict { result ≡ verdict_asking self.old now most_idle }
+        ensures counted { self.new ≡ counted_by result self.old }
+    {
+        if is_over(self.waits_since, now, MOST_WAIT_MILLIS)
+            || is_over(self.silence.midway_since, now, MOST_HALF_MILLIS)
+        {
             return Verdict::Gone;
         }
         match most_idle {
-            Some(most) if staged >= most => Verdict::Idle,
+            Some(most) if self.staged(now) >= most => Verdict::Idle,
             _ => self.ping_if_due(now),
         }
     }
 
     /// What is to be done with a connection that may be silent. If it does not take what is due, it is sent no ping: that would come behind
     /// it.
-    fn ping_if_due(&mut self, now: u64) -> Verdict {
+    fn ping_if_due(&mut self, now: u64) -> Verdict
+        ensures verdict { result ≡ ping_of self.old now }
+        ensures counted { self.new ≡ counted_by result self.old }
+    {
         let silent = now.saturating_sub(self.silence.heard_at) / MOST_SILENT_MILLIS;
         if silent <= self.silence.pings {
             return Verdict::Stays;
@@ -120,70 +149,28 @@ impl Patience {
         if self.waits_since.is_some() {
             return Verdict::Stays;
         }
-        self.silence.pings = self.silence.pings.saturating_add(1);
+        self.silence.pings += 1;
         Verdict::Ping
     }
 }
 
-#[test]
-fn each_stage_has_its_time(rt: HostRuntime) {
-    // Each stage began at millisecond 100.
-    let cases = [
-        (Stage::Comes, 10_099, Verdict::Stays),
-        (Stage::Comes, 10_100, Verdict::Gone),
-        (Stage::HasLeft, 10_099, Verdict::Stays),
-        (Stage::HasLeft, 10_100, Verdict::Gone),
-        (Stage::Asks, 29_749, Verdict::Stays),
-        (Stage::Asks, 29_750, Verdict::Ping),
-        (Stage::Asks, 60_100, Verdict::Idle),
-        (Stage::Leaves, 1_000_100, Verdict::Stays),
-    ];
-    for (stage, now, verdict) in cases {
-        let mut patience = Patience::new(100);
-        assert_eq!(&rt; patience.verdict(now, stage, Some(60_000)), verdict);
+/// Whether this many milliseconds have passed since then.
+fn is_over(since: Option<u64>, now: u64, most: u64) -> bool
+    ensures { result ≡ has_lasted since now most }
+{
+    match since {
+        Some(since) => now.saturating_sub(since) >= most,
+        None => false,
     }
 }
 
-#[test]
-fn one_that_is_silent_has_two_pings_and_has_gone_before_ninety_seconds(rt: HostRuntime) {
-    let mut patience = Patience::new(0);
-    for (now, verdict) in [
-        (29_649, Verdict::Stays),
-        (29_650, Verdict::Ping),
-        (29_651, Verdict::Stays),
-        (59_300, Verdict::Ping),
-        (88_949, Verdict::Stays),
-        (88_950, Verdict::Gone),
-    ] {
-        assert_eq!(&rt; patience.verdict(now, Stage::Asks, None), verdict);
-    }
-}
-
-#[test]
-fn half_a_message_has_ten_seconds(rt: HostRuntime) {
-    let mut patience = Patience::new(0);
-    patience.silence.hears(5_000, true);
-    patience.silence.hears(9_000, true);
-    assert_eq!(&rt; patience.verdict(14_999, Stage::Asks, None), Verdict::Stays);
-    assert_eq!(&rt; patience.verdict(15_000, Stage::Asks, None), Verdict::Gone);
-}
-
-#[test]
-fn what_is_due_has_thirty_seconds_until_all_of_it_is_taken(rt: HostRuntime) {
-    let mut patience = Patience::new(0);
-    patience.is_kept_waiting(5_000);
-    patience.is_kept_waiting(20_000);
-    assert_eq!(&rt;
-        patience.verdict(34_999, Stage::Leaves, None),
-        Verdict::Stays
-    );
-    assert_eq!(&rt;
-        patience.verdict(35_000, Stage::Leaves, None),
+/// What is to be done with one whose time may be over.
+fn gone_if(is_over: bool) -> Verdict
+    ensures { result ≡ cond is_over Gone Stays }
+{
+    if is_over {
         Verdict::Gone
-    );
-    patience.is_served();
-    assert_eq!(&rt;
-        patience.verdict(35_000, Stage::Leaves, None),
+    } else {
         Verdict::Stays
-    );
+    }
 }

@@ -124,37 +124,3 @@ pub(crate) fn end_of_rest(since: u64, refused: u32) -> u64
     let rest = (u64::from(refused) * REST_MILLIS).min(MOST_REST_MILLIS);
     since.saturating_add(rest).saturating_add(1)
 }
-
-#[test]
-fn a_rest_is_twenty_milliseconds_for_each_refusal_and_half_a_second_at_most(rt: HostRuntime) {
-    // How many were refused at millisecond 1000, and the first millisecond behind the rest.
-    let cases = [
-        (1u32, 1021u64),
-        (2, 1041),
-        (25, 1501),
-        (26, 1501),
-        (4_000_000_000, 1501),
-    ];
-    for (refused, end) in cases {
-        assert_eq!(&rt; end_of_rest(1000, refused), end);
-    }
-}
-
-#[test]
-fn rests_end_one_by_one(rt: HostRuntime) {
-    let mut rests = Rests::new(rt.alloc());
-    assert_eq!(&rt; rests.next_in(0), None);
-    for (key, until) in [(1, 101), (2, 21), (3, 21), (4, 60)] {
-        assert!(&rt; rests.add(key, until).is_ok());
-    }
-    assert_eq!(&rt; rests.next_in(0), Some(21));
-    assert_eq!(&rt; rests.take(20), None);
-    assert_eq!(&rt; rests.take(21), Some(2));
-    assert_eq!(&rt; rests.take(21), Some(3));
-    assert_eq!(&rt; rests.take(21), None);
-    assert_eq!(&rt; rests.next_in(21), Some(39));
-    assert_eq!(&rt; rests.take(200), Some(1));
-    assert_eq!(&rt; rests.take(200), Some(4));
-    assert_eq!(&rt; rests.take(200), None);
-    assert_eq!(&rt; rests.next_in(200), None);
-}

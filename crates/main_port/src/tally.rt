@@ -85,16 +85,3 @@ impl Tally {
         }
     }
 }
-
-#[test]
-fn no_more_are_met_than_may_be(rt: HostRuntime) {
-    let mut tally = Tally::new(Some(2));
-    assert!(&rt; !tally.is_full());
-    for _ in 0..3 {
-        tally.meet();
-    }
-    assert!(&rt; tally.is_full());
-    tally.fail();
-    assert_eq!(&rt; tally.met, 2);
-    assert_eq!(&rt; tally.failed, 1);
-}
