@@ -49,12 +49,40 @@ fn read_any<A: Asked>(alloc: Global, scratch: &mut Scratch, text: &str) -> Resul
     }
 }
 
+/// What a text in UTF-8 asks for that is neither a usual nor a compact object, or any other, and that is tried next in this way.
+fn read_long<A: Asked>(
+    alloc: Global,
+    scratch: &mut Scratch,
+    text: &str,
+    next: Next,
+) -> Result<A, MessageFault>
+    ensures { IsReading A.says text.now result }
+{
+    if let Next::Any = next {
+        return read_any(alloc, scratch, text);
+    }
+    let mut object = PlainObject::new();
+    match read_plain(text, scratch, &mut object) {
+        Ok(true) => A::of(&object),
+        Ok(false) => read_any(alloc, scratch, text),
+        Err(_) => Err(MessageFault::OutOfMemory),
+    }
+}
+
+/// The same, with places of a text that are kept for this one alone. It is never inlined, so that only such a text has them on the stack.
+#[inline(never)]
+fn read_alone<A: Asked>(alloc: Global, text: &str, next: Next) -> Result<A, MessageFault>
+    ensures { IsReading A.says text.now result }
+{
+    read_long(alloc, &mut Scratch::new(alloc), text, next)
+}
+
 /// What a text in UTF-8 asks for that is not a usual object, or any other, and that is tried next in this way. It is never inlined, so that
 /// the room for members is not cleared for a usual object.
 #[inline(never)]
 fn read_unusual<A: Asked>(
     alloc: Global,
-    scratch: &mut Scratch,
+    scratch: Option<&mut Scratch>,
     text: &str,
     next: Next,
 ) -> Result<A, MessageFault>
@@ -68,19 +96,18 @@ fn read_unusual<A: Asked>(
         },
         Next::Plain | Next::Any => next,
     };
-    if let Next::Any = next {
-        return read_any(alloc, scratch, text);
-    }
-    object.clear();
-    match read_plain(text, scratch, &mut object) {
-        Ok(true) => A::of(&object),
-        Ok(false) => read_any(alloc, scratch, text),
-        Err(_) => Err(MessageFault::OutOfMemory),
+    match scratch {
+        Some(scratch) => read_long(alloc, scratch, text, next),
+        None => read_alone(alloc, text, next),
     }
 }
 
 /// What a text in UTF-8 asks for.
-fn read_text<A: Asked>(alloc: Global, scratch: &mut Scratch, text: &str) -> Result<A, MessageFault>
+fn read_text<A: Asked>(
+    alloc: Global,
+    scratch: Option<&mut Scratch>,
+    text: &str,
+) -> Result<A, MessageFault>
     ensures { IsReading A.says text.now result }
 {
     match read_usual(text) {
@@ -89,7 +116,25 @@ fn read_text<A: Asked>(alloc: Global, scratch: &mut Scratch, text: &str) -> Resu
     }
 }
 
-/// Decodes texts one after another. It keeps the memory that reading needs from one text to the next.
+/// What a text asks for.
+fn read<A: Asked>(
+    alloc: Global,
+    scratch: Option<&mut Scratch>,
+    text: &[u8],
+) -> Result<A, MessageFault>
+    ensures { IsSaid text.now (text_says A.says text.now) result }
+{
+    if text.len() > MOST_BYTES {
+        return Err(MessageFault::BadField);
+    }
+    match str::from_utf8(text) {
+        Ok(text) => read_text(alloc, scratch, text),
+        Err(_) => Err(MessageFault::NotJson),
+    }
+}
+
+/// Decodes texts one after another. It keeps the memory that reading needs from one text to the next: some 16 KiB, most of them places of
+/// the text that only `plain` and `any` look at.
 #[derive(Drop)]
 pub struct Decoder {
     alloc: Global,
@@ -114,7 +159,7 @@ impl Decoder {
     pub fn decode(&mut self, text: &[u8]) -> Result<Command, MessageFault>
         ensures { IsDecoding text.now result }
     {
-        self.read(text)
+        read(self.alloc, Some(&mut self.scratch), text)
     }
 
     /// The command that a text gives on the watch port: `boards`, which has no other key, or what it gives on the main port.
@@ -126,20 +171,7 @@ impl Decoder {
     pub fn decode_watch(&mut self, text: &[u8]) -> Result<WatchCommand, MessageFault>
         ensures { IsWatchDecoding text.now result }
     {
-        self.read(text)
-    }
-
-    /// What a text asks for.
-    fn read<A: Asked>(&mut self, text: &[u8]) -> Result<A, MessageFault>
-        ensures { IsSaid text.now (text_says A.says text.now) result }
-    {
-        if text.len() > MOST_BYTES {
-            return Err(MessageFault::BadField);
-        }
-        match str::from_utf8(text) {
-            Ok(text) => read_text(self.alloc, &mut self.scratch, text),
-            Err(_) => Err(MessageFault::NotJson),
-        }
+        read(self.alloc, Some(&mut self.scratch), text)
     }
 }
 
@@ -152,8 +184,9 @@ impl Decoder {
 /// that `serde_json` does not read; `NotObject`; `UnknownCommand` if `cmd` is missing, is not a text or names no command;
 /// `BadField` if a key is missing, there is a key too many, or a value has another form. `OutOfMemory` if a text within
 /// the 1,024 bytes could not be read for lack of memory.
+#[tactic(auto, unfolding(crate::specs::Decoding::decoded))]
 pub fn decode(alloc: Global, text: &[u8]) -> Result<Command, MessageFault>
     ensures { IsDecoding text.now result }
 {
-    Decoder::new(alloc).decode(text)
+    read(alloc, None, text)
 }

@@ -7,7 +7,7 @@ ghost use Rattle.relay_pushing.specs.Connections.{Answered, Bars, Ends, IsUnmove
 use crate::keeper::Keeper;
 use c960_game::{Ending, Refusal};
 use relay_core::{BoardName, Reply, Step};
-use relay_messages::{Answer, Decoder, MessageFault, encode};
+use relay_messages::{Answer, MessageFault, decode, encode};
 use std::alloc::{AllocError, Global};
 use std::marker::Model;
 
@@ -16,7 +16,6 @@ use std::marker::Model;
 pub struct Conn {
     alloc: Global,
     opened: Vec<BoardName>,
-    decoder: Decoder,
 }
 
 impl Model for Conn {
@@ -35,7 +34,6 @@ impl Conn {
         Conn {
             alloc,
             opened: Vec::new(alloc),
-            decoder: Decoder::new(alloc),
         }
     }
 
@@ -72,7 +70,7 @@ impl Conn {
         ensures read { IsDecoding text.now result }
         ensures unchanged { self.new ≡ self.old }
     {
-        self.decoder.decode(text)
+        decode(self.alloc, text)
     }
 
     /// Why the connection may not make the step, if it may not: `WrongMode` for a Take or a Leave, and for a Follow if some board belongs

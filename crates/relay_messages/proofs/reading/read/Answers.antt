@@ -2,7 +2,7 @@ use Rattle.std.proofs.Common.{◌≤◌, length, sym, subst, rules, inl}
 use Rattle.relay_messages.specs.declared.reading.TheConstants.{MOST_BYTES}
 use Rattle.relay_messages.specs.Decoding.{IsReading}
 use Rattle.relay_messages.proofs.lemmas.Decoding.{says_long, says_no_value, said_of_reading}
-use Rattle.relay_messages.proofs.reading.Decoder.read.Goals as goal
+use Rattle.relay_messages.proofs.reading.read.Goals as goal
 
 pub returns-then-text-gt-MOST_BYTES : goal.returns-then-text-gt-MOST_BYTES
 returns-then-text-gt-MOST_BYTES g c = inl (sym (says_long g.A.Asked.says c.args.text.now (search rules)))

@@ -1,6 +1,6 @@
 use Rattle.std.proofs.Common.{sym, ap, ◌∙◌, inl}
 use Rattle.relay_messages.specs.Decoding.{value_says}
-use Rattle.relay_messages.proofs.reading.read_unusual.Goals as goal
+use Rattle.relay_messages.proofs.reading.read_long.Goals as goal
 
 pub returns-in-Ok-true : goal.returns-in-Ok-true
 returns-in-Ok-true g c =
