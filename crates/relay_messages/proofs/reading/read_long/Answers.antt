@@ -5,4 +5,4 @@ use Rattle.relay_messages.proofs.reading.read_long.Goals as goal
 pub returns-in-Ok-true : goal.returns-in-Ok-true
 returns-in-Ok-true g c =
     let read = c.in-Ok-true.ensures c.in-Ok-true.field-0-test in
-    inl (c.of-in-Ok-true.ensures ∙ sym (ap (value_says g.A.Asked.says) read))
+    inl (c.of.ensures ∙ sym (ap (value_says g.A.Asked.says) read))
