@@ -8,7 +8,7 @@ ghost use Rattle.main_port.specs.Reading.{ReadAt};
 
 use crate::crowd::Crowd;
 use crate::guest::{Delivery, Guest, Intake};
-use crate::heeding::{Heeding, heed_some};
+use crate::heeding::{Heeding, heed_some, look_for_room};
 use crate::news::News;
 use crate::rests::end_of_rest;
 use relay_calling::Stage;
@@ -50,6 +50,9 @@ fn heed_once<R: Wait>(guest: &mut Guest, rt: &R, registry: &Registry, news: &mut
 {
     let mut guard = registry.lobby(rt);
     let lobby = &mut *guard;
+    if !guest.is_owner {
+        look_for_room(&mut lobby.hall, registry);
+    }
     let heeding = heed_some(&mut guest.line, &mut lobby.hall, registry, news);
     note_owner(guest, &lobby.hall, news);
     drop(guard);

@@ -65,6 +65,16 @@ fn heed_next(
     }
 }
 
+/// Tells the hall which boards have no vacant slot, as far as their followers are counted. Else each refused follow would look at all slots,
+/// each of which is its own word of memory. Nobody follows to whom a board belongs, so that it need not be told for those.
+pub(crate) fn look_for_room(hall: &mut Hall, registry: &Registry)
+    ensures { hall.new ≡ hall.old }
+{
+    for at in 0..hall.len() {
+        hall.knows_full(at, registry.has_no_room(at));
+    }
+}
+
 /// How many events of a caller are heeded at most while the hall is held once. After each board that is opened the hold ends too, since a
 /// board of many plies takes long to open.
 const MOST_EVENTS: u16 = 16;

@@ -14,6 +14,7 @@ ghost use Rattle.relay_hall.specs.Talk.{IsAnsweredBy, IsRepliedBy, IsUnansweredB
 ghost use Rattle.relay_hall.specs.Times.{swept_floor};
 
 use crate::boards::{end, end_where, hand_out, owns_any, play, ring_for, turn_away};
+use crate::full::Full;
 use crate::handed::Handed;
 use crate::hosted::Hosted;
 use crate::leaver::Leaver;
@@ -42,6 +43,8 @@ pub(crate) struct Floor {
     boards: IndexMap<BoardKey, Hosted>,
     /// Which of them have something new.
     rung: Rung,
+    /// Which of them are known to have no vacant slot.
+    full: Full,
     /// Whose text is answered.
     speaker: Owner,
     /// The follower of the last accepted follow, until it is taken.
@@ -95,11 +98,13 @@ impl Floor {
         ensures empty { IfOk result (λ s. s.handed ≡ None) }
     {
         let rung = Rung::with_room_for(alloc, usize::from(limits.boards()))?;
+        let full = Full::with_room_for(alloc, usize::from(limits.boards()))?;
         Ok(Floor {
             alloc,
             limits,
             boards: IndexMap::with_capacity(alloc, usize::from(limits.boards()))?,
             rung,
+            full,
             speaker: Owner {
                 key: None,
                 opener: 0,
@@ -181,6 +186,16 @@ impl Floor {
         HallReply::Said(Reply::Refused(refusal))
     }
 
+    /// Hands out a follower of a board, unless the board is known to have no vacant slot: then none is looked for. Refused as by `joins`.
+    fn follows(&mut self, board: BoardName, from: Option<u16>) -> HallReply
+        ensures { (who : ℕ) → StateMakes self.old (Follow who board from) (in_full result) self.new }
+    {
+        match self.place_of(&board) {
+            Some(at) if self.full.has(at) => self.turns_away(board, from),
+            _ => self.joins(board, from),
+        }
+    }
+
     /// Makes a step.
     fn make(&mut self, step: &Step) -> Reply
         ensures { StateMakes self.old step.now result self.new }
@@ -189,7 +204,7 @@ impl Floor {
             Step::Open(board, start) => self.open(BoardKey::of(board), start),
             Step::Submit(board, m) => self.submit(BoardKey::of(board), m),
             Step::End(board, ending) => self.end(BoardKey::of(board), ending),
-            Step::Follow(_, board, from) => self.joins(board, from).reply(),
+            Step::Follow(_, board, from) => self.follows(board, from).reply(),
             // A connection does not ask for what it is sent unasked.
             Step::Take(_) | Step::Leave(_) => Reply::Refused(Refusal::WrongMode),
         }
@@ -263,6 +278,13 @@ impl Floor {
         ensures { self.new ≡ self.old }
     {
         mem::replace(&mut self.has_turned_away, false)
+    }
+
+    /// From now on the board of this index is known to have no vacant slot, or is not.
+    pub(crate) fn knows_full(&mut self, at: usize, is_full: bool)
+        ensures { self.new ≡ self.old }
+    {
+        self.full.set(at, is_full);
     }
 
     /// Ends, as abandoned, each game that is not over of those whose owners have left.

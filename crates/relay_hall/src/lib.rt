@@ -4,6 +4,7 @@
 
 mod boards;
 mod floor;
+mod full;
 mod hall;
 mod handed;
 mod holders;

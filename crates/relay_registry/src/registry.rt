@@ -460,6 +460,11 @@ impl Registry {
         self.chronicle.followers.fetch_sub(1, Ordering::SeqCst);
     }
 
+    /// Whether the board of this index has as many followers as it may have, as far as those are counted that connections follow by.
+    pub fn has_no_room(&self, at: usize) -> bool {
+        self.house.signals.is_full(at)
+    }
+
     // ---- Serving.
 
     /// Rung when a session's thread ends.
