@@ -5,6 +5,7 @@ mod answers;
 mod chance;
 mod command;
 mod comparing;
+mod full;
 mod keys;
 mod memory;
 mod plain;
