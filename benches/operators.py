@@ -10,6 +10,7 @@ answers  how long an operator waits for its answer to a move (operators.c), with
          threads of the server once the followers are there
 turns    a move, all 100 followers have it, the next: processor time a delivery and deliveries a second (reader.c), beside nchan
 places   of a follower on a quiet board: from its ping to the pong, from its close to the answer, and until its place is free
+rests    how long an operator waits beside 10,000 connections that shook hands and rest, with 256 boards open; and the server's memory then
 elsewhere how long an operator waits with nobody following, while another server of the same machine has the followers and the crowd: what
 is left
          of that is the machine's own
@@ -32,11 +33,12 @@ import time
 
 import serving
 from relay_client.connection import Connection
-from relay_client.frames import PING, masked
+from relay_client.frames import PING, REQUEST, masked
+from relay_client.pinning import senders
 from relay_client.ports import free_port
 from relay_client.program import PROGRAM
 from relay_client.tests.sessions import guest_of, owner_of
-from relay_client.texts import following, follows
+from relay_client.texts import OPENED, following, follows, opens
 
 MOST_FOLLOWERS = 1024
 MOVES = {"answers": 200, "turns": 1000}
@@ -53,6 +55,7 @@ CROWDS = {
 # Seconds that a follower waits for an answer, or for a place.
 PATIENCE = 3
 PINGS = 50
+RESTING, BOARDS = 10_000, 256
 
 Program = collections.namedtuple("Program", "name path")
 
@@ -78,10 +81,10 @@ def spread(values):
 
 
 @contextlib.contextmanager
-def running(program, room, followers=MOST_FOLLOWERS):
+def running(program, room, followers=MOST_FOLLOWERS, boards=16):
     port = free_port()
     words = [program.path, "serve", "--port", str(port), "--forever", "--followers", str(followers), "--capacity", "1024",
-             "--plies", "1024"]
+             "--plies", "1024", "--boards", str(boards)]
     server = serving.Server("relay", words, room, port)
     try:
         yield server
@@ -96,23 +99,48 @@ def held(server):
     return {"resident_kb": int(memory), "threads": len(list((process / "task").iterdir()))}
 
 
+def waits(server, crowd, room):
+    """How long an operator of the server waits beside this crowd, and what the server holds; nothing if the run is lost."""
+    followers, kind, peers, ahead = crowd
+    words = [f"{room}/operators", str(server.port), str(followers), str(MOVES["answers"]), kind, str(peers), str(ahead)]
+    with subprocess.Popen(words, stdin=subprocess.PIPE, stdout=subprocess.PIPE, text=True) as client:
+        client.stdout.readline()
+        holds = held(server)
+        said = client.communicate("go\n")[0]
+    return {**json.loads(said), **holds} if client.returncode == 0 else None
+
+
+def note(figures, what, program, found):
+    if found:
+        figures.note(what, program.name, found)
+    else:
+        print(f"{what}, {program.name}: lost", file=sys.stderr)
+
+
 def answers(programs, room, figures, crowds=CROWDS):
     resident = {}
-    for (what, (followers, kind, peers, ahead)), program in itertools.product(crowds.items(), programs):
+    for (what, crowd), program in itertools.product(crowds.items(), programs):
+        followers, kind, *_ = crowd
         with running(program, room, followers if kind == "refused" else MOST_FOLLOWERS) as server:
-            words = [f"{room}/operators", str(server.port), str(followers), str(MOVES["answers"]), kind, str(peers), str(ahead)]
-            with subprocess.Popen(words, stdin=subprocess.PIPE, stdout=subprocess.PIPE, text=True) as client:
-                client.stdout.readline()
-                holds = held(server)
-                said = client.communicate("go\n")[0]
-        resident[what, program] = holds["resident_kb"]
-        if client.returncode == 0:
-            figures.note(what, program.name, {**json.loads(said), **holds})
-        else:
-            print(f"{what}, {program.name}: lost", file=sys.stderr)
+            found = waits(server, crowd, room)
+        resident[what, program] = found["resident_kb"] if found else 0
+        note(figures, what, program, found)
     for program in programs if "1,000 follow" in crowds else []:
         more = resident["1,000 follow", program] - resident["100 follow", program]
         figures.note("memory of a follower", program.name, {"kb": round(more / 900, 1)})
+
+
+def rests(programs, room, figures):
+    for program in programs:
+        with running(program, room, boards=BOARDS) as server:
+            owner = Connection(server.port)
+            for number in range(BOARDS - 1):
+                owner.asks(opens(f"rests-{number}"), OPENED)
+            peers = senders(server, REQUEST, RESTING)
+            note(figures, f"{RESTING:,} rest, {BOARDS} boards", program, waits(server, CROWDS["nobody follows"], room))
+            for peer in peers:
+                peer.close()
+            owner.close()
 
 
 @contextlib.contextmanager
@@ -208,7 +236,7 @@ def busy_answers(programs, room, figures):
     answers(programs, room, figures, {what: crowd for what, crowd in CROWDS.items() if crowd[1] == "nobody"})
 
 
-WHAT = {"answers": answers, "turns": turns, "places": places, "elsewhere": elsewhere}
+WHAT = {"answers": answers, "turns": turns, "places": places, "rests": rests, "elsewhere": elsewhere}
 
 
 @contextlib.contextmanager
@@ -231,7 +259,7 @@ def main():
     words.add_argument("--busy", type=int, default=0, metavar="N", help="beside N programs that never rest: answers alone, without a crowd")
     given = words.parse_args()
     jobs = [busy_answers] if given.busy else [WHAT[given.what]] if given.what else WHAT.values()
-    serving.raised_limit(MOST_FOLLOWERS)
+    serving.raised_limit(RESTING + MOST_FOLLOWERS)
     programs = [Program(*named.split("=", 1)) for named in given.programs]
     figures = Figures()
     with tempfile.TemporaryDirectory() as room, busy(given.busy):
