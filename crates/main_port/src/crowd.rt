@@ -21,8 +21,8 @@ use std::alloc::Global;
 use std::sync::Wait;
 use std::time::{Clock, Duration};
 
-/// For how many microseconds connections that own no board are served in a turn, and newcomers accepted: about as long as one of them takes,
-/// so that an owner whose move comes meanwhile hardly waits for more than that one.
+/// For how many microseconds connections that own no board are served in a turn, and newcomers accepted: about as long as one of them
+/// takes, so that an owner whose move comes meanwhile hardly waits for more than that one.
 const MOST_OTHERS_MICROS: u64 = 20;
 
 /// For how many microseconds one connection is heeded in its turn.

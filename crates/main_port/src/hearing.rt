@@ -70,7 +70,8 @@ fn note_owner(guest: &mut Guest, hall: &Hall, news: &News)
 }
 
 impl<'a, R: Wait + Clock> Crowd<'a, R> {
-    /// Writes to a connection what is due, and reads and answers what it sends. If as many wakes are postponed as may be, they are made then.
+    /// Writes to a connection what is due, and reads and answers what it sends. If as many wakes are postponed as may be, they are made
+    /// then.
     pub(super) fn serve(&mut self, key: usize)
         ensures { OthersStay key self.old.guests self.new.guests }
     {
@@ -251,8 +252,8 @@ impl<'a, R: Wait + Clock> Crowd<'a, R> {
         }
     }
 
-    /// Answers what a connection said, as long as there is time for that: the rest has its turn later. If as many wakes are postponed as may
-    /// be, the answers are written first, and then the wakes are made.
+    /// Answers what a connection said, as long as there is time for that: the rest has its turn later. If as many wakes are postponed as
+    /// may be, the answers are written first, and then the wakes are made.
     fn answer(&mut self, key: usize)
         ensures { OthersStay key self.old.guests self.new.guests }
     {

@@ -1,5 +1,6 @@
 //! What is done with a caller while the hall is held.
 
+ghost use Rattle.std.specs.Prelude.{◌≡◌};
 ghost use Rattle.relay_calling.specs.Calling.{CallerRecord, Heeds};
 ghost use Rattle.relay_hall.specs.Record.{HallRecord};
 ghost use Rattle.relay_hall.specs.Runs.{IsReached};
@@ -65,8 +66,8 @@ fn heed_next(
     }
 }
 
-/// Tells the hall which boards have no vacant slot, as far as their followers are counted. Else each refused follow would look at all slots,
-/// each of which is its own word of memory. Nobody follows to whom a board belongs, so that it need not be told for those.
+/// Tells the hall which boards have no vacant slot, as far as their followers are counted. Else each refused follow would look at all
+/// slots, each of which is its own word of memory. Nobody follows to whom a board belongs, so that it need not be told for those.
 pub(crate) fn look_for_room(hall: &mut Hall, registry: &Registry)
     ensures { hall.new ≡ hall.old }
 {

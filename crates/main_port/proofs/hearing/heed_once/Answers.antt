@@ -6,7 +6,7 @@ use Rattle.main_port.proofs.hearing.heed_once.Goals as goal
 pub returns : goal.returns
 returns g c =
     let heeding = c.heed_some-heeding in
-    let before = c.deref_mut-lobby.result.now.hall in (
+    let before = c.if-not-guest.lobby.hall in (
       before,
       heeding.new.hall,
       heeding.ensures.reached,
