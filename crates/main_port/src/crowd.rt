@@ -19,6 +19,7 @@ use relay_server::Staff;
 use slab::Slab;
 use std::alloc::Global;
 use std::sync::Wait;
+use std::thread::yield_now;
 use std::time::{Clock, Duration};
 
 /// For how many microseconds connections that own no board are served in a turn, and newcomers accepted: about as long as one of them
@@ -214,12 +215,18 @@ impl<'a, R: Wait + Clock> Crowd<'a, R> {
         }
     }
 
-    /// Gives those a turn that own a board and are due one. Then those are woken who sleep until their boards are rung for.
+    /// Gives those a turn that own a board and are due one. Then those are woken who sleep until their boards are rung for. If others have
+    /// yet to be served, the loop yields: an owner that was just answered, or a proxy before it, may wait for this processor.
     pub(crate) fn serve_owners(&mut self) {
+        let mut is_any = false;
         for key in self.due.take_owners() {
             self.serve_if_due(key);
+            is_any = true;
         }
         self.news.wake_all(self.registry);
+        if is_any && self.has_due() {
+            yield_now();
+        }
     }
 
     /// Gives the others a turn that are due one, as long as there is time for that: the rest have theirs next time. One that becomes due

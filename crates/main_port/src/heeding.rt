@@ -78,7 +78,7 @@ pub(crate) fn look_for_room(hall: &mut Hall, registry: &Registry)
 
 /// How many events of a caller are heeded at most while the hall is held once. After each board that is opened the hold ends too, since a
 /// board of many plies takes long to open.
-const MOST_EVENTS: u16 = 16;
+const MOST_EVENTS: u16 = 4;
 
 /// Heeds what a caller says, some events of it at most, and gathers what they made of the hall.
 pub(crate) fn heed_some(
