@@ -71,15 +71,15 @@ def whole_frame(data):
 
 
 class Peer(asyncio.Protocol):
-    """A client that waits for each text. It answers pings at once, whoever waits. The end of the connection is told like a text. A slow one
-    lets the system take no more bytes before the texts that came are read."""
+    """A client that waits for each text. It answers pings at once, whoever waits, until it has ended its bytes. The end of the connection is
+    told like a text. A slow one lets the system take no more bytes before the texts that came are read."""
 
     pings = 0  # How many were answered, by all of them.
 
     def __init__(self, name, is_slow=False):
         self.name, self.is_slow = name, is_slow
         self.transport = self.waiting = None
-        self.is_shaken = False
+        self.is_shaken = self.has_ended = False
         self.come, self.texts = bytearray(), collections.deque()
 
     def connection_made(self, transport):
@@ -107,7 +107,8 @@ class Peer(asyncio.Protocol):
             del self.come[:size]
             if first == PING:
                 Peer.pings += 1
-                self.transport.write(masked(PONG, payload))
+                if not self.has_ended:
+                    self.transport.write(masked(PONG, payload))
             else:
                 self.tell(f"pong {payload.hex()}" if first == PONG else said(first, payload))
 
@@ -159,6 +160,7 @@ class Peer(asyncio.Protocol):
         if way == CLOSE:
             self.send("close 1000")
         elif way == END:
+            self.has_ended = True
             self.transport.write_eof()
         elif not self.transport.is_closing():
             self.transport.get_extra_info("socket").setsockopt(socket.SOL_SOCKET, socket.SO_LINGER, struct.pack("ii", 1, 0))
