@@ -71,8 +71,8 @@ def whole_frame(data):
 
 
 class Peer(asyncio.Protocol):
-    """A client that waits for each text. It answers pings at once, whoever waits, until it has ended its bytes. The end of the connection is
-    told like a text. A slow one lets the system take no more bytes before the texts that came are read."""
+    """A client that waits for each text. It answers pings at once, whoever waits, until it has ended its bytes. The end of the connection
+    is told like a text. A slow one lets the system take no more bytes before the texts that came are read."""
 
     pings = 0  # How many were answered, by all of them.
 
