@@ -10,7 +10,7 @@ pub record DueRecord : Type 0 where
 abbrev pub nobody_due : DueRecord
 nobody_due = record { owners = []; others = [] }
 
--- one more is due, which is an owner or not, from this second on
+-- one more is due, which is an owner or not, from this millisecond on
 abbrev pub with_due : DueRecord → ℕ → Bool → ℕ → DueRecord
 with_due d key true now = record d { owners = d.owners ++ key ∷ [] }
 with_due d key false now = record d { others = d.others ++ (record { key = key; since = now }) ∷ [] }

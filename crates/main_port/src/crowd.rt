@@ -14,13 +14,17 @@ use crate::rests::Rests;
 use mio::event::Event;
 use mio::net::TcpStream;
 use mio::{Events, Interest, Token};
+use relay_loops::Staff;
 use relay_registry::Registry;
-use relay_server::Staff;
 use slab::Slab;
 use std::alloc::Global;
 use std::sync::Wait;
 use std::thread::yield_now;
 use std::time::{Clock, Duration};
+
+/// For how many microseconds those that own a board are served in a turn. The rest are the first of the next turn: without a bound a flood
+/// of owners would leave the others one connection for each round of all owners.
+const MOST_OWNERS_MICROS: u64 = 500;
 
 /// For how many microseconds connections that own no board are served in a turn, and newcomers accepted: about as long as one of them
 /// takes, so that an owner whose move comes meanwhile hardly waits for more than that one.
@@ -215,16 +219,23 @@ impl<'a, R: Wait + Clock> Crowd<'a, R> {
         }
     }
 
-    /// Gives those a turn that own a board and are due one. Then those are woken who sleep until their boards are rung for. If others have
-    /// yet to be served, the loop yields: an owner that was just answered, or a proxy before it, may wait for this processor.
+    /// Gives those a turn that own a board and are due one, as long as there is time for that: the rest have theirs next time. Then those
+    /// are woken who sleep until their boards are rung for. If others have yet to be served, the loop yields: an owner that was just
+    /// answered, or a proxy before it, may wait for this processor.
     pub(crate) fn serve_owners(&mut self) {
-        let mut is_any = false;
-        for key in self.due.take_owners() {
+        let owners = self.due.owners();
+        let until = self.time_for_owners();
+        for _ in 0..owners {
+            let Some(key) = self.due.take_owner() else {
+                break;
+            };
             self.serve_if_due(key);
-            is_any = true;
+            if self.is_late(until) {
+                break;
+            }
         }
         self.news.wake_all(self.registry);
-        if is_any && self.has_due() {
+        if owners > 0 && self.has_due() {
             yield_now();
         }
     }
@@ -243,6 +254,14 @@ impl<'a, R: Wait + Clock> Crowd<'a, R> {
             }
         }
         self.news.wake_all(self.registry);
+    }
+
+    /// Until when owners are served if they begin now.
+    fn time_for_owners(&mut self) -> Duration {
+        self.hours.look(self.rt);
+        self.hours
+            .passed()
+            .saturating_add(Duration::from_micros(MOST_OWNERS_MICROS))
     }
 
     /// Until when others are served if they begin now.

@@ -6,7 +6,6 @@ ghost use Rattle.main_port.specs.Queue.{nobody_due, with_due};
 use std::alloc::{AllocError, Global};
 use std::collections::VecDeque;
 use std::marker::Model;
-use std::mem;
 
 /// A connection that is due a turn, and since which millisecond what it is due for may have been there.
 #[derive(Clone, Copy)]
@@ -15,12 +14,11 @@ struct Waiting {
     since: u64,
 }
 
-/// The keys of connections that are due a turn: those of owners, and those of all others in the order in which they became due. A key may
-/// be among them whose connection is not due any more.
+/// The keys of connections that are due a turn: those of owners, and those of all others, each in the order in which they became due. A key
+/// may be among them whose connection is not due any more.
 #[derive(Drop)]
 pub(crate) struct Due {
-    alloc: Global,
-    owners: Vec<usize>,
+    owners: VecDeque<usize>,
     others: VecDeque<Waiting>,
 }
 
@@ -38,8 +36,7 @@ impl Due {
         ensures { result ≡ nobody_due }
     {
         Due {
-            alloc,
-            owners: Vec::new(alloc),
+            owners: VecDeque::new(alloc),
             others: VecDeque::new(alloc),
         }
     }
@@ -61,19 +58,26 @@ impl Due {
         ensures err { OnErr result (self.new ≡ self.old) }
     {
         if is_owner {
-            self.owners.push(key)?;
+            self.owners.push_back(key)?;
         } else {
             self.others.push_back(Waiting { key, since })?;
         }
         Ok(())
     }
 
-    /// Takes the owners.
-    pub(crate) fn take_owners(&mut self) -> Vec<usize>
-        ensures owners { result.items ≡ self.old.owners }
-        ensures rest { self.new ≡ record self.old { owners = [] } }
+    /// Takes the first of the owners.
+    pub(crate) fn take_owner(&mut self) -> Option<usize>
+        ensures first { result ≡ slice_get self.old.owners 0 }
+        ensures rest { self.new ≡ record self.old { owners = drop 1 self.old.owners } }
     {
-        mem::replace(&mut self.owners, Vec::new(self.alloc))
+        self.owners.pop_front()
+    }
+
+    /// How many owners there are.
+    pub(crate) fn owners(&self) -> usize
+        ensures { result ≡ length self.now.owners }
+    {
+        self.owners.len()
     }
 
     /// Takes the first of the others.

@@ -230,7 +230,8 @@ impl Guest {
     }
 
     /// Something came from it, and was answered. After a message its time begins again. The rest of a message is waited for only once
-    /// everything before it is heeded.
+    /// everything before it is heeded. One whose rest was waited for before goes on to owe it meanwhile: else pings in the middle of a
+    /// message, as many as one turn does not heed, would begin its time again.
     pub(crate) fn has_heard(&mut self, now: u64) {
         if self.line.take_said() {
             self.patience.begins(now);
@@ -238,7 +239,11 @@ impl Guest {
         if self.line.take_whole() {
             self.patience.silence.owes_no_rest();
         }
-        let is_midway = !self.has_unheeded && self.line.caller().is_midway();
+        let is_midway = if self.has_unheeded {
+            self.patience.silence.midway_since.is_some()
+        } else {
+            self.line.caller().is_midway()
+        };
         self.patience.silence.hears(now, is_midway);
     }
 

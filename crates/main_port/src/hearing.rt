@@ -10,7 +10,7 @@ use crate::crowd::Crowd;
 use crate::guest::{Delivery, Guest, Intake};
 use crate::heeding::{Heeding, heed_some, look_for_room};
 use crate::news::News;
-use crate::rests::end_of_rest;
+use crate::rests::{end_of_rest, start_of_rest};
 use relay_calling::Stage;
 use relay_calling::laws::what_is_handed_over_was_told;
 use relay_hall::Hall;
@@ -18,7 +18,7 @@ use relay_registry::Registry;
 use slab::Slab;
 use std::alloc::AllocError;
 use std::sync::Wait;
-use std::time::Clock;
+use std::time::{Clock, Duration};
 
 /// How many pieces of what a connection sends are read before the others have their turn.
 const MOST_PIECES: u32 = 4;
@@ -89,7 +89,8 @@ impl<'a, R: Wait + Clock> Crowd<'a, R> {
         ensures { OthersStay key self.old.guests self.new.guests }
     {
         let mut piece = [0; PIECE_BYTES];
-        self.answer_rest(key);
+        let until = self.time_for_one();
+        self.answer_rest(key, until);
         for _ in 0..MOST_PIECES {
             if !self.is_read(key) {
                 return;
@@ -98,7 +99,7 @@ impl<'a, R: Wait + Clock> Crowd<'a, R> {
                 self.fails(key, None);
                 return;
             };
-            if !self.takes(key, intake) {
+            if !self.takes(key, intake, until) {
                 return;
             }
         }
@@ -115,9 +116,9 @@ impl<'a, R: Wait + Clock> Crowd<'a, R> {
         if guest.refused > 0 && guest.rests_since.is_none() {
             // It rests from now on, however long its answers took.
             self.hours.look(self.rt);
-            let now = self.hours.millis();
-            guest.rests_since = Some(now);
-            let until = end_of_rest(now, guest.refused);
+            let since = start_of_rest(self.hours.millis(), key);
+            guest.rests_since = Some(since);
+            let until = end_of_rest(since, guest.refused);
             if self.rests.add(key, until).is_err() {
                 guest.has_rested();
             }
@@ -125,13 +126,14 @@ impl<'a, R: Wait + Clock> Crowd<'a, R> {
         guest.is_read()
     }
 
-    /// Handles what was read once from a connection, and given to its line. Returns whether it is read again in this turn.
-    fn takes(&mut self, key: usize, intake: Intake) -> bool
+    /// Handles what was read once from a connection, and given to its line. It is heeded for this long. Returns whether it is read again in
+    /// this turn.
+    fn takes(&mut self, key: usize, intake: Intake, until: Duration) -> bool
         ensures { OthersStay key self.old.guests self.new.guests }
     {
         match intake {
             Intake::Bytes(n) => {
-                self.has_read(key, n);
+                self.has_read(key, n, until);
                 true
             }
             Intake::Nothing => {
@@ -159,7 +161,7 @@ impl<'a, R: Wait + Clock> Crowd<'a, R> {
     }
 
     /// So many bytes were read from a connection: they are answered. One to which everything was written has a bound on what is dropped.
-    fn has_read(&mut self, key: usize, n: usize)
+    fn has_read(&mut self, key: usize, n: usize, until: Duration)
         ensures { OthersStay key self.old.guests self.new.guests }
     {
         let Some(guest) = self.guests.get_mut(key) else {
@@ -170,7 +172,7 @@ impl<'a, R: Wait + Clock> Crowd<'a, R> {
         }
         if !guest.has_left {
             self.shakes_hands(key);
-            self.answer(key);
+            self.answer(key, until);
             return;
         }
         guest.dropped = guest.dropped.saturating_add(1);
@@ -240,7 +242,7 @@ impl<'a, R: Wait + Clock> Crowd<'a, R> {
 
     /// Answers what a connection said that was not heeded because too much was due to it, now that this is written, or because its turn was
     /// over.
-    fn answer_rest(&mut self, key: usize)
+    fn answer_rest(&mut self, key: usize, until: Duration)
         ensures { OthersStay key self.old.guests self.new.guests }
     {
         let Some(guest) = self.guests.get_mut(key) else {
@@ -248,16 +250,15 @@ impl<'a, R: Wait + Clock> Crowd<'a, R> {
         };
         if guest.has_unheeded && !guest.is_stuffed {
             guest.has_unheeded = false;
-            self.answer(key);
+            self.answer(key, until);
         }
     }
 
-    /// Answers what a connection said, as long as there is time for that: the rest has its turn later. If as many wakes are postponed as
-    /// may be, the answers are written first, and then the wakes are made.
-    fn answer(&mut self, key: usize)
+    /// Answers what a connection said, as long as there is time for that, and some of it in any case: the rest has its turn later. If as
+    /// many wakes are postponed as may be, the answers are written first, and then the wakes are made.
+    fn answer(&mut self, key: usize, until: Duration)
         ensures { OthersStay key self.old.guests self.new.guests }
     {
-        let until = self.time_for_one();
         for _ in 0..u64::MAX {
             match self.heed(key) {
                 Heeding::GoesOn => {

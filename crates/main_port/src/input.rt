@@ -1,7 +1,7 @@
 //! The thread that ends serving when standard input ends.
 
+use relay_loops::read_input_to_end;
 use relay_registry::{Lookout, Registry};
-use relay_server::read_input_to_end;
 use std::alloc::Global;
 use std::io::StdinLock;
 use std::sync::Arc;

@@ -8,7 +8,7 @@ use crate::crowd::Crowd;
 use crate::guest::Guest;
 use relay_frames::Code;
 use relay_hall::Handed;
-use relay_server::Told;
+use relay_loops::Told;
 use std::sync::Wait;
 use std::time::Clock;
 

@@ -1,7 +1,7 @@
 //! The main port: one loop answers all connections until they follow a board. It owns what it needs for that, and waits for no peer.
 //!
 //! What a connection is answered is decided by `relay_calling` and `relay_hall`, which know of no socket. This crate decides who is read
-//! and written when, and how long each is waited for. Connections that follow are handed over to the loops of `relay_server`.
+//! and written when, and how long each is waited for. Connections that follow are handed over to the loops of `relay_loops`.
 #![tactic(auto)]
 
 mod crier;

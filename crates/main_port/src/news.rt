@@ -63,6 +63,8 @@ pub(crate) struct News {
     notes: Vec<Note>,
     /// Whether a board was opened.
     has_opened: bool,
+    /// Whether the lookouts have yet to be woken, which look for boards that were opened.
+    wakes_lookouts: bool,
     /// How many commands to follow were refused.
     refused: u32,
 }
@@ -78,6 +80,7 @@ impl News {
             most_rings: registry.most_wakes(),
             notes: Vec::new(alloc),
             has_opened: false,
+            wakes_lookouts: false,
             refused: 0,
         }
     }
@@ -153,11 +156,11 @@ impl News {
         let _ = self.notes.push(Note { board, what });
     }
 
-    /// Tells the log and the lookouts, once the hall is not held any more. Those who sleep until a board is rung for stay asleep.
+    /// Tells the log, once the hall is not held any more. Those who sleep until a board is rung for stay asleep, and so do the lookouts.
     pub(crate) fn tell<R: Wait>(&mut self, rt: &R, registry: &Registry) {
         if self.has_opened {
             self.has_opened = false;
-            registry.wake_lookouts();
+            self.wakes_lookouts = true;
         }
         if self.notes.is_empty() {
             return;
@@ -168,8 +171,13 @@ impl News {
         }
     }
 
-    /// Wakes all who sleep until boards are rung for that were. The answers before were offered to the peers.
+    /// Wakes all who sleep until boards are rung for that were, and the lookouts if a board was opened. The answers before were offered to
+    /// the peers.
     pub(crate) fn wake_all(&mut self, registry: &Registry) {
+        if self.wakes_lookouts {
+            self.wakes_lookouts = false;
+            registry.wake_lookouts();
+        }
         if self.rings == 0 {
             return;
         }

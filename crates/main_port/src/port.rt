@@ -12,8 +12,8 @@ use crate::input::watch_input;
 use crate::tally::Tally;
 use crate::turns::Turns;
 use mio::{Events, Poll, Waker};
+use relay_loops::{ServeEnd, Staff};
 use relay_registry::{Lookout, Registry};
-use relay_server::{ServeEnd, Staff};
 use std::alloc::Global;
 use std::io;
 use std::io::{ErrorKind, StdinLock};
@@ -179,7 +179,7 @@ impl MainPort {
             lookout: &lookout,
             crowd: Crowd::new(rt, alloc, registry, staff, reporter, hours),
             entrance: Entrance::new(alloc, door, most, until_input_ends),
-            asked: 0,
+            reported_by: 0,
             heard_by: 0,
             ticks_at: Duration::ZERO,
             is_shut: false,

@@ -2,7 +2,7 @@
 
 ghost use Rattle.std.specs.Prelude.{◌≡◌, ◌-◌, ◌+◌, ◌≤◌, [], ◌∷◌, ◌++◌, nat_le, IfNone, IfSome, IsNone, ◌↔◌, OnErr, OnOk};
 ghost use Rattle.std.specs.List.{All, position};
-ghost use Rattle.main_port.specs.Resting.{HasRested, LastUntil, end_of};
+ghost use Rattle.main_port.specs.Resting.{HasRested, LastUntil, end_of, start_of};
 
 use std::alloc::{AllocError, Global};
 use std::marker::Model;
@@ -13,6 +13,9 @@ const REST_MILLIS: u64 = 20;
 
 /// For how many milliseconds at most it is not read, however many such commands came in one piece.
 const MOST_REST_MILLIS: u64 = 500;
+
+/// Over how many milliseconds the beginnings of rests are spread.
+const SPREAD_MILLIS: u64 = 16;
 
 /// A connection that rests, and the millisecond at which that is over.
 #[derive(Clone, Copy)]
@@ -114,6 +117,14 @@ fn earliest(rests: &[Rest]) -> u64
         least = least.min(rest.until);
     }
     least
+}
+
+/// When a connection with this key begins to rest that was refused in this millisecond: some later than others. Else the rests of a crowd
+/// that asks again and again would all be over at once, and its answers would keep the processors for that long.
+pub(crate) fn start_of_rest(now: u64, key: usize) -> u64
+    ensures { result ≡ start_of now key }
+{
+    now.saturating_add(key as u64 % SPREAD_MILLIS)
 }
 
 /// When a rest is over that began in this millisecond, after this many refused commands to follow. The millisecond that had begun does not

@@ -105,6 +105,10 @@ impl<'a, R: Wait + Clock> Crowd<'a, R> {
         let Some(guest) = self.guests.get_mut(key) else {
             return;
         };
+        if guest.is_due {
+            // What it is waited for may have come, and have yet to be read. It sends at most a million messages meanwhile.
+            return;
+        }
         let most_idle = if guest.is_owner { None } else { most_idle };
         let stage = guest.stage();
         match guest.patience.verdict(now, stage, most_idle) {

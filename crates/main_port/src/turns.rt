@@ -29,8 +29,8 @@ pub(crate) struct Turns<'a, R> {
     pub(crate) lookout: &'a Lookout,
     pub(crate) crowd: Crowd<'a, R>,
     pub(crate) entrance: Entrance,
-    /// When the system was asked last, in milliseconds.
-    pub(crate) asked: u64,
+    /// Everything that connections had sent by this millisecond was reported.
+    pub(crate) reported_by: u64,
     /// Everything that connections had sent by this millisecond has been heard.
     pub(crate) heard_by: u64,
     /// When the hall is told the time next.
@@ -87,24 +87,24 @@ where
         ensures same { IsOfTheSame self.old.entrance self.new.entrance }
         ensures last { result ≡ true → self.new.entrance.is_open ≡ false }
     {
-        let before = self.asked;
-        self.asked = self.crowd.now();
+        let asked = self.crowd.now();
         // This comes before looking: whoever wakes the loop from now on wakes it again.
         self.lookout.heed();
         self.crowd.look_at_clock();
-        // What the system reports now may have come right after it was asked the time before.
-        let report = self.crowd.note(events, before);
+        // What the system reports now may have come right after it was asked the time before, or earlier if it left something out then.
+        let report = self.crowd.note(events, self.reported_by);
         if report.has_newcomers {
             self.entrance.looks();
         }
         self.crowd.end_rests();
         self.crowd.serve_owners();
         self.crowd.serve_others();
-        // Owners that come back in time are heard before their boards are ended.
+        // What owners have sent is heard before, as far as there was time for it.
         self.tick();
         if report.told < MOST_EVENTS {
             // The system has reported everything that had arrived when it was asked.
-            self.heard_by = self.heard_by.max(self.crowd.heard_by(self.asked));
+            self.reported_by = asked;
+            self.heard_by = self.heard_by.max(self.crowd.heard_by(asked));
         }
         self.entrance.accept(&mut self.crowd, report.told);
         // However long a turn took, or the program was suspended, nobody is dropped for what it had sent in time.

@@ -191,8 +191,9 @@ impl Hall {
         self.floor.take_turned_away()
     }
 
-    /// Whoever serves the boards knows of no vacant slot of the board of this index, or does not know that any more. As long as it is known, a
-    /// follow of that board that `hear` may make is refused, and no slot is looked at. That is no promise: a slot may be vacant again.
+    /// Whoever serves the boards knows of no vacant slot of the board of this index, or does not know that any more. As long as it is
+    /// known, a follow of that board that `hear` may make is refused, and no slot is looked at. That is no promise: a slot may be vacant
+    /// again.
     pub fn knows_full(&mut self, at: usize, is_full: bool)
         ensures { self.new ≡ self.old }
     {

@@ -1,5 +1,1 @@
-pub mod lemmas
-mod HandedOver
-mod Stretches
 mod ToldOnce
-mod Served

@@ -15,8 +15,8 @@ use Rattle.relay_hall.specs.declared.owner.Owner.{Owner}
 use Rattle.relay_hall.specs.Talk.{may_make}
 use Rattle.relay_hall.specs.Telling.{Tells}
 use Rattle.relay_hall.proofs.lemmas.Telling.{replied_tells}
-use Rattle.relay_server.specs.declared.loops.spectating.Spectating.{Spectating}
-use Rattle.relay_server.specs.Spectating.{HasBeenTold, IsToldOf, handed_as}
+use Rattle.relay_loops.specs.declared.spectating.Spectating.{Spectating}
+use Rattle.relay_loops.specs.Spectating.{HasBeenTold, IsToldOf, handed_as}
 use Rattle.relay_server.specs.Talking.{Heard, SaidAnswered}
 
 -- a text that was handed over last reports the follower if its reply does

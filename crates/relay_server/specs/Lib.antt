@@ -1,4 +1,1 @@
-pub mod Handing
-pub mod Served
-pub mod Spectating
 pub mod Talking

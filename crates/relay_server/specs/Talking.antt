@@ -15,9 +15,11 @@ use Rattle.relay_frames.specs.declared.event.Event.TheVariants as events
 use Rattle.relay_hall.specs.declared.handed.Handed.{Handed}
 use Rattle.relay_hall.specs.declared.owner.Owner.{Owner}
 use Rattle.relay_registry.specs.Holds.{IsToldOwner, WasMade}
+use Rattle.relay_loops.specs.declared.ends.SessionEnd.{SessionEnd}
+use Rattle.relay_loops.specs.declared.ends.SessionEnd.TheVariants as ends
+use Rattle.relay_loops.specs.Spectating.{HasBeenTold, Spectated}
 use Rattle.relay_server.specs.declared.sessions.talk.TalkEnd.{TalkEnd}
 use Rattle.relay_server.specs.declared.sessions.talk.TalkEnd.TheVariants.{Follows, Idle}
-use Rattle.relay_server.specs.Spectating.{HasBeenTold}
 
 -- a step of a connection that has opened these boards is answered by what one hold of the lock makes of it
 abbrev pub StepAnswered : Owner → List (List ℕ) → Step → List ℕ → Option Handed → List (List ℕ) → Type 0
@@ -64,6 +66,12 @@ Heard who opened other old handed now new = (handed ≡ None) × (now ≡ opened
 abbrev pub TalkEnds : TalkEnd → List (List ℕ) → Type 0
 TalkEnds (Follows spectating) texts = HasBeenTold (Some spectating.source) texts
 TalkEnds other texts = ⊤
+
+-- a session ends as over or as cut only after such pushing
+abbrev pub Conversed : List (List ℕ) → SessionEnd → Type 0
+Conversed texts ends.Over = Spectated texts ends.Over
+Conversed texts ends.Cut = Spectated texts ends.Cut
+Conversed texts _ = ⊤
 
 -- no board belongs to a connection: it opened none, and if it has a key, one hold of the lock said so
 abbrev pub OwnsNoBoard : Owner → List (List ℕ) → Type 0

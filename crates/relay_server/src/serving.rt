@@ -6,26 +6,21 @@ mod door;
 mod gates;
 mod grace;
 mod input_watch;
-mod interruptible;
 mod reception;
-mod scribe;
-mod staff;
-mod threads;
 
-use crate::loops::{Connection, Gallery, start_gallery};
 use crate::serving::door::Door;
 use crate::serving::grace::Grace;
 use crate::serving::input_watch::watch_input;
 use crate::serving::reception::Reception;
-use crate::serving::scribe::Scribe;
-use crate::sessions::{Arrival, SessionEnd, attend_or_hand_over, come};
+use crate::sessions::{Arrival, attend_or_hand_over, come};
 pub use gates::OpenGate;
-pub use input_watch::read_input_to_end;
-pub(crate) use interruptible::Interruptible;
+use relay_loops::threads::{Running, Shared};
+use relay_loops::{
+    Connection, Gallery, Interruptible, Scribe, ServeEnd, SessionEnd, start_gallery,
+};
 use relay_pushing::Gate;
 use relay_registry::Registry;
 use relay_streams::{Patience, Socket};
-pub use staff::Staff;
 use std::alloc::{AllocError, Global};
 use std::io::StdinLock;
 use std::net::{Net, TcpListener, TcpStream};
@@ -33,16 +28,6 @@ use std::sync::atomic::Ordering;
 use std::sync::{Arc, Wait};
 use std::thread::{Builder, Threads};
 use std::time::Clock;
-pub(crate) use threads::{OWN_STACK_BYTES, Running, Shared};
-
-/// What a server did.
-#[derive(Clone, Copy, PartialEq, Eq, Debug)]
-pub struct ServeEnd {
-    /// How many connections were served.
-    pub served: u32,
-    /// How many could not be accepted, or were turned away for lack of a descriptor or a thread.
-    pub failed: u32,
-}
 
 /// How many bytes the stack of a session's thread has. Sessions were seen to touch some 100 KiB of it at most (`benches/pinned.py`). What a
 /// session does not touch takes no memory.

@@ -5,19 +5,19 @@ ghost use Rattle.std.specs.Io.KnownBytes.{Appends};
 ghost use Rattle.relay_frames.specs.Requests.{acceptance_text};
 ghost use Rattle.relay_streams.specs.BufferedStreams.{written as buffered_written};
 ghost use Rattle.relay_streams.specs.Memory.{LacksMemory};
-ghost use Rattle.relay_server.specs.Spectating.{Conversed, HasBeenTold, Pushed};
-ghost use Rattle.relay_server.specs.Talking.{TalkEnds};
+ghost use Rattle.relay_loops.specs.Spectating.{HasBeenTold, Pushed};
+ghost use Rattle.relay_server.specs.Talking.{Conversed, TalkEnds};
 
 mod answering;
 mod request;
 mod talk;
 mod wakes;
 
-use crate::loops::{Connection, Gallery, Spectating, hand_over};
 use crate::sessions::request::{key_of, receive};
 use crate::sessions::talk::{Stop, Talk, TalkEnd};
 use relay_frames::Acceptance;
 use relay_hall::Owner;
+use relay_loops::{CUT_OFF, Connection, Gallery, SessionEnd, Spectating, hand_over};
 use relay_pushing::{Gate, Outlet, PushEnd};
 use relay_registry::{Registry, What};
 use relay_streams::{
@@ -30,35 +30,11 @@ use std::sync::{Arc, Wait};
 use std::time::{Clock, Duration};
 use tungstenite::Error;
 
-/// How a session ended.
-#[derive(Clone, Copy, PartialEq, Eq, Debug)]
-pub enum SessionEnd {
-    /// The peer closed, or the greatest number of messages was read.
-    Closed,
-    /// The peer broke the protocol, and was told so.
-    Broken,
-    /// The device failed, or there was no memory.
-    Failed,
-    /// The game that it followed has ended.
-    Over,
-    /// It was closed as a follower whose queue was full.
-    Cut,
-    /// There was no handshake.
-    NoHandshake,
-    /// Serving was to end, and the peer was told so.
-    Ending,
-    /// The peer owned and followed nothing, sent nothing for too long, and was told to go.
-    Idle,
-}
-
 /// The close code after `Over`, and if the greatest number of messages was read: a normal end (RFC 6455, section 7.4.1).
 const NORMAL: u16 = 1000;
 
 /// The close code if serving is to end, or if the patience with a peer is over: the server goes away (RFC 6455, section 7.4.1).
 const GOING_AWAY: u16 = 1001;
-
-/// The close code after `Cut`: the server's own, from the range for private use (RFC 6455, section 7.4.2).
-pub(crate) const CUT_OFF: u16 = 4001;
 
 /// One connection from its handshake to its end. It answers commands. Once it follows a board, it pushes that board's moves and is
 /// no longer read; a server with loops hands it over to one of them, which reads it. The request's head may have 8,192 bytes and take 10

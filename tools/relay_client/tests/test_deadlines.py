@@ -23,6 +23,7 @@ HALVES = {
     "a first fragment": (FIRST_FRAGMENT, b""),
     "fragment by fragment": (FIRST_FRAGMENT, FRAGMENT),
     "a ping behind each fragment": (FIRST_FRAGMENT, FRAGMENT + head(PING, 0)),
+    "many pings in a piece": (FIRST_FRAGMENT, head(PING, 0) * 680),
 }
 
 

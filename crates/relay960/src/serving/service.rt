@@ -62,13 +62,13 @@ where
         &gate,
         most,
         service.until_input_ends,
-        service.by_loop,
+        service.by_threads,
     );
     end_loops(rt, loops);
     Ok(end)
 }
 
-/// Serves the main port: by one loop if that is asked for and the system has what it takes, and otherwise by a thread for each connection.
+/// Serves the main port: by one loop, and by a thread for each connection if that is asked for or the system lacks what the loop takes.
 fn attend<R>(
     rt: &R,
     alloc: Global,
@@ -77,7 +77,7 @@ fn attend<R>(
     gate: &Arc<OpenGate, Global>,
     most: Option<u32>,
     until_input_ends: bool,
-    by_loop: bool,
+    by_threads: bool,
 ) -> ServeEnd
 where
     R: Net<Listener = TcpListener, Stream = TcpStream>
@@ -93,7 +93,7 @@ where
     ensures most { IfSome most (λ n. result.served + result.failed ≤ n) }
     ensures all { until_input_ends ≡ false → IfSome most (λ n. result.served + result.failed ≡ n) }
 {
-    if !by_loop {
+    if by_threads {
         return serve(rt, alloc, listener, registry, gate, most, until_input_ends);
     }
     let listener = match MainPort::open(rt, alloc, listener) {

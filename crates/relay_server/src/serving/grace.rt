@@ -1,6 +1,6 @@
 //! The thread that ends boards when nobody has come back with their key.
 
-use crate::serving::threads::OwnThread;
+use relay_loops::threads::OwnThread;
 use relay_registry::Registry;
 use std::alloc::Global;
 use std::sync::{Arc, Wait};

@@ -1,8 +1,8 @@
 //! The thread that ends serving when standard input ends.
 
-use crate::serving::threads::OWN_STACK_BYTES;
+use relay_loops::read_input_to_end;
+use relay_loops::threads::OWN_STACK_BYTES;
 use relay_registry::Registry;
-use relay_streams::read_some;
 use std::alloc::Global;
 use std::io::StdinLock;
 use std::net::{Net, SocketAddr, TcpListener, TcpStream};
@@ -10,9 +10,6 @@ use std::sync::{Arc, Wait};
 use std::thread;
 use std::thread::{Builder, Threads};
 use std::time::{Clock, Duration};
-
-/// How many bytes of standard input are read at a time. Their contents are ignored.
-const READ_BYTES: usize = 256;
 
 /// How often a connection to the server's own port is tried, so that the accepting thread notices the end.
 const MOST_KNOCKS: u32 = 80;
@@ -50,18 +47,6 @@ where
         })
         .ok()?;
     Some(())
-}
-
-/// Reads standard input to its end, or until it fails.
-pub fn read_input_to_end<R: Input<Reader = StdinLock<'static>>>(rt: &R) {
-    let mut reader = rt.reader();
-    let mut bytes = [0; READ_BYTES];
-    for _ in 0..u64::MAX {
-        match read_some(&mut reader, &mut bytes) {
-            Ok(0) | Err(_) => return,
-            Ok(_) => {}
-        }
-    }
 }
 
 /// Connects to the server's own port until nobody accepts there any more: a thread that waits for a newcomer looks up only when one comes.

@@ -2,14 +2,13 @@
 
 ghost use Rattle.std.specs.Prelude.{◌≡◌, ◌≤◌, ◌<◌, ◌+◌, false, true};
 
-use crate::loops::Gallery;
 use crate::serving::door::{Caller, Door, turn_away};
 use crate::serving::grace::Grace;
-use crate::serving::scribe::Scribe;
-use crate::serving::threads::{
+use crate::serving::spawn;
+use relay_loops::threads::{
     Running, Shared, join_all, join_ended, join_until_due, join_until_ending,
 };
-use crate::serving::{ServeEnd, spawn};
+use relay_loops::{Gallery, Scribe, ServeEnd};
 use relay_pushing::Gate;
 use relay_registry::Registry;
 use relay_streams::Deadline;

@@ -4,15 +4,15 @@ ghost use Rattle.std.specs.Prelude.{◌≡◌, ◌≤◌, ◌<◌, ◌+◌, ◌�
 ghost use Rattle.relay_messages.specs.Answers.{answer_text};
 ghost use Rattle.relay_messages.specs.declared.answer.Answer.TheVariants.{Fault};
 ghost use Rattle.relay_pushing.specs.Sending.{Gains};
-ghost use Rattle.relay_server.specs.Spectating.{handed_as};
+ghost use Rattle.relay_loops.specs.Spectating.{handed_as};
 ghost use Rattle.relay_server.specs.Talking.{AnswerSent, Heard, MessageAnswered, MessageStopped, StepAnswered, StepStopped};
 
-use crate::loops::Spectating;
 use crate::sessions::talk::{Stop, Talk};
 use c960_game::Refusal;
 use relay_core::{Reply, Step};
 use relay_frames::Event;
 use relay_hall::{HallReply, Handed};
+use relay_loops::Spectating;
 use relay_messages::{Answer, MessageFault, encode};
 use relay_pushing::{Gate, Outlet};
 use relay_registry::Made;

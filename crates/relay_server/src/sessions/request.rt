@@ -3,8 +3,9 @@
 ghost use Rattle.std.specs.Prelude.{◌≡◌, None, IfOk};
 ghost use Rattle.relay_frames.specs.Requests.{Accepts, IsAnswered};
 
-use crate::sessions::{SessionEnd, end_unshaken};
+use crate::sessions::end_unshaken;
 use relay_hall::Key;
+use relay_loops::SessionEnd;
 use relay_streams::{HeadFault, Request, Stream, read_request, refuse};
 use std::alloc::Global;
 use std::str;

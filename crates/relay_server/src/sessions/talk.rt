@@ -7,10 +7,10 @@ ghost use Rattle.relay_messages.specs.declared.fault.MessageFault.TheVariants.{B
 ghost use Rattle.relay_pushing.specs.Sending.{Gains};
 ghost use Rattle.relay_server.specs.Talking.{BreachTold, IsSentAway, OwnsNoBoard, TalkEnds};
 
-use crate::loops::Spectating;
 use crate::sessions::wakes::Wakes;
 use relay_frames::{Breach, Code, Event};
 use relay_hall::Owner;
+use relay_loops::Spectating;
 use relay_messages::{Answer, MessageFault, encode};
 use relay_pushing::{Conn, Gate, Outlet};
 use relay_registry::Registry;

@@ -74,7 +74,7 @@ const NOT_YOURS: &str = "{\"code\":13,\"name\":\"NotYourBoard\",\"reply\":\"refu
 
 const WRONG_MODE: &str = "{\"code\":14,\"name\":\"WrongMode\",\"reply\":\"refused\"}";
 
-const ROWS: [Row; 22] = [
+static ROWS: [Row; 22] = [
     (Owner, OPEN_B1, OPENED, Makes(EXISTS)),
     (Stranger, OPEN_C, OPENED, Makes(EXISTS)),
     (Owner, OPEN_A, OPENED, Makes(EXISTS)),
@@ -144,6 +144,11 @@ const ROWS: [Row; 22] = [
     (Owner, END, ENDED, Makes(GAME_OVER)),
 ];
 
+/// The rows. A test that has them in its own body takes many times as long to prove.
+fn rows() -> &'static [Row] {
+    &ROWS
+}
+
 /// Whether a text gets this answer.
 fn is_answered(conn: &mut Conn, noting: &mut NotingKeeper, text: &str, wanted: &str) -> bool {
     match conn.answer(text.as_bytes(), noting) {
@@ -192,7 +197,7 @@ fn a_connection_may_what_its_boards_let_it(rt: HostRuntime) {
     let mut stranger = Conn::new(rt.alloc());
     let mut guest = Conn::new(rt.alloc());
     let mut refusals = u32::from(was_refused);
-    for row in &ROWS {
+    for row in rows() {
         let was_refused = match row.0 {
             Owner => assert_row(&rt, &mut owner, &mut noting, row),
             Stranger => assert_row(&rt, &mut stranger, &mut noting, row),
@@ -231,7 +236,7 @@ fn outcome_of(keeper: &mut RelayKeeper, board: BoardName) -> Option<Outcome> {
 }
 
 /// What a relay answers to an owner and to a stranger, and what it answers if the step was already made. The owner opens `b1` and `a`.
-const ANSWERS: [(Who, &str, [&str; 2]); 12] = [
+static ANSWERS: [(Who, &str, [&str; 2]); 12] = [
     (Stranger, SUBMIT, [NO_SUCH, NO_SUCH]),
     (Stranger, END, [NO_SUCH, NO_SUCH]),
     (Owner, OPEN_B1, [OPENED, EXISTS]),
@@ -245,6 +250,11 @@ const ANSWERS: [(Who, &str, [&str; 2]); 12] = [
     (Owner, END, [ENDED, GAME_OVER]),
     (Stranger, FOLLOW_B1, [FOLLOWING, FOLLOWS]),
 ];
+
+/// The answers.
+fn answers() -> &'static [(Who, &'static str, [&'static str; 2])] {
+    &ANSWERS
+}
 
 /// Asserts that a text gets this answer. Returns whether memory was refused; then the text was sent once more.
 fn assert_answer(
@@ -276,10 +286,10 @@ fn a_relay_answers_as_its_history_asks(rt: HostRuntime) {
     let mut owner = Conn::new(rt.alloc());
     let mut stranger = Conn::new(rt.alloc());
     let mut refusals = 0u32;
-    for (who, text, wanted) in ANSWERS {
-        let was_refused = match who {
-            Owner => assert_answer(&rt, &mut keeper, &mut owner, text, wanted),
-            _ => assert_answer(&rt, &mut keeper, &mut stranger, text, wanted),
+    for (who, text, wanted) in answers() {
+        let was_refused = match *who {
+            Owner => assert_answer(&rt, &mut keeper, &mut owner, *text, *wanted),
+            _ => assert_answer(&rt, &mut keeper, &mut stranger, *text, *wanted),
         };
         refusals = refusals.saturating_add(u32::from(was_refused));
     }

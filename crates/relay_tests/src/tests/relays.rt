@@ -15,5 +15,5 @@ mod plies;
 mod random;
 mod rows;
 mod slots;
-mod table;
+pub mod table;
 mod threads;

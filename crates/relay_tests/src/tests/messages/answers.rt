@@ -1,7 +1,8 @@
 //! The texts of answers. The tests hold with each allocation refused in turn (`rt try --test --fail-alloc N`).
 
 use crate::tests::again::again;
-use crate::tests::values::{START_518, account, move_of, position_of};
+use crate::tests::relays::table::{Told, reply_of};
+use crate::tests::values::START_518;
 use arrayvec::ArrayVec;
 use c960_board::Colour;
 use c960_game::{Outcome, Refusal};
@@ -51,195 +52,225 @@ fn a_text_needs_room_for_a_line_feed_behind_it(rt: HostRuntime) {
     assert!(rt; small.as_slice() == b".".as_slice());
 }
 
+/// A reply of each kind, and its text.
+static REPLIES: [(Told, &str); 11] = [
+    (Told::Opened, r#"{"reply":"opened"}"#),
+    (
+        Told::Following(0, START_518),
+        r#"{"fen":"rnbqkbnr/pppppppp/8/8/8/8/PPPPPPPP/RNBQKBNR w HAha - 0 1","joined":0,"reply":"following"}"#,
+    ),
+    (
+        Told::Played(0),
+        r#"{"outcome":null,"place":0,"reply":"played"}"#,
+    ),
+    (
+        Told::PlayedLast(16383, Outcome::Checkmate(Colour::Black)),
+        r#"{"outcome":"black mates","place":16383,"reply":"played"}"#,
+    ),
+    (
+        Told::Left(0, 4, 5, false),
+        r#"{"cut":false,"joined":0,"limit":5,"reply":"left","taken":4}"#,
+    ),
+    (
+        Told::Left(10, 64, 74, true),
+        r#"{"cut":true,"joined":10,"limit":74,"reply":"left","taken":64}"#,
+    ),
+    (
+        Told::Took(0, "f2f3"),
+        r#"{"move":"f2f3","place":0,"reply":"move"}"#,
+    ),
+    (
+        Told::Took(65535, "a7a8q"),
+        r#"{"move":"a7a8q","place":65535,"reply":"move"}"#,
+    ),
+    (Told::Nothing, r#"{"reply":"nothing"}"#),
+    (
+        Told::Over(Outcome::Agreed),
+        r#"{"outcome":"agreed","reply":"over"}"#,
+    ),
+    (Told::Cut, r#"{"reply":"cut"}"#),
+];
+
+/// The replies.
+fn replies() -> &'static [(Told, &'static str)] {
+    &REPLIES
+}
+
 #[test]
 fn each_reply_has_its_text(rt: HostRuntime) {
-    for (reply, text) in [
-        (Reply::Opened, r#"{"reply":"opened"}"#),
-        (
-            Reply::Following {
-                joined: 0,
-                position: position_of(&rt, START_518),
-            },
-            r#"{"fen":"rnbqkbnr/pppppppp/8/8/8/8/PPPPPPPP/RNBQKBNR w HAha - 0 1","joined":0,"reply":"following"}"#,
-        ),
-        (
-            Reply::Played {
-                place: 0,
-                outcome: None,
-            },
-            r#"{"outcome":null,"place":0,"reply":"played"}"#,
-        ),
-        (
-            Reply::Played {
-                place: 16383,
-                outcome: Some(Outcome::Checkmate(Colour::Black)),
-            },
-            r#"{"outcome":"black mates","place":16383,"reply":"played"}"#,
-        ),
-        (
-            Reply::Left(account(0, 4, 5, false)),
-            r#"{"cut":false,"joined":0,"limit":5,"reply":"left","taken":4}"#,
-        ),
-        (
-            Reply::Left(account(10, 64, 74, true)),
-            r#"{"cut":true,"joined":10,"limit":74,"reply":"left","taken":64}"#,
-        ),
-        (
-            Reply::Took(Taken::Move(0, move_of(&rt, "f2f3"))),
-            r#"{"move":"f2f3","place":0,"reply":"move"}"#,
-        ),
-        (
-            Reply::Took(Taken::Move(65535, move_of(&rt, "a7a8q"))),
-            r#"{"move":"a7a8q","place":65535,"reply":"move"}"#,
-        ),
-        (Reply::Took(Taken::Nothing), r#"{"reply":"nothing"}"#),
-        (
-            Reply::Took(Taken::Over(Outcome::Agreed)),
-            r#"{"outcome":"agreed","reply":"over"}"#,
-        ),
-        (Reply::Took(Taken::Cut), r#"{"reply":"cut"}"#),
-    ] {
-        has_text(&rt, rt.alloc(), &Answer::Reply(reply), text);
+    for (told, text) in replies() {
+        let reply = reply_of(&rt, *told, 0);
+        has_text(&rt, rt.alloc(), &Answer::Reply(reply), *text);
     }
+}
+
+/// Each outcome, and the text of an end with it.
+static OUTCOMES: [(Outcome, &str); 11] = [
+    (
+        Outcome::Checkmate(Colour::White),
+        r#"{"outcome":"white mates","reply":"ended"}"#,
+    ),
+    (
+        Outcome::Checkmate(Colour::Black),
+        r#"{"outcome":"black mates","reply":"ended"}"#,
+    ),
+    (
+        Outcome::Stalemate,
+        r#"{"outcome":"stalemate","reply":"ended"}"#,
+    ),
+    (
+        Outcome::Resigned(Colour::White),
+        r#"{"outcome":"white resigns","reply":"ended"}"#,
+    ),
+    (
+        Outcome::Resigned(Colour::Black),
+        r#"{"outcome":"black resigns","reply":"ended"}"#,
+    ),
+    (Outcome::Agreed, r#"{"outcome":"agreed","reply":"ended"}"#),
+    (
+        Outcome::Abandoned,
+        r#"{"outcome":"abandoned","reply":"ended"}"#,
+    ),
+    (
+        Outcome::Threefold,
+        r#"{"outcome":"threefold","reply":"ended"}"#,
+    ),
+    (
+        Outcome::Fifty,
+        r#"{"outcome":"fifty moves","reply":"ended"}"#,
+    ),
+    (
+        Outcome::Fivefold,
+        r#"{"outcome":"fivefold","reply":"ended"}"#,
+    ),
+    (
+        Outcome::SeventyFive,
+        r#"{"outcome":"seventy-five moves","reply":"ended"}"#,
+    ),
+];
+
+/// The outcomes.
+fn outcomes() -> &'static [(Outcome, &'static str)] {
+    &OUTCOMES
 }
 
 #[test]
 fn each_outcome_has_its_text(rt: HostRuntime) {
-    for (outcome, text) in [
-        (
-            Outcome::Checkmate(Colour::White),
-            r#"{"outcome":"white mates","reply":"ended"}"#,
-        ),
-        (
-            Outcome::Checkmate(Colour::Black),
-            r#"{"outcome":"black mates","reply":"ended"}"#,
-        ),
-        (
-            Outcome::Stalemate,
-            r#"{"outcome":"stalemate","reply":"ended"}"#,
-        ),
-        (
-            Outcome::Resigned(Colour::White),
-            r#"{"outcome":"white resigns","reply":"ended"}"#,
-        ),
-        (
-            Outcome::Resigned(Colour::Black),
-            r#"{"outcome":"black resigns","reply":"ended"}"#,
-        ),
-        (Outcome::Agreed, r#"{"outcome":"agreed","reply":"ended"}"#),
-        (
-            Outcome::Abandoned,
-            r#"{"outcome":"abandoned","reply":"ended"}"#,
-        ),
-        (
-            Outcome::Threefold,
-            r#"{"outcome":"threefold","reply":"ended"}"#,
-        ),
-        (
-            Outcome::Fifty,
-            r#"{"outcome":"fifty moves","reply":"ended"}"#,
-        ),
-        (
-            Outcome::Fivefold,
-            r#"{"outcome":"fivefold","reply":"ended"}"#,
-        ),
-        (
-            Outcome::SeventyFive,
-            r#"{"outcome":"seventy-five moves","reply":"ended"}"#,
-        ),
-    ] {
-        has_text(&rt, rt.alloc(), &Answer::Reply(Reply::Ended(outcome)), text);
+    for (outcome, text) in outcomes() {
+        let answer = Answer::Reply(Reply::Ended(*outcome));
+        has_text(&rt, rt.alloc(), &answer, *text);
     }
+}
+
+/// Each refusal, and its text.
+static REFUSALS: [(Refusal, &str); 16] = [
+    (
+        Refusal::NoSuchBoard,
+        r#"{"code":1,"name":"NoSuchBoard","reply":"refused"}"#,
+    ),
+    (
+        Refusal::BoardExists,
+        r#"{"code":2,"name":"BoardExists","reply":"refused"}"#,
+    ),
+    (
+        Refusal::BadStart,
+        r#"{"code":3,"name":"BadStart","reply":"refused"}"#,
+    ),
+    (
+        Refusal::TooManyBoards,
+        r#"{"code":4,"name":"TooManyBoards","reply":"refused"}"#,
+    ),
+    (
+        Refusal::GameOver,
+        r#"{"code":5,"name":"GameOver","reply":"refused"}"#,
+    ),
+    (
+        Refusal::Illegal,
+        r#"{"code":6,"name":"Illegal","reply":"refused"}"#,
+    ),
+    (
+        Refusal::LogFull,
+        r#"{"code":7,"name":"LogFull","reply":"refused"}"#,
+    ),
+    (
+        Refusal::ClaimRefused,
+        r#"{"code":8,"name":"ClaimRefused","reply":"refused"}"#,
+    ),
+    (
+        Refusal::NoSuchFollower,
+        r#"{"code":9,"name":"NoSuchFollower","reply":"refused"}"#,
+    ),
+    (
+        Refusal::FollowerExists,
+        r#"{"code":10,"name":"FollowerExists","reply":"refused"}"#,
+    ),
+    (
+        Refusal::TooManyFollowers,
+        r#"{"code":11,"name":"TooManyFollowers","reply":"refused"}"#,
+    ),
+    (
+        Refusal::OutOfMemory,
+        r#"{"code":12,"name":"OutOfMemory","reply":"refused"}"#,
+    ),
+    (
+        Refusal::NotYourBoard,
+        r#"{"code":13,"name":"NotYourBoard","reply":"refused"}"#,
+    ),
+    (
+        Refusal::WrongMode,
+        r#"{"code":14,"name":"WrongMode","reply":"refused"}"#,
+    ),
+    (
+        Refusal::TooFarBack,
+        r#"{"code":15,"name":"TooFarBack","reply":"refused"}"#,
+    ),
+    (
+        Refusal::NotYet,
+        r#"{"code":16,"name":"NotYet","reply":"refused"}"#,
+    ),
+];
+
+/// The refusals.
+fn refusals() -> &'static [(Refusal, &'static str)] {
+    &REFUSALS
+}
+
+/// Each fault, and its text.
+static FAULTS: [(MessageFault, &str); 5] = [
+    (
+        MessageFault::OutOfMemory,
+        r#"{"code":12,"name":"OutOfMemory","reply":"refused"}"#,
+    ),
+    (
+        MessageFault::NotJson,
+        r#"{"code":21,"name":"NotJson","reply":"refused"}"#,
+    ),
+    (
+        MessageFault::NotObject,
+        r#"{"code":22,"name":"NotObject","reply":"refused"}"#,
+    ),
+    (
+        MessageFault::UnknownCommand,
+        r#"{"code":23,"name":"UnknownCommand","reply":"refused"}"#,
+    ),
+    (
+        MessageFault::BadField,
+        r#"{"code":24,"name":"BadField","reply":"refused"}"#,
+    ),
+];
+
+/// The faults.
+fn faults() -> &'static [(MessageFault, &'static str)] {
+    &FAULTS
 }
 
 #[test]
 fn each_refusal_and_each_fault_has_its_text(rt: HostRuntime) {
-    for (answer, text) in [
-        (
-            Answer::Reply(Reply::Refused(Refusal::NoSuchBoard)),
-            r#"{"code":1,"name":"NoSuchBoard","reply":"refused"}"#,
-        ),
-        (
-            Answer::Reply(Reply::Refused(Refusal::BoardExists)),
-            r#"{"code":2,"name":"BoardExists","reply":"refused"}"#,
-        ),
-        (
-            Answer::Reply(Reply::Refused(Refusal::BadStart)),
-            r#"{"code":3,"name":"BadStart","reply":"refused"}"#,
-        ),
-        (
-            Answer::Reply(Reply::Refused(Refusal::TooManyBoards)),
-            r#"{"code":4,"name":"TooManyBoards","reply":"refused"}"#,
-        ),
-        (
-            Answer::Reply(Reply::Refused(Refusal::GameOver)),
-            r#"{"code":5,"name":"GameOver","reply":"refused"}"#,
-        ),
-        (
-            Answer::Reply(Reply::Refused(Refusal::Illegal)),
-            r#"{"code":6,"name":"Illegal","reply":"refused"}"#,
-        ),
-        (
-            Answer::Reply(Reply::Refused(Refusal::LogFull)),
-            r#"{"code":7,"name":"LogFull","reply":"refused"}"#,
-        ),
-        (
-            Answer::Reply(Reply::Refused(Refusal::ClaimRefused)),
-            r#"{"code":8,"name":"ClaimRefused","reply":"refused"}"#,
-        ),
-        (
-            Answer::Reply(Reply::Refused(Refusal::NoSuchFollower)),
-            r#"{"code":9,"name":"NoSuchFollower","reply":"refused"}"#,
-        ),
-        (
-            Answer::Reply(Reply::Refused(Refusal::FollowerExists)),
-            r#"{"code":10,"name":"FollowerExists","reply":"refused"}"#,
-        ),
-        (
-            Answer::Reply(Reply::Refused(Refusal::TooManyFollowers)),
-            r#"{"code":11,"name":"TooManyFollowers","reply":"refused"}"#,
-        ),
-        (
-            Answer::Reply(Reply::Refused(Refusal::OutOfMemory)),
-            r#"{"code":12,"name":"OutOfMemory","reply":"refused"}"#,
-        ),
-        (
-            Answer::Reply(Reply::Refused(Refusal::NotYourBoard)),
-            r#"{"code":13,"name":"NotYourBoard","reply":"refused"}"#,
-        ),
-        (
-            Answer::Reply(Reply::Refused(Refusal::WrongMode)),
-            r#"{"code":14,"name":"WrongMode","reply":"refused"}"#,
-        ),
-        (
-            Answer::Reply(Reply::Refused(Refusal::TooFarBack)),
-            r#"{"code":15,"name":"TooFarBack","reply":"refused"}"#,
-        ),
-        (
-            Answer::Reply(Reply::Refused(Refusal::NotYet)),
-            r#"{"code":16,"name":"NotYet","reply":"refused"}"#,
-        ),
-        (
-            Answer::Fault(MessageFault::OutOfMemory),
-            r#"{"code":12,"name":"OutOfMemory","reply":"refused"}"#,
-        ),
-        (
-            Answer::Fault(MessageFault::NotJson),
-            r#"{"code":21,"name":"NotJson","reply":"refused"}"#,
-        ),
-        (
-            Answer::Fault(MessageFault::NotObject),
-            r#"{"code":22,"name":"NotObject","reply":"refused"}"#,
-        ),
-        (
-            Answer::Fault(MessageFault::UnknownCommand),
-            r#"{"code":23,"name":"UnknownCommand","reply":"refused"}"#,
-        ),
-        (
-            Answer::Fault(MessageFault::BadField),
-            r#"{"code":24,"name":"BadField","reply":"refused"}"#,
-        ),
-    ] {
-        has_text(&rt, rt.alloc(), &answer, text);
+    for (refusal, text) in refusals() {
+        let answer = Answer::Reply(Reply::Refused(*refusal));
+        has_text(&rt, rt.alloc(), &answer, *text);
+    }
+    for (fault, text) in faults() {
+        has_text(&rt, rt.alloc(), &Answer::Fault(*fault), *text);
     }
 }

@@ -1,11 +1,13 @@
 //! The texts of answers, read again as JSON.
 
-use crate::tests::values::{START_518, account, move_of, position_of};
+use crate::tests::relays::table::{Told, reply_of};
+use crate::tests::values::START_518;
 use c960_board::Colour;
 use c960_game::{Outcome, Refusal};
-use relay_core::{Reply, Taken};
 use relay_messages::{Answer, MessageFault, encode};
 use serde_json::Value;
+use std::alloc::Global;
+use std::process::Abort;
 use std::test::Fail;
 
 /// The value of a member.
@@ -30,59 +32,76 @@ fn says(object: &Value, key: &str, member: Member) -> bool {
     }
 }
 
+const FOLLOWING: Told = Told::Following(3, START_518);
+
+const MATED: Told = Told::PlayedLast(8, Outcome::Checkmate(Colour::White));
+
+const ENDED: Told = Told::Ended(Outcome::Agreed);
+
+const MOVED: Told = Told::Took(65535, "a7a8q");
+
+const OVER: Told = Told::Over(Outcome::Fifty);
+
+const LEFT: Told = Told::Left(1, 2, 3, true);
+
+const REFUSED: Told = Told::Refused(Refusal::Illegal);
+
+/// Replies, each with its kind, and a member of the object that tells of it.
+static REPLIES: [(Told, &str, &str, Member); 19] = [
+    (Told::Opened, "opened", "reply", Member::Text("opened")),
+    (FOLLOWING, "following", "fen", Member::Text(START_518)),
+    (FOLLOWING, "following", "joined", Member::Number(3)),
+    (Told::Played(7), "played", "outcome", Member::Null),
+    (Told::Played(7), "played", "place", Member::Number(7)),
+    (MATED, "played", "outcome", Member::Text("white mates")),
+    (MATED, "played", "place", Member::Number(8)),
+    (ENDED, "ended", "outcome", Member::Text("agreed")),
+    (MOVED, "move", "move", Member::Text("a7a8q")),
+    (MOVED, "move", "place", Member::Number(65535)),
+    (Told::Nothing, "nothing", "reply", Member::Text("nothing")),
+    (OVER, "over", "outcome", Member::Text("fifty moves")),
+    (Told::Cut, "cut", "reply", Member::Text("cut")),
+    (LEFT, "left", "cut", Member::Flag(true)),
+    (LEFT, "left", "joined", Member::Number(1)),
+    (LEFT, "left", "limit", Member::Number(3)),
+    (LEFT, "left", "taken", Member::Number(2)),
+    (REFUSED, "refused", "code", Member::Number(6)),
+    (REFUSED, "refused", "name", Member::Text("Illegal")),
+];
+
+/// The replies.
+fn replies() -> &'static [(Told, &'static str, &'static str, Member)] {
+    &REPLIES
+}
+
+/// Asserts that the text of an answer is read as an object of this kind with this member.
+fn assert_says(
+    rt: &impl Abort,
+    alloc: Global,
+    answer: &Answer,
+    kind: &'static str,
+    key: &str,
+    member: Member,
+) -> Result<(), Fail> {
+    let text = encode(alloc, answer)?;
+    let object = Value::from_str(alloc, text.as_str())?;
+    assert!(rt;
+        object.is_object() && says(&object, "reply", Member::Text(kind)),
+        "{text}"
+    );
+    assert!(rt; says(&object, key, member), "{key} of {text}");
+    Ok(())
+}
+
 #[test]
 fn answers_are_read_as_objects_that_say_the_same(rt: HostRuntime) -> Result<(), Fail> {
-    let following = Answer::Reply(Reply::Following {
-        joined: 3,
-        position: position_of(&rt, START_518),
-    });
-    let played = Answer::Reply(Reply::Played {
-        place: 7,
-        outcome: None,
-    });
-    let mated = Answer::Reply(Reply::Played {
-        place: 8,
-        outcome: Some(Outcome::Checkmate(Colour::White)),
-    });
-    let left = Answer::Reply(Reply::Left(account(1, 2, 3, true)));
-    let opened = Answer::Reply(Reply::Opened);
-    let ended = Answer::Reply(Reply::Ended(Outcome::Agreed));
-    let moved = Answer::Reply(Reply::Took(Taken::Move(65535, move_of(&rt, "a7a8q"))));
-    let nothing = Answer::Reply(Reply::Took(Taken::Nothing));
-    let over = Answer::Reply(Reply::Took(Taken::Over(Outcome::Fifty)));
-    let cut = Answer::Reply(Reply::Took(Taken::Cut));
-    let refused = Answer::Reply(Reply::Refused(Refusal::Illegal));
-    let fault = Answer::Fault(MessageFault::NotJson);
-    for (answer, kind, key, member) in [
-        (opened, "opened", "reply", Member::Text("opened")),
-        (following, "following", "fen", Member::Text(START_518)),
-        (following, "following", "joined", Member::Number(3)),
-        (played, "played", "outcome", Member::Null),
-        (played, "played", "place", Member::Number(7)),
-        (mated, "played", "outcome", Member::Text("white mates")),
-        (mated, "played", "place", Member::Number(8)),
-        (ended, "ended", "outcome", Member::Text("agreed")),
-        (moved, "move", "move", Member::Text("a7a8q")),
-        (moved, "move", "place", Member::Number(65535)),
-        (nothing, "nothing", "reply", Member::Text("nothing")),
-        (over, "over", "outcome", Member::Text("fifty moves")),
-        (cut, "cut", "reply", Member::Text("cut")),
-        (left, "left", "cut", Member::Flag(true)),
-        (left, "left", "joined", Member::Number(1)),
-        (left, "left", "limit", Member::Number(3)),
-        (left, "left", "taken", Member::Number(2)),
-        (refused, "refused", "code", Member::Number(6)),
-        (refused, "refused", "name", Member::Text("Illegal")),
-        (fault, "refused", "code", Member::Number(21)),
-        (fault, "refused", "name", Member::Text("NotJson")),
-    ] {
-        let text = encode(rt.alloc(), &answer)?;
-        let object = Value::from_str(rt.alloc(), text.as_str())?;
-        assert!(rt;
-            object.is_object() && says(&object, "reply", Member::Text(kind)),
-            "{text}"
-        );
-        assert!(rt; says(&object, key, member), "{key} of {text}");
+    for (told, kind, key, member) in replies() {
+        let answer = Answer::Reply(reply_of(&rt, *told, 0));
+        assert_says(&rt, rt.alloc(), &answer, *kind, *key, *member)?;
     }
-    Ok(())
+    let fault = Answer::Fault(MessageFault::NotJson);
+    let code = Member::Number(21);
+    assert_says(&rt, rt.alloc(), &fault, "refused", "code", code)?;
+    let name = Member::Text("NotJson");
+    assert_says(&rt, rt.alloc(), &fault, "refused", "name", name)
 }

@@ -1,0 +1,4 @@
+pub mod lemmas
+mod HandedOver
+mod Stretches
+mod Served

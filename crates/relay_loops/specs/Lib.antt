@@ -1,0 +1,3 @@
+pub mod Handing
+pub mod Served
+pub mod Spectating
