@@ -6,12 +6,13 @@
 // its answers. It sends each move 10 ms after the answer before. CROWD is what the PEERS beside do without end:
 //
 //   joins     each comes, follows the board, and goes once it is greeted or refused
+//   comes     all come at once and shake hands, and go once each is answered; a quarter of a second later they come again
 //   refused   each asks to follow the board, which is full, and asks again at each answer; AHEAD questions are on their way at a time
 //   nobody    there are none
 //
 // Says `there` once all followers have joined, and goes on at a line on standard input. At the end all followers have all moves,
-// or the status is 1. Then it says in JSON how long the operator waited for an answer, and how many of the crowd joined and were
-// refused in a second.
+// or the status is 1. Then it says in JSON how long the operator waited for an answer, and how many of the crowd came or joined, and
+// were refused, in a second.
 #define _GNU_SOURCE
 #include <signal.h>
 #include <stdio.h>
@@ -99,6 +100,42 @@ static void join_and_leave(int count, int) {
     }
 }
 
+// Reads what came to a newcomer. Returns whether it is all of the answer to its request.
+static int is_answered(struct newcomer *one) {
+    ssize_t came = read(one->fd, one->came + one->have, sizeof one->came - one->have);
+    if (came <= 0) die("a newcomer");
+    one->have += came;
+    return one->have >= 4 && !memcmp(one->came + one->have - 4, "\r\n\r\n", 4);
+}
+
+static void come_and_go(int count, int) {
+    struct newcomer *all = calloc(count, sizeof *all);
+    int poll = epoll_create1(0);
+    char ask[512];
+    size_t length = request(ask, sizeof ask, "/");
+    for (;;) {
+        // The server is at the first address alone.
+        dialled = 0;
+        for (int i = 0; i < count; i++) {
+            all[i] = (struct newcomer){.fd = dial(port)};
+            put(all[i].fd, ask, length);
+            if (listen_to(poll, all[i].fd, &all[i])) die("epoll_ctl");
+        }
+        for (int left = count; left > 0;) {
+            struct epoll_event got[256];
+            int n = epoll_wait(poll, got, 256, -1);
+            for (int i = 0; i < n; i++) {
+                if (!is_answered(got[i].data.ptr)) continue;
+                left--;
+                told->joined++;
+            }
+        }
+        for (int i = 0; i < count; i++) close(all[i].fd);
+        // The system keeps the ports of closed connections for a second.
+        usleep(250000);
+    }
+}
+
 static void be_refused(int count, int ahead) {
     struct peer *peers = calloc(count, sizeof *peers);
     unsigned char frame[160];
@@ -178,7 +215,10 @@ int main(int argc, char **argv) {
     }
     alarm(MOST_SECONDS);
     int count = atoi(argv[2]), moves = atoi(argv[3]);
-    void (*crowd)(int, int) = !strcmp(argv[4], "joins") ? join_and_leave : !strcmp(argv[4], "refused") ? be_refused : nobody;
+    void (*crowd)(int, int) = nobody;
+    if (!strcmp(argv[4], "joins")) crowd = join_and_leave;
+    if (!strcmp(argv[4], "comes")) crowd = come_and_go;
+    if (!strcmp(argv[4], "refused")) crowd = be_refused;
     port = follow_port = atoi(argv[1]);
     snprintf(name, sizeof name, "o%d", getpid());
     told = mmap(NULL, sizeof *told, PROT_READ | PROT_WRITE, MAP_SHARED | MAP_ANONYMOUS, -1, 0);

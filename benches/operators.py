@@ -49,6 +49,7 @@ CROWDS = {
     "100 follow": (100, "nobody", 0, 0),
     "1,000 follow": (1000, "nobody", 0, 0),
     "1,000 follow, 16 join and leave": (1000, "joins", 16, 0),
+    "100 follow, 5,000 come at once, and again": (100, "comes", 5000, 0),
     "1,000 fill the board, 100 are refused, one question each": (1000, "refused", 100, 1),
     "1,000 fill the board, 100 are refused, 40 questions each": (1000, "refused", 100, 40),
 }

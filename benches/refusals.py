@@ -3,7 +3,7 @@
 
     benches/refusals.py [MOST]        those of its jobs, until a run meets no refusal; then 1 to MOST (600) of the server with its start
     benches/refusals.py --watching    those of the loop of a watch port, until nothing is refused any more
-    benches/refusals.py --main        those of the loop of the main port (--loop), in the same way
+    benches/refusals.py --main        those of the loop of the main port, in the same way
     benches/refusals.py --tests       those of each test that must hold then too, until a run meets no refusal
 
 The gate does all of these. refused_jobs.py says what a job may do then, and refused_watching.py and refused_main.py what a loop may do.
@@ -91,6 +91,8 @@ END = [b'{"outcome":"abandoned","reply":"over"}', b"close 1000"]
 FOLLOWED = [FOLLOWING, b'{"move":"e2e4","place":0,"reply":"move"}', *END]
 NO_MEMORY = b'{"code":12,"name":"OutOfMemory","reply":"refused"}'
 NO_BOARD = [b'{"code":1,"name":"NoSuchBoard","reply":"refused"}', b"close 1000"]
+# How many refusals at most only leave a line out: that the last connection has come. The main port's loop writes it in a thread of its own.
+MOST_LINES = 5
 # Standard error says so if there was no memory to start a connection's session.
 TURNED_AWAY = b"no descriptor or thread for a connection: turned away\n"
 # None says that what was asked for had been done already, as a command that is made a second time would.
@@ -125,7 +127,7 @@ def talk(port, texts, follows=False):
 
 
 def met(refused, allocator):
-    """What met the refusal of this allocation: the start, the owner, a guest or nothing; None where something is wrong."""
+    """What met the refusal of this allocation: the start, the owner, a guest, a line or nothing; None where something is wrong."""
     words = ["--connections", "4", "--boards", "1", "--followers", "1", "--capacity", "2"]
     try:
         with Server(*words, env={**os.environ, "LD_PRELOAD": allocator, "REFUSED": str(refused)}) as server:
@@ -140,6 +142,8 @@ def met(refused, allocator):
         sys.exit(f"allocation {refused}: the server does not answer, or does not end: {fault}")
     if not ANSWERS.issuperset(itertools.chain(owner, *guests)):
         return None
+    if said == b"served 4, failed 0\n":
+        return "line" if owner == OWNED and guests.count(FOLLOWED) == 3 else None
     last = last_has_come(4).encode()
     if said not in (last + b"served 4, failed 0\n", TURNED_AWAY + last + b"served 3, failed 1\n"):
         return None
@@ -207,7 +211,7 @@ def main():
             if who != "nothing":
                 last = refused
     print(", ".join(f"{who}: {count}" for who, count in counts.items()), f"(the last that was met: {last} of {most})")
-    return 1 if wrong or counts[None] else 0
+    return 1 if wrong or counts[None] or counts["line"] > MOST_LINES else 0
 
 
 if __name__ == "__main__":

@@ -2,8 +2,9 @@
 // library's. If that happens, the file MARK is made.
 //
 // Where SHEET names a file, the numbers in it say which one is refused, and only the allocations of a port's loop count. So one server may
-// be refused one after another. The loop's thread is the one that has waited for epoll. Where LOOP is set, it is the loop of the main port,
-// which has the process's first thread; the loops of those who follow have waited too, and are none then.
+// be refused one after another. The loop's thread is one that has waited for epoll: where LOOP is set the process's first thread, which is
+// the loop of the main port, and otherwise any other one. The loops of those who follow on the main port have waited too, but nobody
+// follows there then.
 #define _GNU_SOURCE
 #include <errno.h>
 #include <fcntl.h>
@@ -40,7 +41,7 @@ __attribute__((constructor)) static void open_sheet(void) {
 }
 
 int epoll_wait(int poll, struct epoll_event *events, int most, int timeout) {
-    is_loop = !is_of_main || gettid() == getpid();
+    is_loop = is_of_main == (gettid() == getpid());
     if (sheet && is_loop) sheet->waits = 1;
     int ready = epoll_pwait(poll, events, most, timeout, NULL);
     if (sheet && is_loop) sheet->waits = 0;

@@ -26,7 +26,7 @@ class Hall(House):
     """A server whose main port has one loop, an operator, and one who follows b1."""
 
     def __init__(self, sheet, allocator):
-        words = "--forever", "--loop", "--boards", "256", "--grace", "60"
+        words = "--forever", "--boards", "256", "--grace", "60"
         self.sheet = sheet
         self.server = Server(*words, env={**os.environ, "LD_PRELOAD": allocator, "SHEET": str(sheet.path), "LOOP": "main"})
         self.made = 0
