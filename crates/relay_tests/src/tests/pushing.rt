@@ -100,12 +100,17 @@ fn cut_pushed(rt: HostRuntime) {
 /// how many answers were not taken.
 type Row = ((usize, usize), PushEnd, (usize, u64, usize));
 
-const ROWS: [Row; 3] = [
+static ROWS: [Row; 3] = [
     ((9, 9), PushEnd::Over(Outcome::Agreed), (3, 3, 0)),
     // The second text fails, and the second flush.
     ((1, 9), NO_DEVICE, (1, 3, 1)),
     ((9, 1), NO_DEVICE, (1, 1, 3)),
 ];
+
+/// The rows.
+fn rows() -> &'static [Row] {
+    &ROWS
+}
 
 #[test]
 fn nothing_is_waited_for_and_is_no_text(rt: HostRuntime) {
@@ -117,7 +122,8 @@ fn nothing_is_waited_for_and_is_no_text(rt: HostRuntime) {
         Taken::Move(1, move_of(&rt, "e7e5")),
         Taken::Over(Outcome::Agreed),
     ];
-    for ((room, flushes), wanted, counts) in ROWS {
+    for row in rows() {
+        let ((room, flushes), wanted, counts) = *row;
         let mut outlet = ListOutlet::new(rt.alloc(), room, flushes);
         let mut source = Answers { rest: &answers };
         let bell = Ringing::new();

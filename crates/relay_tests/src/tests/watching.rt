@@ -11,26 +11,40 @@ use std::alloc::Global;
 use std::process::Abort;
 use std::test::Fail;
 
-const AT_THE_START: &[u8] =
-    b"\x81\x61{\"fen\":\"rnbqkbnr/pppppppp/8/8/8/8/PPPPPPPP/RNBQKBNR w HAha - 0 1\",\"joined\":0,\"reply\":\"following\"}";
+/// The greeting at the start.
+fn at_the_start() -> &'static [u8] {
+    b"\x81\x61{\"fen\":\"rnbqkbnr/pppppppp/8/8/8/8/PPPPPPPP/RNBQKBNR w HAha - 0 1\",\"joined\":0,\"reply\":\"following\"}"
+}
 
-const AT_PLACE_1: &[u8] =
-    b"\x81\x63{\"fen\":\"rnbqkbnr/pppppppp/8/8/8/5P2/PPPPP1PP/RNBQKBNR b HAha - 0 1\",\"joined\":1,\"reply\":\"following\"}";
+/// The greeting at place 1.
+fn at_place_1() -> &'static [u8] {
+    b"\x81\x63{\"fen\":\"rnbqkbnr/pppppppp/8/8/8/5P2/PPPPP1PP/RNBQKBNR b HAha - 0 1\",\"joined\":1,\"reply\":\"following\"}"
+}
 
 /// The first move's frame has 42 bytes, as each of the others.
-const FROM_PLACE_0: &[u8] = b"\x81\x28{\"move\":\"f2f3\",\"place\":0,\"reply\":\"move\"}";
+fn from_place_0() -> &'static [u8] {
+    b"\x81\x28{\"move\":\"f2f3\",\"place\":0,\"reply\":\"move\"}"
+}
 
-const FROM_PLACE_1: &[u8] =
-    b"\x81\x28{\"move\":\"e7e5\",\"place\":1,\"reply\":\"move\"}\x81\x28{\"move\":\"g2g4\",\"place\":2,\"reply\":\"move\"}\x81\x28{\"move\":\"d8h4\",\"place\":3,\"reply\":\"move\"}";
+/// The moves behind the first.
+fn from_place_1() -> &'static [u8] {
+    b"\x81\x28{\"move\":\"e7e5\",\"place\":1,\"reply\":\"move\"}\x81\x28{\"move\":\"g2g4\",\"place\":2,\"reply\":\"move\"}\x81\x28{\"move\":\"d8h4\",\"place\":3,\"reply\":\"move\"}"
+}
 
-const THE_END: &[u8] = b"\x81\x28{\"outcome\":\"black mates\",\"reply\":\"over\"}\x88\x02\x03\xe8";
+/// The end, and the close behind it.
+fn the_end() -> &'static [u8] {
+    b"\x81\x28{\"outcome\":\"black mates\",\"reply\":\"over\"}\x88\x02\x03\xe8"
+}
 
 /// A position whose text is long.
-const CROWDED: &[u8] =
-    b"r1b1k1r1/p1p1p1p1/1p1p1p1p/n1b1q1n1/N1B1Q1N1/1P1P1P1P/P1P1P1P1/R1B1K1R1 w GAga - 99 999";
+fn crowded() -> &'static [u8] {
+    b"r1b1k1r1/p1p1p1p1/1p1p1p1p/n1b1q1n1/N1B1Q1N1/1P1P1P1P/P1P1P1P1/R1B1K1R1 w GAga - 99 999"
+}
 
-const AT_CROWDED: &[u8] =
-    b"\x81\x7e\0\x80{\"fen\":\"r1b1k1r1/p1p1p1p1/1p1p1p1p/n1b1q1n1/N1B1Q1N1/1P1P1P1P/P1P1P1P1/R1B1K1R1 w GAga - 99 999\",\"joined\":0,\"reply\":\"following\"}";
+/// The greeting at that position.
+fn at_crowded() -> &'static [u8] {
+    b"\x81\x7e\0\x80{\"fen\":\"r1b1k1r1/p1p1p1p1/1p1p1p1p/n1b1q1n1/N1B1Q1N1/1P1P1P1P/P1P1P1P1/R1B1K1R1 w GAga - 99 999\",\"joined\":0,\"reply\":\"following\"}"
+}
 
 /// Everything that is due is written, at most `most` bytes at a time.
 fn write_all(
@@ -103,12 +117,13 @@ fn joined(alloc: Global, pieces: &[&[u8]]) -> Result<Vec<u8>, Fail> {
 #[test]
 fn each_is_sent_the_frames_from_its_place_on(rt: HostRuntime) -> Result<(), Fail> {
     let alloc = rt.alloc();
-    let from_the_start = joined(alloc, &[AT_THE_START, FROM_PLACE_0, FROM_PLACE_1, THE_END])?;
-    let from_place_1 = joined(alloc, &[AT_PLACE_1, FROM_PLACE_1, THE_END])?;
+    let all = [at_the_start(), from_place_0(), from_place_1(), the_end()];
+    let from_the_start = joined(alloc, &all)?;
+    let later = joined(alloc, &[at_place_1(), from_place_1(), the_end()])?;
     for most in [1, 2, 41, 42, 43, 1000] {
         let (first, second) = sent_in_pieces(&rt, alloc, most)?;
         assert!(rt; first == from_the_start);
-        assert!(rt; second == from_place_1);
+        assert!(rt; second == later);
     }
     Ok(())
 }
@@ -134,10 +149,10 @@ fn other_frames_go_between_frames(rt: HostRuntime) -> Result<(), Fail> {
 #[test]
 fn a_long_greeting_has_its_length_in_two_bytes(rt: HostRuntime) -> Result<(), Fail> {
     let tape = Tape::new(rt.alloc());
-    let Ok(position) = read_fen(CROWDED) else {
+    let Ok(position) = read_fen(crowded()) else {
         panic!(rt; "a position");
     };
     let watcher = tape.join(0, &position)?;
-    assert!(rt; watcher.due(&tape) == AT_CROWDED);
+    assert!(rt; watcher.due(&tape) == at_crowded());
     Ok(())
 }

@@ -20,7 +20,7 @@ const TOO_LARGE: &[u8] =
     b"HTTP/1.1 431 Request Header Fields Too Large\r\nConnection: close\r\nContent-Length: 0\r\n\r\n";
 
 /// Requests that are refused, and the answers to them.
-const REFUSED: [(&[u8], &[u8]); 5] = [
+static REFUSED: [(&[u8], &[u8]); 5] = [
     // an empty line before the request
     (b"\n", BAD),
     (b"\r\nGET / HTTP/1.1\r\nHost: a\r\n\r\n", BAD),
@@ -40,6 +40,11 @@ const REFUSED: [(&[u8], &[u8]); 5] = [
         NO_VERSION,
     ),
 ];
+
+/// The requests that are refused.
+fn refused() -> &'static [(&'static [u8], &'static [u8])] {
+    &REFUSED
+}
 
 fn hall(rt: &impl Abort, alloc: Global) -> Hall {
     let limits = Limits::new(4, 4, 4, 64).expect(rt, "limits");
@@ -100,10 +105,10 @@ fn a_request_is_answered_and_what_is_behind_it_however_they_are_cut(rt: HostRunt
 #[test]
 fn a_request_that_is_refused_has_its_answer_and_nothing_more(rt: HostRuntime) {
     let alloc = rt.alloc();
-    for (request, answer) in REFUSED {
+    for (request, answer) in refused() {
         let mut caller = Caller::new(alloc, 1, true);
-        assert!(rt; caller.feed(request).is_ok() && caller.feed(REQUEST).is_ok());
-        assert_eq!(rt; caller.due(), answer);
+        assert!(rt; caller.feed(*request).is_ok() && caller.feed(REQUEST).is_ok());
+        assert_eq!(rt; caller.due(), *answer);
         assert!(rt; caller.stage() == Stage::Leaves);
     }
 }
@@ -142,7 +147,7 @@ fn owns(
 }
 
 /// Targets, whether they may name a key, and whether they name the one of the owner.
-const TARGETS: [(&[u8], bool, bool); 9] = [
+static TARGETS: [(&[u8], bool, bool); 9] = [
     (b"/?key=0123456789abcdef", true, true),
     (b"/?key=0123456789abcdef", false, false),
     (b"/operator?a=1&key=0123456789abcdef&b=2", true, true),
@@ -154,13 +159,18 @@ const TARGETS: [(&[u8], bool, bool); 9] = [
     (b"/?", true, false),
 ];
 
+/// The targets.
+fn targets() -> &'static [(&'static [u8], bool, bool)] {
+    &TARGETS
+}
+
 #[test]
 fn the_first_key_in_the_query_is_the_key(rt: HostRuntime) {
     let alloc = rt.alloc();
     let mut hall = hall(&rt, alloc);
     let owner = owns(alloc, &mut hall, true, b"/?key=0123456789abcdef", true);
     assert!(rt; owner == Ok(true));
-    for (target, takes_keys, is_owner) in TARGETS {
-        assert!(rt; owns(alloc, &mut hall, takes_keys, target, false) == Ok(is_owner));
+    for (target, takes_keys, is_owner) in targets() {
+        assert!(rt; owns(alloc, &mut hall, *takes_keys, *target, false) == Ok(*is_owner));
     }
 }

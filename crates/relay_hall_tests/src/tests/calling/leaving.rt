@@ -11,7 +11,7 @@ use std::process::Abort;
 const BAD_FIELD: &str = "{\"code\":24,\"name\":\"BadField\",\"reply\":\"refused\"}";
 
 /// Bytes, an answer to them if there is one, and the payload of the close behind it. After each is a frame that is not answered.
-const ENDS: [(&[u8], &str, &[u8]); 3] = [
+static ENDS: [(&[u8], &str, &[u8]); 3] = [
     // a close with 1000
     (&[CLOSE, 0x82, 0, 0, 0, 0, 3, 0xe8], "", &[3, 0xe8]),
     // a text without a mask: 1002
@@ -23,6 +23,11 @@ const ENDS: [(&[u8], &str, &[u8]); 3] = [
         &[3, 0xf1],
     ),
 ];
+
+/// The ends.
+fn all_ends() -> &'static [(&'static [u8], &'static str, &'static [u8])] {
+    &ENDS
+}
 
 /// A connection without a key, over a hall of its own.
 #[derive(Drop)]
@@ -81,8 +86,8 @@ fn ends(rt: &impl Abort, alloc: Global, bytes: &[u8], answer: &str, close: &[u8]
 
 #[test]
 fn each_end_is_told(rt: HostRuntime) {
-    for (bytes, answer, close) in ENDS {
-        ends(&rt, rt.alloc(), bytes, answer, close);
+    for (bytes, answer, close) in all_ends() {
+        ends(&rt, rt.alloc(), *bytes, *answer, *close);
     }
 }
 

@@ -28,7 +28,7 @@ const NOT_JSON: &str = "{\"code\":21,\"name\":\"NotJson\",\"reply\":\"refused\"}
 const FOLLOWING: &str =
     "{\"fen\":\"rnbqkbnr/pppppppp/8/8/4P3/8/PPPP1PPP/RNBQKBNR b HAha e3 0 1\",\"joined\":1,\"reply\":\"following\"}";
 
-const TURNS: [Turn; 7] = [
+static TURNS: [Turn; 7] = [
     (false, (TEXT, OPEN), (TEXT, OPENED), Stage::Asks),
     (false, (PING, "hm"), (PONG, "hm"), Stage::Asks),
     (true, (TEXT, PLAY), (TEXT, NOT_YOURS), Stage::Asks),
@@ -37,6 +37,11 @@ const TURNS: [Turn; 7] = [
     (true, (TEXT, FOLLOW), (TEXT, FOLLOWING), Stage::HandsOver),
     (false, (CLOSE, ""), (CLOSE, ""), Stage::Leaves),
 ];
+
+/// The turns.
+fn turns() -> &'static [Turn] {
+    &TURNS
+}
 
 /// Feeds a piece, and heeds what it says. Returns whether it said anything, and what was handed out.
 fn hears(
@@ -95,9 +100,9 @@ fn each_is_answered_in_turn(rt: HostRuntime) {
     let (Ok(mut first), Ok(mut second)) = (shaken(alloc, 1), shaken(alloc, 2)) else {
         panic!(rt; "no memory");
     };
-    for turn in TURNS {
+    for turn in turns() {
         let caller = if turn.0 { &mut second } else { &mut first };
-        takes_turn(&rt, alloc, caller, &mut hall, turn);
+        takes_turn(&rt, alloc, caller, &mut hall, *turn);
     }
     assert!(rt; first.is_owner(&hall) && !second.is_owner(&hall));
 }

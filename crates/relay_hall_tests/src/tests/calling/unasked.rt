@@ -35,7 +35,7 @@ enum Deed {
 }
 
 /// Pings and a close among messages, and frames and calls behind the close.
-const DEEDS: [Deed; 11] = [
+static DEEDS: [Deed; 11] = [
     Deed::Pinged,
     Deed::Sends(PING, b"a"),
     Deed::Pinged,
@@ -49,8 +49,13 @@ const DEEDS: [Deed; 11] = [
     Deed::Sends(PING, b"c"),
 ];
 
+/// The deeds.
+fn deeds() -> &'static [Deed] {
+    &DEEDS
+}
+
 /// What it is sent for that.
-const SENT: [(u8, &[u8]); 8] = [
+static SENT: [(u8, &[u8]); 8] = [
     (PING, b""),
     (PONG, b"a"),
     (PING, b""),
@@ -60,6 +65,11 @@ const SENT: [(u8, &[u8]); 8] = [
     (PING, b""),
     (CLOSE, &[3, 0xe9]),
 ];
+
+/// The frames that it is sent.
+fn sent() -> &'static [(u8, &'static [u8])] {
+    &SENT
+}
 
 /// A connection without a key, over a hall of its own, and what it has taken.
 #[derive(Drop)]
@@ -146,8 +156,8 @@ impl Scene {
 /// The frames that it is sent.
 fn all_sent(alloc: Global) -> Result<Vec<u8>, AllocError> {
     let mut bytes = Vec::new(alloc);
-    for (first, payload) in SENT {
-        tell(&mut bytes, first, payload)?;
+    for (first, payload) in sent() {
+        tell(&mut bytes, *first, *payload)?;
     }
     Ok(bytes)
 }
@@ -159,8 +169,8 @@ fn each_ping_stands_where_it_was_put_and_a_close_is_the_last(rt: HostRuntime) {
     let Ok(wanted) = all_sent(alloc) else {
         panic!(rt; "no memory");
     };
-    for deed in DEEDS {
-        assert!(rt; scene.goes_on(deed).is_ok());
+    for deed in deeds() {
+        assert!(rt; scene.goes_on(*deed).is_ok());
     }
     assert!(rt; scene.takes(1000).is_ok());
     assert_eq!(rt; scene.taken.as_slice(), wanted.as_slice());
@@ -231,7 +241,7 @@ fn one_that_follows_or_leaves_is_sent_nothing_unasked(rt: HostRuntime) {
 
 /// Frames in order; whether a whole text or binary message was then answered since the last one; and whether anything that came whole and
 /// not between the parts of a message.
-const SAID: [(u8, &[u8], bool, bool); 8] = [
+static SAID: [(u8, &[u8], bool, bool); 8] = [
     (TEXT, b"?", true, true),
     (PING, b"", false, true),
     (BINARY, b"?", true, true),
@@ -242,14 +252,19 @@ const SAID: [(u8, &[u8], bool, bool); 8] = [
     (CLOSE, b"", false, true),
 ];
 
+/// The frames.
+fn said() -> &'static [(u8, &'static [u8], bool, bool)] {
+    &SAID
+}
+
 #[test]
 fn what_came_whole_of_it_is_told_once(rt: HostRuntime) {
     let mut scene = Scene::new(&rt, rt.alloc());
     assert!(rt; !scene.caller.take_said() && !scene.caller.take_whole());
-    for (first, payload, has_said, is_whole) in SAID {
-        assert!(rt; scene.sends(first, payload) == Ok(true));
-        assert!(rt; scene.caller.take_said() == has_said && !scene.caller.take_said());
-        assert!(rt; scene.caller.take_whole() == is_whole && !scene.caller.take_whole());
+    for (first, payload, has_said, is_whole) in said() {
+        assert!(rt; scene.sends(*first, *payload) == Ok(true));
+        assert!(rt; scene.caller.take_said() == *has_said && !scene.caller.take_said());
+        assert!(rt; scene.caller.take_whole() == *is_whole && !scene.caller.take_whole());
     }
 }
 

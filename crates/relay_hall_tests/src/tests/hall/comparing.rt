@@ -1,7 +1,7 @@
 //! Whether a hall shows and answers what the model has.
 
 use crate::tests::hall::plain::{Answer, BOARDS, CAPACITY, Plain, Row};
-use crate::tests::hall::values::{POSITIONS, Values};
+use crate::tests::hall::values::{Values, all_fens};
 use c960_board::Move;
 use live_board::Follower;
 use relay_core::Taken;
@@ -107,7 +107,7 @@ fn played(alloc: Global, place: u16) -> Result<String, AllocError> {
 
 /// The text of a follow from this place.
 fn following(alloc: Global, place: u16) -> Result<String, AllocError> {
-    let fen = POSITIONS.get(usize::from(place)).unwrap_or(&"");
+    let fen = all_fens().get(usize::from(place)).unwrap_or(&"");
     format!(in alloc; "{{\"fen\":\"{fen}\",\"joined\":{place},\"reply\":\"following\"}}")
 }
 

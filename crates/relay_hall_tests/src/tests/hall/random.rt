@@ -17,7 +17,7 @@ const HALLS: u32 = 46;
 const EVENTS: u32 = 900;
 
 /// What occurs with any grace.
-const WORDS: [&str; 22] = [
+static WORDS: [&str; 22] = [
     "played",
     "following",
     "nothing yet",
@@ -42,6 +42,11 @@ const WORDS: [&str; 22] = [
     NOT_YET,
 ];
 
+/// The words.
+fn words() -> &'static [&'static str] {
+    &WORDS
+}
+
 /// What occurs if there is a grace.
 const WAITING: [&str; 4] = ["waits", "came back", "ran out", "shut out"];
 
@@ -56,8 +61,8 @@ fn run(rt: &impl Abort, alloc: Global, grace: u64) -> Result<Seen, Fail> {
         assert!(rt; scene.refused == 0);
         seen.note_all(&scene.plain.seen);
     }
-    for word in WORDS {
-        assert!(rt; seen.has(word), "no {word}");
+    for word in words() {
+        assert!(rt; seen.has(*word), "no {word}");
     }
     Ok(seen)
 }

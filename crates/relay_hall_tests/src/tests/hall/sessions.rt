@@ -87,7 +87,7 @@ const PLAYED_1: &str = "{\"outcome\":null,\"place\":1,\"reply\":\"played\"}";
 const PLAYED_2: &str = "{\"outcome\":null,\"place\":2,\"reply\":\"played\"}";
 
 /// A board and a spectator; connection 3 is a stranger (docs/PROTOCOL.md, Sessions, the first).
-const A_BOARD_AND_A_SPECTATOR: [Deed; 14] = [
+static A_BOARD_AND_A_SPECTATOR: [Deed; 14] = [
     Says(1, OPEN, OPENED),
     Says(
         1,
@@ -120,8 +120,13 @@ const A_BOARD_AND_A_SPECTATOR: [Deed; 14] = [
     Says(1, E7E5, GAME_OVER),
 ];
 
+/// The deeds of a board and a spectator.
+fn board_and_spectator() -> &'static [Deed] {
+    &A_BOARD_AND_A_SPECTATOR
+}
+
 /// A spectator goes on from place 1; then the board's connection goes, and with it the game (the second).
-const A_BOARD_ENDS_WITH_ITS_CONNECTION: [Deed; 8] = [
+static A_BOARD_ENDS_WITH_ITS_CONNECTION: [Deed; 8] = [
     Says(1, OPEN, OPENED),
     Says(1, E2E4, PLAYED_0),
     Says(1, E7E5, PLAYED_1),
@@ -136,9 +141,14 @@ const A_BOARD_ENDS_WITH_ITS_CONNECTION: [Deed; 8] = [
     Overs(2, Outcome::Abandoned),
 ];
 
+/// The deeds of a board that ends with its connection.
+fn board_ends() -> &'static [Deed] {
+    &A_BOARD_ENDS_WITH_ITS_CONNECTION
+}
+
 /// An operator with a key, connection 1, is lost after `e7e5`, and goes on as connection 4. The spectator, connection 2, notices nothing of
 /// it. Connection 3 has no key, connection 5 another one (the third; its grace is 120 s).
-const AN_OPERATOR_COMES_BACK: [Deed; 24] = [
+static AN_OPERATOR_COMES_BACK: [Deed; 24] = [
     Time(1000),
     Comes(1, KEY, false),
     Says(1, OPEN, OPENED),
@@ -165,8 +175,13 @@ const AN_OPERATOR_COMES_BACK: [Deed; 24] = [
     Overs(2, Outcome::Agreed),
 ];
 
+/// The deeds of an operator who comes back.
+fn comes_back() -> &'static [Deed] {
+    &AN_OPERATOR_COMES_BACK
+}
+
 /// At the limits: one board, one follower, queues of two moves, games of three plies. Connection 3 finds no place (the fourth).
-const AT_THE_LIMITS: [Deed; 14] = [
+static AT_THE_LIMITS: [Deed; 14] = [
     Says(1, OPEN, OPENED),
     Says(1, OPEN_B2, TOO_MANY_BOARDS),
     Says(2, FOLLOW, FOLLOWING_0),
@@ -183,8 +198,13 @@ const AT_THE_LIMITS: [Deed; 14] = [
     Overs(2, Outcome::Agreed),
 ];
 
+/// The deeds at the limits.
+fn at_limits() -> &'static [Deed] {
+    &AT_THE_LIMITS
+}
+
 /// Nobody comes back in time: the boards of the key are ended at that very time, and no others.
-const NOBODY_COMES_BACK: [Deed; 14] = [
+static NOBODY_COMES_BACK: [Deed; 14] = [
     Comes(1, KEY, false),
     Says(1, OPEN, OPENED),
     Comes(2, OTHER, false),
@@ -201,8 +221,13 @@ const NOBODY_COMES_BACK: [Deed; 14] = [
     Says(2, A1B8_B2, ILLEGAL),
 ];
 
+/// The deeds where nobody comes back.
+fn comes_not_back() -> &'static [Deed] {
+    &NOBODY_COMES_BACK
+}
+
 /// Two connections have the key: the boards wait only once both are gone, and each loss has a grace of its own.
-const EACH_LOSS_HAS_ITS_OWN_GRACE: [Deed; 15] = [
+static EACH_LOSS_HAS_ITS_OWN_GRACE: [Deed; 15] = [
     Comes(1, KEY, false),
     Comes(2, KEY, false),
     Says(1, OPEN, OPENED),
@@ -220,8 +245,13 @@ const EACH_LOSS_HAS_ITS_OWN_GRACE: [Deed; 15] = [
     Comes(4, KEY, true),
 ];
 
+/// The deeds of several losses.
+fn losses() -> &'static [Deed] {
+    &EACH_LOSS_HAS_ITS_OWN_GRACE
+}
+
 /// Nobody can come back any more: what waits is ended, and what is held goes on until its connection goes.
-const NOBODY_CAN_COME_BACK: [Deed; 13] = [
+static NOBODY_CAN_COME_BACK: [Deed; 13] = [
     Comes(1, KEY, false),
     Says(1, OPEN, OPENED),
     Comes(2, OTHER, false),
@@ -241,8 +271,13 @@ const NOBODY_CAN_COME_BACK: [Deed; 13] = [
     ),
 ];
 
+/// The deeds where nobody can come back.
+fn cannot_come_back() -> &'static [Deed] {
+    &NOBODY_CAN_COME_BACK
+}
+
 /// Without a grace the boards of a key end when its last connection goes.
-const NO_GRACE: [Deed; 9] = [
+static NO_GRACE: [Deed; 9] = [
     Comes(1, KEY, false),
     Comes(2, KEY, false),
     Says(1, OPEN, OPENED),
@@ -253,6 +288,11 @@ const NO_GRACE: [Deed; 9] = [
     Comes(3, KEY, false),
     Says(3, A1B8, GAME_OVER),
 ];
+
+/// The deeds without a grace.
+fn without_grace() -> &'static [Deed] {
+    &NO_GRACE
+}
 
 /// A connection of this number.
 fn newcomer(alloc: Global, number: u64, key: Option<Key>) -> Person {
@@ -366,49 +406,43 @@ fn play(
 
 #[test]
 fn a_board_and_a_spectator(rt: HostRuntime) -> Result<(), Fail> {
-    play(&rt, rt.alloc(), AMPLE, 0, &A_BOARD_AND_A_SPECTATOR)
+    play(&rt, rt.alloc(), AMPLE, 0, board_and_spectator())
 }
 
 #[test]
 fn a_board_ends_with_its_connection(rt: HostRuntime) -> Result<(), Fail> {
-    play(&rt, rt.alloc(), AMPLE, 0, &A_BOARD_ENDS_WITH_ITS_CONNECTION)?;
-    play(
-        &rt,
-        rt.alloc(),
-        AMPLE,
-        120000,
-        &A_BOARD_ENDS_WITH_ITS_CONNECTION,
-    )
+    play(&rt, rt.alloc(), AMPLE, 0, board_ends())?;
+    play(&rt, rt.alloc(), AMPLE, 120000, board_ends())
 }
 
 #[test]
 fn an_operator_comes_back(rt: HostRuntime) -> Result<(), Fail> {
-    play(&rt, rt.alloc(), AMPLE, 120000, &AN_OPERATOR_COMES_BACK)
+    play(&rt, rt.alloc(), AMPLE, 120000, comes_back())
 }
 
 #[test]
 fn at_the_limits(rt: HostRuntime) -> Result<(), Fail> {
-    play(&rt, rt.alloc(), (1, 1, 2, 3), 0, &AT_THE_LIMITS)
+    play(&rt, rt.alloc(), (1, 1, 2, 3), 0, at_limits())
 }
 
 #[test]
 fn nobody_comes_back(rt: HostRuntime) -> Result<(), Fail> {
-    play(&rt, rt.alloc(), AMPLE, 120000, &NOBODY_COMES_BACK)
+    play(&rt, rt.alloc(), AMPLE, 120000, comes_not_back())
 }
 
 #[test]
 fn each_loss_has_its_own_grace(rt: HostRuntime) -> Result<(), Fail> {
-    play(&rt, rt.alloc(), AMPLE, 120000, &EACH_LOSS_HAS_ITS_OWN_GRACE)
+    play(&rt, rt.alloc(), AMPLE, 120000, losses())
 }
 
 #[test]
 fn nobody_can_come_back(rt: HostRuntime) -> Result<(), Fail> {
-    play(&rt, rt.alloc(), AMPLE, 120000, &NOBODY_CAN_COME_BACK)
+    play(&rt, rt.alloc(), AMPLE, 120000, cannot_come_back())
 }
 
 #[test]
 fn without_a_grace_boards_end_with_the_last_connection(rt: HostRuntime) -> Result<(), Fail> {
-    play(&rt, rt.alloc(), AMPLE, 0, &NO_GRACE)
+    play(&rt, rt.alloc(), AMPLE, 0, without_grace())
 }
 
 #[test]

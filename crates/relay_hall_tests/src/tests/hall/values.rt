@@ -23,7 +23,7 @@ const KEYS: [&str; 6] = [
 pub const MOVES: [&str; 4] = ["g1f3", "g8f6", "f3g1", "f6g8"];
 
 /// The positions after that many of these moves.
-pub const POSITIONS: [&str; 11] = [
+static POSITIONS: [&str; 11] = [
     "rnbqkbnr/pppppppp/8/8/8/8/PPPPPPPP/RNBQKBNR w HAha - 0 1",
     "rnbqkbnr/pppppppp/8/8/8/5N2/PPPPPPPP/RNBQKB1R b HAha - 1 1",
     "rnbqkb1r/pppppppp/5n2/8/8/5N2/PPPPPPPP/RNBQKB1R w HAha - 2 2",
@@ -36,6 +36,11 @@ pub const POSITIONS: [&str; 11] = [
     "rnbqkbnr/pppppppp/8/8/8/5N2/PPPPPPPP/RNBQKB1R b HAha - 9 5",
     "rnbqkb1r/pppppppp/5n2/8/8/5N2/PPPPPPPP/RNBQKB1R w HAha - 10 6",
 ];
+
+/// The texts of these positions.
+pub fn all_fens() -> &'static [&'static str] {
+    &POSITIONS
+}
 
 /// The values of these texts.
 #[derive(Drop)]
@@ -108,7 +113,7 @@ fn all_moves(rt: &impl Abort, alloc: Global) -> Result<Vec<Move>, AllocError> {
 
 fn all_positions(rt: &impl Abort, alloc: Global) -> Result<Vec<Position>, AllocError> {
     let mut positions = Vec::new(alloc);
-    for text in POSITIONS {
+    for text in all_fens() {
         positions.push(read_fen(text.as_bytes()).expect(rt, "a position"))?;
     }
     Ok(positions)

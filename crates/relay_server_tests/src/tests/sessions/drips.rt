@@ -3,7 +3,7 @@
 
 use crate::tests::sessions::frames::{RESPONSE_BYTES, lines};
 use crate::tests::sessions::gates::Counted;
-use crate::tests::sessions::rows::{ROWS, Row, input, registry};
+use crate::tests::sessions::rows::{Row, input, registry, rows};
 use relay_server::{Registry, session};
 use std::alloc::{AllocError, Global};
 use std::io;
@@ -94,8 +94,8 @@ fn calls_that_are_interrupted_and_bytes_that_come_one_by_one_change_nothing(
     rt: HostRuntime,
 ) -> Result<(), Fail> {
     let shared = registry(rt.alloc())?;
-    for row in ROWS {
-        assert!(rt; talks(&rt, rt.alloc(), &shared, row)?);
+    for row in rows() {
+        assert!(rt; talks(&rt, rt.alloc(), &shared, *row)?);
     }
     Ok(())
 }

@@ -2,7 +2,7 @@
 
 use crate::tests::sessions::frames::{REQUEST, TEXT};
 use crate::tests::sessions::rows::{input, registry, talked};
-use crate::tests::sessions::texts::{FOLLOW_B1, OWNER};
+use crate::tests::sessions::texts::{FOLLOW_B1, owner_frames};
 use relay_server::{OpenGate, Registry, SessionEnd, session};
 use std::alloc::{AllocError, Global};
 use std::io;
@@ -83,7 +83,7 @@ fn end_of_owner<R: Wait + Clock, W: Write + Drop>(
     (until, failure): (usize, Option<ErrorKind>),
     writer: W,
 ) -> Result<SessionEnd, AllocError> {
-    let bytes = input(alloc, &OWNER)?;
+    let bytes = input(alloc, owner_frames())?;
     let reader = FailingReader {
         left: &bytes.as_slice()[..until.min(bytes.len())],
         failure,

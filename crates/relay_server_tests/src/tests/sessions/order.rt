@@ -19,27 +19,35 @@ use tungstenite::Duplex;
 /// two bytes besides its payload: the response has 129 bytes, `opened` 18, `played` 43 each, the close 2. The gate is notified only of the
 /// first command. The request may take at most ten seconds. Then a read waits for half a minute, and for the rest of a move ten
 /// seconds. At the end the output is ended before the rest is read, for at most ten seconds.
-const OF_AN_OWNER: &str =
-    "bounded\nread\nbounded by half a minute\nwritten 129\nread\nbefore 7\nwritten 20\nafter 7\nbounded\nread\nbounded by half a minute\nwritten 90\nread\nwritten 4\nended\nbounded\nread\n";
+fn of_an_owner() -> &'static str {
+    "bounded\nread\nbounded by half a minute\nwritten 129\nread\nbefore 7\nwritten 20\nafter 7\nbounded\nread\nbounded by half a minute\nwritten 90\nread\nwritten 4\nended\nbounded\nread\n"
+}
 
 /// A follower of that game sends its request and its command. The answer has 97 bytes, the two moves 40 each, the end of the game 38. The
 /// moves, the end and the close leave in one piece, and meanwhile nothing is read.
-const OF_A_FOLLOWER: &str =
-    "bounded\nread\nbounded by half a minute\nwritten 129\nread\nbefore 7\nwritten 99\nafter 7\nwritten 128\nended\nbounded\nread\n";
+fn of_a_follower() -> &'static str {
+    "bounded\nread\nbounded by half a minute\nwritten 129\nread\nbefore 7\nwritten 99\nafter 7\nwritten 128\nended\nbounded\nread\n"
+}
 
 /// An owner sends its request; then, in one piece, two commands and a frame that breaks the rules. Both are answered: the move's answer
 /// leaves before those who follow are woken, and after that a close of four bytes. Then the output is ended and the rest is read, for at
 /// most ten seconds.
-const OF_A_BREACH: &str =
-    "bounded\nread\nbounded by half a minute\nwritten 129\nread\nbefore 7\nwritten 20\nafter 7\nwritten 45\nwritten 4\nended\nbounded\nread\n";
+fn of_a_breach() -> &'static str {
+    "bounded\nread\nbounded by half a minute\nwritten 129\nread\nbefore 7\nwritten 20\nafter 7\nwritten 45\nwritten 4\nended\nbounded\nread\n"
+}
 
 /// Frames that break the rules: of an unknown kind, with reserved bits, without a mask, and a text's last part without its first.
-const BROKEN: [&[u8]; 4] = [
+static BROKEN: [&[u8]; 4] = [
     &[0x83, 0x80, 0, 0, 0, 0],
     &[0xc1, 0x80, 0, 0, 0, 0],
     &[0x81, 0x02, b'[', b']'],
     &[0x80, 0x80, 0, 0, 0, 0],
 ];
+
+/// These frames.
+fn broken_frames() -> &'static [&'static [u8]] {
+    &BROKEN
+}
 
 /// Whether the session of a peer that sends these pieces ends so, and asks this of its stream and its gate.
 fn asks<R: Wait + Clock>(
@@ -96,9 +104,9 @@ fn breach(alloc: Global, broken: &[u8]) -> Result<Vec<Vec<u8>>, AllocError> {
 fn each_call_comes_in_its_turn(rt: HostRuntime) -> Result<(), Fail> {
     let alloc = rt.alloc();
     let shared = registry(alloc)?;
-    let owned = (SessionEnd::Closed, OF_AN_OWNER);
+    let owned = (SessionEnd::Closed, of_an_owner());
     assert!(rt; asks(&rt, alloc, &shared, owner(alloc)?.as_slice(), owned));
-    let followed = (SessionEnd::Over, OF_A_FOLLOWER);
+    let followed = (SessionEnd::Over, of_a_follower());
     assert!(rt; asks(&rt, alloc, &shared, follower(alloc)?.as_slice(), followed));
     Ok(())
 }
@@ -106,9 +114,9 @@ fn each_call_comes_in_its_turn(rt: HostRuntime) -> Result<(), Fail> {
 #[test]
 fn each_call_comes_in_its_turn_at_a_breach(rt: HostRuntime) -> Result<(), Fail> {
     let alloc = rt.alloc();
-    for broken in BROKEN {
-        let pieces = breach(alloc, broken)?;
-        let told = (SessionEnd::Broken, OF_A_BREACH);
+    for broken in broken_frames() {
+        let pieces = breach(alloc, *broken)?;
+        let told = (SessionEnd::Broken, of_a_breach());
         assert!(rt; asks(&rt, alloc, &registry(alloc)?, pieces.as_slice(), told));
     }
     Ok(())

@@ -3,7 +3,7 @@
 
 use crate::tests::sessions::frames::{CLOSE, NORMAL, RESPONSE_BYTES, TEXT, lines};
 use crate::tests::sessions::rows::{Frame, input};
-use crate::tests::sessions::texts::{OPEN_B1, OWNER};
+use crate::tests::sessions::texts::{OPEN_B1, owner_frames};
 use c960_game::Limits;
 use relay_server::{OpenGate, Registry, SessionEnd, session};
 use std::alloc::{AllocError, Global};
@@ -58,21 +58,31 @@ fn talk<R: Wait + Clock + Abort>(
     (end, again(rt, || lines(alloc, texts)))
 }
 
-const OWNED: &[u8] =
-    b"{\"reply\":\"opened\"}\n{\"outcome\":null,\"place\":0,\"reply\":\"played\"}\nclose 1000\n";
+fn owned() -> &'static [u8] {
+    b"{\"reply\":\"opened\"}\n{\"outcome\":null,\"place\":0,\"reply\":\"played\"}\nclose 1000\n"
+}
 
-const GUEST: [Frame; 1] = [(
+static GUEST: [Frame; 1] = [(
     TEXT,
     b"{\"cmd\":\"follow\",\"board\":\"b1\",\"spectator\":9,\"from\":0}",
 )];
 
-const FOLLOWED: &[u8] =
-    b"{\"fen\":\"rnbqkbnr/pppppppp/8/8/8/8/PPPPPPPP/RNBQKBNR w HAha - 0 1\",\"joined\":0,\"reply\":\"following\"}\n{\"move\":\"e2e4\",\"place\":0,\"reply\":\"move\"}\n{\"outcome\":\"abandoned\",\"reply\":\"over\"}\nclose 1000\n";
+/// What a guest sends.
+fn guest_frames() -> &'static [Frame] {
+    &GUEST
+}
 
-const NO_MOVE: &[u8] =
-    b"{\"fen\":\"rnbqkbnr/pppppppp/8/8/8/8/PPPPPPPP/RNBQKBNR w HAha - 0 1\",\"joined\":0,\"reply\":\"following\"}\n{\"outcome\":\"abandoned\",\"reply\":\"over\"}\nclose 1000\n";
+fn followed() -> &'static [u8] {
+    b"{\"fen\":\"rnbqkbnr/pppppppp/8/8/8/8/PPPPPPPP/RNBQKBNR w HAha - 0 1\",\"joined\":0,\"reply\":\"following\"}\n{\"move\":\"e2e4\",\"place\":0,\"reply\":\"move\"}\n{\"outcome\":\"abandoned\",\"reply\":\"over\"}\nclose 1000\n"
+}
 
-const NO_SUCH_BOARD: &[u8] = b"{\"code\":1,\"name\":\"NoSuchBoard\",\"reply\":\"refused\"}\n";
+fn no_move() -> &'static [u8] {
+    b"{\"fen\":\"rnbqkbnr/pppppppp/8/8/8/8/PPPPPPPP/RNBQKBNR w HAha - 0 1\",\"joined\":0,\"reply\":\"following\"}\n{\"outcome\":\"abandoned\",\"reply\":\"over\"}\nclose 1000\n"
+}
+
+fn no_such_board() -> &'static [u8] {
+    b"{\"code\":1,\"name\":\"NoSuchBoard\",\"reply\":\"refused\"}\n"
+}
 
 /// How many guests, one after another, are told this.
 fn guests_told<R: Wait + Clock + Abort>(
@@ -83,7 +93,7 @@ fn guests_told<R: Wait + Clock + Abort>(
 ) -> u32 {
     let mut count: u32 = 0;
     for connection in 2..5 {
-        let (_, told) = talk(rt, alloc, registry, connection, &GUEST);
+        let (_, told) = talk(rt, alloc, registry, connection, guest_frames());
         if told.as_slice() == wanted {
             count = count.saturating_add(1);
         }
@@ -94,40 +104,54 @@ fn guests_told<R: Wait + Clock + Abort>(
 #[test]
 fn a_refusal_ends_the_boards_and_leaves_no_seat_taken(rt: HostRuntime) {
     let registry = new_registry(&rt, rt.alloc());
-    let (end, told) = talk(&rt, rt.alloc(), &registry, 1, &OWNER);
-    if end == SessionEnd::Closed && told.as_slice() == OWNED {
+    let (end, told) = talk(&rt, rt.alloc(), &registry, 1, owner_frames());
+    if end == SessionEnd::Closed && told.as_slice() == owned() {
         // The one refusal may hit a guest, and then the next one finds the place free.
-        assert!(rt; guests_told(&rt, rt.alloc(), &registry, FOLLOWED) >= 2);
+        assert!(rt; guests_told(&rt, rt.alloc(), &registry, followed()) >= 2);
         return;
     }
     // What the guests find is what the owner left: the board with its move, the board alone, or no board.
-    let (_, left) = talk(&rt, rt.alloc(), &registry, 9, &GUEST);
-    assert!(rt; [FOLLOWED, NO_MOVE, NO_SUCH_BOARD].contains(&left.as_slice()));
+    let (_, left) = talk(&rt, rt.alloc(), &registry, 9, guest_frames());
+    assert!(rt; [followed(), no_move(), no_such_board()].contains(&left.as_slice()));
     assert_eq!(rt; guests_told(&rt, rt.alloc(), &registry, left.as_slice()), 3);
 }
 
-const OPENER: [Frame; 4] = [
+static OPENER: [Frame; 4] = [
     (TEXT, OPEN_B1),
     (TEXT, OPEN_B1),
     (TEXT, b"{\"cmd\":\"open\",\"board\":\"b1\",\"start\":960}"),
     (CLOSE, NORMAL),
 ];
 
+/// What a peer sends that opens a board three times.
+fn opener_frames() -> &'static [Frame] {
+    &OPENER
+}
+
 /// What these answer, and what they answer if the first found no memory. For a name that exists no 12 is answered, whatever is refused: the
 /// registry allocates nothing before it knows that. A connection without room to note another board ends its session instead.
-const TOLD: [&[u8]; 2] = [
+static TOLD: [&[u8]; 2] = [
     b"{\"reply\":\"opened\"}\n{\"code\":2,\"name\":\"BoardExists\",\"reply\":\"refused\"}\n{\"code\":2,\"name\":\"BoardExists\",\"reply\":\"refused\"}\nclose 1000\n",
     b"{\"code\":12,\"name\":\"OutOfMemory\",\"reply\":\"refused\"}\n{\"reply\":\"opened\"}\n{\"code\":2,\"name\":\"BoardExists\",\"reply\":\"refused\"}\nclose 1000\n",
 ];
 
+/// These answers.
+fn told_to_it() -> &'static [&'static [u8]] {
+    &TOLD
+}
+
 #[test]
 fn a_name_that_stands_takes_no_memory(rt: HostRuntime) {
     let registry = new_registry(&rt, rt.alloc());
-    let (end, told) = talk(&rt, rt.alloc(), &registry, 1, &OPENER);
+    let (end, told) = talk(&rt, rt.alloc(), &registry, 1, opener_frames());
     if end == SessionEnd::Closed {
-        assert!(rt; TOLD.contains(&told.as_slice()));
+        assert!(rt; told_to_it().contains(&told.as_slice()));
     } else {
         // A session for which there was no memory ends after some of these.
-        assert!(rt; TOLD.iter().any(|whole| whole.starts_with(told.as_slice())));
+        assert!(rt;
+            told_to_it()
+                .iter()
+                .any(|whole| whole.starts_with(told.as_slice()))
+        );
     }
 }

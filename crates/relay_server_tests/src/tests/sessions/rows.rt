@@ -32,7 +32,7 @@ pub type Row = (
     (u64, u64),
 );
 
-pub const ROWS: [Row; 6] = [
+static ROWS: [Row; 6] = [
     // There is no command, and so nothing for the gate.
     (
         &[(PING, b""), (CLOSE, NORMAL)],
@@ -97,6 +97,11 @@ pub const ROWS: [Row; 6] = [
         (1, 1),
     ),
 ];
+
+/// The rows.
+pub fn rows() -> &'static [Row] {
+    &ROWS
+}
 
 /// A registry with the default limits.
 pub fn registry(alloc: Global) -> Result<Registry, AllocError> {

@@ -15,4 +15,9 @@ pub const SUBMIT_E2E4: &[u8] = b"{\"cmd\":\"submit\",\"board\":\"b1\",\"move\":\
 pub const SUBMIT_E7E5: &[u8] = b"{\"cmd\":\"submit\",\"board\":\"b1\",\"move\":\"e7e5\"}";
 
 /// What an owner sends: two commands and a close.
-pub const OWNER: [Frame; 3] = [(TEXT, OPEN_B1), (TEXT, SUBMIT_E2E4), (CLOSE, NORMAL)];
+static OWNER: [Frame; 3] = [(TEXT, OPEN_B1), (TEXT, SUBMIT_E2E4), (CLOSE, NORMAL)];
+
+/// These frames.
+pub fn owner_frames() -> &'static [Frame] {
+    &OWNER
+}

@@ -10,26 +10,31 @@ use std::process::Abort;
 use std::test::Fail;
 
 /// Moves from start 518, each with the position after it.
-const GAME: [(&str, &str); 4] = [
+static GAME: [(&str, &str); 4] = [
     ("e2e4", ONE_PLY),
     ("e7e5", TWO_PLIES),
     ("g1f3", THREE_PLIES),
     ("b8c6", FOUR_PLIES),
 ];
 
+/// The moves.
+fn game() -> &'static [(&'static str, &'static str)] {
+    &GAME
+}
+
 #[test]
 fn its_positions_are_those_of_the_game(rt: HostRuntime) -> Result<(), Fail> {
     let Ok(mut board) = Board::open(rt.alloc(), 518, limits_of(&rt, 1, 2, 1024)) else {
         panic!(rt; "no board");
     };
-    for (text, fen) in GAME {
-        assert!(rt; board.submit(move_of(&rt, text)).is_ok());
-        assert!(rt; board.position() == position_of(&rt, fen));
+    for (text, fen) in game() {
+        assert!(rt; board.submit(move_of(&rt, *text)).is_ok());
+        assert!(rt; board.position() == position_of(&rt, *fen));
     }
     assert!(rt; board.len() == 4);
     let mut places = 1u16;
-    for (_, fen) in GAME {
-        assert!(rt; board.position_at(places) == Some(position_of(&rt, fen)));
+    for (_, fen) in game() {
+        assert!(rt; board.position_at(places) == Some(position_of(&rt, *fen)));
         places = places.saturating_add(1);
     }
     assert!(rt; board.position_at(0) == Some(position_of(&rt, START_518)));
@@ -62,13 +67,13 @@ fn its_start_and_its_moves_can_be_read(rt: HostRuntime) -> Result<(), Fail> {
     let Ok(mut board) = Board::open(rt.alloc(), 518, limits) else {
         panic!(rt; "no board");
     };
-    for (text, _) in GAME {
-        assert!(rt; board.submit(move_of(&rt, text)).is_ok());
+    for (text, _) in game() {
+        assert!(rt; board.submit(move_of(&rt, *text)).is_ok());
     }
     assert!(rt; board.start() == 518);
     let mut place = 0u16;
-    for (text, _) in GAME {
-        assert!(rt; board.move_at(place) == Some(move_of(&rt, text)));
+    for (text, _) in game() {
+        assert!(rt; board.move_at(place) == Some(move_of(&rt, *text)));
         place = place.saturating_add(1);
     }
     for past in [4, 5, 65535] {

@@ -56,7 +56,7 @@ fn has_kind(answers: &[Answer], kind: &str) -> bool {
 }
 
 /// Every answer that there is, except for lack of memory and a bad start.
-const KINDS: [&str; 19] = [
+static KINDS: [&str; 19] = [
     "played",
     "played last",
     "ended",
@@ -78,8 +78,13 @@ const KINDS: [&str; 19] = [
     "NotYet",
 ];
 
+/// The kinds.
+fn kinds() -> &'static [&'static str] {
+    &KINDS
+}
+
 /// Followers, capacity, plies.
-const LIMITS: [(u16, u16, u16); 8] = [
+static LIMITS: [(u16, u16, u16); 8] = [
     (3, 1, 64),
     (3, 2, 64),
     (4, 3, 64),
@@ -89,6 +94,11 @@ const LIMITS: [(u16, u16, u16); 8] = [
     (4, 1, 16),
     (4, 8, 32),
 ];
+
+/// The limits.
+fn limits_in_turn() -> &'static [(u16, u16, u16)] {
+    &LIMITS
+}
 
 /// Asks a new board and the plain one the same questions, and notes the answers.
 fn assert_same(
@@ -122,13 +132,13 @@ fn questions_by_chance_are_answered_as_by_the_plain_board(rt: HostRuntime) -> Re
     let alloc = rt.alloc();
     let mut dice = Dice { seed: 960 };
     let mut seen = Vec::new(alloc);
-    for limits in LIMITS {
+    for limits in limits_in_turn() {
         for _ in 0..100 {
-            assert_same(&rt, alloc, &mut dice, limits, &mut seen)?;
+            assert_same(&rt, alloc, &mut dice, *limits, &mut seen)?;
         }
     }
-    for kind in KINDS {
-        assert!(rt; has_kind(seen.as_slice(), kind), "no {kind}");
+    for kind in kinds() {
+        assert!(rt; has_kind(seen.as_slice(), *kind), "no {kind}");
     }
     Ok(())
 }

@@ -7,7 +7,7 @@ use std::alloc::{AllocError, Global};
 use std::test::Fail;
 
 /// Commands, some of them not as a client writes them.
-const TEXTS: [&str; 17] = [
+static TEXTS: [&str; 17] = [
     r#"{"cmd":"submit","board":"b1","move":"e2e4"}"#,
     r#"{"cmd":"follow","board":"b1","spectator":4294967295,"from":65535}"#,
     r#"{"cmd":"end","board":"b1","how":"resign","side":"white"}"#,
@@ -26,6 +26,11 @@ const TEXTS: [&str; 17] = [
     "{\"cmd\":\"take\",\"spectator\":7}\r",
     "{}",
 ];
+
+/// The commands.
+fn texts() -> &'static [&'static str] {
+    &TEXTS
+}
 
 /// Members, some of them none.
 const MEMBERS: [&str; 40] = [
@@ -109,7 +114,7 @@ fn text_by_chance(alloc: Global, dice: &mut Dice) -> Result<Vec<u8>, AllocError>
 #[test]
 fn a_text_and_each_beginning_of_it_are_read_as_behind_a_space(rt: HostRuntime) {
     let mut decoder = Decoder::new(rt.alloc());
-    for text in TEXTS.iter() {
+    for text in texts() {
         for length in 0..=text.len() {
             assert!(rt;
                 agrees(&mut decoder, &text.as_bytes()[..length]),
@@ -145,7 +150,7 @@ fn a_long_text_is_read_as_behind_a_space(rt: HostRuntime) {
 #[test]
 fn a_text_with_any_other_byte_at_any_place_is_read_as_behind_a_space(rt: HostRuntime) {
     let mut decoder = Decoder::new(rt.alloc());
-    for text in TEXTS.iter() {
+    for text in texts() {
         let mut changed = [0; 64];
         if text.len() > 64 {
             continue;

@@ -7,7 +7,7 @@ use std::alloc::{AllocError, Global};
 use std::test::Fail;
 
 /// The usual objects.
-const USUAL: [&str; 5] = [
+static USUAL: [&str; 5] = [
     r#"{"cmd":"take","spectator":1}"#,
     r#"{"cmd":"leave","spectator":4294967295}"#,
     r#"{"cmd":"submit","board":"b1","move":"e2e4"}"#,
@@ -15,8 +15,13 @@ const USUAL: [&str; 5] = [
     r#"{"cmd":"follow","board":"b1","spectator":7,"from":65535}"#,
 ];
 
+/// The usual objects.
+fn usual() -> &'static [&'static str] {
+    &USUAL
+}
+
 /// Texts that are nearly usual, or usual and no command.
-const NEAR: [&str; 54] = [
+static NEAR: [&str; 54] = [
     // The keys in another order, too few, too many, or one of them again.
     r#"{"spectator":1,"cmd":"take"}"#,
     r#"{"cmd":"take"}"#,
@@ -78,8 +83,13 @@ const NEAR: [&str; 54] = [
     r#"{"cmd":"take","spectator":1]"#,
 ];
 
+/// The texts that are nearly usual.
+fn near() -> &'static [&'static str] {
+    &NEAR
+}
+
 /// Numbers at both sides of the bounds of a place, of a spectator and of 64 bits, and other forms.
-const NUMBERS: [&str; 18] = [
+static NUMBERS: [&str; 18] = [
     "0",
     "00",
     "01",
@@ -99,6 +109,11 @@ const NUMBERS: [&str; 18] = [
     "1.0",
     "1e0",
 ];
+
+/// The numbers.
+fn numbers() -> &'static [&'static str] {
+    &NUMBERS
+}
 
 /// White space in JSON, and a character that is none.
 const GAPS: [&[u8]; 7] = [b" ", b"  ", b"\t", b"\n", b"\r\n", b" \t", b"\xc2\xa0"];
@@ -135,10 +150,10 @@ fn with_name(alloc: Global, length: usize, behind: &str) -> Result<Vec<u8>, Allo
 #[test]
 fn a_text_that_is_nearly_usual_is_read_as_behind_a_space(rt: HostRuntime) {
     let mut decoder = Decoder::new(rt.alloc());
-    for text in USUAL.iter() {
+    for text in usual() {
         assert!(rt; agrees(&mut decoder, text.as_bytes()), "{text}");
     }
-    for text in NEAR.iter() {
+    for text in near() {
         assert!(rt; agrees(&mut decoder, text.as_bytes()), "{text}");
     }
 }
@@ -148,7 +163,7 @@ fn a_usual_text_with_any_other_byte_at_any_place_is_read_as_behind_a_space(
     rt: HostRuntime,
 ) -> Result<(), Fail> {
     let mut decoder = Decoder::new(rt.alloc());
-    for text in USUAL.iter() {
+    for text in usual() {
         for place in 0..text.len() {
             for byte in 0..=255 {
                 let changed = changed(rt.alloc(), text.as_bytes(), place, byte)?;
@@ -167,7 +182,7 @@ fn a_usual_text_with_a_gap_at_any_place_is_read_as_behind_a_space(
     rt: HostRuntime,
 ) -> Result<(), Fail> {
     let mut decoder = Decoder::new(rt.alloc());
-    for text in USUAL.iter() {
+    for text in usual() {
         for place in 0..=text.len() {
             for gap in GAPS.iter() {
                 let bytes = text.as_bytes();
@@ -190,7 +205,7 @@ fn any_number_of_a_usual_text_is_read_as_behind_a_space(rt: HostRuntime) -> Resu
         r#"{"cmd":"follow","board":"b1","spectator":"#,
         r#"{"cmd":"follow","board":"b1","spectator":7,"from":"#,
     ] {
-        for number in NUMBERS.iter() {
+        for number in numbers() {
             let text = joined(rt.alloc(), &[front.as_bytes(), number.as_bytes(), b"}"])?;
             assert!(rt; agrees(&mut decoder, text.as_slice()), "{front}{number}");
         }

@@ -2,7 +2,7 @@
 //! any other text. Where one allocation is refused, each in turn (`benches/refusals.py --tests`), a decoder answers the text that asked for
 //! it with 12, and goes on. That list says which of these tests meets no refusal, and which meets more than one.
 
-use crate::tests::values::{board_of, move_of};
+use crate::tests::relays::table::{Asked, line_of, step_of};
 use c960_game::Ending;
 use relay_core::Step;
 use relay_messages::{Decoder, MessageFault, WatchCommand};
@@ -34,42 +34,50 @@ fn read_watch(decoder: &mut Decoder, text: &str) -> Result<WatchCommand, Message
     }
 }
 
+/// Texts of the two forms, and the command that each gives.
+static USUAL_AND_COMPACT: [(&str, Asked); 10] = [
+    (r#"{"cmd":"take","spectator":7}"#, Asked::Take(7)),
+    (r#"{"cmd": "leave", "spectator": 7}"#, Asked::Leave(7)),
+    (
+        r#"{"cmd":"submit","board":"b1","move":"e2e4"}"#,
+        Asked::Submit("b1", "e2e4"),
+    ),
+    (
+        r#"{"cmd":"follow","board":"b1","spectator":7}"#,
+        Asked::Follow(7, "b1"),
+    ),
+    (
+        r#"{"cmd":"follow","board":"b1","spectator":7,"from":2}"#,
+        Asked::FollowFrom(7, "b1", 2),
+    ),
+    (r#"{ "cmd": "take", "spectator": 7 }"#, Asked::Take(7)),
+    // Compact alone: the keys stand in another order, or the command is another.
+    (r#"{"spectator":7,"cmd":"take"}"#, Asked::Take(7)),
+    (
+        r#"{"cmd":"open","board":"b1","start":518}"#,
+        Asked::Open("b1", 518),
+    ),
+    (
+        r#"{ "cmd": "open", "board": "b1", "start": 518 }"#,
+        Asked::Open("b1", 518),
+    ),
+    (
+        r#"{"how": "agreed", "cmd": "end", "board": "b1"}"#,
+        Asked::End("b1", Ending::Agreed),
+    ),
+];
+
+/// The texts of the two forms.
+fn usual_and_compact() -> &'static [(&'static str, Asked)] {
+    &USUAL_AND_COMPACT
+}
+
 /// A decoder that has never taken memory answers each, whatever is refused.
 #[test]
 fn usual_and_compact_texts_take_no_memory(rt: HostRuntime) {
     let mut decoder = Decoder::new(rt.alloc());
-    let board = board_of(&rt, "b1");
-    for (text, step) in [
-        (r#"{"cmd":"take","spectator":7}"#, Step::Take(7)),
-        (r#"{"cmd": "leave", "spectator": 7}"#, Step::Leave(7)),
-        (
-            r#"{"cmd":"submit","board":"b1","move":"e2e4"}"#,
-            Step::Submit(board, move_of(&rt, "e2e4")),
-        ),
-        (
-            r#"{"cmd":"follow","board":"b1","spectator":7}"#,
-            Step::Follow(7, board, None),
-        ),
-        (
-            r#"{"cmd":"follow","board":"b1","spectator":7,"from":2}"#,
-            Step::Follow(7, board, Some(2)),
-        ),
-        (r#"{ "cmd": "take", "spectator": 7 }"#, Step::Take(7)),
-        // Compact alone: the keys stand in another order, or the command is another.
-        (r#"{"spectator":7,"cmd":"take"}"#, Step::Take(7)),
-        (
-            r#"{"cmd":"open","board":"b1","start":518}"#,
-            Step::Open(board, 518),
-        ),
-        (
-            r#"{ "cmd": "open", "board": "b1", "start": 518 }"#,
-            Step::Open(board, 518),
-        ),
-        (
-            r#"{"how": "agreed", "cmd": "end", "board": "b1"}"#,
-            Step::End(board, Ending::Agreed),
-        ),
-    ] {
+    for (text, asked) in usual_and_compact() {
+        let step = step_of(&rt, *asked, line_of(*asked));
         let Ok(WatchCommand::Step(said)) = decoder.decode_watch(text.as_bytes()) else {
             panic!(rt; "no command of the main port: {text}");
         };
@@ -81,28 +89,36 @@ fn usual_and_compact_texts_take_no_memory(rt: HostRuntime) {
     assert!(rt; said == Ok(WatchCommand::Boards));
 }
 
+/// Texts that are compact and no command, and their faults.
+static REFUSED_AT_ONCE: [(&str, MessageFault); 6] = [
+    (r#"{"cmd":"pass"}"#, MessageFault::UnknownCommand),
+    (r#"{"cmd":7}"#, MessageFault::UnknownCommand),
+    (r#"{"cmd":"take"}"#, MessageFault::BadField),
+    (r#"{"cmd":"take","spectator":"7"}"#, MessageFault::BadField),
+    (
+        r#"{"cmd":"submit","board":"b1","move":4}"#,
+        MessageFault::BadField,
+    ),
+    (
+        r#"{"cmd":"take","spectator":4294967296}"#,
+        MessageFault::BadField,
+    ),
+];
+
+/// The texts that are refused at once.
+fn refused_at_once() -> &'static [(&'static str, MessageFault)] {
+    &REFUSED_AT_ONCE
+}
+
 /// A text that is compact and no command takes none either, nor one of too many bytes.
 #[test]
 fn texts_that_are_refused_at_once_take_no_memory(rt: HostRuntime) {
     let mut decoder = Decoder::new(rt.alloc());
-    for (text, fault) in [
-        (r#"{"cmd":"pass"}"#, MessageFault::UnknownCommand),
-        (r#"{"cmd":7}"#, MessageFault::UnknownCommand),
-        (r#"{"cmd":"take"}"#, MessageFault::BadField),
-        (r#"{"cmd":"take","spectator":"7"}"#, MessageFault::BadField),
-        (
-            r#"{"cmd":"submit","board":"b1","move":4}"#,
-            MessageFault::BadField,
-        ),
-        (
-            r#"{"cmd":"take","spectator":4294967296}"#,
-            MessageFault::BadField,
-        ),
-    ] {
+    for (text, fault) in refused_at_once() {
         let said = decoder.decode(text.as_bytes());
-        assert!(rt; said == Err(fault), "{text}");
+        assert!(rt; said == Err(*fault), "{text}");
         let said = decoder.decode_watch(text.as_bytes());
-        assert!(rt; said == Err(fault), "{text} on the watch port");
+        assert!(rt; said == Err(*fault), "{text} on the watch port");
     }
     let said = decoder.decode(&[b' '; 1025]);
     assert!(rt; said == Err(MessageFault::BadField));

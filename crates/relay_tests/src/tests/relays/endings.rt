@@ -13,7 +13,7 @@ use std::process::Abort;
 use std::test::Fail;
 
 /// A mate that one follower takes move by move while another one joins after it. Only the opening and the two follows take memory.
-pub const MATE: [(Asked, Told); 16] = [
+static MATE: [(Asked, Told); 16] = [
     (Open("b1", 518), Opened),
     (Follow(1, "b1"), Following(0, START_518)),
     (Submit("b1", "f2f3"), Played(0)),
@@ -32,9 +32,14 @@ pub const MATE: [(Asked, Told); 16] = [
     (Leave(1), Left(0, 4, 4, false)),
 ];
 
+/// The rows of a mate.
+pub fn mate() -> &'static [(Asked, Told); 16] {
+    &MATE
+}
+
 #[test]
 fn mate_and_over(rt: HostRuntime) -> Result<(), Fail> {
-    assert_case(&rt, rt.alloc(), with_capacity(64), &MATE)
+    assert_case(&rt, rt.alloc(), with_capacity(64), mate())
 }
 
 /// Asserts that a relay whose queues have this capacity answers these rows after the mate, once the follower has taken three of its moves.
@@ -45,8 +50,8 @@ fn assert_after_mate(
     rest: &[(Asked, Told)],
 ) -> Result<(), Fail> {
     let mut rows = Vec::new(alloc);
-    rows.extend_from_slice(&MATE[..6])?;
-    rows.extend_from_slice(&MATE[7..10])?;
+    rows.extend_from_slice(&mate()[..6])?;
+    rows.extend_from_slice(&mate()[7..10])?;
     rows.extend_from_slice(rest)?;
     assert_case(rt, alloc, with_capacity(capacity), rows.as_slice())
 }
@@ -70,31 +75,48 @@ fn mate_and_over_with_a_queue_of_three(rt: HostRuntime) -> Result<(), Fail> {
 /// Four moves after which the position is as before.
 const KNIGHTS_OUT_AND_HOME: &str = "g8f6 g1f3 f6g8 f3g1";
 
+const CLAIM_REFUSED: Told = Refused(Refusal::ClaimRefused);
+
+/// The position after the first move appears for the third time after the ninth.
+static THIRD_APPEARANCE: [(Asked, Told); 12] = [
+    (Open("b1", 518), Opened),
+    (Submit("b1", "e2e4"), Played(0)),
+    (
+        End("b1", Ending::ClaimThreefold(Colour::Black)),
+        CLAIM_REFUSED,
+    ),
+    (SubmitLine("b1", KNIGHTS_OUT_AND_HOME), Played(1)),
+    (
+        End("b1", Ending::ClaimThreefold(Colour::Black)),
+        CLAIM_REFUSED,
+    ),
+    (SubmitLine("b1", KNIGHTS_OUT_AND_HOME), Played(5)),
+    (
+        Follow(1, "b1"),
+        Following(
+            9,
+            "rnbqkbnr/pppppppp/8/8/4P3/8/PPPP1PPP/RNBQKBNR b HAha - 8 5",
+        ),
+    ),
+    (
+        End("b1", Ending::ClaimThreefold(Colour::White)),
+        CLAIM_REFUSED,
+    ),
+    (Take(1), Nothing),
+    (
+        End("b1", Ending::ClaimThreefold(Colour::Black)),
+        Ended(Outcome::Threefold),
+    ),
+    (Take(1), Over(Outcome::Threefold)),
+    (Submit("b1", "e7e5"), Refused(Refusal::GameOver)),
+];
+
+/// The rows of a third appearance.
+fn third_appearance() -> &'static [(Asked, Told)] {
+    &THIRD_APPEARANCE
+}
+
 #[test]
 fn a_third_appearance_is_granted_to_the_side_on_move(rt: HostRuntime) -> Result<(), Fail> {
-    let refused = Refused(Refusal::ClaimRefused);
-    let rows = [
-        (Open("b1", 518), Opened),
-        (Submit("b1", "e2e4"), Played(0)),
-        (End("b1", Ending::ClaimThreefold(Colour::Black)), refused),
-        (SubmitLine("b1", KNIGHTS_OUT_AND_HOME), Played(1)),
-        (End("b1", Ending::ClaimThreefold(Colour::Black)), refused),
-        (SubmitLine("b1", KNIGHTS_OUT_AND_HOME), Played(5)),
-        (
-            Follow(1, "b1"),
-            Following(
-                9,
-                "rnbqkbnr/pppppppp/8/8/4P3/8/PPPP1PPP/RNBQKBNR b HAha - 8 5",
-            ),
-        ),
-        (End("b1", Ending::ClaimThreefold(Colour::White)), refused),
-        (Take(1), Nothing),
-        (
-            End("b1", Ending::ClaimThreefold(Colour::Black)),
-            Ended(Outcome::Threefold),
-        ),
-        (Take(1), Over(Outcome::Threefold)),
-        (Submit("b1", "e7e5"), Refused(Refusal::GameOver)),
-    ];
-    assert_case(&rt, rt.alloc(), with_capacity(64), &rows)
+    assert_case(&rt, rt.alloc(), with_capacity(64), third_appearance())
 }

@@ -1,7 +1,7 @@
 //! A board that a relay over live boards hands out.
 
 use crate::handing::play_and_hand_out;
-use crate::tests::relays::closing::FULL_QUEUE;
+use crate::tests::relays::closing::full_queue;
 use crate::tests::relays::table::{Asked, Told, case_of, limits_of};
 use crate::tests::values::board_of;
 use c960_game::Refusal;
@@ -27,7 +27,7 @@ fn board_after(
 
 #[test]
 fn a_board_is_handed_out_with_its_game(rt: HostRuntime) -> Result<(), Fail> {
-    let Some(mut board) = board_after(&rt, rt.alloc(), &FULL_QUEUE, "b1")? else {
+    let Some(mut board) = board_after(&rt, rt.alloc(), full_queue(), "b1")? else {
         panic!(rt; "no board");
     };
     assert!(rt; board.len() == 3);
@@ -36,14 +36,14 @@ fn a_board_is_handed_out_with_its_game(rt: HostRuntime) -> Result<(), Fail> {
         panic!(rt; "no follower");
     };
     assert!(rt; follower.joined() == 3);
-    assert!(rt; board_after(&rt, rt.alloc(), &FULL_QUEUE, "b9")?.is_none());
+    assert!(rt; board_after(&rt, rt.alloc(), full_queue(), "b9")?.is_none());
     Ok(())
 }
 
 #[test]
 fn who_followed_a_board_keeps_its_place_there(rt: HostRuntime) -> Result<(), Fail> {
     // All rows but the last, in which the follower leaves.
-    let Some(mut board) = board_after(&rt, rt.alloc(), &FULL_QUEUE[..9], "b1")? else {
+    let Some(mut board) = board_after(&rt, rt.alloc(), &full_queue()[..9], "b1")? else {
         panic!(rt; "no board");
     };
     assert!(rt; matches!(board.follow(None), Err(Refusal::TooManyFollowers)));

@@ -1,7 +1,7 @@
 //! Lack of memory. If one allocation is refused (`rt try --test --fail-alloc N`, for each N in turn), the call that needed
 //! it says so and changes nothing, and is accepted when made again; everything else is answered as ever.
 
-use crate::tests::relays::endings::MATE;
+use crate::tests::relays::endings::mate;
 use crate::tests::relays::kinds::Kind;
 use crate::tests::relays::table::Asked::{End, Follow, FollowFrom, Leave, Open, Submit, Take};
 use crate::tests::relays::table::Told::{
@@ -103,7 +103,7 @@ fn played(place: u16) -> Reply {
 
 /// Two boards, one follower each, one move a queue. A step refused for lack of memory takes no board and no seat, and leaves
 /// the other board, its follower and the queue as they were.
-const ROWS: [(Asked, Told); 25] = [
+static ROWS: [(Asked, Told); 25] = [
     (Open("a", 518), Opened),
     (Open("b", 960), Told::Refused(Refusal::BadStart)),
     (Follow(1, "a"), Following(0, START_518)),
@@ -130,6 +130,11 @@ const ROWS: [(Asked, Told); 25] = [
     (Take(4), Took(1, "e7e5")),
     (Take(4), Nothing),
 ];
+
+/// The rows.
+fn rows() -> &'static [(Asked, Told)] {
+    &ROWS
+}
 
 /// Asserts that a new relay of the kind answers these rows. Returns how many of their calls were refused for lack of memory.
 fn refusals_in<K: Kind>(
@@ -163,12 +168,12 @@ fn assert_rows(
 
 #[test]
 fn a_refused_step_is_accepted_when_made_again(rt: HostRuntime) {
-    assert_rows(&rt, rt.alloc(), (2, 1, 1, 1024), &ROWS);
+    assert_rows(&rt, rt.alloc(), (2, 1, 1, 1024), rows());
 }
 
 #[test]
 fn the_steps_after_an_opening_and_a_follow_are_answered_whatever_is_refused(rt: HostRuntime) {
-    assert_rows(&rt, rt.alloc(), (16, 64, 64, 1024), &MATE);
+    assert_rows(&rt, rt.alloc(), (16, 64, 64, 1024), mate());
 }
 
 /// Asserts that a new relay of the kind answers a run. Returns how many calls were refused for lack of memory.

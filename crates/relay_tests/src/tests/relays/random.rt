@@ -74,7 +74,7 @@ fn has_kind(replies: &[Reply], kind: &str) -> bool {
 }
 
 /// Every reply that there is, except for lack of memory.
-const KINDS: [&str; 24] = [
+static KINDS: [&str; 24] = [
     "opened",
     "played",
     "played last",
@@ -101,8 +101,13 @@ const KINDS: [&str; 24] = [
     "NotYet",
 ];
 
+/// The kinds.
+fn kinds() -> &'static [&'static str] {
+    &KINDS
+}
+
 /// Boards, followers a board, capacity, plies.
-const LIMITS: [(u16, u16, u16, u16); 8] = [
+static LIMITS: [(u16, u16, u16, u16); 8] = [
     (2, 3, 1, 64),
     (2, 3, 2, 64),
     (2, 3, 3, 64),
@@ -113,13 +118,18 @@ const LIMITS: [(u16, u16, u16, u16); 8] = [
     (1, 3, 3, 3),
 ];
 
+/// The limits.
+fn limits_in_turn() -> &'static [(u16, u16, u16, u16)] {
+    &LIMITS
+}
+
 #[test]
 fn steps_by_chance_are_answered_as_by_the_plain_relay(rt: HostRuntime) -> Result<(), Fail> {
     let alloc = rt.alloc();
     let mut dice = Dice { seed: 960 };
     let mut seen = Vec::new(alloc);
-    for numbers in LIMITS {
-        let limits = limits_of(&rt, numbers);
+    for numbers in limits_in_turn() {
+        let limits = limits_of(&rt, *numbers);
         let mut plain = Plain::new(alloc, limits);
         let mut steps = Vec::new(alloc);
         let mut replies = Vec::new(alloc);
@@ -127,8 +137,8 @@ fn steps_by_chance_are_answered_as_by_the_plain_relay(rt: HostRuntime) -> Result
         assert_replies(&rt, alloc, limits, steps.as_slice(), replies.as_slice())?;
         seen.extend_from_slice(replies.as_slice())?;
     }
-    for kind in KINDS {
-        assert!(rt; has_kind(seen.as_slice(), kind), "no {kind}");
+    for kind in kinds() {
+        assert!(rt; has_kind(seen.as_slice(), *kind), "no {kind}");
     }
     Ok(())
 }
