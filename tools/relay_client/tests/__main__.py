@@ -10,8 +10,9 @@ import unittest
 from concurrent.futures import ProcessPoolExecutor, ThreadPoolExecutor
 
 HERE = pathlib.Path(__file__).resolve().parent
-# At most this many tests are tried again. They depend on time, and a machine may be too busy with the others.
-MOST_AGAIN = 20
+# At most this many tests are tried again by themselves. They depend on time, and a machine may be too busy with the others. If more have
+# failed, the machine may have stood still for a while: they are tried again side by side before.
+MOST_ALONE = 20
 # The threads of a process wait for its interpreter. In a single one, tests that send thousands of pieces would hold up all others.
 PROCESSES = 4
 
@@ -51,21 +52,23 @@ def found():
     return list(cases(unittest.defaultTestLoader.discover(str(HERE), top_level_dir=str(HERE.parents[1]))))
 
 
-def share(at):
-    """The tests of a process. Those of a file are much alike, so they are dealt like cards."""
-    return found()[at::PROCESSES]
+def shares(tests):
+    """The tests of each process, by their places among all. Those of a file are much alike, so they are dealt like cards."""
+    places = [at for at, case in enumerate(found()) if case in tests]
+    return [dealt for at in range(PROCESSES) if (dealt := places[at::PROCESSES])]
 
 
-def run_share(at):
+def run_share(places):
     """Runs the tests of a process, each in a thread; answers what came of each."""
-    with ThreadPoolExecutor(len(share(at))) as pool:
-        return list(pool.map(run, share(at)))
+    with ThreadPoolExecutor(len(places)) as pool:
+        return list(pool.map(run, [found()[at] for at in places]))
 
 
-def side_by_side():
-    with ProcessPoolExecutor(PROCESSES, mp_context=multiprocessing.get_context("fork")) as pool:
-        for at, ended in enumerate(pool.map(run_share, range(PROCESSES))):
-            yield from zip(share(at), ended)
+def side_by_side(tests):
+    dealt = shares(tests)
+    with ProcessPoolExecutor(len(dealt), mp_context=multiprocessing.get_context("fork")) as pool:
+        for places, ended in zip(dealt, pool.map(run_share, dealt)):
+            yield from zip([found()[at] for at in places], ended)
 
 
 def one_after_another(tests):
@@ -80,10 +83,13 @@ def main():
     signal.signal(signal.SIGTERM, lambda *_: os.killpg(0, signal.SIGKILL))
     # A shell starts what is to run in its background with INT ignored, and then no script that this starts hears it either.
     signal.signal(signal.SIGINT, signal.default_int_handler)
-    failed, skipped = told(side_by_side())
+    failed, skipped = told(side_by_side(found()))
     again = len(failed)
-    if 0 < again <= MOST_AGAIN:
-        print(f"{again} of {len(found())} checks of sessions failed beside the others: once more, each by itself", flush=True)
+    if again > MOST_ALONE:
+        print(f"{again} of {len(found())} checks of sessions failed: once more, side by side", flush=True)
+        failed, _ = told(side_by_side(failed))
+    if 0 < len(failed) <= MOST_ALONE:
+        print(f"{len(failed)} of {len(found())} checks of sessions failed beside the others: once more, each by itself", flush=True)
         failed, _ = told(one_after_another(failed))
     if failed:
         print(f"{len(failed)} of {len(found())} checks of sessions failed")
