@@ -8,6 +8,7 @@
 //   joins     each comes, follows the board, and goes once it is greeted or refused
 //   comes     all come at once and shake hands, and go once each is answered; a quarter of a second later they come again
 //   refused   each asks to follow the board, which is full, and asks again at each answer; AHEAD questions are on their way at a time
+//   owns      all have the key of another board, send a move that is not legal there, and again at each answer; AHEAD are on their way
 //   nobody    there are none
 //
 // Says `there` once all followers have joined, and goes on at a line on standard input. At the end all followers have all moves,
@@ -136,15 +137,14 @@ static void come_and_go(int count, int) {
     }
 }
 
-static void be_refused(int count, int ahead) {
+// So many connections with this path send the text, and again at each answer, which has to have this word.
+static void ask_in_vain(int count, int ahead, const char *path, const char *text, const char *word) {
     struct peer *peers = calloc(count, sizeof *peers);
     unsigned char frame[160];
-    char text[128];
-    snprintf(text, sizeof text, "{\"cmd\":\"follow\",\"board\":\"%s\",\"spectator\":1}", name);
     size_t length = ws_text(frame, text);
     int poll = epoll_create1(0);
     for (int i = 0; i < count; i++) {
-        peers[i].fd = shake_hands(port, "/");
+        peers[i].fd = shake_hands(port, path);
         for (int k = 0; k < ahead; k++) put(peers[i].fd, frame, length);
         set_nonblocking(peers[i].fd);
         if (listen_to(poll, peers[i].fd, &peers[i])) die("epoll_ctl");
@@ -156,11 +156,26 @@ static void be_refused(int count, int ahead) {
             struct peer *p = got[i].data.ptr;
             long before = p->texts;
             hears(p, 0);
-            if (p->texts > before && p->skip == 0 && !strstr(p->last, "TooManyFollowers")) die(p->last);
+            if (p->texts > before && p->skip == 0 && !strstr(p->last, word)) die(p->last);
             told->refused += p->texts - before;
             for (; before < p->texts; before++) put(p->fd, frame, length);
         }
     }
+}
+
+static void be_refused(int count, int ahead) {
+    char text[128];
+    snprintf(text, sizeof text, "{\"cmd\":\"follow\",\"board\":\"%s\",\"spectator\":1}", name);
+    ask_in_vain(count, ahead, "/", text, "TooManyFollowers");
+}
+
+static void own(int count, int ahead) {
+    static const char path[] = "/?key=of-all-of-a-crowd", open[] = "{\"cmd\":\"open\",\"board\":\"owned\",\"start\":518}";
+    unsigned char frame[160];
+    struct peer first = {.fd = shake_hands(port, path)};
+    put(first.fd, frame, ws_text(frame, open));
+    while (first.texts < 1 || first.skip > 0) hears(&first, 0);
+    ask_in_vain(count, ahead, path, "{\"cmd\":\"submit\",\"board\":\"owned\",\"move\":\"a1b8\"}", "Illegal");
 }
 
 // ---- the operator
@@ -219,6 +234,7 @@ int main(int argc, char **argv) {
     if (!strcmp(argv[4], "joins")) crowd = join_and_leave;
     if (!strcmp(argv[4], "comes")) crowd = come_and_go;
     if (!strcmp(argv[4], "refused")) crowd = be_refused;
+    if (!strcmp(argv[4], "owns")) crowd = own;
     port = follow_port = atoi(argv[1]);
     snprintf(name, sizeof name, "o%d", getpid());
     told = mmap(NULL, sizeof *told, PROT_READ | PROT_WRITE, MAP_SHARED | MAP_ANONYMOUS, -1, 0);

@@ -52,6 +52,7 @@ CROWDS = {
     "100 follow, 5,000 come at once, and again": (100, "comes", 5000, 0),
     "1,000 fill the board, 100 are refused, one question each": (1000, "refused", 100, 1),
     "1,000 fill the board, 100 are refused, 40 questions each": (1000, "refused", 100, 40),
+    "100 follow, 500 of one key move in vain, 40 moves each": (100, "owns", 500, 40),
 }
 # Seconds that a follower waits for an answer, or for a place.
 PATIENCE = 3
@@ -85,7 +86,7 @@ def spread(values):
 def running(program, room, followers=MOST_FOLLOWERS, boards=16):
     port = free_port()
     words = [program.path, "serve", "--port", str(port), "--forever", "--followers", str(followers), "--capacity", "1024",
-             "--plies", "1024", "--boards", str(boards)]
+             "--plies", "1024", "--boards", str(boards), "--grace", "60"]
     server = serving.Server("relay", words, room, port)
     try:
         yield server
