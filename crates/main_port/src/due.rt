@@ -1,6 +1,6 @@
 //! The connections that are due a turn.
 
-ghost use Rattle.std.specs.Prelude.{◌≡◌, ◌==◌, ◌&&◌, [], length, drop, option_map, slice_get, OnErr, OnOk};
+ghost use Rattle.std.specs.Prelude.{◌≡◌, ◌==◌, ◌&&◌, length, drop, option_map, slice_get, OnErr, OnOk};
 ghost use Rattle.main_port.specs.Queue.{nobody_due, with_due};
 
 use std::alloc::{AllocError, Global};

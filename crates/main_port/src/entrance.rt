@@ -33,6 +33,8 @@ pub(crate) struct Entrance {
     has_newcomers: bool,
     /// From which millisecond on they are accepted: an accept that failed is not tried again at once.
     opens_at: u64,
+    /// Once all is heard that had come by this millisecond, so is all that newcomers had sent before they were accepted.
+    heard_from: u64,
     /// Whether the last newcomer was turned away.
     is_short: bool,
 }
@@ -61,6 +63,7 @@ impl Entrance {
             crier: Crier::new(alloc),
             has_newcomers: true,
             opens_at: 0,
+            heard_from: 0,
             is_short: false,
         }
     }
@@ -72,6 +75,11 @@ impl Entrance {
         } else {
             None
         }
+    }
+
+    /// Once all is heard that had come by this millisecond, so is all that newcomers had sent before they were accepted.
+    pub(crate) fn heard_from(&self) -> u64 {
+        self.heard_from
     }
 
     /// Newcomers may be waiting.
@@ -119,6 +127,7 @@ impl Entrance {
         match entry {
             Entry::Newcomer(stream) => {
                 self.meets();
+                self.heard_from = crowd.now().saturating_add(1);
                 if crowd.enters(stream) {
                     self.is_short = false;
                 } else {

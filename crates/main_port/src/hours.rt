@@ -7,6 +7,8 @@ use std::time::{Clock, Duration, Instant};
 #[derive(Clone, Copy)]
 pub(crate) struct Hours {
     began: Instant,
+    /// The same in milliseconds of the monotonic clock.
+    epoch: u64,
     passed: Duration,
 }
 
@@ -17,8 +19,10 @@ impl Hours {
     ///
     /// The clock cannot be read.
     pub(crate) fn begin<C: Clock>(clock: &C) -> io::Result<Hours> {
+        let epoch = clock.monotonic()?.as_millis();
         Ok(Hours {
             began: Instant::now(clock)?,
+            epoch: u64::try_from(epoch).unwrap_or(u64::MAX),
             passed: Duration::ZERO,
         })
     }
@@ -38,5 +42,10 @@ impl Hours {
     /// The same in milliseconds.
     pub(crate) fn millis(&self) -> u64 {
         u64::try_from(self.passed.as_millis()).unwrap_or(u64::MAX)
+    }
+
+    /// This millisecond of its own, as one of the monotonic clock.
+    pub(crate) fn by_clock(&self, millis: u64) -> u64 {
+        self.epoch.saturating_add(millis)
     }
 }

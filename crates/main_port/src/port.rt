@@ -181,7 +181,8 @@ impl MainPort {
             entrance: Entrance::new(alloc, door, most, until_input_ends),
             reported_by: 0,
             heard_by: 0,
-            ticks_at: Duration::ZERO,
+            ticks_at: 0,
+            late_since: None,
             is_shut: false,
             ends_at: None,
         };

@@ -30,6 +30,11 @@ impl<'a, R: Wait + Clock> Crowd<'a, R> {
         self.hours.millis()
     }
 
+    /// This millisecond of the loop, as one of the monotonic clock.
+    pub(crate) fn by_clock(&self, millis: u64) -> u64 {
+        self.hours.by_clock(millis)
+    }
+
     // ---- Rests.
 
     /// In how many milliseconds the next connection that rests is to be read again, if any rests.

@@ -18,6 +18,9 @@ const TURN_MILLIS: u64 = 500;
 /// After how many milliseconds the hall is told the time at the latest.
 const TICK_MILLIS: u64 = 1000;
 
+/// How many milliseconds later it is told at the most, while there is somebody to be heard first.
+const MOST_LATE_MILLIS: u64 = 1000;
+
 /// How many seconds connections have to leave once serving is to end.
 const MOST_LEAVING_SECONDS: u64 = 4;
 
@@ -33,8 +36,10 @@ pub(crate) struct Turns<'a, R> {
     pub(crate) reported_by: u64,
     /// Everything that connections had sent by this millisecond has been heard.
     pub(crate) heard_by: u64,
-    /// When the hall is told the time next.
-    pub(crate) ticks_at: Duration,
+    /// The millisecond at which the hall is told the time next.
+    pub(crate) ticks_at: u64,
+    /// Since which millisecond it was to be told the time, if there was somebody to be heard first.
+    pub(crate) late_since: Option<u64>,
     /// Whether nobody can come back any more.
     pub(crate) is_shut: bool,
     /// When the loop ends even if connections remain, once serving is to end.
@@ -50,12 +55,14 @@ where
         if self.crowd.has_due() || self.crowd.is_looking() {
             return Duration::ZERO;
         }
-        let passed = self.crowd.passed();
-        let mut most = Duration::from_millis(TURN_MILLIS).min(self.ticks_at.saturating_sub(passed));
+        let now = self.crowd.now();
+        // There may be somebody to be heard before the hall is told the time.
+        let ticks = self.ticks_at.saturating_sub(now).max(1);
+        let mut most = Duration::from_millis(TURN_MILLIS.min(ticks));
         if let Some(ends_at) = self.ends_at {
-            most = most.min(ends_at.saturating_sub(passed));
+            most = most.min(ends_at.saturating_sub(self.crowd.passed()));
         }
-        if let Some(accepts) = self.entrance.accepts_in(self.crowd.now()) {
+        if let Some(accepts) = self.entrance.accepts_in(now) {
             most = most.min(Duration::from_millis(accepts));
         }
         if let Some(rest) = self.crowd.next_rest() {
@@ -66,20 +73,41 @@ where
     }
 
     /// Tells the hall the time, once a second and when boards have waited long enough. Boards that begin to wait meanwhile do so for a
-    /// second at least.
+    /// second at least. However long the program was suspended, whoever came back in time is heard before, if that takes no longer than a
+    /// second, and the time that is told is the one by which all has been heard.
     fn tick(&mut self)
         ensures { self.new.entrance ≡ self.old.entrance }
     {
-        let now = self.crowd.passed();
+        let now = self.crowd.now();
         if now < self.ticks_at {
             return;
         }
+        let since = self.late_since.unwrap_or(now);
+        let heard = if self.has_heard_all() {
+            self.heard_by
+        } else if now.saturating_sub(since) >= MOST_LATE_MILLIS {
+            since
+        } else {
+            self.late_since = Some(since);
+            return;
+        };
+        self.late_since = None;
+        let told = Some(self.crowd.by_clock(heard));
         let most = Duration::from_millis(TICK_MILLIS);
-        let next = match self.registry.tick(self.rt) {
-            Some(due) => most.min(due.saturating_add(Duration::from_millis(1))),
+        let next = match self.registry.tick_at(self.rt, told) {
+            Some(due) => most.min(due),
             None => most,
         };
-        self.ticks_at = now.saturating_add(next);
+        let next = u64::try_from(next.as_millis()).unwrap_or(TICK_MILLIS);
+        self.ticks_at = heard.saturating_add(next.max(1));
+    }
+
+    /// Whether nobody is waiting to be accepted, and all has been heard that had come when the hall was to be told the time, also from
+    /// those that were accepted since.
+    fn has_heard_all(&self) -> bool {
+        self.entrance.accepts_in(self.crowd.now()).is_none()
+            && self.heard_by >= self.entrance.heard_from()
+            && self.heard_by >= self.ticks_at
     }
 
     /// Handles what the system reported, and what is due. Returns whether it was the last turn, which none is while newcomers come in.
@@ -99,13 +127,12 @@ where
         self.crowd.end_rests();
         self.crowd.serve_owners();
         self.crowd.serve_others();
-        // What owners have sent is heard before, as far as there was time for it.
-        self.tick();
         if report.told < MOST_EVENTS {
             // The system has reported everything that had arrived when it was asked.
             self.reported_by = asked;
             self.heard_by = self.heard_by.max(self.crowd.heard_by(asked));
         }
+        self.tick();
         self.entrance.accept(&mut self.crowd, report.told);
         // However long a turn took, or the program was suspended, nobody is dropped for what it had sent in time.
         if self.crowd.look_around(self.heard_by) {

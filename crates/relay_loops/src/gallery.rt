@@ -18,6 +18,7 @@ use relay_streams::{Socket, SocketOutlet, Wire};
 use std::alloc::{AllocError, Global};
 use std::io;
 use std::io::ErrorKind;
+use std::marker::Model;
 use std::net::Net;
 use std::sync::atomic::{AtomicBool, AtomicU64, Ordering};
 use std::sync::{Arc, Wait};
@@ -27,7 +28,7 @@ use std::time::Clock;
 /// How many loops there are.
 const BALCONIES: usize = 2;
 
-/// All balconies. Connections that follow are distributed over them in turn.
+/// All balconies. Connections that follow are distributed over them in turn. Contracts see how many there are.
 #[derive(Drop)]
 pub struct Gallery {
     balconies: Vec<Balcony>,
@@ -35,6 +36,14 @@ pub struct Gallery {
     lookouts: Arc<Vec<Arc<Lookout, Global>>, Global>,
     next: AtomicU64,
     is_closing: AtomicBool,
+}
+
+impl Model for Gallery {
+    ghost use Rattle.std.specs.Prelude.{ℕ, length};
+
+    ghost Value = { ℕ };
+
+    ghost view = { λ g. length g.balconies.items };
 }
 
 /// A connection, as its thread holds it.

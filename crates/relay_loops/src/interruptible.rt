@@ -47,7 +47,9 @@ impl<'a, S: Stream, C: Clock> Interruptible<'a, S, C> {
         is_ending: &'a AtomicBool,
         patience: &'a Patience,
         clock: &'a C,
-    ) -> Interruptible<'a, S, C> {
+    ) -> Interruptible<'a, S, C>
+        ensures { result ≡ stream }
+    {
         Interruptible {
             stream,
             is_ending,

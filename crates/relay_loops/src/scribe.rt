@@ -6,6 +6,7 @@ use log::{Level, Logged, info};
 use relay_registry::{LogNotes, Registry};
 use relay_streams::Deadline;
 use std::alloc::Global;
+use std::marker::Model;
 use std::sync::atomic::Ordering;
 use std::sync::{Arc, Wait};
 use std::thread::Threads;
@@ -14,10 +15,18 @@ use std::time::{Clock, Duration};
 /// How many seconds pass between two lines of counts.
 const BETWEEN_COUNTS_SECONDS: u64 = 60;
 
-/// The thread, if there is one.
+/// The thread, if there is one. Contracts see whether there is.
 #[derive(Drop)]
 pub struct Scribe {
     thread: OwnThread,
+}
+
+impl Model for Scribe {
+    ghost use Rattle.std.specs.Prelude.{Bool};
+
+    ghost Value = { Bool };
+
+    ghost view = { λ s. s.thread };
 }
 
 impl Scribe {

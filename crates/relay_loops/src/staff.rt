@@ -60,8 +60,8 @@ impl Staff {
         take_over(rt, self.alloc, registry, &self.gallery, told);
     }
 
-    /// Waits until those that follow have gone, and the log is written. If serving ends with standard input and that has ended, it waits
-    /// for those that follow no longer than this.
+    /// Waits until those that follow have gone, and the log is written. If serving ends with standard input and that ends, all boards are
+    /// ended, also those of peers that follow another one, and it waits no longer than this.
     pub fn end<R>(self, rt: &R, registry: &Registry, until_input_ends: bool, most: Duration)
     where
         R: Threads + Wait + Clock,
@@ -75,6 +75,9 @@ impl Staff {
         gallery.close();
         if until_input_ends {
             let loops = join_until_ending(rt, registry, loops);
+            if registry.is_ending() {
+                registry.end_all(rt);
+            }
             if let Ok(deadline) = Deadline::after(rt, most) {
                 join_until_due(rt, registry, loops, &deadline);
             }

@@ -1,8 +1,11 @@
 //! The threads of sessions, which are joined as they end, and those that are the server's own.
 
+ghost use Rattle.std.specs.Prelude.{◌≡◌, false};
+
 use relay_registry::Registry;
 use relay_streams::Deadline;
 use std::alloc::Global;
+use std::marker::Model;
 use std::net::TcpStream;
 use std::sync::atomic::{AtomicBool, Ordering};
 use std::sync::{Arc, Mutex, Wait};
@@ -15,7 +18,8 @@ pub const OWN_STACK_BYTES: usize = 256 * 1024;
 /// What a session's thread shares with its starter: the connection, until one of them takes it, and whether the session has ended.
 #[derive(Drop)]
 pub struct Shared {
-    stream: Mutex<Option<TcpStream>>,
+    /// The connection, until it is taken.
+    pub stream: Mutex<Option<TcpStream>>,
     /// Whether the session has ended.
     pub has_ended: AtomicBool,
 }
@@ -112,15 +116,25 @@ pub fn join_until_due<R: Threads + Wait + Clock>(
     }
 }
 
-/// A thread that is the server's own, if there is one.
+/// A thread that is the server's own, if there is one. Contracts see whether there is.
 #[derive(Drop)]
 pub struct OwnThread {
     handle: Option<JoinHandle<()>>,
 }
 
+impl Model for OwnThread {
+    ghost use Rattle.std.specs.Prelude.{Bool, is_some};
+
+    ghost Value = { Bool };
+
+    ghost view = { λ t. is_some t.handle };
+}
+
 impl OwnThread {
     /// No thread.
-    pub fn none() -> OwnThread {
+    pub fn none() -> OwnThread
+        ensures { result ≡ false }
+    {
         OwnThread { handle: None }
     }
 
@@ -137,7 +151,9 @@ impl OwnThread {
     }
 
     /// Whether there is one.
-    pub fn is_there(&self) -> bool {
+    pub fn is_there(&self) -> bool
+        ensures { result ≡ self.now }
+    {
         self.handle.is_some()
     }
 

@@ -1,6 +1,6 @@
 //! The boards of a server, which all connections share.
 
-ghost use Rattle.std.specs.Prelude.{◌≡◌, ◌/◌, max, None, false, option_map, IfOk, MatchOption, OnErr};
+ghost use Rattle.std.specs.Prelude.{◌≡◌, ◌/◌, max, None, false, IfOk, MatchOption, OnErr};
 ghost use Rattle.relay_hall.specs.Steps.{in_full};
 ghost use Rattle.relay_registry.specs.Holds.{IsToldOwner, WasMade};
 ghost use Rattle.relay_registry.specs.Showing.{IsFoundAt, IsFoundUnder};
@@ -20,8 +20,9 @@ use relay_hall::{Key, Owner};
 use relay_pushing::Conn;
 use std::alloc::{AllocError, Global};
 use std::marker::Model;
+use std::mem;
 use std::sync::atomic::{AtomicBool, AtomicU32, AtomicU64, Ordering};
-use std::sync::{Arc, MutexGuard, Wait};
+use std::sync::{Arc, Mutex, MutexGuard, Wait};
 use std::time::{Clock, Duration};
 
 /// How many milliseconds a second has.
@@ -31,6 +32,7 @@ const SECOND_MILLIS: u64 = 1000;
 /// While it is held no socket is waited for, nobody is woken, and no other lock is taken. Contracts see its limits.
 #[derive(Drop)]
 pub struct Registry {
+    alloc: Global,
     house: Arc<House, Global>,
     limits: Limits,
     /// Whether the boards of a key wait for a connection with it.
@@ -50,12 +52,16 @@ pub struct Registry {
     chronicle: Chronicle,
     /// Rung when the boards of a key begin to wait, and when serving ends.
     waiting: Chime,
-    /// Whether a thread ends the boards that have waited long enough. If none does, no board waits.
+    /// Those who went while boards had waited long enough and had yet to be ended: they go once these are.
+    late: Mutex<Vec<Owner>>,
+    /// Whether boards that have waited long enough are ended. If nobody ends them, no board waits.
     is_watched: AtomicBool,
     /// Whether no more connections are accepted.
     is_closed: AtomicBool,
     /// Whether serving is to end early.
     is_ending: AtomicBool,
+    /// Whether all boards were ended, and rung for.
+    has_ended_all: AtomicBool,
     /// How many connections were accepted but have not shaken hands yet.
     coming: AtomicU64,
 }
@@ -91,6 +97,7 @@ impl Registry {
     {
         let house = House::new(alloc, limits, u64::from(seconds) * SECOND_MILLIS)?;
         Ok(Registry {
+            alloc,
             house: Arc::new(alloc, house).map_err(|_| AllocError)?,
             limits,
             has_grace: seconds > 0,
@@ -101,9 +108,11 @@ impl Registry {
             ended: Chime::new(),
             chronicle: Chronicle::new(alloc),
             waiting: Chime::new(),
+            late: Mutex::new(Vec::new(alloc)),
             is_watched: AtomicBool::new(false),
             is_closed: AtomicBool::new(false),
             is_ending: AtomicBool::new(false),
+            has_ended_all: AtomicBool::new(false),
             coming: AtomicU64::new(0),
         })
     }
@@ -259,9 +268,29 @@ impl Registry {
     }
 
     /// A connection goes. Without a key, its boards are ended as abandoned. With a key, they are if it was the last one and they do not
-    /// wait.
+    /// wait. It goes at the next `tick` if other boards have waited long enough and have yet to be ended by that: whoever came back to
+    /// these in time may not have been heard yet, and the time that comes with this connection would end them.
     pub fn leave<R: Wait + Clock>(&self, rt: &R, who: &Owner) {
         let now = millis_begun(rt);
+        if self.is_due(rt, now) && self.late.lock(rt).push(*who).is_ok() {
+            self.waiting.ring();
+            self.waiting.wake();
+        } else {
+            self.goes_at(rt, who, now);
+        }
+    }
+
+    /// Whether boards have waited long enough by this time, if it is known.
+    fn is_due<R: Wait>(&self, rt: &R, now: Option<u64>) -> bool {
+        let due = self.house.lobby.lock(rt).hall.next_due();
+        match (due, now) {
+            (Some(due), Some(now)) => due <= now,
+            _ => false,
+        }
+    }
+
+    /// A connection goes at this time, if it is known.
+    fn goes_at<R: Wait>(&self, rt: &R, who: &Owner, now: Option<u64>) {
         let is_watched = self.is_watched.load(Ordering::SeqCst);
         let (rang, waits) = self.house.lobby.lock(rt).goes(who, now, is_watched);
         self.tell(rt, &rang);
@@ -274,28 +303,50 @@ impl Registry {
 
     /// Ends boards that have waited long enough. Returns how long the next ones have yet to wait, if any wait.
     pub fn tick<R: Wait + Clock>(&self, rt: &R) -> Option<Duration> {
-        let now = millis_passed(rt);
+        self.tick_at(rt, millis_passed(rt))
+    }
+
+    /// Ends boards that had waited long enough at this time, in milliseconds of the monotonic clock, if it is known. Returns how long after
+    /// that the next ones have, if any wait.
+    pub fn tick_at<R: Wait + Clock>(&self, rt: &R, now: Option<u64>) -> Option<Duration> {
         let (rang, next) = self.house.lobby.lock(rt).ticks(now);
         self.tell(rt, &rang);
+        self.let_go(rt);
         Some(Duration::from_millis(next?.saturating_sub(now.unwrap_or(u64::MAX))))
     }
 
-    /// Nobody can come back any more: boards that wait are ended, and none waits from now on.
-    pub fn shut<R: Wait>(&self, rt: &R) {
-        let rang = self.house.lobby.lock(rt).shuts();
-        self.tell(rt, &rang);
+    /// Those go who went too late to go before.
+    fn let_go<R: Wait + Clock>(&self, rt: &R) {
+        let late = mem::replace(&mut *self.late.lock(rt), Vec::new(self.alloc));
+        for who in late {
+            self.leave(rt, &who);
+        }
     }
 
-    /// Notes whether a thread ends boards that have waited long enough. If none does, no board waits.
+    /// Nobody can come back any more: boards that wait are ended, and none waits from now on.
+    pub fn shut<R: Wait + Clock>(&self, rt: &R) {
+        let rang = self.house.lobby.lock(rt).shuts();
+        self.tell(rt, &rang);
+        self.let_go(rt);
+    }
+
+    /// Notes whether boards that have waited long enough are ended. If nobody ends them, no board waits.
     pub fn set_watched(&self, is_watched: bool) {
         self.is_watched.store(is_watched, Ordering::SeqCst);
     }
 
     /// Ends all boards as abandoned. A game that has already ended stays as it is. A board that is opened meanwhile is ended with its
-    /// connection.
+    /// connection. All lookouts learn of it.
     pub fn end_all<R: Wait>(&self, rt: &R) {
         let rang = self.house.lobby.lock(rt).ends_all();
         self.tell(rt, &rang);
+        self.has_ended_all.store(true, Ordering::SeqCst);
+        self.wake_lookouts();
+    }
+
+    /// Whether all boards were ended, and rung for.
+    pub fn has_ended_all(&self) -> bool {
+        self.has_ended_all.load(Ordering::SeqCst)
     }
 
     /// Rings for boards whose games have ended by themselves, notes it for the log, and wakes those who follow them.

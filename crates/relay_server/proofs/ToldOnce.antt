@@ -1,5 +1,5 @@
 -- A connection that gets a follower by a message is told of that very follower.
-use Rattle.std.proofs.Common.{◌≡◌, ℕ, List, [], ◌∷◌, ◌++◌, Option, None, Some, Result, Ok, Err, option_map, sym, ap, refl, ◌∙◌}
+use Rattle.std.proofs.Common.{◌≡◌, ℕ, List, [], ◌∷◌, ◌++◌, Some, Result, Ok, Err, option_map, sym, ap, refl, ◌∙◌}
 use Rattle.std.proofs.lemmas.Option.{none-some, same_Some}
 use Rattle.c960_game.specs.Positions.{last_position}
 use Rattle.relay_core.specs.declared.step.Step.{Step}

@@ -1,10 +1,9 @@
 -- What is written to a visitor next, and its effect. A visitor has output, which is whole frames, and may watch a board, whose
 -- tape it is sent. Output is written before what is watched, but never within a frame of that.
-use Rattle.std.specs.Prelude.{◌≡◌, ℕ, ◌≤◌, ◌==◌, ◌&&◌, ◌||◌, not, Bool, true, false, List, [], ◌++◌, length, take, drop, Option, None, Some}
+use Rattle.std.specs.Prelude.{◌≡◌, ℕ, ◌≤◌, ◌==◌, ◌&&◌, ◌||◌, not, Bool, true, false, List, [], length, drop, Option, None, Some}
 use Rattle.relay_watching.specs.Between.{is_between, is_none}
 use Rattle.relay_watching.specs.Course.{Course}
-use Rattle.relay_watching.specs.Progress.{Progress, WasSent, after_write, offered}
-use Rattle.relay_watching.specs.Promised.{Joining}
+use Rattle.relay_watching.specs.Progress.{after_write}
 use Rattle.watch_port.specs.declared.visitor.Doing.{Doing}
 use Rattle.watch_port.specs.declared.visitor.Doing.TheVariants.{Comes, Asks, Watches, WatchesAll}
 use Rattle.watch_port.specs.declared.visitor.Visitor.{Visitor}

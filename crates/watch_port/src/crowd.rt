@@ -5,7 +5,7 @@ use crate::boards::Boards;
 use crate::guest::{Delivery, Guest, Intake};
 use crate::patience::{Patience, Stage, Verdict};
 use crate::port::Port;
-use crate::ready::Ready;
+use crate::ready::{Ready, ready_of};
 use crate::request::take_request;
 use crate::round::Round;
 use crate::visitor::{Doing, Visitor, Watching};
@@ -286,7 +286,7 @@ impl<'a, H: Boards> Crowd<'a, H> {
     /// Writes to a guest what is due, as far as its connection takes it. If there was no memory for some changes of the boards, they are
     /// due again at the next turn.
     pub(crate) fn send(&mut self, key: usize) {
-        if self.put_changes(key).is_err() {
+        if self.put_changes(key, false).is_err() {
             self.round_told = 0;
         }
         let Some(guest) = self.guests.get_mut(key) else {
@@ -311,8 +311,8 @@ impl<'a, H: Boards> Crowd<'a, H> {
     }
 
     /// Puts the changes of the boards into the output of a guest that watches them all, if everything before is written. So a guest whose
-    /// connection takes it slowly is not sent what is out of date.
-    fn put_changes(&mut self, key: usize) -> Result<(), AllocError> {
+    /// connection takes it slowly is not sent what is out of date. The last ones are put there in any case.
+    fn put_changes(&mut self, key: usize, are_last: bool) -> Result<(), AllocError> {
         let Some(guest) = self.guests.get_mut(key) else {
             return Ok(());
         };
@@ -320,7 +320,7 @@ impl<'a, H: Boards> Crowd<'a, H> {
             return Ok(());
         };
         let changes = self.round.changes();
-        if told == changes || !guest.visitor.has_no_output() {
+        if told == changes || !(are_last || guest.visitor.has_no_output()) {
             return Ok(());
         }
         self.round.put_changes(told, guest.visitor.output())?;
@@ -775,24 +775,14 @@ impl<'a, H: Boards> Crowd<'a, H> {
         match guest.stage() {
             Stage::Comes => self.remove(key),
             Stage::Asks => self.close(key, AWAY),
-            Stage::Watches if !is_over => self.close(key, AWAY),
+            Stage::Watches if !is_over => {
+                if self.put_changes(key, true).is_err() {
+                    self.remove(key);
+                } else {
+                    self.close(key, AWAY);
+                }
+            }
             Stage::Watches | Stage::Leaves => {}
         }
-    }
-}
-
-/// Those that are written to as soon as there is news of what a guest watches, if it watches anything.
-fn ready_of<'r, B>(
-    audiences: &'r mut Slab<Audience<B>>,
-    round_ready: &'r mut Ready,
-    doing: &Doing,
-) -> Option<&'r mut Ready> {
-    match doing {
-        Doing::Watches(Watching { audience, .. }) => {
-            let audience = audiences.get_mut(*audience)?;
-            Some(&mut audience.ready)
-        }
-        Doing::WatchesAll(_) => Some(round_ready),
-        Doing::Comes(_) | Doing::Asks => None,
     }
 }

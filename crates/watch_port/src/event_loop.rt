@@ -123,7 +123,8 @@ struct Turns<'a, H: Boards> {
 impl<'a, H: Boards> Turns<'a, H> {
     /// How long the next turn waits at most.
     fn patience(&self) -> Duration {
-        if self.has_newcomers || self.crowd.has_unread() {
+        let has_to_close = self.port.is_closing() && self.closes_at.is_none();
+        if self.has_newcomers || self.crowd.has_unread() || has_to_close {
             Duration::ZERO
         } else {
             Duration::from_millis(TURN_MILLIS)

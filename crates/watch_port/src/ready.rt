@@ -1,5 +1,8 @@
 //! The guests of an audience that are written to as soon as there is news: all but those whose connections take no more now.
 
+use crate::audience::Audience;
+use crate::visitor::{Doing, Watching};
+use slab::Slab;
 use std::alloc::{AllocError, Global};
 
 /// Keys of guests, in any order.
@@ -40,5 +43,21 @@ impl Ready {
         }
         let _ = self.keys.swap_remove(index);
         self.at(index)
+    }
+}
+
+/// Those that are written to as soon as there is news of what a guest watches, if it watches anything.
+pub(crate) fn ready_of<'r, B>(
+    audiences: &'r mut Slab<Audience<B>>,
+    round_ready: &'r mut Ready,
+    doing: &Doing,
+) -> Option<&'r mut Ready> {
+    match doing {
+        Doing::Watches(Watching { audience, .. }) => {
+            let audience = audiences.get_mut(*audience)?;
+            Some(&mut audience.ready)
+        }
+        Doing::WatchesAll(_) => Some(round_ready),
+        Doing::Comes(_) | Doing::Asks => None,
     }
 }

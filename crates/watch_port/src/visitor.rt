@@ -1,8 +1,6 @@
 //! A spectator that came to the port, without reading and writing: what is to be written next, and what was.
 
-ghost use Rattle.std.specs.Prelude.{◌≡◌, ◌≤◌, ℕ, List, [], ◌++◌, length, take, drop, None, Some, IfSome, IfNone, true, false, option_copied};
-ghost use Rattle.relay_watching.specs.Between.{is_none};
-ghost use Rattle.relay_watching.specs.Course.{Course};
+ghost use Rattle.std.specs.Prelude.{◌≡◌, ◌≤◌, ℕ, List, [], ◌++◌, length, take, None, Some, IfSome, IfNone, true, false};
 ghost use Rattle.relay_watching.specs.Progress.{WasSent, after_write, offered};
 ghost use Rattle.relay_watching.specs.Promised.{Joining};
 ghost use Rattle.watch_port.specs.Visits.{HasWrittenOutput, HasWrittenTape, has_no_output, is_next, is_tapes_turn, is_within, output_left, watched};

@@ -1,6 +1,7 @@
 """Operators that lose their connection and come back with their key: `serve --grace SECONDS`. Before, no key was looked at. A board was
 abandoned as soon as the connection that had opened it ended, and every other connection was a stranger to it."""
 
+import itertools
 import pathlib
 import socket
 import subprocess
@@ -9,11 +10,13 @@ import time
 import unittest
 
 from relay_client.connection import Connection
-from relay_client.frames import request
-from relay_client.keys import new_key
+from relay_client.frames import frame, request
+from relay_client.keys import new_key, target_of
 from relay_client.program import BY_LOOP, PATIENCE, PROGRAM
 from relay_client.server import Server
 from relay_client.tests.sessions import ABANDONED, guest_of, owner_of
+from relay_client.tests.test_watching import close_all
+from relay_client.tests.test_watching_loops import Stopped
 from relay_client.texts import (BAD_FIELD, GAME_OVER, NO_BOARD, NOT_JSON, OPENED, ended, ends, following, follows, moved, opens, over,
                                 played, refused, submits)
 from relay_client.waiting import is_readable
@@ -189,6 +192,44 @@ class TheGrace(Keys):
             self.assertTrue(says_nothing(guest, 10))
             self.is_owned(back, 0, "e2e4")
             guest.hears(moved("e2e4", 0))
+
+    def test_an_operator_that_came_back_while_the_program_stood_still_keeps_its_board(self):
+        """When the program goes on, the grace is over. Before, the board then ended first, even if the connection had been accepted."""
+        says = request(target_of(KEY)) + frame(submits("b1", "e2e4"))
+        for sent_before, others_go in itertools.product((0, len(says) // 2), (False, True)):
+            with self.subTest(sent_before=sent_before, others_go=others_go), waits(4) as server:
+                owner, guest = owner_of(server, key=KEY), guest_of(server)
+                others = [owner_of(server, f"other{number}", key=new_key() if number else None) for number in range(2)]
+                owner.reset()
+                with socket.socket() as back:
+                    back.settimeout(PATIENCE)
+                    if sent_before:
+                        back.connect(("127.0.0.1", server.port))
+                        back.sendall(says[:sent_before])
+                    self.assertTrue(says_nothing(guest, 1))
+                    with Stopped(server):
+                        if not sent_before:
+                            back.connect(("127.0.0.1", server.port))
+                        back.sendall(says[sent_before:])
+                        if others_go:
+                            close_all(*others)
+                        time.sleep(5)
+                    guest.hears(moved("e2e4", 0))
+                    self.assertTrue(says_nothing(guest, 5))
+                    lost = time.monotonic()
+                self.is_abandoned(guest, 4, lost)
+
+    def test_a_board_ends_where_nobody_came_back_while_the_program_stood_still(self):
+        with waits(2) as server:
+            owner, guest, other = owner_of(server, key=KEY), guest_of(server), owner_of(server, "b2")
+            second = guest_of(server, "b2")
+            owner.reset()
+            self.assertTrue(says_nothing(guest, 1))
+            with Stopped(server):
+                other.reset()
+                time.sleep(3)
+            self.is_abandoned(guest)
+            self.is_abandoned(second)
 
     def test_each_loss_has_a_grace_of_its_own(self):
         """The grace of the first loss is over while the second lasts, and ends nothing."""

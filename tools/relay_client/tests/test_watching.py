@@ -18,6 +18,7 @@ from relay_client.ports import free_port
 from relay_client.program import PATIENCE, PROGRAM, fens, game_by_chance, start_fen
 from relay_client.server import Server
 from relay_client.tests.sessions import ABANDONED, moves_without_a_draw, owner_of, play
+from relay_client.tests.test_serving import LEAVING
 from relay_client.texts import (BAD_FIELD, BOARDS, NO_BOARD, NOT_JSON, NOT_OBJECT, OPENED, UNKNOWN_COMMAND, ended, ends, following, follows,
                                 leaves, moved, opens, over, played, refused, stands, submits, takes)
 
@@ -594,6 +595,21 @@ class Ending(unittest.TestCase):
                 watcher.hears(*texts, ABANDONED, DONE)
             close_all(owner, *watchers)
             self.assertEqual(server.ended(), (b"", b"served 1, failed 0\n", 0))
+
+    def test_those_of_both_ports_that_do_not_go_are_waited_for_at_the_same_time(self):
+        """Before, one of this port was told only once the four seconds of the main one were over, and had another four."""
+        with Server("--forever", "--until-input-ends", watch=True, stdin=subprocess.PIPE) as server:
+            owner, watcher, asking = owner_of(server), watcher_of(server), Connection(server.watch_port)
+            began = time.monotonic()
+            server.process.stdin.close()
+            server.process.stdin = None
+            watcher.hears(ABANDONED, DONE)
+            asking.hears(AWAY)
+            self.assertLess(time.monotonic() - began, LEAVING - 0.5)
+            owner.hears(AWAY)
+            self.assertEqual(server.ended(), (b"", b"served 1, failed 0\n", 0))
+            self.assertLess(time.monotonic() - began, LEAVING + 2.5)
+            close_all(owner, watcher, asking)
 
     def test_one_that_does_not_go_is_waited_for_four_seconds(self):
         with Server("--connections", "1", watch=True) as server:

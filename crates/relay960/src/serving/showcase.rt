@@ -7,17 +7,19 @@ use relay_messages::BoardSummary;
 use relay_server::{Lookout, Registry, Shown};
 use std::alloc::AllocError;
 use std::sync::Wait;
-use watch_port::Boards;
+use watch_port::{Boards, Port};
 
 /// The boards of a registry, as one loop looks at them.
 #[derive(Drop)]
-pub(super) struct Showcase<'r, 'g, 'l, R> {
+pub(super) struct Showcase<'r, 'g, 'l, 'p, R> {
     pub(super) rt: &'r R,
     pub(super) registry: &'g Registry,
     pub(super) lookout: &'l Lookout,
+    /// The port that shows them.
+    pub(super) port: &'p Port,
 }
 
-impl<R: Wait> Boards for Showcase<'_, '_, '_, R> {
+impl<R: Wait> Boards for Showcase<'_, '_, '_, '_, R> {
     type Board = Shown;
 
     fn find(&self, name: &BoardName) -> Result<Option<Shown>, AllocError> {
@@ -53,7 +55,11 @@ impl<R: Wait> Boards for Showcase<'_, '_, '_, R> {
         board.position_at(self.rt, place)
     }
 
+    /// Once serving ends and all boards were ended, the port closes: its guests need not wait until those of the main port have gone.
     fn heed(&self) {
         self.lookout.heed();
+        if self.registry.has_ended_all() {
+            self.port.close();
+        }
     }
 }

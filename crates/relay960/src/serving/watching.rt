@@ -166,6 +166,7 @@ fn run<R: Wait + Clock>(
         rt,
         registry,
         lookout,
+        port,
     };
     let _ = event_loop.run(rt, port, &boards);
 }

@@ -2,10 +2,17 @@
 
 use relay_loops::threads::OwnThread;
 use relay_registry::Registry;
+use relay_streams::Deadline;
 use std::alloc::Global;
 use std::sync::{Arc, Wait};
-use std::thread::Threads;
-use std::time::Clock;
+use std::thread::{Threads, sleep};
+use std::time::{Clock, Duration};
+
+/// How many milliseconds too late the thread wakes if the whole program stood still meanwhile.
+const STOOD_STILL_MILLIS: u64 = 20;
+
+/// For how many milliseconds it then waits until those are heard who came back in that time.
+const HEARING_MILLIS: u64 = 1000;
 
 /// The thread, if there is one.
 #[derive(Drop)]
@@ -56,7 +63,19 @@ fn run<R: Wait + Clock>(rt: &R, registry: &Registry) {
             None => {
                 let _ = registry.waiting().wait(rt, heard);
             }
-            Some(left) => registry.waiting().doze(rt, heard, left),
+            Some(left) => sleep_until_due(rt, registry, heard, left),
+        }
+    }
+}
+
+/// Sleeps for this long, or until the next ring. If the program stood still meanwhile, those who came back in that time are heard first.
+fn sleep_until_due<R: Wait + Clock>(rt: &R, registry: &Registry, heard: u64, left: Duration) {
+    let late = left.saturating_add(Duration::from_millis(STOOD_STILL_MILLIS));
+    let late = Deadline::after(rt, late);
+    registry.waiting().doze(rt, heard, left);
+    if let Ok(late) = late {
+        if late.left(rt).is_err() {
+            let _ = sleep(rt, Duration::from_millis(HEARING_MILLIS));
         }
     }
 }
