@@ -59,7 +59,7 @@ def seconds_of_half(name, stream):
 
 class Deadlines(unittest.TestCase):
     def lasts(self, began, least, most):
-        """This many seconds have passed since."""
+        """This many seconds have passed since. Of a vanished one it takes a loop 88.95 at the least, three times 29.65."""
         took = time.monotonic() - began
         self.assertTrue(least < took < most, took)
 
@@ -219,7 +219,7 @@ class Deadlines(unittest.TestCase):
             for it in waiting:
                 it.start()
             guest.hears(ABANDONED, "close 1000")
-            self.lasts(began, 89, 120)
+            self.lasts(began, 88, 120)
             self.assertEqual([vanished.receive_any() for _ in range(2)], ["ping", "ping"])
             vanished.has_ended()
             present.send(submits("b2", "e2e4"))
@@ -242,7 +242,7 @@ class Deadlines(unittest.TestCase):
             vanished.vanish()
             began = time.monotonic()
             guest.hears(ABANDONED, "close 1000")
-            self.lasts(began, 89, 120)
+            self.lasts(began, 88, 120)
             for connection in vanished, guest:
                 connection.close()
             server.has_served(2)
