@@ -424,7 +424,7 @@ class Sharing(unittest.TestCase):
 
     def has(self, server, count):
         """So many are there within a while; how many each loop has."""
-        until = time.monotonic() + SOON
+        until = time.monotonic() + 3 * SOON
         while sum(guests := self.guests(server)) != count and time.monotonic() < until:
             time.sleep(0.05)
         self.assertEqual((len(guests), sum(guests)), (LOOPS, count))
