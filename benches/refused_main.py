@@ -168,6 +168,9 @@ def goes_with_a_key(hall, number):
 
 
 DEEDS = {"a move": moves, "an operator that goes": goes, "an operator with a key that goes": goes_with_a_key}
+# The list of operators that are due a turn takes memory when the first one is. That may have been before anything was to be refused, if
+# the system reported once more that one may be written to.
+TAKE_NONE = goes, goes_with_a_key
 
 
 # ---- Several come at once.
@@ -198,5 +201,5 @@ def refuse_in_main(allocator, mark):
             wrong |= until_nothing_is_refused(f"one {act.name}", lambda number: refuse_one(hall, act, number))
     for name, deed in DEEDS.items():
         with Hall(sheet, allocator) as hall:
-            wrong |= until_nothing_is_refused(name, lambda number: deed(hall, number))
+            wrong |= until_nothing_is_refused(name, lambda number: deed(hall, number), deed in TAKE_NONE)
     return wrong | until_nothing_is_refused("several come", lambda number: crowd_comes(sheet, allocator, number))

@@ -391,9 +391,9 @@ def start_is_refused(allocator, mark, number):
         return LOST, True
 
 
-def until_nothing_is_refused(name, refuse):
+def until_nothing_is_refused(name, refuse, may_take_none=False):
     """Refuses each allocation, until there is none of the number, or too much was wrong. Returns whether something was wrong, or nothing
-    was refused."""
+    was refused where something has to be."""
     counts = collections.Counter()
     for number in itertools.count(1):
         try:
@@ -408,7 +408,7 @@ def until_nothing_is_refused(name, refuse):
             print(f"{name}: given up at allocation {number}")
             return True
     print(f"{name}, {number - 1} allocations refused:", ", ".join(f"{how}: {count}" for how, count in sorted(counts.items())), flush=True)
-    return counts[WRONG] > 0 or number == 1
+    return counts[WRONG] > 0 or (number == 1 and not may_take_none)
 
 
 def refuse_in_watching(allocator, mark):
