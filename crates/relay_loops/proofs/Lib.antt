@@ -1,4 +1,3 @@
-pub mod lemmas
 mod HandedOver
 mod Stretches
 mod Served
