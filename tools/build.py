@@ -1,8 +1,9 @@
 #!/usr/bin/env -S python3 -B
 """Proves and builds the program and each crate below it, those that do not depend on one another side by side.
 
-Each crate is proved in its own workplace, and its new `out/` is put in the old one's place. The one that most is to come after gets a job
-for each processor, so that none is idle while it runs alone. The others have as many jobs as `rt` chooses.
+Each crate is proved in its own workplace, and its new `out/` is put in the old one's place. One after which much less is to come than after
+another beside it can wait: it has one job, since several take more processor time together, and stands back for the others. These have jobs
+for all processors, in equal shares.
 
 All output goes to standard error, and the status is 0 if everything is proved. For a crate that is proved, `out/proved` keeps a sum
 of everything that it was made from and one of what was made. If both still hold, `rt` is not called for it.
@@ -21,6 +22,9 @@ from workplace import Workplace, lock, most_jobs, scratch_folder, width_of_machi
 
 NAME = "relay960"
 SECONDS_BETWEEN_REPORTS = 30
+# By how much the crates that can wait stand back for processors, and which part of the longest way theirs is at most.
+NICENESS = 10
+SHARE_OF_THOSE_THAT_CAN_WAIT = 0.75
 
 
 def say(text):
@@ -92,6 +96,15 @@ class Plan:
         found = [it for it in self.below if it not in done and it not in running and all(b in done for b in self.below[it])]
         return sorted(found, key=lambda it: -self.weights[it])
 
+    def can_wait(self, name, running):
+        """Whether much less is to come after a crate than after one that runs."""
+        return self.weights[name] < SHARE_OF_THOSE_THAT_CAN_WAIT * max((self.weights[it] for it in running), default=0)
+
+    def jobs(self, name, done, running, most):
+        """How many of the most jobs a crate gets that begins now: one if it can wait, and else its share among those that cannot."""
+        beside = {name, *running, *self.ready(done, running)}
+        return 1 if self.can_wait(name, running) else max(most // sum(not self.can_wait(it, beside) for it in beside), 1)
+
     def seconds_left(self, done, running):
         """About how long the rest takes; `running` has the seconds for which each crate has run."""
         done, now = set(done), 0.0
@@ -152,10 +165,9 @@ class Build:
         self.sources[name] = self.records.sum_of_sources(name)
         place = self.places[name] = Workplace(self.crates, self.scratch, name, keeps=True)
         log = self.scratch / f"{name}.log"
-        # `rt` reckons with more memory than a proof takes, and gives the topmost crates one job or two.
-        leads = all(self.plan.weights[name] >= self.plan.weights[it] for it in self.running)
-        jobs = ["--jobs", str(most_jobs())] if leads else []
-        words = ["rt", "run", *jobs, "--", "start", "0"] if self.crates.is_program(name) else ["rt", "lib", *jobs]
+        jobs = ["--jobs", str(self.plan.jobs(name, self.done, self.running, most_jobs()))]
+        rt = ["nice", "-n", str(NICENESS), "rt"] if self.plan.can_wait(name, self.running) else ["rt"]
+        words = [*rt, "run", *jobs, "--", "start", "0"] if self.crates.is_program(name) else [*rt, "lib", *jobs]
         with log.open("w") as out:
             run = subprocess.Popen(words, cwd=place.own, stdin=subprocess.DEVNULL, stdout=out, stderr=out)
         self.running[name] = run, log, time.monotonic()

@@ -14,6 +14,7 @@ TOP = pathlib.Path(__file__).resolve().parents[2]
 sys.path.insert(0, str(TOP / "tools"))
 
 import planted  # noqa: E402
+from build import Plan  # noqa: E402
 from workplace import most_jobs, width_of_machine  # noqa: E402
 
 # It writes what it was asked in `calls`, makes what the true one makes, and refuses the crates and the edits that are named in `wrong`.
@@ -40,6 +41,7 @@ elif words[0] in ("lib", "run", "check", "test"):
     if folder.name in wrong:
         print(f"{folder.name} is wrong")
         sys.exit(1)
+    (state / f"{folder.name}.niceness").write_text(str(os.getpriority(os.PRIO_PROCESS, 0)))
     if words[0] == "lib":
         (out / "rlib").mkdir(parents=True, exist_ok=True)
         (out / "rlib/stamp").write_text(folder.name)
@@ -147,15 +149,36 @@ class Run(Commands):
             self.assertLess(max(calls["left"][2], calls["right"][2]), min(calls["left"][3], calls["right"][3]), "not side by side")
 
     def test_the_crate_that_most_is_to_come_after_has_a_job_for_each_processor(self):
-        """`low` and the program run alone, and `left` takes longer than `right`, which runs beside it if there is memory for two."""
+        """`low` and the program run alone. `left` takes longer than `right`, which runs beside it if there is memory for two, and can wait."""
         if width_of_machine() > 1:
             write(self.state / "meet", "")
         self.run_it("run.sh", "start", "0")
         calls, jobs = {it[0]: it[1] for it in self.calls()}, r"--jobs [1-4]"
         for name in ("low", "left"):
             self.assertRegex(calls[name], rf"^lib {jobs}$")
-        self.assertRegex(calls["right"], r"^lib$" if (self.state / "meet").exists() else rf"^lib {jobs}$")
+        self.assertRegex(calls["right"], r"^lib --jobs 1$" if (self.state / "meet").exists() else rf"^lib {jobs}$")
         self.assertRegex(calls["relay960"], rf"^run {jobs} -- start 0$")
+        if (self.state / "meet").exists():
+            self.assertLess(self.niceness("left"), self.niceness("right"))
+
+    def niceness(self, name):
+        return int((self.state / f"{name}.niceness").read_text())
+
+    def test_a_crate_has_its_share_of_the_jobs_unless_it_can_wait(self):
+        """All stand on `low`, and `top` on all."""
+        below = {"low": [], "left": ["low"], "right": ["low"], "short": ["low"], "top": ["low", "left", "right", "short"]}
+        seconds = {"low": 50, "left": 200, "right": 180, "short": 20, "top": 100}
+        plan = Plan(mock.Mock(below=below.get), list(below), seconds, 4)
+        for name, done, running, jobs, waits in (
+            ("low", [], [], 4, False),
+            # These two share, since `short` can wait.
+            ("left", ["low"], [], 2, False),
+            ("right", ["low"], ["left"], 2, False),
+            ("right", ["low", "left"], ["short"], 4, False),
+            ("short", ["low"], ["left", "right"], 1, True),
+            ("short", ["low", "left", "right"], [], 4, False),
+        ):
+            self.assertEqual((plan.jobs(name, done, running, 4), plan.can_wait(name, running)), (jobs, waits), (name, running))
 
     def test_a_proof_has_no_more_jobs_than_processors_and_than_fit_into_memory(self):
         for processors, gigabytes, jobs in ((4, 16, 4), (2, 16, 2), (16, 64, 4), (4, 6, 2), (4, 4, 1), (4, 1, 1)):

@@ -1,0 +1,111 @@
+//! What happens to guests as time passes, and when serving ends.
+
+use crate::audience::{drop_empty, tape_at};
+use crate::boards::Boards;
+use crate::crowd::Crowd;
+use crate::patience::{Stage, Verdict};
+use relay_frames::{Code, outgoing};
+
+/// The close code if serving ends, or if a guest asks for nothing (RFC 6455, section 7.4.1).
+const AWAY: u16 = 1001;
+
+/// The close code for a guest that takes nothing (RFC 6455, section 7.4.1).
+const POLICY: u16 = 1008;
+
+impl<'a, H: Boards> Crowd<'a, H> {
+    /// How many seconds had passed at the last call of `is_now`.
+    pub(crate) fn now(&self) -> u64 {
+        self.now
+    }
+
+    /// This many seconds have passed.
+    pub(crate) fn is_now(&mut self, now: u64) {
+        self.now = now;
+    }
+
+    /// Looks at each guest, once a second. Returns whether that was now. All that guests had sent by the second `now` has been heard.
+    pub(crate) fn look_around(&mut self, now: u64) -> bool {
+        if now <= self.looked_at {
+            return false;
+        }
+        self.looked_at = now;
+        drop_empty(&mut self.audiences, self.now);
+        for key in 0..self.guests.capacity() {
+            self.look_at(key, now);
+        }
+        true
+    }
+
+    /// Does what is due for a guest.
+    fn look_at(&mut self, key: usize, now: u64) {
+        let most_idle = self.port.most_idle();
+        let Some(guest) = self.guests.get_mut(key) else {
+            return;
+        };
+        let stage = guest.stage();
+        match guest.patience.verdict(now, stage, most_idle) {
+            Verdict::Stays => {}
+            Verdict::Ping => self.ping(key),
+            Verdict::Tries => self.send(key),
+            Verdict::Idle => self.close(key, AWAY),
+            Verdict::Stuck => self.close(key, POLICY),
+            Verdict::Gone => self.remove(key),
+        }
+    }
+
+    /// Sends a guest a ping.
+    fn ping(&mut self, key: usize) {
+        if let Some(guest) = self.guests.get_mut(key) {
+            if outgoing::ping(b"", guest.visitor.output()).is_err() {
+                self.remove(key);
+                return;
+            }
+        }
+        self.send(key);
+    }
+
+    /// Closes a guest's connection with a code.
+    fn close(&mut self, key: usize, code: u16) {
+        if let Some(guest) = self.guests.get_mut(key) {
+            if guest.visitor.is_leaving() {
+                return;
+            }
+            if outgoing::close(Code::new(code), guest.visitor.output()).is_err() {
+                self.remove(key);
+                return;
+            }
+            guest.visitor.leaves();
+        }
+        self.send(key);
+    }
+
+    /// Serving ends: guests that ask for nothing are told so, and so are those that watch a board whose game goes on.
+    pub(crate) fn end(&mut self) {
+        for key in 0..self.guests.capacity() {
+            self.end_one(key);
+        }
+    }
+
+    /// Tells a guest that serving ends.
+    fn end_one(&mut self, key: usize) {
+        let Some(guest) = self.guests.get(key) else {
+            return;
+        };
+        let is_over = match tape_at(&self.audiences, guest.visitor.audience()) {
+            Some(tape) => tape.is_over(),
+            None => false,
+        };
+        match guest.stage() {
+            Stage::Comes => self.remove(key),
+            Stage::Asks => self.close(key, AWAY),
+            Stage::Watches if !is_over => {
+                if self.put_changes(key, true).is_err() {
+                    self.remove(key);
+                } else {
+                    self.close(key, AWAY);
+                }
+            }
+            Stage::Watches | Stage::Leaves => {}
+        }
+    }
+}

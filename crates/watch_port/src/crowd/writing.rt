@@ -1,0 +1,158 @@
+//! What guests are sent: what they are owed, and then what is new.
+
+use crate::audience::tape_at;
+use crate::boards::Boards;
+use crate::crowd::Crowd;
+use crate::guest::Delivery;
+use crate::ready::Ready;
+use crate::visitor::Doing;
+use std::alloc::AllocError;
+
+impl<'a, H: Boards> Crowd<'a, H> {
+    /// Writes to a guest what is due, as far as its connection takes it. If there was no memory for some changes of the boards, they are
+    /// due again at the next turn.
+    pub(crate) fn send(&mut self, key: usize) {
+        if self.put_changes(key, false).is_err() {
+            self.round_told = 0;
+        }
+        let Some(guest) = self.guests.get_mut(key) else {
+            return;
+        };
+        if guest.has_left {
+            return;
+        }
+        let tape = tape_at(&self.audiences, guest.visitor.audience());
+        let sent = guest.send(tape, self.now);
+        let is_done = sent == Delivery::All && guest.visitor.is_done(tape);
+        match sent {
+            Delivery::Failed => self.remove(key),
+            Delivery::Blocked => self.rests(key),
+            Delivery::All if is_done => self.lets_go(key),
+            Delivery::All => {
+                self.stands_ready(key);
+                self.reads_on(key);
+                self.tells_on(key);
+            }
+        }
+    }
+
+    /// Puts the changes of the boards into the output of a guest that watches them all, if everything before is written. So a guest whose
+    /// connection takes it slowly is not sent what is out of date. The last ones are put there in any case.
+    pub(super) fn put_changes(&mut self, key: usize, are_last: bool) -> Result<(), AllocError> {
+        let Some(guest) = self.guests.get_mut(key) else {
+            return Ok(());
+        };
+        let Doing::WatchesAll(told) = guest.visitor.doing else {
+            return Ok(());
+        };
+        let changes = self.round.changes();
+        if told == changes || !(are_last || guest.visitor.has_no_output()) {
+            return Ok(());
+        }
+        self.round.put_changes(told, guest.visitor.output())?;
+        guest.visitor.doing = Doing::WatchesAll(changes);
+        Ok(())
+    }
+
+    /// At the end of the turn, sends a guest that watches all boards and was sent everything what has changed while that was written.
+    fn tells_on(&mut self, key: usize) {
+        let Some(guest) = self.guests.get(key) else {
+            return;
+        };
+        if let Doing::WatchesAll(told) = guest.visitor.doing {
+            if told != self.round.changes() {
+                self.round_told = 0;
+            }
+        }
+    }
+
+    /// A guest that was not heard until what it is owed is written is heard again. Its unfinished message has its time from now on.
+    fn reads_on(&mut self, key: usize) {
+        if self.is_owed_first(key) {
+            return;
+        }
+        let Some(guest) = self.guests.get_mut(key) else {
+            return;
+        };
+        if guest.is_stuffed {
+            guest.is_stuffed = false;
+            let is_midway = guest.visitor.is_midway();
+            guest.patience.silence.is_heard_again(self.now, is_midway);
+            self.stands_unread(key);
+        }
+    }
+
+    /// Puts what has happened on the tape of an audience, and writes it to those that are ready.
+    pub(super) fn tell(&mut self, at: usize) -> Result<(), AllocError> {
+        let Some(audience) = self.audiences.get_mut(at) else {
+            return Ok(());
+        };
+        if audience.count == 0 {
+            return Ok(());
+        }
+        if audience.refresh(self.alloc, self.boards)? {
+            self.send_to_ready(Some(at));
+        }
+        Ok(())
+    }
+
+    /// Writes to the ready ones of an audience, or without one to those that watch all boards. One that goes or rests is replaced by the
+    /// last of them.
+    fn send_to_ready(&mut self, audience: Option<usize>) {
+        let mut index = 0usize;
+        for _ in 0..self.ready_count(audience) {
+            let Some(key) = self.ready_at(audience, index) else {
+                return;
+            };
+            self.send(key);
+            if self.ready_at(audience, index) == Some(key) {
+                index = index.saturating_add(1);
+            }
+        }
+    }
+
+    /// The ready ones of an audience, or without one those that watch all boards.
+    fn ready(&self, audience: Option<usize>) -> Option<&Ready> {
+        match audience {
+            Some(at) => Some(&self.audiences.get(at)?.ready),
+            None => Some(&self.round_ready),
+        }
+    }
+
+    /// How many of them there are.
+    fn ready_count(&self, audience: Option<usize>) -> usize {
+        match self.ready(audience) {
+            Some(ready) => ready.len(),
+            None => 0,
+        }
+    }
+
+    /// The key of the guest at this index among them.
+    fn ready_at(&self, audience: Option<usize>, index: usize) -> Option<usize> {
+        self.ready(audience)?.at(index)
+    }
+
+    /// Looks for news of all boards that are watched. If there is no memory for them, they are asked for again a second later.
+    pub(crate) fn tell_all(&mut self) {
+        self.boards.heed();
+        for at in 0..self.audiences.capacity() {
+            let _ = self.tell(at);
+        }
+        let _ = self.tell_round();
+    }
+
+    /// If any guest watches all boards, looks for changes of any board, and writes them to those that are ready. A newcomer that watches
+    /// them all too may already have found changes.
+    fn tell_round(&mut self) -> Result<(), AllocError> {
+        if self.round_count == 0 {
+            return Ok(());
+        }
+        let refreshed = self.round.refresh(self.boards, self.now);
+        let changes = self.round.changes();
+        if changes != self.round_told {
+            self.round_told = changes;
+            self.send_to_ready(None);
+        }
+        refreshed
+    }
+}
