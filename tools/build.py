@@ -100,10 +100,13 @@ class Plan:
         """Whether much less is to come after a crate than after one that runs."""
         return self.weights[name] < SHARE_OF_THOSE_THAT_CAN_WAIT * max((self.weights[it] for it in running), default=0)
 
-    def jobs(self, name, done, running, most):
-        """How many of the most jobs a crate gets that begins now: one if it can wait, and else its share among those that cannot."""
-        beside = {name, *running, *self.ready(done, running)}
-        return 1 if self.can_wait(name, running) else max(most // sum(not self.can_wait(it, beside) for it in beside), 1)
+    def jobs(self, name, done, running, waiting, most):
+        """How many of the most jobs a crate gets that begins now: one if it can wait, and else its share among those that run or could and
+        do not stand back."""
+        if self.can_wait(name, running):
+            return 1
+        beside = {name, *running, *self.ready(done, running)} - waiting
+        return max(most // sum(not self.can_wait(it, beside) for it in beside), 1)
 
     def seconds_left(self, done, running):
         """About how long the rest takes; `running` has the seconds for which each crate has run."""
@@ -142,6 +145,8 @@ class Build:
         self.plan = Plan(crates, names, seconds, width_of_machine())
         self.done = dict.fromkeys(records.proved(names), 0)
         self.running, self.places, self.sources = {}, {}, {}
+        # Those that were let stand back when they began.
+        self.waiting = set()
         self.began = self.reported = time.monotonic()
         self.expected = self.plan.seconds_left(self.done, {})
 
@@ -165,8 +170,11 @@ class Build:
         self.sources[name] = self.records.sum_of_sources(name)
         place = self.places[name] = Workplace(self.crates, self.scratch, name, keeps=True)
         log = self.scratch / f"{name}.log"
-        jobs = ["--jobs", str(self.plan.jobs(name, self.done, self.running, most_jobs()))]
-        rt = ["nice", "-n", str(NICENESS), "rt"] if self.plan.can_wait(name, self.running) else ["rt"]
+        jobs = ["--jobs", str(self.plan.jobs(name, self.done, self.running, self.waiting, most_jobs()))]
+        rt = ["rt"]
+        if self.plan.can_wait(name, self.running):
+            self.waiting.add(name)
+            rt = ["nice", "-n", str(NICENESS), "rt"]
         words = [*rt, "run", *jobs, "--", "start", "0"] if self.crates.is_program(name) else [*rt, "lib", *jobs]
         with log.open("w") as out:
             run = subprocess.Popen(words, cwd=place.own, stdin=subprocess.DEVNULL, stdout=out, stderr=out)

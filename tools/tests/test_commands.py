@@ -169,16 +169,20 @@ class Run(Commands):
         below = {"low": [], "left": ["low"], "right": ["low"], "short": ["low"], "top": ["low", "left", "right", "short"]}
         seconds = {"low": 50, "left": 200, "right": 180, "short": 20, "top": 100}
         plan = Plan(mock.Mock(below=below.get), list(below), seconds, 4)
-        for name, done, running, jobs, waits in (
-            ("low", [], [], 4, False),
+        for name, done, running, waiting, jobs, waits in (
+            ("low", [], [], [], 4, False),
             # These two share, since `short` can wait.
-            ("left", ["low"], [], 2, False),
-            ("right", ["low"], ["left"], 2, False),
-            ("right", ["low", "left"], ["short"], 4, False),
-            ("short", ["low"], ["left", "right"], 1, True),
-            ("short", ["low", "left", "right"], [], 4, False),
+            ("left", ["low"], [], [], 2, False),
+            ("right", ["low"], ["left"], [], 2, False),
+            ("right", ["low", "left"], ["short"], ["short"], 4, False),
+            # Whoever stands back has no share, also if as much is to come after it.
+            ("right", ["low"], ["left"], ["left"], 4, False),
+            ("short", ["low"], ["left", "right"], [], 1, True),
+            ("short", ["low", "left", "right"], [], [], 4, False),
         ):
-            self.assertEqual((plan.jobs(name, done, running, 4), plan.can_wait(name, running)), (jobs, waits), (name, running))
+            with self.subTest(name=name, running=running, waiting=waiting):
+                self.assertEqual(plan.jobs(name, done, running, set(waiting), 4), jobs)
+                self.assertEqual(plan.can_wait(name, running), waits)
 
     def test_a_proof_has_no_more_jobs_than_processors_and_than_fit_into_memory(self):
         for processors, gigabytes, jobs in ((4, 16, 4), (2, 16, 2), (16, 64, 4), (4, 6, 2), (4, 4, 1), (4, 1, 1)):
