@@ -101,8 +101,8 @@ class Plan:
         return self.weights[name] < SHARE_OF_THOSE_THAT_CAN_WAIT * max((self.weights[it] for it in running), default=0)
 
     def jobs(self, name, done, running, waiting, most):
-        """How many of the most jobs a crate gets that begins now: one if it can wait, and else its share among those that run or could and
-        do not stand back."""
+        """How many jobs a crate gets that begins now, where `most` are to be had: one if it can wait, and else its share among those that
+        run or could and do not stand back, as those do that are `waiting`."""
         if self.can_wait(name, running):
             return 1
         beside = {name, *running, *self.ready(done, running)} - waiting
