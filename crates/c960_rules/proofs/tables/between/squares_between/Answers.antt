@@ -1,14 +1,12 @@
-use Rattle.std.proofs.Common.{refl}
+use Rattle.std.proofs.Common.{refl, ◌∙◌}
 use Rattle.c960_rules.specs.declared.tables.between.TheConstants.{BETWEEN}
-use Rattle.c960_rules.specs.Lines.{between}
-use Rattle.c960_rules.specs.Inner.Wheres.{where_set}
-use Rattle.c960_rules.proofs.BetweenTable.{between_table, place_of}
+use Rattle.c960_rules.proofs.BetweenTable.{between_table, place_of, set_between, set_between_is}
 use Rattle.c960_rules.proofs.tables.between.squares_between.Goals as goal
 
 pub returns : goal.returns
 returns c =
-    let row = place_of (λ s t. where_set (λ u. between s u t)) BETWEEN c.number.result c.number-2.result _ between_table refl
+    let row = place_of set_between BETWEEN c.number.result c.number-2.result _ between_table refl
     c.number.ensures.bound c.number-2.ensures.bound in
     let from = c.number.ensures.value in
     let to = c.number-2.ensures.value in
-    rw (← from, ← to) row
+    rw (← from, ← to) (row ∙ set_between_is c.number.result c.number-2.result)
