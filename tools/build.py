@@ -2,8 +2,8 @@
 """Proves and builds the program and each crate below it, those that do not depend on one another side by side.
 
 Each crate is proved in its own workplace, and its new `out/` is put in the old one's place. One after which much less is to come than after
-another beside it can wait: it has one job, since several take more processor time together, and stands back for the others. These have jobs
-for all processors, in equal shares.
+another beside it can wait: it has one job, since several take more processor time together, and stands back for the others. Each of these
+has as it begins an equal share of jobs for all processors.
 
 All output goes to standard error, and the status is 0 if everything is proved. For a crate that is proved, `out/proved` keeps a sum
 of everything that it was made from and one of what was made. If both still hold, `rt` is not called for it.
@@ -22,7 +22,7 @@ from workplace import Workplace, lock, most_jobs, scratch_folder, width_of_machi
 
 NAME = "relay960"
 SECONDS_BETWEEN_REPORTS = 30
-# By how much the crates that can wait stand back for processors, and which part of the longest way theirs is at most.
+# By how much the crates that can wait stand back for processors, and than which part of the longest way theirs is shorter.
 NICENESS = 10
 SHARE_OF_THOSE_THAT_CAN_WAIT = 0.75
 

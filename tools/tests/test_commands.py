@@ -148,8 +148,9 @@ class Run(Commands):
         if (self.state / "meet").exists():
             self.assertLess(max(calls["left"][2], calls["right"][2]), min(calls["left"][3], calls["right"][3]), "not side by side")
 
-    def test_the_crate_that_most_is_to_come_after_has_a_job_for_each_processor(self):
-        """`low` and the program run alone. `left` takes longer than `right`, which runs beside it if there is memory for two, and can wait."""
+    def test_a_crate_that_can_wait_has_one_job_and_stands_back(self):
+        """`left` takes longer than `right`, which runs beside it if there is memory for two, and can wait. How many jobs others have depends
+        on the memory that is free."""
         if width_of_machine() > 1:
             write(self.state / "meet", "")
         self.run_it("run.sh", "start", "0")
