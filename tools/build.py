@@ -1,12 +1,14 @@
 #!/usr/bin/env -S python3 -B
 """Proves and builds the program and each crate below it, those that do not depend on one another side by side.
 
-Each crate is proved in its own workplace, and its new `out/` is put in the old one's place. One after which much less is to come than after
-another beside it can wait: it has one job, since several take more processor time together, and stands back for the others. Each of these
-has as it begins an equal share of jobs for all processors.
+With `--by-rt` it does so as `rt check` and `rt test` need it afterwards (`makers.py` has both ways), and with names of crates it proves in
+that way what is below these alone.
 
-All output goes to standard error, and the status is 0 if everything is proved. For a crate that is proved, `out/proved` keeps a sum
-of everything that it was made from and one of what was made. If both still hold, `rt` is not called for it.
+A crate after which much less is to come than after another beside it can wait: it has one job, since several take more processor time
+together, and stands back for the others. Each of these has as it begins an equal share of jobs for all processors.
+
+All output goes to standard error, and the status is 0 if everything is proved. For a crate that is proved a file in `out/` keeps a sum of
+everything that it was made from and one of what was made. If both still hold, it is not proved again.
 """
 import functools
 import hashlib
@@ -18,9 +20,11 @@ import sys
 import time
 
 from crates import SECONDS_UNKNOWN, SOURCES, Crates, measured, minutes
-from workplace import Workplace, lock, most_jobs, scratch_folder, width_of_machine
+from makers import Compiler, Rt
+from workplace import lock, most_jobs, scratch_folder, width_of_machine
 
 NAME = "relay960"
+BY_RT = "--by-rt"
 SECONDS_BETWEEN_REPORTS = 30
 # By how much the crates that can wait stand back for processors, and than which part of the longest way theirs is shorter.
 NICENESS = 10
@@ -32,10 +36,10 @@ def say(text):
 
 
 class Records:
-    """Which crates are known to be proved as they are."""
+    """Which crates are known to be proved as they are, in one of the two ways."""
 
-    def __init__(self, crates):
-        self.crates = crates
+    def __init__(self, crates, maker):
+        self.crates, self.maker = crates, maker
         kit = subprocess.run(["rt", "version"], stdout=subprocess.PIPE, check=True).stdout
         variables = sorted(it for it in os.environ.items() if it[0].startswith("RT_"))
         lines = (crates.root / "crates.txt").read_bytes()
@@ -57,9 +61,12 @@ class Records:
         return said.digest()
 
     def record(self, name, sources):
-        """What `out/proved` has to say: for a library, rt's own stamp stands for what was made."""
-        made = self.crates.folder(name) / "out" / (name if self.crates.is_program(name) else "rlib/stamp")
+        """What the file has to say of a crate that is proved as it is."""
+        made = self.maker.told_of(name)
         return f"{sources}\n{sum_of_file(made)}\n" if made.is_file() else None
+
+    def file(self, name):
+        return self.crates.folder(name) / "out" / self.maker.RECORD
 
     def proved(self, names):
         """Those of the crates whose record holds."""
@@ -67,14 +74,14 @@ class Records:
         return [it for it in names if self.kept(it) == self.record(it, self.sum_of_sources(it, sum_of))]
 
     def kept(self, name):
-        file = self.crates.folder(name) / "out/proved"
+        file = self.file(name)
         return file.read_text() if file.is_file() else "no record"
 
     def note(self, name, sources):
         """Keeps that the crate is proved, unless a source has changed meanwhile."""
         record = self.record(name, sources)
         if record and sources == self.sum_of_sources(name):
-            (self.crates.folder(name) / "out/proved").write_text(record)
+            self.file(name).write_text(record)
 
 
 def sum_of_file(path):
@@ -126,9 +133,10 @@ class Plan:
 
 
 def seconds_to_prove(crates, names):
-    """About how long the proofs of those that are not proved yet take, on as many processors as there are."""
+    """About how long the proofs take, by `rt`, of those that are not proved yet, on as many processors as there are."""
     seconds = {it: measured().get(it, SECONDS_UNKNOWN) for it in names}
-    return round(Plan(crates, names, seconds, width_of_machine()).seconds_left(Records(crates).proved(names), {}))
+    proved = Records(crates, Rt(crates, None)).proved(names)
+    return round(Plan(crates, names, seconds, width_of_machine()).seconds_left(proved, {}))
 
 
 class Failed(Exception):
@@ -139,12 +147,12 @@ class Build:
     """The proofs of some crates, side by side."""
 
     def __init__(self, crates, names, records, scratch):
-        self.crates, self.records, self.scratch = crates, records, scratch
+        self.records, self.maker, self.scratch = records, records.maker, scratch
         table = measured()
         seconds = {it: table.get(it, SECONDS_UNKNOWN) for it in names}
         self.plan = Plan(crates, names, seconds, width_of_machine())
         self.done = dict.fromkeys(records.proved(names), 0)
-        self.running, self.places, self.sources = {}, {}, {}
+        self.running, self.jobs, self.sources = {}, {}, {}
         # Those that were let stand back when they began.
         self.waiting = set()
         self.began = self.reported = time.monotonic()
@@ -168,25 +176,30 @@ class Build:
 
     def start(self, name):
         self.sources[name] = self.records.sum_of_sources(name)
-        place = self.places[name] = Workplace(self.crates, self.scratch, name, keeps=True)
-        log = self.scratch / f"{name}.log"
-        jobs = ["--jobs", str(self.plan.jobs(name, self.done, self.running, self.waiting, most_jobs()))]
-        rt = ["rt"]
+        self.jobs[name] = self.plan.jobs(name, self.done, self.running, self.waiting, most_jobs())
         if self.plan.can_wait(name, self.running):
             self.waiting.add(name)
-            rt = ["nice", "-n", str(NICENESS), "rt"]
-        words = [*rt, "run", *jobs, "--", "start", "0"] if self.crates.is_program(name) else [*rt, "lib", *jobs]
+        self.run(name)
+
+    def run(self, name):
+        stand_back = ["nice", "-n", str(NICENESS)] if name in self.waiting else []
+        folder, words = self.maker.begin(name, self.jobs[name])
+        log = self.scratch / f"{name}.log"
         with log.open("w") as out:
-            run = subprocess.Popen(words, cwd=place.own, stdin=subprocess.DEVNULL, stdout=out, stderr=out)
+            run = subprocess.Popen([*stand_back, *words], cwd=folder, stdin=subprocess.DEVNULL, stdout=out, stderr=out)
         self.running[name] = run, log, time.monotonic()
 
     def finish(self, name):
         run, log, begun = self.running.pop(name)
         took = time.monotonic() - begun
-        self.places[name].put_back()
-        del self.places[name]
-        if run.returncode:
-            say(f"{self.clock()}  {name} is not proved after {took:.0f} s (status {run.returncode}):")
+        status = self.maker.end(name, run.returncode)
+        if status == -signal.SIGKILL and self.jobs[name] > 1:
+            say(f"{self.clock()}  the proof of {name} was killed, most likely for memory: once more, with one job")
+            self.jobs[name] = 1
+            self.run(name)
+            return
+        if status:
+            say(f"{self.clock()}  {name} is not proved after {took:.0f} s (status {status}):")
             say(log.read_text(errors="replace").rstrip())
             raise Failed(name)
         self.records.note(name, self.sources[name])
@@ -194,13 +207,11 @@ class Build:
         self.report(f"{name} is proved, in {took:.0f} s")
 
     def stop(self):
-        """Ends what still runs, and puts back what is still in a workplace."""
+        """Ends what still runs, and keeps what it has done."""
         for run, _, _ in self.running.values():
             run.terminate()
-        for run, _, _ in self.running.values():
-            run.wait()
-        for place in self.places.values():
-            place.put_back()
+        for name, (run, _, _) in self.running.items():
+            self.maker.end(name, run.wait())
 
     def go(self):
         known = f", {len(self.done)} of them proved before" if self.done else ""
@@ -222,19 +233,20 @@ class Build:
 
 def main(words):
     """Proves the program and all below it, or all below the crates that are named."""
-    crates = Crates()
-    below = [it for name in words for it in crates.below(name)] if words else [*crates.below(NAME), NAME]
+    crates, named = Crates(), [it for it in words if it != BY_RT]
+    below = [it for name in named for it in crates.below(name)] if named else [*crates.below(NAME), NAME]
     names = list(dict.fromkeys(below))
-    if shutil.which("rt") is None:
-        sys.exit("rt is not on the PATH: it is the command of the kit that proves the program (README.md)")
-    records = Records(crates)
-    if records.proved(names) == names:
-        return 0
+    for it in ("rt", "rattle"):
+        if shutil.which(it) is None:
+            sys.exit(f"{it} is not on the PATH: it is a command of the kit that proves the program (README.md)")
     for it in (signal.SIGTERM, signal.SIGHUP):
         signal.signal(it, lambda number, _: sys.exit(128 + number))
     try:
-        with lock(crates, names), scratch_folder() as scratch:
-            Build(crates, names, records, scratch).go()
+        with scratch_folder() as scratch:
+            records = Records(crates, Rt(crates, scratch) if words else Compiler(crates))
+            if records.proved(names) != names:
+                with lock(crates, names):
+                    Build(crates, names, records, scratch).go()
     except Failed:
         return 1
     except KeyboardInterrupt:

@@ -52,7 +52,7 @@ def steps_of(crates, names):
              Step("the tests of the tools", ROOT, [*python, "-m", "unittest", "discover", "-s", "tools/tests"], *SECONDS_OF_TOOLS)]
     of_program = [*crates.below(build.NAME), build.NAME]
     most = build.seconds_to_prove(crates, of_program)
-    steps.append(Step("the proofs of the program and of all below it", ROOT, [*python, build.__file__], most // 2, most))
+    steps.append(Step("the proofs of the program and of all below it", ROOT, [*python, build.__file__, build.BY_RT], most // 2, most))
     steps += [Step(replay, ROOT, [replay], *SECONDS_OF_REPLAYS) for replay in REPLAYS]
     above = [it for it in crates if it in names or any(name in crates.below(it) for name in names)]
     steps += [change.proof(crates, it) for it in above if it not in of_program]

@@ -1,4 +1,5 @@
-"""What try.sh, run.sh, check.sh, planted.sh, package.sh and .ci/quick say and do, on a small repository and with a stand-in for `rt`."""
+"""What try.sh, run.sh, check.sh, planted.sh, package.sh and .ci/quick say and do, on a small repository and with stand-ins for `rt` and
+`rattle`."""
 import os
 import pathlib
 import re
@@ -17,14 +18,24 @@ import planted  # noqa: E402
 from build import Plan  # noqa: E402
 from workplace import most_jobs, width_of_machine  # noqa: E402
 
-# It writes what it was asked in `calls`, makes what the true one makes, and refuses the crates and the edits that are named in `wrong`.
-RT = r'''#!/usr/bin/env -S python3 -B
-import os, pathlib, sys, time
+# Each writes what it was asked in `calls`, makes what the true one makes, and refuses the crates and the edits that are named in `wrong`.
+# The first stands for `rt`, `rattle` and `rattle-link`. `rattle` is killed in the crates that are named in `killed`, but for one job.
+KIT = r'''#!/usr/bin/env -S python3 -B
+import os, pathlib, signal, sys, time
 folder, words = pathlib.Path.cwd(), sys.argv[1:]
 state = pathlib.Path(os.environ["RT_STAND_IN"])
+made = pathlib.Path(words[words.index("-o") + 1]) if "-o" in words else None
+named = lambda file: (state / file).read_text().split() if (state / file).exists() else []
+def make_program(path):
+    path.write_text("#!/bin/sh\necho the program: \"$@\"\n")
+    path.chmod(0o755)
+if pathlib.Path(sys.argv[0]).name == "rattle-link":
+    assert pathlib.Path(words[words.index("-o") + 2]).read_text() == "compiled"
+    make_program(made)
+    sys.exit()
 with (state / "calls").open("a") as calls:
     calls.write(f"{time.monotonic()} {folder.name}: {' '.join(words)}\n")
-wrong = (state / "wrong").read_text().split() if (state / "wrong").exists() else []
+wrong = named("wrong")
 out = folder / "out"
 if words[:1] == ["version"]:
     print("stand-in")
@@ -33,23 +44,29 @@ elif words[:1] == ["try"]:
 elif words[:1] == ["must-fail"]:
     for edit in sorted((folder / "crates" / words[1] / "must-fail").glob("*.edit")):
         print(f"rt: must-fail {words[1]}/{edit.name}: " + ("NOT refused" if edit.name in wrong else "refused, as it must be"))
-elif words[0] in ("lib", "run", "check", "test"):
-    both = [f"{it}: lib" for it in ("left", "right")] if (state / "meet").exists() and words[0] == "lib" and folder.name != "low" else []
+elif words[0] in ("build", "lib", "run", "check", "test"):
+    meets = (state / "meet").exists() and words[0] == "build" and folder.name in ("left", "right")
+    both = [f"{it}: build" for it in ("left", "right")] if meets else []
     until = time.monotonic() + 60
     while not all(it in (state / "calls").read_text() for it in both) and time.monotonic() < until:
         time.sleep(0.05)
     if folder.name in wrong:
         print(f"{folder.name} is wrong")
         sys.exit(1)
+    if folder.name in named("killed") and words[words.index("--jobs") + 1] != "1":
+        os.kill(os.getpid(), signal.SIGKILL)
     (state / f"{folder.name}.niceness").write_text(str(os.getpriority(os.PRIO_PROCESS, 0)))
     if words[0] == "lib":
         (out / "rlib").mkdir(parents=True, exist_ok=True)
         (out / "rlib/stamp").write_text(folder.name)
+    elif "--statements" in words:
+        (made / "toolchain").mkdir(parents=True, exist_ok=True)
+        (made / "toolchain/made.json").write_text(folder.name)
+    elif words[0] == "build":
+        made.write_text("compiled")
     elif words[0] == "run":
         out.mkdir(exist_ok=True)
-        program = out / folder.name
-        program.write_text("#!/bin/sh\necho the program: \"$@\"\n")
-        program.chmod(0o755)
+        make_program(out / folder.name)
 with (state / "calls").open("a") as calls:
     calls.write(f"{time.monotonic()} {folder.name}: ended\n")
 '''
@@ -85,7 +102,8 @@ class Commands(unittest.TestCase):
             write(self.top / f"crates/{name}/src/lib.rt", f"//! {name}.\n")
         write(self.top / "crates/left_tests/src/lib.rt", "#[test]\nfn holds() {}\n")
         write(self.top / "crates/relay960/src/main.rt", "fn main() {}\n")
-        write(self.state / "bin/rt", RT, 0o755)
+        for it in ("rt", "rattle", "rattle-link"):
+            write(self.state / "bin" / it, KIT, 0o755)
         self.env = {**os.environ, "PATH": f"{self.state}/bin:{os.environ['PATH']}", "RT_STAND_IN": str(self.state)}
 
     def run_it(self, *words):
@@ -96,7 +114,7 @@ class Commands(unittest.TestCase):
         write(self.state / "wrong", " ".join(names))
 
     def calls(self):
-        """The calls of `rt` that do some work, with when they began and ended."""
+        """The calls of `rt` and of `rattle` that do some work, with when they began and ended."""
         found, file = [], self.state / "calls"
         for line in file.read_text().splitlines() if file.exists() else []:
             when, _, call = line.partition(" ")
@@ -155,12 +173,28 @@ class Run(Commands):
             write(self.state / "meet", "")
         self.run_it("run.sh", "start", "0")
         calls, jobs = {it[0]: it[1] for it in self.calls()}, r"--jobs [1-4]"
-        for name in ("low", "left"):
-            self.assertRegex(calls[name], rf"^lib {jobs}$")
-        self.assertRegex(calls["right"], r"^lib --jobs 1$" if (self.state / "meet").exists() else rf"^lib {jobs}$")
-        self.assertRegex(calls["relay960"], rf"^run {jobs} -- start 0$")
+        for name in ("low", "left", "relay960"):
+            self.assertRegex(calls[name], rf"^build .* {jobs} ")
+        self.assertRegex(calls["right"], r" --jobs 1 " if (self.state / "meet").exists() else rf" {jobs} ")
         if (self.state / "meet").exists():
             self.assertLess(self.niceness("left"), self.niceness("right"))
+
+    def test_each_crate_is_built_over_the_statements_of_those_below_it(self):
+        self.run_it("run.sh", "start", "0")
+        calls, library = {it[0]: it[1] for it in self.calls()}, f"{self.top}/crates/low/out/statements/low.rlib"
+        self.assertIn(f"--crate-name low src/lib.rt --extern std={self.state}/rlibs/std.rlib --extern arrayvec=", calls["low"])
+        self.assertTrue(calls["low"].endswith(f"--statements -o {library}"), calls["low"])
+        for name in ("left", "right", "relay960"):
+            self.assertIn(f"--extern low={library} ", calls[name])
+        self.assertNotIn("--statements", calls["relay960"])
+
+    def test_a_proof_that_is_killed_is_tried_once_more_with_one_job(self):
+        write(self.state / "killed", "low")
+        done = self.run_it("run.sh", "start", "0")
+        self.assertEqual((done.stdout, done.returncode), ("the program: start 0\n", 0), done.stderr)
+        jobs = [re.search(r"--jobs (\d)", it[1])[1] for it in self.calls() if it[0] == "low"]
+        self.assertEqual(jobs[-1], "1")
+        self.assertEqual("low was killed" in done.stderr, len(jobs) == 2)
 
     def niceness(self, name):
         return int((self.state / f"{name}.niceness").read_text())
@@ -224,6 +258,12 @@ class Check(Commands):
         done = self.run_it("check.sh", "left")
         self.assertRegex(done.stdout.splitlines()[-1], r"^check\.sh: left FAILS at the tests in left_tests")
         self.assertEqual(done.returncode, 1)
+
+    def test_what_run_sh_built_does_not_stand_for_what_rt_builds(self):
+        self.run_it("run.sh", "start", "0")
+        self.calls()
+        self.run_it("check.sh", "left")
+        self.assertEqual([(it[0], it[1].split()[0]) for it in self.calls()], [("low", "lib"), ("left", "check"), ("left_tests", "test")])
 
     def test_the_crates_above_are_proved_where_that_is_asked(self):
         self.run_it("check.sh", "right", "--above")
