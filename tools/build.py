@@ -135,7 +135,7 @@ class Plan:
 def seconds_to_prove(crates, names):
     """About how long the proofs take, by `rt`, of those that are not proved yet, on as many processors as there are."""
     seconds = {it: measured().get(it, SECONDS_UNKNOWN) for it in names}
-    proved = Records(crates, Rt(crates, None)).proved(names)
+    proved = Records(crates, Rt(crates)).proved(names)
     return round(Plan(crates, names, seconds, width_of_machine()).seconds_left(proved, {}))
 
 
@@ -152,7 +152,9 @@ class Build:
         seconds = {it: table.get(it, SECONDS_UNKNOWN) for it in names}
         self.plan = Plan(crates, names, seconds, width_of_machine())
         self.done = dict.fromkeys(records.proved(names), 0)
-        self.running, self.jobs, self.sources = {}, {}, {}
+        self.running, self.jobs = {}, {}
+        # As they were before anything was proved: what stands on a source that changes meanwhile is not recorded.
+        self.sources = {it: records.sum_of_sources(it) for it in names}
         # Those that were let stand back when they began.
         self.waiting = set()
         self.began = self.reported = time.monotonic()
@@ -175,7 +177,6 @@ class Build:
         return sum(self.done[it] for it in new) / sum(self.plan.seconds[it] for it in new) if new else 1
 
     def start(self, name):
-        self.sources[name] = self.records.sum_of_sources(name)
         self.jobs[name] = self.plan.jobs(name, self.done, self.running, self.waiting, most_jobs())
         if self.plan.can_wait(name, self.running):
             self.waiting.add(name)
@@ -183,7 +184,7 @@ class Build:
 
     def run(self, name):
         stand_back = ["nice", "-n", str(NICENESS)] if name in self.waiting else []
-        folder, words = self.maker.begin(name, self.jobs[name])
+        folder, words = self.maker.begin(name, self.jobs[name], self.scratch)
         log = self.scratch / f"{name}.log"
         with log.open("w") as out:
             run = subprocess.Popen([*stand_back, *words], cwd=folder, stdin=subprocess.DEVNULL, stdout=out, stderr=out)
@@ -239,14 +240,14 @@ def main(words):
     for it in ("rt", "rattle"):
         if shutil.which(it) is None:
             sys.exit(f"{it} is not on the PATH: it is a command of the kit that proves the program (README.md)")
+    records = Records(crates, Rt(crates) if words else Compiler(crates))
+    if records.proved(names) == names:
+        return 0
     for it in (signal.SIGTERM, signal.SIGHUP):
         signal.signal(it, lambda number, _: sys.exit(128 + number))
     try:
-        with scratch_folder() as scratch:
-            records = Records(crates, Rt(crates, scratch) if words else Compiler(crates))
-            if records.proved(names) != names:
-                with lock(crates, names):
-                    Build(crates, names, records, scratch).go()
+        with lock(crates, names), scratch_folder() as scratch:
+            Build(crates, names, records, scratch).go()
     except Failed:
         return 1
     except KeyboardInterrupt:

@@ -31,7 +31,7 @@ class Compiler:
         """The file that tells what was made: the program itself, or the library's list of its parts and of their sums."""
         return self.made(name) if self.crates.is_program(name) else self.made(name) / "toolchain/made.json"
 
-    def begin(self, name, jobs):
+    def begin(self, name, jobs, _scratch):
         """Where a crate is proved, with this many jobs, and built, and by which words."""
         made, used = self.made(name), self.crates.uses[name]
         made.parent.mkdir(parents=True, exist_ok=True)
@@ -64,16 +64,16 @@ class Rt:
 
     RECORD = "proved_by_rt"
 
-    def __init__(self, crates, scratch):
-        self.crates, self.scratch, self.places = crates, scratch, {}
+    def __init__(self, crates):
+        self.crates, self.places = crates, {}
 
     def told_of(self, name):
         """The file that tells what was made: the program itself, or the stamp of `rt`."""
         return self.crates.folder(name) / "out" / (name if self.crates.is_program(name) else "rlib/stamp")
 
-    def begin(self, name, jobs):
+    def begin(self, name, jobs, scratch):
         """Where a crate is proved, with this many jobs, and built, and by which words."""
-        place = self.places[name] = Workplace(self.crates, self.scratch, name, keeps=True)
+        place = self.places[name] = Workplace(self.crates, scratch, name, keeps=True)
         words = ["run", "--jobs", str(jobs), "--", "start", "0"] if self.crates.is_program(name) else ["lib", "--jobs", str(jobs)]
         return place.own, ["rt", *words]
 

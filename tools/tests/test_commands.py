@@ -19,7 +19,8 @@ from build import Plan  # noqa: E402
 from workplace import most_jobs, width_of_machine  # noqa: E402
 
 # Each writes what it was asked in `calls`, makes what the true one makes, and refuses the crates and the edits that are named in `wrong`.
-# The first stands for `rt`, `rattle` and `rattle-link`. `rattle` is killed in the crates that are named in `killed`, but for one job.
+# The first stands for `rt`, `rattle` and `rattle-link`. `rattle` is killed in the crates that are named in `killed`, but for one job, and
+# while those that are named in `edited` are proved `low` is edited.
 KIT = r'''#!/usr/bin/env -S python3 -B
 import os, pathlib, signal, sys, time
 folder, words = pathlib.Path.cwd(), sys.argv[1:]
@@ -53,6 +54,8 @@ elif words[0] in ("build", "lib", "run", "check", "test"):
     if folder.name in wrong:
         print(f"{folder.name} is wrong")
         sys.exit(1)
+    if folder.name in named("edited"):
+        (folder.parent / "low/src/lib.rt").write_text("//! low, edited.\n")
     if folder.name in named("killed") and words[words.index("--jobs") + 1] != "1":
         os.kill(os.getpid(), signal.SIGKILL)
     (state / f"{folder.name}.niceness").write_text(str(os.getpriority(os.PRIO_PROCESS, 0)))
@@ -233,6 +236,14 @@ class Run(Commands):
         write(self.top / "crates/right/src/lib.rt", "//! right, changed.\n")
         self.run_it("run.sh", "start", "1")
         self.assertEqual({it[0] for it in self.calls()}, {"right", "relay960"})
+
+    def test_what_stands_on_a_crate_that_is_edited_meanwhile_is_proved_again(self):
+        write(self.state / "edited", "left")
+        self.run_it("run.sh", "start", "0")
+        self.calls()
+        (self.state / "edited").unlink()
+        self.run_it("run.sh", "start", "0")
+        self.assertLessEqual({"low", "left", "relay960"}, {it[0] for it in self.calls()})
 
     def test_a_crate_that_is_not_proved_starts_no_program(self):
         self.is_wrong("left")
