@@ -4,8 +4,8 @@
 With `--by-rt` it does so as `rt check` and `rt test` need it afterwards (`makers.py` has both ways), and with names of crates it proves in
 that way what is below these alone.
 
-A crate after which much less is to come than after another beside it can wait: it has one job, since several take more processor time
-together, and stands back for the others. Each of these has as it begins an equal share of jobs for all processors.
+The whole takes as long as its longest chain of crates. So the crate with the most to come after it has precedence: all beside it stand back
+for processors, and work on what it leaves idle.
 
 All output goes to standard error, and the status is 0 if everything is proved. For a crate that is proved a file in `out/` keeps a sum of
 everything that it was made from and one of what was made. If both still hold, it is not proved again.
@@ -26,9 +26,13 @@ from workplace import lock, most_jobs, scratch_folder, width_of_machine
 NAME = "relay960"
 BY_RT = "--by-rt"
 SECONDS_BETWEEN_REPORTS = 30
-# By how much the crates that can wait stand back for processors, and than which part of the longest way theirs is shorter.
+# By how much all but the crate with the longest way stand back for processors.
 NICENESS = 10
-SHARE_OF_THOSE_THAT_CAN_WAIT = 0.75
+# Than which part of the longest way that of a crate is shorter that can wait, and how many jobs it has at most.
+SHARE_OF_THOSE_THAT_CAN_WAIT = 0.6
+JOBS_OF_THOSE_THAT_CAN_WAIT = 2
+# Which part of the seconds that proofs take one after another they took side by side (`tools/seconds.txt`).
+SHARE_SIDE_BY_SIDE = 0.7
 
 
 def say(text):
@@ -91,41 +95,40 @@ def sum_of_file(path):
 class Plan:
     """In which order the crates are proved, and how long that takes."""
 
-    def __init__(self, crates, names, seconds, width):
+    def __init__(self, crates, names, seconds):
         self.below = {name: [it for it in crates.below(name) if it in names] for name in names}
-        self.seconds, self.width, self.weights = seconds, width, {}
-        for name in reversed(names):
-            above = [self.weights[it] for it in names if name in self.below[it]]
-            self.weights[name] = seconds[name] + max(above, default=0)
+        self.seconds = {name: seconds.get(name, SECONDS_UNKNOWN) for name in names}
+        self.ways = self.ways_of(self.seconds)
+
+    def ways_of(self, seconds):
+        """How long the longest chain takes that begins with each of these crates, in which each depends on the one before."""
+        ways = {}
+        for name in reversed(seconds):
+            ways[name] = seconds[name] + max((way for it, way in ways.items() if name in self.below[it]), default=0)
+        return ways
+
+    def longest(self, names):
+        return max((self.ways[it] for it in names), default=0)
 
     def ready(self, done, running):
-        """The crates that can begin, the one with the longest way above it first."""
+        """The crates that can begin, the one with the longest way first."""
         found = [it for it in self.below if it not in done and it not in running and all(b in done for b in self.below[it])]
-        return sorted(found, key=lambda it: -self.weights[it])
+        return sorted(found, key=lambda it: -self.ways[it])
 
-    def can_wait(self, name, running):
-        """Whether much less is to come after a crate than after one that runs."""
-        return self.weights[name] < SHARE_OF_THOSE_THAT_CAN_WAIT * max((self.weights[it] for it in running), default=0)
+    def leads(self, name, running):
+        """Whether no crate that runs has a longer way than this one."""
+        return self.ways[name] >= self.longest(running)
 
-    def jobs(self, name, done, running, waiting, most):
-        """How many jobs a crate gets that begins now, where `most` are to be had: one if it can wait, and else its share among those that
-        run or could and do not stand back, as those do that are `waiting`."""
-        if self.can_wait(name, running):
-            return 1
-        beside = {name, *running, *self.ready(done, running)} - waiting
-        return max(most // sum(not self.can_wait(it, beside) for it in beside), 1)
+    def jobs(self, name, running, most):
+        """How many jobs a crate gets that begins now, where `most` are to be had: few if one that runs has a way so much longer that this
+        one can wait."""
+        can_wait = self.ways[name] < SHARE_OF_THOSE_THAT_CAN_WAIT * self.longest(running)
+        return min(most, JOBS_OF_THOSE_THAT_CAN_WAIT) if can_wait else most
 
     def seconds_left(self, done, running):
-        """About how long the rest takes; `running` has the seconds for which each crate has run."""
-        done, now = set(done), 0.0
-        ends = {it: max(self.seconds[it] - ran, 1) for it, ran in running.items()}
-        while len(done) < len(self.below):
-            for it in self.ready(done, ends)[: max(self.width - len(ends), 0)]:
-                ends[it] = now + self.seconds[it]
-            first = min(ends, key=ends.get)
-            now = ends.pop(first)
-            done.add(first)
-        return now
+        """About how long the rest takes on four idle processors; `running` has the seconds for which each crate has run."""
+        left = {it: max(took - running.get(it, 0), 1) for it, took in self.seconds.items() if it not in done}
+        return max(*self.ways_of(left).values(), SHARE_SIDE_BY_SIDE * sum(left.values()), 0)
 
     def share(self, done):
         """Which part of the whole work is done, in per cent."""
@@ -133,10 +136,9 @@ class Plan:
 
 
 def seconds_to_prove(crates, names):
-    """About how long the proofs take, by `rt`, of those that are not proved yet, on as many processors as there are."""
-    seconds = {it: measured().get(it, SECONDS_UNKNOWN) for it in names}
+    """About how long the proofs take of those that `rt` has not proved yet, on four idle processors."""
     proved = Records(crates, Rt(crates)).proved(names)
-    return round(Plan(crates, names, seconds, width_of_machine()).seconds_left(proved, {}))
+    return round(Plan(crates, names, measured()).seconds_left(proved, {}))
 
 
 class Failed(Exception):
@@ -148,10 +150,8 @@ class Build:
 
     def __init__(self, crates, names, records, scratch):
         self.records, self.maker, self.scratch = records, records.maker, scratch
-        table = measured()
-        seconds = {it: table.get(it, SECONDS_UNKNOWN) for it in names}
-        self.plan = Plan(crates, names, seconds, width_of_machine())
-        self.done = dict.fromkeys(records.proved(names), 0)
+        self.plan, self.width = Plan(crates, names, measured()), width_of_machine()
+        self.done = set(records.proved(names))
         self.running, self.jobs = {}, {}
         # As they were before anything was proved: what stands on a source that changes meanwhile is not recorded.
         self.sources = {it: records.sum_of_sources(it) for it in names}
@@ -167,18 +167,18 @@ class Build:
     def report(self, what):
         self.reported = time.monotonic()
         ran = {it: time.monotonic() - begun for it, (_, _, begun) in self.running.items()}
-        left = self.plan.seconds_left(self.done, ran) * self.slowness()
+        left = self.plan.seconds_left(self.done, ran)
+        left *= self.slowness(self.expected - left)
         place = f"{len(self.done)} of {len(self.plan.below)} crates, {self.plan.share(self.done)} % of the work"
         say(f"{self.clock()}  {what}: {place}; now {', '.join(self.running) or 'none'}; about {minutes(left)} left")
 
-    def slowness(self):
-        """How many times the measured time the finished crates took, without those that were proved before."""
-        new = [it for it, took in self.done.items() if took > 10]
-        return sum(self.done[it] for it in new) / sum(self.plan.seconds[it] for it in new) if new else 1
+    def slowness(self, seconds):
+        """How many times as long it has taken so far as these, which were expected."""
+        return (time.monotonic() - self.began) / seconds if seconds > SECONDS_BETWEEN_REPORTS else 1
 
     def start(self, name):
-        self.jobs[name] = self.plan.jobs(name, self.done, self.running, self.waiting, most_jobs())
-        if self.plan.can_wait(name, self.running):
+        self.jobs[name] = self.plan.jobs(name, self.running, most_jobs())
+        if not self.plan.leads(name, self.running):
             self.waiting.add(name)
         self.run(name)
 
@@ -204,7 +204,7 @@ class Build:
             say(log.read_text(errors="replace").rstrip())
             raise Failed(name)
         self.records.note(name, self.sources[name])
-        self.done[name] = took
+        self.done.add(name)
         self.report(f"{name} is proved, in {took:.0f} s")
 
     def stop(self):
@@ -220,7 +220,7 @@ class Build:
         say(f"{self.clock()}  {len(self.plan.below)} crates{known}; {about}")
         try:
             while len(self.done) < len(self.plan.below):
-                for name in self.plan.ready(self.done, self.running)[: self.plan.width - len(self.running)]:
+                for name in self.plan.ready(self.done, self.running)[: self.width - len(self.running)]:
                     self.start(name)
                     say(f"{self.clock()}  {name} begins, {minutes(self.plan.seconds[name])} from nothing")
                 time.sleep(0.2)

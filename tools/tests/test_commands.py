@@ -169,16 +169,16 @@ class Run(Commands):
         if (self.state / "meet").exists():
             self.assertLess(max(calls["left"][2], calls["right"][2]), min(calls["left"][3], calls["right"][3]), "not side by side")
 
-    def test_a_crate_that_can_wait_has_one_job_and_stands_back(self):
-        """`left` takes longer than `right`, which runs beside it if there is memory for two, and can wait. How many jobs others have depends
-        on the memory that is free."""
+    def test_a_crate_that_can_wait_has_two_jobs_and_stands_back(self):
+        """`left` takes longer than `right`, which runs beside it if there is memory for two, and can wait. How many jobs others have
+        depends on the memory that is free."""
         if width_of_machine() > 1:
             write(self.state / "meet", "")
         self.run_it("run.sh", "start", "0")
         calls, jobs = {it[0]: it[1] for it in self.calls()}, r"--jobs [1-4]"
         for name in ("low", "left", "relay960"):
             self.assertRegex(calls[name], rf"^build .* {jobs} ")
-        self.assertRegex(calls["right"], r" --jobs 1 " if (self.state / "meet").exists() else rf" {jobs} ")
+        self.assertRegex(calls["right"], r" --jobs [12] " if (self.state / "meet").exists() else rf" {jobs} ")
         if (self.state / "meet").exists():
             self.assertLess(self.niceness("left"), self.niceness("right"))
 
@@ -202,25 +202,47 @@ class Run(Commands):
     def niceness(self, name):
         return int((self.state / f"{name}.niceness").read_text())
 
-    def test_a_crate_has_its_share_of_the_jobs_unless_it_can_wait(self):
+    def plan(self, **seconds):
         """All stand on `low`, and `top` on all."""
         below = {"low": [], "left": ["low"], "right": ["low"], "short": ["low"], "top": ["low", "left", "right", "short"]}
-        seconds = {"low": 50, "left": 200, "right": 180, "short": 20, "top": 100}
-        plan = Plan(mock.Mock(below=below.get), list(below), seconds, 4)
-        for name, done, running, waiting, jobs, waits in (
-            ("low", [], [], [], 4, False),
-            # These two share, since `short` can wait.
-            ("left", ["low"], [], [], 2, False),
-            ("right", ["low"], ["left"], [], 2, False),
-            ("right", ["low", "left"], ["short"], ["short"], 4, False),
-            # Whoever stands back has no share, also if as much is to come after it.
-            ("right", ["low"], ["left"], ["left"], 4, False),
-            ("short", ["low"], ["left", "right"], [], 1, True),
-            ("short", ["low", "left", "right"], [], [], 4, False),
+        return Plan(mock.Mock(below=below.get), list(below), seconds)
+
+    def test_the_crate_with_the_longest_way_leads_and_one_with_a_much_shorter_way_has_few_jobs(self):
+        plan = self.plan(low=50, left=200, right=180, short=20, top=100)
+        for name, running, jobs, leads in (
+            ("low", [], 4, True),
+            ("left", [], 4, True),
+            ("right", ["left"], 4, False),
+            ("left", ["right"], 4, True),
+            ("short", ["left", "right"], 2, False),
+            ("short", ["right"], 2, False),
+            ("short", [], 4, True),
         ):
-            with self.subTest(name=name, running=running, waiting=waiting):
-                self.assertEqual(plan.jobs(name, done, running, set(waiting), 4), jobs)
-                self.assertEqual(plan.can_wait(name, running), waits)
+            with self.subTest(name=name, running=running):
+                self.assertEqual((plan.jobs(name, running, 4), plan.leads(name, running)), (jobs, leads))
+        self.assertEqual(plan.jobs("short", ["left"], 1), 1)
+
+    def test_the_crate_with_the_longest_way_begins_first(self):
+        plan = self.plan(low=50, left=180, right=200, short=20, top=100)
+        self.assertEqual(plan.ready(set(), []), ["low"])
+        self.assertEqual(plan.ready({"low"}, []), ["right", "left", "short"])
+        self.assertEqual(plan.ready({"low"}, ["right"]), ["left", "short"])
+        self.assertEqual(plan.ready({"low", "right", "left", "short"}, []), ["top"])
+
+    def test_what_is_left_takes_as_long_as_its_longest_chain_and_as_all_of_it_on_four_processors(self):
+        chain = self.plan(low=50, left=200, right=20, short=10, top=100)
+        work = self.plan(low=50, left=200, right=180, short=20, top=100)
+        for plan, done, running, seconds in (
+            (chain, [], {}, 350),
+            (chain, ["low"], {"left": 150}, 150),
+            (work, [], {}, 0.7 * 550),
+            (work, ["low", "left"], {"right": 100}, 180),
+            # A crate that takes longer than was measured may end at any time.
+            (work, ["low", "left", "right", "short"], {"top": 130}, 1),
+            (work, ["low", "left", "right", "short", "top"], {}, 0),
+        ):
+            with self.subTest(done=done, running=running):
+                self.assertAlmostEqual(plan.seconds_left(done, running), seconds)
 
     def test_a_proof_has_no_more_jobs_than_processors_and_than_fit_into_memory(self):
         for processors, gigabytes, jobs in ((4, 16, 4), (2, 16, 2), (16, 64, 4), (4, 6, 2), (4, 4, 1), (4, 1, 1)):
