@@ -69,5 +69,5 @@ pub record WasMade (who : Owner) (opened : List (List ℕ)) (step : Step) (reply
   pub made : IsRepliedBy before.floor who opened step reply handed after.floor now
 
 -- a run led to a hall that tells this owner whether any board belongs to it
-abbrev pub IsToldOwner : Owner → Bool → Type 0
-IsToldOwner who owns = (k : HallRecord) × IsReached k × (owns ≡ tells_of k.floor who OwnsAny)
+abbrev pub OwnsAnyThen : Owner → Bool → Type 0
+OwnsAnyThen who owns = (k : HallRecord) × IsReached k × (owns ≡ tells_of k.floor who OwnsAny)

@@ -14,7 +14,7 @@ use Rattle.relay_frames.specs.declared.event.Event.{Event}
 use Rattle.relay_frames.specs.declared.event.Event.TheVariants as events
 use Rattle.relay_hall.specs.declared.handed.Handed.{Handed}
 use Rattle.relay_hall.specs.declared.owner.Owner.{Owner}
-use Rattle.relay_registry.specs.Holds.{IsToldOwner, WasMade}
+use Rattle.relay_registry.specs.Holds.{OwnsAnyThen, WasMade}
 use Rattle.relay_loops.specs.declared.ends.SessionEnd.{SessionEnd}
 use Rattle.relay_loops.specs.declared.ends.SessionEnd.TheVariants as ends
 use Rattle.relay_loops.specs.Spectating.{HasBeenTold, Spectated}
@@ -75,7 +75,7 @@ Conversed texts _ = ⊤
 
 -- no board belongs to a connection: it opened none, and if it has a key, one hold of the lock said so
 abbrev pub OwnsNoBoard : Owner → List (List ℕ) → Type 0
-OwnsNoBoard who opened = (opened ≡ []) × MatchOption who.key ⊤ (λ key. IsToldOwner who false)
+OwnsNoBoard who opened = (opened ≡ []) × MatchOption who.key ⊤ (λ key. OwnsAnyThen who false)
 
 -- a peer that is sent away because it sent nothing for too long owns nothing
 abbrev pub IsSentAway : Owner → TalkEnd → List (List ℕ) → Type 0

@@ -25,10 +25,10 @@ use relay_streams::{
     is_want_of_memory,
 };
 use std::alloc::{AllocError, Global};
+use std::io;
 use std::io::{Read, Write};
 use std::sync::{Arc, Wait};
 use std::time::{Clock, Duration};
-use tungstenite::Error;
 
 /// The close code after `Over`, and if the greatest number of messages was read: a normal end (RFC 6455, section 7.4.1).
 const NORMAL: u16 = 1000;
@@ -197,7 +197,7 @@ fn shake_hands<C: Clock, S: Stream + Drop>(
 ) -> Result<Arrival<S>, SessionEnd> {
     let Request { head, acceptance } = receive(clock, alloc, &mut stream)?;
     if let Err(error) = stream.bound_reads(Some(Duration::from_secs(MOST_SILENT_SECONDS))) {
-        return Err(end_unshaken(&Error::Io(error)));
+        return Err(end_unshaken(&error));
     }
     let key = if registry.takes_keys() {
         key_of(head.request())
@@ -231,7 +231,7 @@ fn welcome<S: Read + Write + Drop>(
 }
 
 /// How a session ends if its handshake failed: for lack of memory, or because there was no handshake.
-pub(crate) fn end_unshaken(error: &Error) -> SessionEnd
+pub(crate) fn end_unshaken(error: &io::Error) -> SessionEnd
     ensures failed { (result ≡ SessionEnd.Failed) ↔ LacksMemory error.now }
     ensures none { (result ≡ SessionEnd.NoHandshake) ↔ (LacksMemory error.now → ⊥) }
 {

@@ -7,6 +7,7 @@ ghost use Rattle.relay_streams.specs.Dues.{IsStillDue};
 ghost use Rattle.relay_streams.specs.Hearing.{TakesIn, TakesNone};
 
 use crate::deadline::Deadline;
+use crate::memory::want_of_memory;
 use crate::outlet::SocketOutlet;
 use crate::stream::Stream;
 use relay_frames::Event;
@@ -14,7 +15,6 @@ use std::alloc::AllocError;
 use std::io;
 use std::io::{ErrorKind, Read, Write};
 use std::time::{Clock, Duration};
-use tungstenite::Error;
 
 /// How many pings in a row are sent to a peer that stays silent.
 const MOST_PINGS: u32 = 2;
@@ -31,7 +31,7 @@ const READ_BYTES: usize = 4096;
 impl<S: Read + Write + Drop> SocketOutlet<S> {
     /// Reads the stream once. A peer that was silent for as long as a read waits is sent a ping, and then another one. If it is still
     /// silent after that, it is taken to have gone.
-    fn wait_for(&mut self, bytes: &mut [u8]) -> Result<usize, Error>
+    fn wait_for(&mut self, bytes: &mut [u8]) -> io::Result<usize>
         ensures bound { IfOk result (λ n. n ≤ length bytes.new) }
         ensures texts { self.new.texts ≡ self.old.texts }
         ensures due { self.new.due ≡ self.old.due }
@@ -39,11 +39,11 @@ impl<S: Read + Write + Drop> SocketOutlet<S> {
         for _ in 0..MOST_PINGS {
             let heard = self.buffered.read(bytes);
             if !is_silence(&heard) {
-                return Ok(heard?);
+                return heard;
             }
             self.ping()?;
         }
-        Ok(self.buffered.read(bytes)?)
+        self.buffered.read(bytes)
     }
 
     /// Reads once from a stream that does not wait, and feeds what came to the peer's reader. Returns how many bytes came.
@@ -61,7 +61,7 @@ impl<S: Read + Write + Drop> SocketOutlet<S> {
         let n = self.buffered.read_on(&mut piece)?;
         match self.peer.feed(&piece[..n]) {
             Ok(()) => Ok(n),
-            Err(_) => Err(io::Error::from(ErrorKind::OutOfMemory)),
+            Err(error) => Err(want_of_memory(error)),
         }
     }
 
@@ -93,8 +93,8 @@ impl<S: Stream + Drop> SocketOutlet<S> {
     ///
     /// # Errors
     ///
-    /// There was no memory.
-    pub fn next_whole(&mut self) -> Result<Option<Event>, AllocError>
+    /// There was no memory (`OutOfMemory`).
+    pub fn next_whole(&mut self) -> io::Result<Option<Event>>
         ensures texts { self.new.texts ≡ self.old.texts }
         ensures buffered { self.new.buffered ≡ self.old.buffered }
         ensures due { self.new.is_in_fragments ≡ true → self.new.due ≡ self.old.due }
@@ -102,7 +102,7 @@ impl<S: Stream + Drop> SocketOutlet<S> {
         ensures err { OnErr result (self.new.due ≡ self.old.due) }
     {
         for _ in 0..u64::MAX {
-            match self.peer.next()? {
+            match self.peer.next().map_err(want_of_memory)? {
                 Some(Event::Fragment) => self.is_in_fragments = true,
                 Some(event) => {
                     self.heard(&event);
@@ -120,7 +120,7 @@ impl<S: Stream + Drop> SocketOutlet<S> {
     ///
     /// The stream failed or ended, with the kind `WouldBlock` or `TimedOut` if the peer has gone or takes too long over a message; or there
     /// was no memory.
-    pub fn read<C: Clock>(&mut self, clock: &C) -> Result<Event, Error>
+    pub fn read<C: Clock>(&mut self, clock: &C) -> io::Result<Event>
         ensures texts { self.new.texts ≡ self.old.texts }
         ensures due { self.new.is_in_fragments ≡ true → IsStillDue self.old.due self.new.due }
     {
@@ -130,7 +130,7 @@ impl<S: Stream + Drop> SocketOutlet<S> {
             }
             self.fill(clock)?;
         }
-        Err(Error::Io(io::Error::from(ErrorKind::TimedOut)))
+        Err(io::Error::from(ErrorKind::TimedOut))
     }
 
     /// A message is complete, unless it was a frame between the fragments of one: what comes next has its own time.
@@ -149,7 +149,7 @@ impl<S: Stream + Drop> SocketOutlet<S> {
     }
 
     /// Feeds what came to the peer's reader.
-    fn fill<C: Clock>(&mut self, clock: &C) -> Result<(), Error>
+    fn fill<C: Clock>(&mut self, clock: &C) -> io::Result<()>
         ensures texts { self.new.texts ≡ self.old.texts }
         ensures due { IsStillDue self.old.due self.new.due }
     {
@@ -160,14 +160,13 @@ impl<S: Stream + Drop> SocketOutlet<S> {
             self.wait_for(&mut bytes)?
         };
         if n == 0 {
-            return Err(Error::Io(io::Error::from(ErrorKind::UnexpectedEof)));
+            return Err(io::Error::from(ErrorKind::UnexpectedEof));
         }
-        self.peer.feed(&bytes[..n])?;
-        Ok(())
+        self.peer.feed(&bytes[..n]).map_err(want_of_memory)
     }
 
     /// Reads the stream once in the middle of a message. The whole message has ten seconds, however often some of it arrives.
-    fn wait_for_rest<C: Clock>(&mut self, clock: &C, bytes: &mut [u8]) -> Result<usize, Error>
+    fn wait_for_rest<C: Clock>(&mut self, clock: &C, bytes: &mut [u8]) -> io::Result<usize>
         ensures bound { IfOk result (λ n. n ≤ length bytes.new) }
         ensures texts { self.new.texts ≡ self.old.texts }
         ensures due { IsStillDue self.old.due self.new.due }

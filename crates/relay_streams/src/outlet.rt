@@ -14,7 +14,7 @@ ghost use Rattle.relay_streams.specs.Memory.{IsToldOf};
 use crate::buffered_stream::BufferedStream;
 use crate::deadline::Deadline;
 use crate::drain::end_and_drain;
-use crate::memory::is_want_of_memory;
+use crate::memory::{is_want_of_memory, want_of_memory};
 use crate::stream::Stream;
 use crate::texts::Texts;
 use relay_frames::{Breach, Code, Peer, outgoing};
@@ -24,7 +24,6 @@ use std::io;
 use std::io::{Read, Write};
 use std::marker::Model;
 use std::time::Clock;
-use tungstenite::Error;
 
 /// How many bytes at least are kept back for a peer that is pushed to by turns, before it has no room.
 const ROOM_BYTES: usize = 4096;
@@ -76,7 +75,7 @@ impl<S: Read + Write + Drop> SocketOutlet<S> {
     }
 
     /// Writes a ping (RFC 6455, section 5.5.2). It leaves before the next read waits.
-    pub fn ping(&mut self) -> Result<(), Error>
+    pub fn ping(&mut self) -> io::Result<()>
         ensures given { OnOk result (Appends (written S.contents self.old.buffered) (written S.contents self.new.buffered) (ping_frame [])) }
         ensures ungiven { OnErr result (Keeps (written S.contents self.old.buffered) (written S.contents self.new.buffered)) }
         ensures peer { self.new.peer ≡ self.old.peer }
@@ -84,9 +83,8 @@ impl<S: Read + Write + Drop> SocketOutlet<S> {
         ensures due { self.new.due ≡ self.old.due }
     {
         let mut frame = Vec::new(self.alloc);
-        outgoing::ping(b"", &mut frame)?;
-        self.buffered.put(frame.as_slice())?;
-        Ok(())
+        outgoing::ping(b"", &mut frame).map_err(want_of_memory)?;
+        self.buffered.put(frame.as_slice())
     }
 
     /// Answers a ping with a pong that has its bytes (RFC 6455, section 5.5.3). It leaves before the next read waits.
@@ -94,16 +92,15 @@ impl<S: Read + Write + Drop> SocketOutlet<S> {
     /// # Errors
     ///
     /// The stream took no more, or there was no memory.
-    pub fn pong(&mut self, payload: &[u8]) -> Result<(), Error>
+    pub fn pong(&mut self, payload: &[u8]) -> io::Result<()>
         ensures given { OnOk result (Appends (written S.contents self.old.buffered) (written S.contents self.new.buffered) (pong_frame payload.now)) }
         ensures ungiven { OnErr result (Keeps (written S.contents self.old.buffered) (written S.contents self.new.buffered)) }
         ensures peer { self.new.peer ≡ self.old.peer }
         ensures texts { self.new.texts ≡ self.old.texts }
     {
         let mut frame = Vec::new(self.alloc);
-        outgoing::pong(payload, &mut frame)?;
-        self.buffered.put(frame.as_slice())?;
-        Ok(())
+        outgoing::pong(payload, &mut frame).map_err(want_of_memory)?;
+        self.buffered.put(frame.as_slice())
     }
 
     /// Offers the stream what is kept back, in one write.
@@ -134,7 +131,7 @@ impl<S: Read + Write + Drop> SocketOutlet<S> {
     /// # Errors
     ///
     /// The stream took no more, or there was no memory.
-    fn hand_over(&mut self, text: &str) -> Result<(), Error>
+    fn hand_over(&mut self, text: &str) -> io::Result<()>
         ensures noted { OnOk result (self.new.texts ≡ self.old.texts ++ text.now ∷ []) }
         ensures given { OnOk result (Appends (written S.contents self.old.buffered) (written S.contents self.new.buffered) (text_frame text.now)) }
         ensures unnoted { OnErr result (self.new.texts ≡ self.old.texts) }
@@ -150,7 +147,7 @@ impl<S: Read + Write + Drop> SocketOutlet<S> {
     /// # Errors
     ///
     /// The stream took no more, or there was no memory.
-    pub fn put_close(&mut self, code: Option<Code>) -> Result<(), Error>
+    pub fn put_close(&mut self, code: Option<Code>) -> io::Result<()>
         ensures given { OnOk result (Appends (written S.contents self.old.buffered) (written S.contents self.new.buffered) (close_frame (number_of code))) }
         ensures ungiven { OnErr result (Keeps (written S.contents self.old.buffered) (written S.contents self.new.buffered)) }
         ensures peer { self.new.peer ≡ self.old.peer }
@@ -158,9 +155,8 @@ impl<S: Read + Write + Drop> SocketOutlet<S> {
         ensures failures { self.new.failures ≡ self.old.failures }
     {
         let mut frame = Vec::new(self.alloc);
-        outgoing::close(code, &mut frame)?;
-        self.buffered.put(frame.as_slice())?;
-        Ok(())
+        outgoing::close(code, &mut frame).map_err(want_of_memory)?;
+        self.buffered.put(frame.as_slice())
     }
 
     /// Puts the frame of the close that reports a peer's breach into the buffer.
@@ -168,7 +164,7 @@ impl<S: Read + Write + Drop> SocketOutlet<S> {
     /// # Errors
     ///
     /// The stream took no more, or there was no memory.
-    pub fn put_breach(&mut self, breach: Breach) -> Result<(), Error>
+    pub fn put_breach(&mut self, breach: Breach) -> io::Result<()>
         ensures given { OnOk result (Appends (written S.contents self.old.buffered) (written S.contents self.new.buffered) (close_frame (Some (code_of breach)))) }
         ensures texts { self.new.texts ≡ self.old.texts }
     {
@@ -187,8 +183,8 @@ impl<S: Read + Write + Drop> SocketOutlet<S> {
         SendFault::Device
     }
 
-    /// The result of a call of the socket. A failure of the device is counted; lack of memory is not one.
-    fn counted(&mut self, done: Result<(), Error>) -> Result<(), SendFault>
+    /// The result of a call of the stream. A failure of the device is counted; lack of memory is not one.
+    fn counted(&mut self, done: io::Result<()>) -> Result<(), SendFault>
         ensures told { IsToldOf done result }
         ensures counts { Counts self.old.failures self.new.failures result }
         ensures texts { self.new.texts ≡ self.old.texts }
@@ -205,7 +201,7 @@ impl<S: Read + Write + Drop> SocketOutlet<S> {
         ensures counts { Counts self.old.failures self.new.failures result }
         ensures texts { self.new.texts ≡ self.old.texts }
     {
-        let sent = self.buffered.send_now().map_err(Error::Io);
+        let sent = self.buffered.send_now();
         self.counted(sent)
     }
 }

@@ -2,7 +2,7 @@
 
 ghost use Rattle.std.specs.Prelude.{◌≡◌, None, false, IfOk, MatchOption, OnErr};
 ghost use Rattle.relay_hall.specs.Steps.{in_full};
-ghost use Rattle.relay_registry.specs.Holds.{IsToldOwner, WasMade};
+ghost use Rattle.relay_registry.specs.Holds.{OwnsAnyThen, WasMade};
 
 use crate::chronicle::What;
 use crate::lobby::Lobby;
@@ -68,7 +68,7 @@ impl Registry {
 
     /// Whether any board was opened with the key of this connection. Without a key none was, and no lock is taken.
     pub fn owns_any<R: Wait>(&self, rt: &R, who: &Owner) -> bool
-        ensures { MatchOption who.now.key (result ≡ false) (λ _. IsToldOwner who.now result) }
+        ensures { MatchOption who.now.key (result ≡ false) (λ _. OwnsAnyThen who.now result) }
     {
         match &who.key {
             Some(_) => self.house.lobby.lock(rt).owns_any(who),

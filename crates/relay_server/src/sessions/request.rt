@@ -10,7 +10,6 @@ use relay_streams::{HeadFault, Request, Stream, read_request, refuse};
 use std::alloc::Global;
 use std::str;
 use std::time::Clock;
-use tungstenite::Error;
 
 /// Reads a request that is accepted. One that is refused is answered, and then the connection ends.
 pub(crate) fn receive<C: Clock, S: Stream>(
@@ -24,7 +23,7 @@ pub(crate) fn receive<C: Clock, S: Stream>(
 {
     match read_request(clock, alloc, stream) {
         Ok(request) => Ok(request),
-        Err(HeadFault::Stream(error)) => Err(end_unshaken(&Error::Io(error))),
+        Err(HeadFault::Stream(error)) => Err(end_unshaken(&error)),
         Err(HeadFault::Refused(refusal)) => {
             let _ = refuse(clock, stream, refusal);
             Err(SessionEnd::NoHandshake)

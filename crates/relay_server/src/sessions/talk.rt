@@ -16,9 +16,9 @@ use relay_pushing::{Conn, Gate, Outlet};
 use relay_registry::Registry;
 use relay_streams::{Patience, SocketOutlet, Stream};
 use std::alloc::Global;
+use std::io;
 use std::sync::Wait;
 use std::time::Clock;
-use tungstenite::Error;
 
 /// How many messages a session reads.
 const MOST_MESSAGES: u32 = 1_000_000;
@@ -146,7 +146,7 @@ impl<'a, 'g, R: Wait, S: Stream + Drop, G: Gate> Talk<'a, 'g, R, S, G> {
     /// # Errors
     ///
     /// As `SocketOutlet::read`.
-    fn read<C: Clock>(&mut self, clock: &C) -> Result<Event, Error>
+    fn read<C: Clock>(&mut self, clock: &C) -> io::Result<Event>
         ensures conn { self.new.conn ≡ self.old.conn }
         ensures owner { self.new.owner ≡ self.old.owner }
         ensures texts { self.new.outlet.texts ≡ self.old.outlet.texts }
