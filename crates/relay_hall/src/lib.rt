@@ -1,6 +1,6 @@
-//! A hall: all boards of a server, who opened each, and the keys of their owners, as one value that one caller owns. Its answers are a
-//! function of what it was told, but for lack of memory, the numbers of new boards' tables, and which slots of a board are free. It takes no
-//! lock, opens no socket, reads no clock and waits for nobody.
+//! A hall: all boards of a server, who opened each, and the keys of their owners, as one value that one caller owns. Its answers, and its
+//! boards after each call, are a function of what it was told, but for lack of memory, the numbers of new boards' tables, and the slots
+//! that other threads free. It takes no lock, opens no socket, reads no clock and waits for nobody.
 #![tactic(auto)]
 
 mod boards;

@@ -24,9 +24,9 @@ use std::time::Duration;
 /// How many milliseconds a second has.
 const SECOND_MILLIS: u64 = 1000;
 
-/// The boards of a server. Its lock is taken once for each step of a connection or, by the main port's loop, for some events of one; once for
-/// each that comes, twice for each that goes, and for each look at a board. While it is held no socket is waited for, nobody is woken, and no
-/// other lock is taken. Contracts see its limits.
+/// The boards of a server. Its lock is taken for each step of a connection, or by the main port's loop for some events of one; as one with
+/// a key comes, and as one with a key or a board goes, once or more each; as time passes; and for each look at a board. While it is held no
+/// socket is waited for, nobody is woken, and no other lock is taken. Contracts see its limits.
 #[derive(Drop)]
 pub struct Registry {
     alloc: Global,

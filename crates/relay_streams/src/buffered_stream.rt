@@ -7,6 +7,7 @@ ghost use Rattle.relay_frames.specs.Frames.{text_frame};
 ghost use Rattle.relay_streams.specs.BufferedStreams.{IsOffered, IsSilent, ReadsLast, ReadsOn, Sends, written};
 
 use crate::head::Head;
+use crate::memory::want_of_memory;
 use crate::stream::{Stream, read_some};
 use crate::writing::{remove_front, write_first, write_out};
 use relay_frames::outgoing;
@@ -218,7 +219,7 @@ impl<S: Read + Write> BufferedStream<S> {
                 self.is_stuck = false;
                 Ok(())
             }
-            Err(_) => Err(io::Error::from(ErrorKind::OutOfMemory)),
+            Err(error) => Err(want_of_memory(error)),
         }
     }
 }

@@ -3,6 +3,7 @@
 ghost use Rattle.std.specs.Prelude.{◌≡◌, ◌≤◌, ◌<◌, ◌++◌, [], length, take, IfOk};
 
 use crate::deadline::Deadline;
+use crate::memory::want_of_memory;
 use crate::stream::{Stream, read_some};
 use relay_frames::{MOST_HEAD_BYTES, RequestRefusal, end_of_head};
 use std::alloc::Global;
@@ -150,6 +151,6 @@ fn read_more<S: Stream>(stream: &mut S, bytes: &mut Vec<u8>) -> io::Result<usize
     let n = read_some(stream, &mut piece)?;
     match bytes.extend_from_slice(&piece[..n]) {
         Ok(()) => Ok(n),
-        Err(_) => Err(io::Error::from(ErrorKind::OutOfMemory)),
+        Err(error) => Err(want_of_memory(error)),
     }
 }

@@ -25,17 +25,18 @@ fn shows_board(shown: &Shown, row: &Row, values: &Values) -> bool {
         && shown.outcome() == row.outcome
 }
 
-/// Whether the hall shows the boards of the model and no others, and has the time of its next endings.
+/// Whether the hall shows the boards of the model and no others, each under its name, and has the time of its next endings.
 pub fn shows(hall: &Hall, plain: &Plain, values: &Values) -> bool {
     for at in 0..plain.rows.len() {
         let (Some(row), Some(shown)) = (plain.rows.get(at), hall.board(at)) else {
             return false;
         };
-        if !shows_board(&shown, row, values) {
+        if !shows_board(&shown, row, values) || hall.place_of(&shown.name()) != Some(at) {
             return false;
         }
     }
-    hall.board(plain.rows.len()).is_none() && hall.next_due() == plain.next_due()
+    let boards = plain.rows.len();
+    hall.len() == boards && hall.board(boards).is_none() && hall.next_due() == plain.next_due()
 }
 
 /// Whether the hall rings once for each board of the model that has changed, and for no other.

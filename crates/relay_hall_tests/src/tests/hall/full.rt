@@ -1,6 +1,8 @@
-//! A follow of a board that is known to have no vacant slot.
+//! A follow of a board that is known to have no vacant slot, and what is told of a refused one.
 
-use crate::tests::hall::answers::{NO_SUCH_BOARD, NOT_YET, OPENED, TOO_MANY_FOLLOWERS};
+use crate::tests::hall::answers::{
+    BOARD_EXISTS, NO_SUCH_BOARD, NOT_YET, OPENED, TOO_MANY_FOLLOWERS,
+};
 use c960_game::Limits;
 use relay_hall::{Hall, Handed, Owner};
 use relay_pushing::Conn;
@@ -50,5 +52,24 @@ fn a_board_that_is_known_to_be_full_refuses_a_follow(rt: HostRuntime) -> Result<
     is_told(&rt, alloc, &mut hall, 5, FOLLOW_B2, FOLLOWING_0);
     hall.knows_full(0, false);
     is_told(&rt, alloc, &mut hall, 6, FOLLOW_B1, FOLLOWING_0);
+    Ok(())
+}
+
+#[test]
+fn a_refused_follow_is_told_of_once(rt: HostRuntime) -> Result<(), Fail> {
+    let alloc = rt.alloc();
+    let mut hall = Hall::new(alloc, Limits::new(2, 4, 4, 64).ok_or("limits")?, 0)?;
+    is_told(&rt, alloc, &mut hall, 1, OPEN_B1, OPENED);
+    is_told(&rt, alloc, &mut hall, 2, FOLLOW_B1, FOLLOWING_0);
+    is_told(&rt, alloc, &mut hall, 3, OPEN_B1, BOARD_EXISTS);
+    assert!(rt; !hall.take_turned_away());
+    is_told(&rt, alloc, &mut hall, 4, FOLLOW_B9, NO_SUCH_BOARD);
+    assert!(rt; hall.take_turned_away());
+    is_told(&rt, alloc, &mut hall, 5, FOLLOW_B1_FROM_1, NOT_YET);
+    assert!(rt; hall.take_turned_away());
+    assert!(rt; !hall.take_turned_away());
+    hall.knows_full(0, true);
+    is_told(&rt, alloc, &mut hall, 6, FOLLOW_B1, TOO_MANY_FOLLOWERS);
+    assert!(rt; hall.take_turned_away());
     Ok(())
 }

@@ -141,6 +141,11 @@ impl Plain {
         row.opener == speaker.number || (speaker.key < KEYS && row.key == speaker.key)
     }
 
+    /// Whether a board was opened with this key.
+    pub fn has_any_of(&self, key: usize) -> bool {
+        key < KEYS && self.rows.iter().any(|row| row.key == key)
+    }
+
     fn open(&mut self, speaker: Speaker, name: u32, start: u16) -> Result<Answer, AllocError> {
         if self.find(name).is_some() {
             return Ok(Answer::Text(BOARD_EXISTS));
@@ -285,8 +290,7 @@ impl Plain {
             self.abandon(Some(speaker.number), KEYS);
             return;
         }
-        let owns = self.rows.iter().any(|row| row.key == speaker.key);
-        let may_wait = owns && !self.is_shut && self.grace > 0;
+        let may_wait = self.has_any_of(speaker.key) && !self.is_shut && self.grace > 0;
         let until = self.time.wrapping_add(self.grace);
         let Some(stand) = self.stands.get_mut(speaker.key) else {
             return;

@@ -161,20 +161,22 @@ impl Scene {
     fn comes(&mut self, rt: &impl Abort) -> Person {
         let key = (self.dice.below(12) as usize).min(KEYS);
         self.numbers = self.numbers.wrapping_add(1);
-        let owned = self.values.keys.get(key).copied();
-        if let Some(parsed) = owned {
+        let owner = Owner {
+            key: self.values.keys.get(key).copied(),
+            opener: self.numbers,
+        };
+        if let Some(parsed) = owner.key {
+            let waits = self.hall.waits(&parsed);
             let waited = self.arrives(rt, &parsed);
-            assert!(rt; waited == self.plain.arrive(key));
+            assert!(rt; waited == self.plain.arrive(key) && waits == waited);
         }
+        assert!(rt; self.hall.owns_any(&owner) == self.plain.has_any_of(key));
         Person {
             speaker: Speaker {
                 number: self.numbers,
                 key,
             },
-            owner: Owner {
-                key: owned,
-                opener: self.numbers,
-            },
+            owner,
             conn: Conn::new(self.alloc),
             follower: None,
             board: 0,
