@@ -1,7 +1,7 @@
 //! The request of a connection, by bytes (RFC 9112, sections 2 and 3; RFC 6455, section 4).
 
 use crate::tests::calling::frames::{PING, PONG, TEXT, asked, tell};
-use crate::tests::calling::requests::{ACCEPTED, REQUEST, with_target};
+use crate::tests::calling::requests::{ACCEPTED, REQUEST, is_due, is_fed, is_heard, with_target};
 use c960_game::Limits;
 use relay_calling::{Caller, Stage};
 use relay_hall::Hall;
@@ -63,15 +63,25 @@ fn fed_in_two(
 ) -> Result<Caller, AllocError> {
     let mut caller = Caller::new(alloc, 1, true);
     let (first, second) = bytes.split_at(n.min(bytes.len()));
-    caller.feed(first)?;
-    let (some, _) = caller.heed(hall);
-    if some? {
-        return Err(AllocError);
+    if is_heard(&mut caller, hall, first, false) && is_heard(&mut caller, hall, second, true) {
+        Ok(caller)
+    } else {
+        Err(AllocError)
     }
-    caller.feed(second)?;
-    let (some, _) = caller.heed(hall);
-    some?;
-    Ok(caller)
+}
+
+/// Whether bytes that are cut there are answered by these.
+fn is_answered_in_two(
+    alloc: Global,
+    hall: &mut Hall,
+    bytes: &[u8],
+    n: usize,
+    wanted: &[u8],
+) -> bool {
+    match fed_in_two(alloc, hall, bytes, n) {
+        Ok(caller) => is_due(&caller, wanted, Stage::Asks),
+        Err(AllocError) => false,
+    }
 }
 
 /// A request with a ping behind it, and the acceptance with a pong behind it.
@@ -94,37 +104,49 @@ fn a_request_is_answered_and_what_is_behind_it_however_they_are_cut(rt: HostRunt
     };
     // In front of the ping's last byte the first piece says nothing that is heeded.
     for n in 0..sent.len() {
-        let Ok(caller) = fed_in_two(alloc, &mut hall, sent.as_slice(), n) else {
-            panic!(rt; "no memory, or a part of it was heeded");
-        };
-        assert_eq!(rt; caller.due(), wanted.as_slice());
-        assert!(rt; caller.stage() == Stage::Asks);
+        assert!(rt;
+            is_answered_in_two(alloc, &mut hall, sent.as_slice(), n, wanted.as_slice()),
+            "cut at {n}"
+        );
     }
+}
+
+/// Whether this request is refused by this answer, and a good one behind it is answered no more.
+fn is_refused(alloc: Global, request: &[u8], answer: &[u8]) -> bool {
+    let mut caller = Caller::new(alloc, 1, true);
+    is_fed(&mut caller, request)
+        && is_fed(&mut caller, REQUEST)
+        && is_due(&caller, answer, Stage::Leaves)
 }
 
 #[test]
 fn a_request_that_is_refused_has_its_answer_and_nothing_more(rt: HostRuntime) {
-    let alloc = rt.alloc();
     for (request, answer) in refused() {
-        let mut caller = Caller::new(alloc, 1, true);
-        assert!(rt; caller.feed(*request).is_ok() && caller.feed(REQUEST).is_ok());
-        assert_eq!(rt; caller.due(), *answer);
-        assert!(rt; caller.stage() == Stage::Leaves);
+        assert!(rt; is_refused(rt.alloc(), *request, *answer));
     }
 }
 
 /// How many bytes of a head without an end came, and what is due then.
 const ENDLESS: [(usize, &[u8]); 2] = [(8191, b""), (8192, TOO_LARGE)];
 
+/// Whether these bytes are due after so many of a head without an end.
+fn is_due_after(alloc: Global, size: usize, answer: &[u8]) -> bool {
+    let mut caller = Caller::new(alloc, 1, true);
+    for _ in 0..size {
+        if !is_fed(&mut caller, b"a") {
+            return false;
+        }
+    }
+    caller.due() == answer
+}
+
 #[test]
 fn a_head_without_an_end_is_refused_at_8192_bytes(rt: HostRuntime) {
-    let alloc = rt.alloc();
     for (size, answer) in ENDLESS {
-        let mut caller = Caller::new(alloc, 1, true);
-        for _ in 0..size {
-            assert!(rt; caller.feed(b"a").is_ok());
-        }
-        assert_eq!(rt; caller.due(), answer);
+        assert!(rt;
+            is_due_after(rt.alloc(), size, answer),
+            "after {size} bytes"
+        );
     }
 }
 
@@ -139,9 +161,14 @@ fn owns(
     let mut caller = with_target(alloc, 2, takes_keys, target)?;
     if opens {
         let text = b"{\"cmd\":\"open\",\"board\":\"a\",\"start\":518}";
-        caller.feed(asked(alloc, TEXT, text)?.as_slice())?;
-        let (some, _) = caller.heed(hall);
-        some?;
+        if !is_heard(
+            &mut caller,
+            hall,
+            asked(alloc, TEXT, text)?.as_slice(),
+            true,
+        ) {
+            return Err(AllocError);
+        }
     }
     Ok(caller.is_owner(hall))
 }

@@ -1,7 +1,7 @@
 //! The ends of a connection (RFC 6455, section 7), by bytes, and one that takes little of what it is told.
 
 use crate::tests::calling::frames::{CLOSE, PING, TEXT, asked, tell};
-use crate::tests::calling::requests::shaken;
+use crate::tests::calling::requests::{is_due, shaken};
 use c960_game::Limits;
 use relay_calling::{Caller, MOST_OUTPUT, Stage};
 use relay_hall::Hall;
@@ -55,6 +55,22 @@ impl Scene {
         some
     }
 
+    /// Whether bytes say something.
+    fn is_heard(&mut self, bytes: &[u8]) -> bool {
+        self.hears(bytes) == Ok(true)
+    }
+
+    /// Whether bytes are the last ones that are answered, by these frames.
+    fn ends_by(&mut self, bytes: &[u8], frames: &[u8], behind: &[u8]) -> bool {
+        self.is_heard(bytes)
+            && self.hears(behind) == Ok(false)
+            && is_due(&self.caller, frames, Stage::Leaves)
+    }
+
+    fn is_full(&self) -> bool {
+        self.caller.is_full()
+    }
+
     /// Writes so many of the bytes due, or all. Returns how many are due then.
     fn writes(&mut self, n: usize) -> usize {
         self.caller.wrote(n);
@@ -78,10 +94,7 @@ fn ends(rt: &impl Abort, alloc: Global, bytes: &[u8], answer: &str, close: &[u8]
         panic!(rt; "no memory");
     };
     let mut scene = Scene::new(rt, alloc);
-    assert!(rt; scene.hears(bytes) == Ok(true));
-    assert!(rt; scene.hears(ping.as_slice()) == Ok(false));
-    assert_eq!(rt; scene.caller.due(), wanted.as_slice());
-    assert!(rt; scene.caller.stage() == Stage::Leaves);
+    assert!(rt; scene.ends_by(bytes, wanted.as_slice(), ping.as_slice()));
 }
 
 #[test]
@@ -99,13 +112,13 @@ fn one_that_takes_little_is_full(rt: HostRuntime) {
     };
     // A pong has 127 bytes, and 130 of them are more than may be due.
     for n in 1..=130 {
-        assert!(rt; !scene.caller.is_full() && scene.hears(ping.as_slice()) == Ok(true));
-        assert!(rt; scene.caller.is_full() == (n > MOST_OUTPUT / 127));
+        assert!(rt; !scene.is_full() && scene.is_heard(ping.as_slice()));
+        assert!(rt; scene.is_full() == (n > MOST_OUTPUT / 127));
     }
     // It takes as much as comes, again and again, and never all.
     for _ in 0..1000 {
-        assert!(rt; scene.caller.is_full() && scene.hears(ping.as_slice()) == Ok(true));
+        assert!(rt; scene.is_full() && scene.is_heard(ping.as_slice()));
         assert!(rt; scene.writes(127) == 130 * 127);
     }
-    assert!(rt; scene.writes(127) == 129 * 127 && !scene.caller.is_full());
+    assert!(rt; scene.writes(127) == 129 * 127 && !scene.is_full());
 }

@@ -1,7 +1,7 @@
 //! Two callers over one hall, by bytes. The texts are those of docs/PROTOCOL.md.
 
 use crate::tests::calling::frames::{BINARY, CLOSE, PING, PONG, TEXT, asked, told};
-use crate::tests::calling::requests::shaken;
+use crate::tests::calling::requests::{hears, is_due, is_heard, shaken};
 use c960_game::Limits;
 use relay_calling::{Caller, Stage};
 use relay_hall::{Hall, Handed};
@@ -43,42 +43,43 @@ fn turns() -> &'static [Turn] {
     &TURNS
 }
 
-/// Feeds a piece, and heeds what it says. Returns whether it said anything, and what was handed out.
-fn hears(
-    caller: &mut Caller,
-    hall: &mut Hall,
-    piece: &[u8],
-) -> Result<(bool, Option<Handed>), AllocError> {
-    caller.feed(piece)?;
-    let (some, handed) = caller.heed(hall);
-    Ok((some?, handed))
-}
-
 /// The connection sends a frame in two pieces. It is answered after the second one, and what is due is taken in two pieces as well.
 fn takes_turn(rt: &impl Abort, alloc: Global, caller: &mut Caller, hall: &mut Hall, turn: Turn) {
     let (_, asks, tells, then) = turn;
     let Ok(bytes) = asked(alloc, asks.0, asks.1.as_bytes()) else {
         panic!(rt; "no memory");
     };
+    let (first, second) = bytes.as_slice().split_at(bytes.len() / 2);
+    assert!(rt; is_heard(caller, hall, first, false));
+    is_answered(rt, caller, hall, second, then);
     let Ok(wanted) = told(alloc, tells.0, tells.1.as_bytes()) else {
         panic!(rt; "no memory");
     };
-    let (first, second) = bytes.as_slice().split_at(bytes.len() / 2);
-    let Ok((false, None)) = hears(caller, hall, first) else {
-        panic!(rt; "half a frame was answered");
-    };
-    let Ok((true, handed)) = hears(caller, hall, second) else {
+    assert!(rt; is_taken_in_two(caller, wanted.as_slice(), then));
+}
+
+/// A frame's second piece is answered.
+fn is_answered(rt: &impl Abort, caller: &mut Caller, hall: &mut Hall, piece: &[u8], then: Stage) {
+    let Ok((true, handed)) = hears(caller, hall, piece) else {
         panic!(rt; "a frame was not answered");
     };
     leaves(rt, handed, then);
-    assert_eq!(rt; caller.due(), wanted.as_slice());
+}
+
+/// Whether these bytes are due, and are taken in two pieces, of which the first is a byte.
+fn is_taken_in_two(caller: &mut Caller, wanted: &[u8], then: Stage) -> bool {
+    if !is_due(caller, wanted, then) {
+        return false;
+    }
     caller.wrote(1);
-    assert_eq!(rt;
-        caller.due(),
-        wanted.as_slice().split_at(1.min(wanted.len())).1
-    );
-    caller.wrote(wanted.len());
-    assert!(rt; caller.due().is_empty() && caller.stage() == then);
+    let (_, rest) = wanted.split_at(1.min(wanted.len()));
+    is_due(caller, rest, then) && is_all_taken(caller, rest.len(), then)
+}
+
+/// Whether nothing is due any more once so many bytes are taken.
+fn is_all_taken(caller: &mut Caller, n: usize, then: Stage) -> bool {
+    caller.wrote(n);
+    is_due(caller, b"", then)
 }
 
 /// A follower is handed out exactly if the connection hands over. It joins after the first move, and leaves.
@@ -90,19 +91,41 @@ fn leaves(rt: &impl Abort, handed: Option<Handed>, then: Stage) {
     }
 }
 
+/// Two connections over one hall.
+#[derive(Drop)]
+struct Pair {
+    hall: Hall,
+    first: Caller,
+    second: Caller,
+}
+
+/// Both have shaken hands.
+fn two_over_one(alloc: Global) -> Result<Pair, AllocError> {
+    let limits = Limits::new(4, 4, 4, 64).ok_or(AllocError)?;
+    Ok(Pair {
+        hall: Hall::new(alloc, limits, 1000)?,
+        first: shaken(alloc, 1)?,
+        second: shaken(alloc, 2)?,
+    })
+}
+
+/// Takes a turn of one of them.
+fn takes_turn_of(rt: &impl Abort, alloc: Global, pair: &mut Pair, turn: Turn) {
+    if turn.0 {
+        takes_turn(rt, alloc, &mut pair.second, &mut pair.hall, turn);
+    } else {
+        takes_turn(rt, alloc, &mut pair.first, &mut pair.hall, turn);
+    }
+}
+
 #[test]
 fn each_is_answered_in_turn(rt: HostRuntime) {
     let alloc = rt.alloc();
-    let limits = Limits::new(4, 4, 4, 64).expect(&rt, "limits");
-    let Ok(mut hall) = Hall::new(alloc, limits, 1000) else {
-        panic!(rt; "no memory");
-    };
-    let (Ok(mut first), Ok(mut second)) = (shaken(alloc, 1), shaken(alloc, 2)) else {
+    let Ok(mut pair) = two_over_one(alloc) else {
         panic!(rt; "no memory");
     };
     for turn in turns() {
-        let caller = if turn.0 { &mut second } else { &mut first };
-        takes_turn(&rt, alloc, caller, &mut hall, *turn);
+        takes_turn_of(&rt, alloc, &mut pair, *turn);
     }
-    assert!(rt; first.is_owner(&hall) && !second.is_owner(&hall));
+    assert!(rt; pair.first.is_owner(&pair.hall) && !pair.second.is_owner(&pair.hall));
 }

@@ -2,7 +2,7 @@
 //! know when.
 
 use crate::tests::calling::frames::{BINARY, CLOSE, PING, PONG, TEXT, asked, tell};
-use crate::tests::calling::requests::{ACCEPTED, REQUEST, shaken};
+use crate::tests::calling::requests::{ACCEPTED, REQUEST, is_due, is_fed, is_heard, shaken};
 use c960_game::Limits;
 use relay_calling::{Caller, Stage};
 use relay_frames::Code;
@@ -109,12 +109,37 @@ impl Scene {
 
     /// Another connection opens a board. It may be followed, since whoever opened one may not.
     fn has_a_board(&mut self) -> Result<(), AllocError> {
-        let mut other = shaken(self.alloc, 2)?;
         let bytes = asked(self.alloc, TEXT, OPEN)?;
-        other.feed(bytes.as_slice())?;
-        let (some, _) = other.heed(&mut self.hall);
-        some?;
-        Ok(())
+        let mut other = shaken(self.alloc, 2)?;
+        if is_heard(&mut other, &mut self.hall, bytes.as_slice(), true) {
+            Ok(())
+        } else {
+            Err(AllocError)
+        }
+    }
+
+    /// Whether a frame that it sends is heeded, or is not.
+    fn is_heeded(&mut self, first: u8, payload: &[u8], some: bool) -> bool {
+        self.sends(first, payload) == Ok(some)
+    }
+
+    /// Whether a piece of a frame says something, or nothing yet.
+    fn is_heard(&mut self, piece: &[u8], some: bool) -> bool {
+        is_fed(&mut self.caller, piece) && self.heeds() == Ok(some)
+    }
+
+    fn is_midway(&self) -> bool {
+        self.caller.is_midway()
+    }
+
+    /// Whether a whole text or binary message was answered since this was last asked, and whether anything that came whole.
+    fn said(&mut self) -> (bool, bool) {
+        (self.caller.take_said(), self.caller.take_whole())
+    }
+
+    /// Whether it is sent away with this code.
+    fn is_sent_away(&mut self, code: Code) -> bool {
+        self.caller.send_away(code).is_ok()
     }
 
     /// The connection sends a frame. Returns whether that is heeded. A follower that is handed out leaves.
@@ -173,8 +198,8 @@ fn each_ping_stands_where_it_was_put_and_a_close_is_the_last(rt: HostRuntime) {
         assert!(rt; scene.goes_on(*deed).is_ok());
     }
     assert!(rt; scene.takes(1000).is_ok());
-    assert_eq!(rt; scene.taken.as_slice(), wanted.as_slice());
-    assert!(rt; scene.caller.stage() == Stage::Leaves);
+    assert!(rt; scene.taken.as_slice() == wanted.as_slice());
+    assert!(rt; is_due(&scene.caller, b"", Stage::Leaves));
 }
 
 /// A pong, and a close with this payload.
@@ -191,11 +216,10 @@ fn is_sent_away(rt: &impl Abort, alloc: Global, number: u16, payload: &[u8]) {
     let Ok(wanted) = pong_and_close(alloc, payload) else {
         panic!(rt; "no memory");
     };
-    assert!(rt; scene.sends(PING, b"a") == Ok(true));
-    assert!(rt; scene.caller.send_away(code(rt, number)).is_ok());
-    assert!(rt; scene.sends(PING, b"b") == Ok(false));
-    assert_eq!(rt; scene.caller.due(), wanted.as_slice());
-    assert!(rt; scene.caller.stage() == Stage::Leaves);
+    assert!(rt; scene.is_heeded(PING, b"a", true));
+    assert!(rt; scene.is_sent_away(code(rt, number)));
+    assert!(rt; scene.is_heeded(PING, b"b", false));
+    assert!(rt; is_due(&scene.caller, wanted.as_slice(), Stage::Leaves));
 }
 
 #[test]
@@ -211,8 +235,7 @@ fn one_that_is_sent_away_is_told_the_code(rt: HostRuntime) {
 fn stays(rt: &impl Abort, caller: &mut Caller, due: &[u8], stage: Stage) {
     assert!(rt; caller.ping().is_ok());
     assert!(rt; caller.send_away(code(rt, 1001)).is_ok());
-    assert_eq!(rt; caller.due(), due);
-    assert!(rt; caller.stage() == stage);
+    assert!(rt; is_due(caller, due, stage));
 }
 
 #[test]
@@ -220,23 +243,26 @@ fn before_its_request_is_answered_it_is_sent_nothing_unasked(rt: HostRuntime) {
     let mut caller = Caller::new(rt.alloc(), 1, true);
     let (first, second) = REQUEST.split_at(REQUEST.len() / 2);
     stays(&rt, &mut caller, b"", Stage::Comes);
-    assert!(rt; caller.feed(first).is_ok());
+    assert!(rt; is_fed(&mut caller, first));
     stays(&rt, &mut caller, b"", Stage::Comes);
-    assert!(rt; caller.feed(second).is_ok());
-    assert_eq!(rt; caller.due(), ACCEPTED);
-    assert!(rt; caller.stage() == Stage::Asks);
+    assert!(rt; is_fed(&mut caller, second));
+    assert!(rt; is_due(&caller, ACCEPTED, Stage::Asks));
 }
 
 #[test]
-fn one_that_follows_or_leaves_is_sent_nothing_unasked(rt: HostRuntime) {
-    let mut first = Scene::new(&rt, rt.alloc());
-    assert!(rt; first.has_a_board().is_ok());
-    assert!(rt; first.sends(TEXT, FOLLOW) == Ok(true));
-    first.caller.wrote(1000);
-    stays(&rt, &mut first.caller, b"", Stage::HandsOver);
-    let mut second = Scene::new(&rt, rt.alloc());
-    assert!(rt; second.sends(CLOSE, b"") == Ok(true));
-    stays(&rt, &mut second.caller, &[CLOSE, 0], Stage::Leaves);
+fn one_that_follows_is_sent_nothing_unasked(rt: HostRuntime) {
+    let mut scene = Scene::new(&rt, rt.alloc());
+    assert!(rt; scene.has_a_board().is_ok());
+    assert!(rt; scene.is_heeded(TEXT, FOLLOW, true));
+    assert!(rt; scene.takes(1000).is_ok());
+    stays(&rt, &mut scene.caller, b"", Stage::HandsOver);
+}
+
+#[test]
+fn one_that_leaves_is_sent_nothing_unasked(rt: HostRuntime) {
+    let mut scene = Scene::new(&rt, rt.alloc());
+    assert!(rt; scene.is_heeded(CLOSE, b"", true));
+    stays(&rt, &mut scene.caller, &[CLOSE, 0], Stage::Leaves);
 }
 
 /// Frames in order; whether a whole text or binary message was then answered since the last one; and whether anything that came whole and
@@ -260,11 +286,11 @@ fn said() -> &'static [(u8, &'static [u8], bool, bool)] {
 #[test]
 fn what_came_whole_of_it_is_told_once(rt: HostRuntime) {
     let mut scene = Scene::new(&rt, rt.alloc());
-    assert!(rt; !scene.caller.take_said() && !scene.caller.take_whole());
+    assert!(rt; scene.said() == (false, false));
     for (first, payload, has_said, is_whole) in said() {
-        assert!(rt; scene.sends(*first, *payload) == Ok(true));
-        assert!(rt; scene.caller.take_said() == *has_said && !scene.caller.take_said());
-        assert!(rt; scene.caller.take_whole() == *is_whole && !scene.caller.take_whole());
+        assert!(rt; scene.is_heeded(*first, *payload, true));
+        assert!(rt; scene.said() == (*has_said, *is_whole));
+        assert!(rt; scene.said() == (false, false));
     }
 }
 
@@ -275,11 +301,9 @@ fn it_is_midway_until_its_message_is_whole(rt: HostRuntime) {
         panic!(rt; "no memory");
     };
     let (first, second) = ping.as_slice().split_at(ping.len() / 2);
-    assert!(rt; !scene.caller.is_midway());
-    assert!(rt; scene.caller.feed(first).is_ok() && scene.heeds() == Ok(false));
-    assert!(rt; scene.caller.is_midway());
-    assert!(rt; scene.caller.feed(second).is_ok() && scene.heeds() == Ok(true));
-    assert!(rt; !scene.caller.is_midway());
-    assert!(rt; scene.sends(FIRST_PART, b"?") == Ok(true) && scene.caller.is_midway());
-    assert!(rt; scene.sends(LAST_PART, b"?") == Ok(true) && !scene.caller.is_midway());
+    assert!(rt; !scene.is_midway());
+    assert!(rt; scene.is_heard(first, false) && scene.is_midway());
+    assert!(rt; scene.is_heard(second, true) && !scene.is_midway());
+    assert!(rt; scene.is_heeded(FIRST_PART, b"?", true) && scene.is_midway());
+    assert!(rt; scene.is_heeded(LAST_PART, b"?", true) && !scene.is_midway());
 }
