@@ -190,27 +190,61 @@ fn new_noting(rt: &impl Abort, alloc: Global) -> (NotingKeeper, bool) {
     }
 }
 
+/// A keeper that notes, and the connections over it.
+#[derive(Drop)]
+struct Scene {
+    noting: NotingKeeper,
+    owner: Conn,
+    stranger: Conn,
+    guest: Conn,
+}
+
+/// Nobody has said anything yet.
+fn scene_of(alloc: Global, noting: NotingKeeper) -> Scene {
+    Scene {
+        noting,
+        owner: Conn::new(alloc),
+        stranger: Conn::new(alloc),
+        guest: Conn::new(alloc),
+    }
+}
+
+/// Asserts that a row holds of the connection that speaks in it. Returns whether memory was refused.
+fn assert_row_of(rt: &impl Abort, scene: &mut Scene, row: &Row) -> bool {
+    match row.0 {
+        Owner => assert_row(rt, &mut scene.owner, &mut scene.noting, row),
+        Stranger => assert_row(rt, &mut scene.stranger, &mut scene.noting, row),
+        Guest => assert_row(rt, &mut scene.guest, &mut scene.noting, row),
+    }
+}
+
+/// The keeper after the guest has ended, then the owner, then the stranger.
+fn ended(scene: Scene) -> NotingKeeper {
+    let Scene {
+        mut noting,
+        owner,
+        stranger,
+        guest,
+    } = scene;
+    guest.finish(&mut noting);
+    owner.finish(&mut noting);
+    stranger.finish(&mut noting);
+    noting
+}
+
 #[test]
 fn a_connection_may_what_its_boards_let_it(rt: HostRuntime) {
-    let (mut noting, was_refused) = new_noting(&rt, rt.alloc());
-    let mut owner = Conn::new(rt.alloc());
-    let mut stranger = Conn::new(rt.alloc());
-    let mut guest = Conn::new(rt.alloc());
+    let (noting, was_refused) = new_noting(&rt, rt.alloc());
+    let mut scene = scene_of(rt.alloc(), noting);
     let mut refusals = u32::from(was_refused);
     for row in rows() {
-        let was_refused = match row.0 {
-            Owner => assert_row(&rt, &mut owner, &mut noting, row),
-            Stranger => assert_row(&rt, &mut stranger, &mut noting, row),
-            Guest => assert_row(&rt, &mut guest, &mut noting, row),
-        };
+        let was_refused = assert_row_of(&rt, &mut scene, row);
         refusals = refusals.saturating_add(u32::from(was_refused));
     }
     assert!(rt; refusals <= 1);
     // The boards are ended in the order of opening, including one that has ended.
-    let asked = noting.steps.len();
-    guest.finish(&mut noting);
-    owner.finish(&mut noting);
-    stranger.finish(&mut noting);
+    let asked = scene.noting.steps.len();
+    let noting = ended(scene);
     let ends = [
         Step::End(board_of(&rt, "b1"), Ending::Abandoned),
         Step::End(board_of(&rt, "a"), Ending::Abandoned),
@@ -280,24 +314,61 @@ fn assert_answer(
     true
 }
 
+/// A relay that keeps boards, and two connections over it.
+#[derive(Drop)]
+struct Relayed {
+    keeper: RelayKeeper,
+    owner: Conn,
+    stranger: Conn,
+}
+
+/// Nobody has said anything yet. What was refused is made again.
+fn relay_of_two(rt: &impl Abort, alloc: Global) -> Relayed {
+    Relayed {
+        keeper: again(rt, || RelayKeeper::new(alloc, default_limits())),
+        owner: Conn::new(alloc),
+        stranger: Conn::new(alloc),
+    }
+}
+
+/// Asserts that the text of one of them gets this answer. Returns whether memory was refused.
+fn assert_answer_of(
+    rt: &impl Abort,
+    relayed: &mut Relayed,
+    who: Who,
+    text: &str,
+    wanted: [&str; 2],
+) -> bool {
+    match who {
+        Owner => assert_answer(rt, &mut relayed.keeper, &mut relayed.owner, text, wanted),
+        Stranger | Guest => {
+            assert_answer(rt, &mut relayed.keeper, &mut relayed.stranger, text, wanted)
+        }
+    }
+}
+
+/// Only the owner's boards are ended, and a game that was agreed drawn before stays a draw.
+fn assert_ends(rt: &impl Abort, relayed: Relayed) {
+    let Relayed {
+        mut keeper,
+        owner,
+        stranger,
+    } = relayed;
+    keeper.finish(stranger);
+    assert!(rt; outcome_of(&mut keeper, board_of(rt, "a")).is_none());
+    keeper.finish(owner);
+    assert!(rt; outcome_of(&mut keeper, board_of(rt, "a")) == Some(Outcome::Abandoned));
+    assert!(rt; outcome_of(&mut keeper, board_of(rt, "b1")) == Some(Outcome::Agreed));
+}
+
 #[test]
 fn a_relay_answers_as_its_history_asks(rt: HostRuntime) {
-    let mut keeper = again(&rt, || RelayKeeper::new(rt.alloc(), default_limits()));
-    let mut owner = Conn::new(rt.alloc());
-    let mut stranger = Conn::new(rt.alloc());
+    let mut relayed = relay_of_two(&rt, rt.alloc());
     let mut refusals = 0u32;
     for (who, text, wanted) in answers() {
-        let was_refused = match *who {
-            Owner => assert_answer(&rt, &mut keeper, &mut owner, *text, *wanted),
-            _ => assert_answer(&rt, &mut keeper, &mut stranger, *text, *wanted),
-        };
+        let was_refused = assert_answer_of(&rt, &mut relayed, *who, *text, *wanted);
         refusals = refusals.saturating_add(u32::from(was_refused));
     }
     assert!(rt; refusals <= 1);
-    // Only the owner's boards are ended, and a game that was agreed drawn before stays a draw.
-    keeper.finish(stranger);
-    assert!(rt; outcome_of(&mut keeper, board_of(&rt, "a")).is_none());
-    keeper.finish(owner);
-    assert!(rt; outcome_of(&mut keeper, board_of(&rt, "a")) == Some(Outcome::Abandoned));
-    assert!(rt; outcome_of(&mut keeper, board_of(&rt, "b1")) == Some(Outcome::Agreed));
+    assert_ends(&rt, relayed);
 }

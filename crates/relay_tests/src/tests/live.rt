@@ -1,15 +1,14 @@
 //! What is pushed from a follower of a live board. The rows hold with ample memory, and if one allocation is refused
 //! (`rt try --test --fail-alloc N`): then pushing ends after the texts that were sent before.
 
-use crate::list_outlet::ListOutlet;
 use crate::tests::again::{follow, open};
-use crate::tests::fakes::Ringing;
-use crate::tests::pushing::{NO_DEVICE, NO_MEMORY, TEXTS_OF_CUT, assert_first, assert_rest};
-use crate::tests::values::{account, move_of};
-use c960_game::{Limits, Refusal};
+use crate::tests::deeds::{is_full, leaves, plays};
+use crate::tests::pushing::{NO_DEVICE, assert_cut};
+use crate::tests::values::account;
+use c960_game::Limits;
 use live_board::{Board, Follower};
 use relay_core::Taken;
-use relay_pushing::{PushEnd, Source, push_all};
+use relay_pushing::{PushEnd, Source};
 use std::alloc::Global;
 use std::process::Abort;
 
@@ -34,21 +33,17 @@ fn full_queue(rt: &impl Abort, alloc: Global) -> (Board, Live) {
     let limits = Limits::new(1, 1, 2, 64).expect(rt, "limits");
     let mut board = open(rt, alloc, limits);
     let follower = follow(rt, &mut board, None);
-    assert!(rt; follower.joined() == 0);
-    let mut place = 0u16;
-    for text in ["e2e4", "e7e5", "g1f3"] {
-        assert!(rt; board.submit(move_of(rt, text)) == Ok((place, None)));
-        place = place.saturating_add(1);
+    for (place, text) in [(0, "e2e4"), (1, "e7e5"), (2, "g1f3")] {
+        assert!(rt; plays(rt, &mut board, place, text));
     }
     (board, Live { follower })
 }
 
 /// Asserts that the follower leaves with this many moves taken, and that its slot on the board is given back.
 fn assert_leaves(rt: &impl Abort, mut board: Board, live: Live, taken: u16) {
-    assert!(rt; matches!(board.follow(None), Err(Refusal::TooManyFollowers)));
-    let (told, _) = live.follower.leave();
-    assert!(rt; told == account(0, taken, 2, true));
-    assert!(rt; follow(rt, &mut board, None).joined() == 3);
+    assert!(rt; is_full(&mut board));
+    assert!(rt; leaves(live.follower) == account(0, taken, 2, true));
+    assert!(rt; leaves(follow(rt, &mut board, None)) == account(3, 0, 3, false));
 }
 
 #[test]
@@ -56,20 +51,7 @@ fn cut_pushed_from_a_live_board(rt: HostRuntime) {
     // How many texts the device takes, how pushing ends, and how many texts were sent.
     for (room, wanted, texts) in [(9, PushEnd::Cut, 3), (1, NO_DEVICE, 1)] {
         let (board, mut live) = full_queue(&rt, rt.alloc());
-        let mut outlet = ListOutlet::new(rt.alloc(), room, 9);
-        let bell = Ringing::new();
-        let end = push_all(&rt, rt.alloc(), &mut outlet, &mut live, &bell);
-        let sent = outlet.texts.len();
-        assert_first(&rt, &outlet, &TEXTS_OF_CUT);
-        assert!(rt; bell.waits.get() == 0);
-        if end == NO_MEMORY {
-            assert!(rt; outlet.failures == 0);
-            assert_rest(&rt, rt.alloc(), &mut live, sent);
-        } else {
-            assert!(rt; end == wanted);
-            assert!(rt; sent == texts);
-            assert!(rt; outlet.failures == u64::from(wanted == NO_DEVICE));
-        }
+        assert_cut(&rt, rt.alloc(), &mut live, room, (wanted, texts));
         // A move whose text was not sent has been taken all the same.
         assert_leaves(&rt, board, live, 2);
     }

@@ -16,7 +16,7 @@ const FIRST: &[u8] = b"{\"move\":\"e2e4\",\"place\":0,\"reply\":\"move\"}";
 
 const SECOND: &[u8] = b"{\"move\":\"e7e5\",\"place\":1,\"reply\":\"move\"}";
 
-pub const TEXTS_OF_CUT: [&[u8]; 3] = [FIRST, SECOND, b"{\"reply\":\"cut\"}"];
+const TEXTS_OF_CUT: [&[u8]; 3] = [FIRST, SECOND, b"{\"reply\":\"cut\"}"];
 
 const TEXTS_OF_OVER: [&[u8]; 3] = [
     FIRST,
@@ -24,7 +24,7 @@ const TEXTS_OF_OVER: [&[u8]; 3] = [
     b"{\"outcome\":\"agreed\",\"reply\":\"over\"}",
 ];
 
-pub const NO_MEMORY: PushEnd = PushEnd::Failed(SendFault::OutOfMemory);
+const NO_MEMORY: PushEnd = PushEnd::Failed(SendFault::OutOfMemory);
 
 pub const NO_DEVICE: PushEnd = PushEnd::Failed(SendFault::Device);
 
@@ -53,7 +53,7 @@ fn full_queue(rt: &impl Abort, alloc: Global) -> RelaySource {
 }
 
 /// Asserts that the outlet has the first of these texts.
-pub fn assert_first(rt: &impl Abort, outlet: &ListOutlet, wanted: &[&[u8]]) {
+fn assert_first(rt: &impl Abort, outlet: &ListOutlet, wanted: &[&[u8]]) {
     assert!(rt; outlet.texts.len() <= wanted.len());
     for (text, wanted) in outlet.texts.iter().zip(wanted) {
         assert_eq!(rt; text.as_slice(), *wanted);
@@ -61,7 +61,7 @@ pub fn assert_first(rt: &impl Abort, outlet: &ListOutlet, wanted: &[&[u8]]) {
 }
 
 /// Asserts that pushing goes on after the text that was lost, and sends the end again if that was lost.
-pub fn assert_rest<R: Wait + Abort, S: Source>(rt: &R, alloc: Global, source: &mut S, sent: usize) {
+fn assert_rest<R: Wait + Abort, S: Source>(rt: &R, alloc: Global, source: &mut S, sent: usize) {
     let Some(wanted) = TEXTS_OF_CUT.get(sent.saturating_add(1).min(2)..) else {
         panic!(rt; "there is an end");
     };
@@ -72,25 +72,37 @@ pub fn assert_rest<R: Wait + Abort, S: Source>(rt: &R, alloc: Global, source: &m
     assert_first(rt, &outlet, wanted);
 }
 
+/// Asserts that what a follower has that was closed at its capacity of 2 is pushed to a device that takes so many texts, that pushing ends
+/// so, and that so many texts were sent.
+pub fn assert_cut<R: Wait + Abort, S: Source>(
+    rt: &R,
+    alloc: Global,
+    source: &mut S,
+    room: usize,
+    (wanted, texts): (PushEnd, usize),
+) {
+    let mut outlet = ListOutlet::new(alloc, room, 9);
+    let bell = Ringing::new();
+    let end = push_all(rt, alloc, &mut outlet, source, &bell);
+    let sent = outlet.texts.len();
+    assert_first(rt, &outlet, &TEXTS_OF_CUT);
+    assert_eq!(rt; bell.waits.get(), 0);
+    if end == NO_MEMORY {
+        assert_eq!(rt; outlet.failures, 0);
+        assert_rest(rt, alloc, source, sent);
+        return;
+    }
+    assert_eq!(rt; end, wanted);
+    assert_eq!(rt; sent, texts);
+    assert_eq!(rt; outlet.failures, u64::from(wanted == NO_DEVICE));
+}
+
 #[test]
 fn cut_pushed(rt: HostRuntime) {
     // How many texts the device takes, how pushing ends, and how many texts were sent.
     for (room, wanted, texts) in [(9, PushEnd::Cut, 3), (1, NO_DEVICE, 1)] {
-        let mut outlet = ListOutlet::new(rt.alloc(), room, 9);
         let mut source = full_queue(&rt, rt.alloc());
-        let bell = Ringing::new();
-        let end = push_all(&rt, rt.alloc(), &mut outlet, &mut source, &bell);
-        let sent = outlet.texts.len();
-        assert_first(&rt, &outlet, &TEXTS_OF_CUT);
-        assert_eq!(rt; bell.waits.get(), 0);
-        if end == NO_MEMORY {
-            assert_eq!(rt; outlet.failures, 0);
-            assert_rest(&rt, rt.alloc(), &mut source, sent);
-            continue;
-        }
-        assert_eq!(rt; end, wanted);
-        assert_eq!(rt; sent, texts);
-        assert_eq!(rt; outlet.failures, u64::from(wanted == NO_DEVICE));
+        assert_cut(&rt, rt.alloc(), &mut source, room, (wanted, texts));
     }
     assert_eq!(rt; SendFault::Device.code(), 41);
     assert_eq!(rt; SendFault::OutOfMemory.code(), 12);
@@ -112,6 +124,24 @@ fn rows() -> &'static [Row] {
     &ROWS
 }
 
+/// Asserts that these answers are pushed as a row says.
+fn assert_pushed<R: Wait + Abort>(rt: &R, alloc: Global, answers: &[Taken], row: &Row) {
+    let ((room, flushes), wanted, counts) = *row;
+    let mut outlet = ListOutlet::new(alloc, room, flushes);
+    let mut source = Answers { rest: answers };
+    let bell = Ringing::new();
+    let end = push_all(rt, alloc, &mut outlet, &mut source, &bell);
+    let sent = outlet.texts.len();
+    assert_first(rt, &outlet, &TEXTS_OF_OVER);
+    if end == NO_MEMORY {
+        assert_eq!(rt; outlet.failures, 0);
+        return;
+    }
+    assert_eq!(rt; end, wanted);
+    assert_eq!(rt; (sent, bell.waits.get(), source.rest.len()), counts);
+    assert_eq!(rt; outlet.failures, u64::from(wanted == NO_DEVICE));
+}
+
 #[test]
 fn nothing_is_waited_for_and_is_no_text(rt: HostRuntime) {
     let answers = [
@@ -123,19 +153,6 @@ fn nothing_is_waited_for_and_is_no_text(rt: HostRuntime) {
         Taken::Over(Outcome::Agreed),
     ];
     for row in rows() {
-        let ((room, flushes), wanted, counts) = *row;
-        let mut outlet = ListOutlet::new(rt.alloc(), room, flushes);
-        let mut source = Answers { rest: &answers };
-        let bell = Ringing::new();
-        let end = push_all(&rt, rt.alloc(), &mut outlet, &mut source, &bell);
-        let sent = outlet.texts.len();
-        assert_first(&rt, &outlet, &TEXTS_OF_OVER);
-        if end == NO_MEMORY {
-            assert_eq!(rt; outlet.failures, 0);
-            continue;
-        }
-        assert_eq!(rt; end, wanted);
-        assert_eq!(rt; (sent, bell.waits.get(), source.rest.len()), counts);
-        assert_eq!(rt; outlet.failures, u64::from(wanted == NO_DEVICE));
+        assert_pushed(&rt, rt.alloc(), &answers, row);
     }
 }

@@ -50,16 +50,28 @@ fn words() -> &'static [&'static str] {
 /// What occurs if there is a grace.
 const WAITING: [&str; 4] = ["waits", "came back", "ran out", "shut out"];
 
+/// A hall with this grace in milliseconds. Notes what has occurred.
+fn run_one(
+    rt: &impl Abort,
+    alloc: Global,
+    grace: u64,
+    seed: u32,
+    seen: &mut Seen,
+) -> Result<(), Fail> {
+    let mut scene = Scene::new(rt, alloc, grace, seed)?;
+    for _ in 0..EVENTS {
+        scene.happens(rt)?;
+    }
+    assert!(rt; scene.refused == 0);
+    seen.note_all(&scene.plain.seen);
+    Ok(())
+}
+
 /// Halls with this grace in milliseconds. Returns what has occurred.
 fn run(rt: &impl Abort, alloc: Global, grace: u64) -> Result<Seen, Fail> {
     let mut seen = Seen::new(alloc)?;
     for seed in 0..HALLS {
-        let mut scene = Scene::new(rt, alloc, grace, seed)?;
-        for _ in 0..EVENTS {
-            scene.happens(rt)?;
-        }
-        assert!(rt; scene.refused == 0);
-        seen.note_all(&scene.plain.seen);
+        run_one(rt, alloc, grace, seed, &mut seen)?;
     }
     for word in words() {
         assert!(rt; seen.has(*word), "no {word}");

@@ -65,7 +65,6 @@ impl Scene {
         Ok(Scene {
             alloc,
             dice: Dice { seed },
-            hall: Hall::new(alloc, limits, grace)?,
             plain: Plain::new(alloc, grace)?,
             people: nobody(alloc, PEOPLE)?,
             values: Values::new(rt, alloc)?,
@@ -73,6 +72,7 @@ impl Scene {
             events: 0,
             numbers: 0,
             refused: 0,
+            hall: Hall::new(alloc, limits, grace)?,
         })
     }
 

@@ -11,7 +11,7 @@ use live_board::Follower;
 use relay_core::Taken;
 use relay_hall::{Hall, Handed, Key, Owner};
 use relay_pushing::Conn;
-use std::alloc::Global;
+use std::alloc::{AllocError, Global};
 use std::process::Abort;
 use std::test::Fail;
 
@@ -383,6 +383,15 @@ type Numbers = (u16, u16, u16, u16);
 
 const AMPLE: Numbers = (4, 4, 4, 64);
 
+/// Eight connections.
+fn newcomers(alloc: Global) -> Result<Vec<Person>, AllocError> {
+    let mut people = Vec::new(alloc);
+    for number in 0..8 {
+        people.push(newcomer(alloc, number, None))?;
+    }
+    Ok(people)
+}
+
 /// All deeds of a table, in a hall with these limits and this grace in milliseconds.
 fn play(
     rt: &impl Abort,
@@ -393,11 +402,8 @@ fn play(
 ) -> Result<(), Fail> {
     let (boards, followers, capacity, plies) = numbers;
     let limits = Limits::new(boards, followers, capacity, plies).ok_or("limits")?;
+    let mut people = newcomers(alloc)?;
     let mut hall = Hall::new(alloc, limits, grace)?;
-    let mut people = Vec::new(alloc);
-    for number in 0..8 {
-        people.push(newcomer(alloc, number, None))?;
-    }
     for deed in deeds.iter() {
         happens(rt, alloc, &mut hall, &mut people, *deed);
     }
@@ -445,11 +451,19 @@ fn without_a_grace_boards_end_with_the_last_connection(rt: HostRuntime) -> Resul
     play(&rt, rt.alloc(), AMPLE, 0, without_grace())
 }
 
+/// Whether this was said.
+fn is_said(said: Result<String, AllocError>, answer: &str) -> bool {
+    match said {
+        Ok(said) => said.as_str() == answer,
+        Err(AllocError) => false,
+    }
+}
+
 #[test]
 fn what_is_no_text_or_too_long_is_answered(rt: HostRuntime) -> Result<(), Fail> {
     let limits = Limits::new(1, 1, 1, 1).ok_or("limits")?;
     let hall = Hall::new(rt.alloc(), limits, 0)?;
-    assert_eq!(rt; hall.hear_binary()?.as_str(), NOT_JSON);
-    assert_eq!(rt; hall.hear_too_long()?.as_str(), BAD_FIELD);
+    assert!(rt; is_said(hall.hear_binary(), NOT_JSON));
+    assert!(rt; is_said(hall.hear_too_long(), BAD_FIELD));
     Ok(())
 }

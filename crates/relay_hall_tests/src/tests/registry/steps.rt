@@ -1,99 +1,165 @@
 //! What is made of steps, who is rung for, and what is shown.
 
-use crate::tests::registry::people::{Person, a_move, board, registry};
+use crate::tests::registry::people::{Person, Scene, a_move, board};
 use c960_game::{Outcome, Refusal};
-use relay_core::{Reply, Step};
-use relay_registry::Made;
+use live_board::Follower;
+use relay_core::{BoardName, Reply, Step};
+use relay_registry::{Registry, Shown};
+use std::alloc::Global;
 use std::process::Abort;
+use std::sync::Wait;
 use std::sync::atomic::Ordering;
 use std::test::Fail;
 
-/// The follower that was handed out leaves its board.
-fn leaves(rt: &impl Abort, made: Made) {
-    let handed = made.handed.expect(rt, "a follower");
-    let _ = handed.follower.leave();
+/// What becomes of a step: the index of its board, whether it is refused, the board that is rung for, and how often the first board was.
+type Becomes = (Option<usize>, bool, Option<usize>, u64);
+
+/// What becomes of a step of the operator's.
+fn becomes<R: Wait>(rt: &R, scene: &mut Scene, step: Step) -> Becomes {
+    let made = scene.operator.makes(rt, &scene.registry, step);
+    let rings = scene.registry.rings(0);
+    (made.at, made.is_refused(), made.rung(), rings)
 }
 
 #[test]
 fn a_board_is_rung_for_at_each_move_and_at_its_end(rt: HostRuntime) -> Result<(), Fail> {
-    let registry = registry(&rt, rt.alloc(), 0)?;
-    let name = board(&rt, b"b1");
-    let mut operator = Person::new(rt.alloc(), &registry, None);
-    let opened = operator.makes(&rt, &registry, Step::Open(name, 518));
-    assert!(rt; opened.at == Some(0) && opened.rung().is_none() && registry.rings(0) == 0);
-    let played = operator.makes(&rt, &registry, Step::Submit(name, a_move(&rt, b"e2e4")));
-    assert!(rt; played.at == Some(0) && played.rung() == Some(0) && registry.rings(0) == 1);
-    let refused = operator.makes(&rt, &registry, Step::Submit(name, a_move(&rt, b"e2e4")));
-    assert!(rt; refused.is_refused() && refused.rung().is_none() && registry.rings(0) == 1);
-    registry.leave(&rt, &operator.owner);
-    assert!(rt; registry.rings(0) == 2 && registry.rings(1) == 0);
+    let mut scene = Scene::new(&rt, rt.alloc(), 0, None)?;
+    let open = Step::Open(board(&rt, b"b2"), 518);
+    assert!(rt; becomes(&rt, &mut scene, open) == (Some(1), false, None, 0));
+    let submit = Step::Submit(board(&rt, b"b1"), a_move(&rt, b"e2e4"));
+    assert!(rt; becomes(&rt, &mut scene, submit) == (Some(0), false, Some(0), 1));
+    assert!(rt; becomes(&rt, &mut scene, submit) == (Some(0), true, None, 1));
+    scene.operator.goes(&rt, &scene.registry);
+    assert!(rt; scene.registry.rings(0) == 2 && scene.registry.rings(1) == 1);
     Ok(())
+}
+
+/// The follower that is handed out for a step, which is not refused and rings for no board.
+fn joins<R: Wait + Abort>(rt: &R, registry: &Registry, who: &mut Person, step: &Step) -> Follower {
+    let made = who.makes(rt, registry, *step);
+    assert!(rt; made.at == Some(0) && made.rung().is_none() && !made.is_refused());
+    made.handed.expect(rt, "a follower").follower
+}
+
+/// How many connections follow a board.
+fn followers(registry: &Registry) -> u64 {
+    registry.chronicle().followers.load(Ordering::SeqCst)
+}
+
+/// A follower leaves its board.
+fn leaves(follower: Follower) {
+    let _ = follower.leave();
+}
+
+/// Whether a step of the other connection's is refused for this reason, and leaves the number of followers as it is.
+fn other_is_refused<R: Wait + Abort>(
+    rt: &R,
+    scene: &mut Scene,
+    step: &Step,
+    refusal: Refusal,
+) -> bool {
+    let before = followers(&scene.registry);
+    let told = scene.other.is_told(rt, &scene.registry, *step);
+    told == Reply::Refused(refusal) && followers(&scene.registry) == before
 }
 
 #[test]
 fn a_follower_is_counted_and_its_slot_is_free_once_it_leaves(rt: HostRuntime) -> Result<(), Fail> {
-    let registry = registry(&rt, rt.alloc(), 0)?;
+    let mut scene = Scene::new(&rt, rt.alloc(), 0, None)?;
     let name = board(&rt, b"b1");
-    let mut operator = Person::new(rt.alloc(), &registry, None);
-    assert!(rt; operator.is_told(&rt, &registry, Step::Open(name, 518)) == Reply::Opened);
-    let mut first = Person::new(rt.alloc(), &registry, None);
-    let mut second = Person::new(rt.alloc(), &registry, None);
     let follow = Step::Follow(7, name, None);
-    let followers = &registry.chronicle().followers;
-    let joins = first.makes(&rt, &registry, follow);
-    assert!(rt; joins.at == Some(0) && joins.rung().is_none() && !joins.is_refused());
-    assert!(rt; followers.load(Ordering::SeqCst) == 1);
-    let full = second.is_told(&rt, &registry, follow);
-    assert!(rt; full == Reply::Refused(Refusal::TooManyFollowers));
-    assert!(rt; followers.load(Ordering::SeqCst) == 1);
-    let early = second.is_told(&rt, &registry, Step::Follow(7, name, Some(1)));
-    assert!(rt; early == Reply::Refused(Refusal::NotYet));
-    leaves(&rt, joins);
-    let counted = second.is_told(&rt, &registry, follow);
-    assert!(rt; counted == Reply::Refused(Refusal::TooManyFollowers));
-    registry.unfollows(0);
-    assert!(rt; followers.load(Ordering::SeqCst) == 0);
-    let joins = second.makes(&rt, &registry, follow);
-    leaves(&rt, joins);
+    let mut first = Person::new(rt.alloc(), &scene.registry, None);
+    let follower = joins(&rt, &scene.registry, &mut first, &follow);
+    assert!(rt; followers(&scene.registry) == 1);
+    assert!(rt; other_is_refused(&rt, &mut scene, &follow, Refusal::TooManyFollowers));
+    let early = Step::Follow(7, name, Some(1));
+    assert!(rt; other_is_refused(&rt, &mut scene, &early, Refusal::NotYet));
+    leaves(follower);
+    assert!(rt; other_is_refused(&rt, &mut scene, &follow, Refusal::TooManyFollowers));
+    scene.registry.unfollows(0);
+    assert!(rt; followers(&scene.registry) == 0);
+    leaves(joins(&rt, &scene.registry, &mut scene.other, &follow));
     Ok(())
 }
 
 #[test]
 fn nobody_else_plays_a_board_without_a_key(rt: HostRuntime) -> Result<(), Fail> {
-    let registry = registry(&rt, rt.alloc(), 0)?;
-    let name = board(&rt, b"b1");
-    let mut operator = Person::new(rt.alloc(), &registry, None);
-    let mut other = Person::new(rt.alloc(), &registry, None);
-    assert!(rt; operator.is_told(&rt, &registry, Step::Open(name, 518)) == Reply::Opened);
-    let submit = Step::Submit(name, a_move(&rt, b"e2e4"));
-    assert!(rt; other.is_told(&rt, &registry, submit) == Reply::Refused(Refusal::NotYourBoard));
-    assert!(rt; !registry.owns_any(&rt, &operator.owner) && !registry.owns_any(&rt, &other.owner));
-    registry.leave(&rt, &other.owner);
-    let shown = registry.show(&rt, &name)?.expect(&rt, "a board");
-    assert!(rt; !shown.is_over(&rt));
+    let mut scene = Scene::new(&rt, rt.alloc(), 0, None)?;
+    let submit = Step::Submit(board(&rt, b"b1"), a_move(&rt, b"e2e4"));
+    let told = scene.other.is_told(&rt, &scene.registry, submit);
+    assert!(rt; told == Reply::Refused(Refusal::NotYourBoard));
+    assert!(rt; !scene.operator.owns_any(&rt, &scene.registry));
+    assert!(rt; !scene.other.owns_any(&rt, &scene.registry));
+    scene.other.goes(&rt, &scene.registry);
+    assert!(rt; !scene.is_over(&rt, 0));
     Ok(())
+}
+
+/// Whether no board has this name, and none this index.
+fn has_none<R: Wait>(rt: &R, registry: &Registry, name: BoardName, at: usize) -> bool {
+    let by_name = registry.show(rt, &name);
+    matches!(by_name, Ok(None)) && matches!(registry.show_at(rt, at), Ok(None))
+}
+
+/// The board of this name.
+fn shown<R: Wait + Abort>(rt: &R, registry: &Registry, name: BoardName) -> Shown {
+    let found = registry.show(rt, &name).expect(rt, "memory");
+    found.expect(rt, "a board")
+}
+
+/// The board of this index.
+fn shown_at<R: Wait + Abort>(rt: &R, registry: &Registry, at: usize) -> Shown {
+    let found = registry.show_at(rt, at).expect(rt, "memory");
+    found.expect(rt, "a board")
+}
+
+/// What a board shows: its name, its start, how many moves its game has, whether that is over, and how often it was rung for.
+fn in_short<R: Wait>(rt: &R, shown: &Shown) -> (BoardName, u16, u16, bool, u64) {
+    let summary = shown.summary(rt);
+    (
+        summary.board,
+        summary.start,
+        summary.plies,
+        shown.is_over(rt),
+        shown.rings(),
+    )
+}
+
+/// Whether there is a position behind so many moves, and none behind one more.
+fn has_position_of<R: Wait>(rt: &R, shown: &Shown, plies: u16) -> bool {
+    let more = plies.saturating_add(1);
+    shown.position_at(rt, plies).is_some() && shown.position_at(rt, more).is_none()
+}
+
+/// How many moves a board has from this place on, and how its game ended.
+fn news<R: Wait + Abort>(
+    rt: &R,
+    alloc: Global,
+    shown: &Shown,
+    from: u16,
+) -> (usize, Option<Outcome>) {
+    let mut moves = Vec::new(alloc);
+    let outcome = shown.news(rt, from, &mut moves).expect(rt, "memory");
+    (moves.len(), outcome)
 }
 
 #[test]
 fn a_board_is_shown_by_its_name_and_by_its_index(rt: HostRuntime) -> Result<(), Fail> {
-    let registry = registry(&rt, rt.alloc(), 0)?;
-    let (one, two) = (board(&rt, b"one"), board(&rt, b"two"));
-    let mut operator = Person::new(rt.alloc(), &registry, None);
-    assert!(rt; operator.is_told(&rt, &registry, Step::Open(one, 518)) == Reply::Opened);
-    assert!(rt; operator.is_told(&rt, &registry, Step::Open(two, 0)) == Reply::Opened);
-    let _ = operator.is_told(&rt, &registry, Step::Submit(one, a_move(&rt, b"e2e4")));
-    assert!(rt; registry.show_at(&rt, 2)?.is_none());
-    assert!(rt; registry.show(&rt, &board(&rt, b"three"))?.is_none());
-    let shown = registry.show(&rt, &one)?.expect(&rt, "a board");
-    let other = registry.show_at(&rt, 1)?.expect(&rt, "a board");
-    assert!(rt; shown.summary(&rt).board == one && shown.summary(&rt).plies == 1);
-    assert!(rt; other.summary(&rt).board == two && other.summary(&rt).start == 0);
-    assert!(rt; shown.rings() == 1 && other.rings() == 0);
-    assert!(rt; shown.position_at(&rt, 1).is_some() && shown.position_at(&rt, 2).is_none());
-    let mut moves = Vec::new(rt.alloc());
-    assert!(rt; shown.news(&rt, 0, &mut moves)?.is_none() && moves.len() == 1);
-    registry.end_all(&rt);
-    assert!(rt; shown.news(&rt, 1, &mut moves)? == Some(Outcome::Abandoned) && moves.len() == 1);
-    assert!(rt; shown.is_over(&rt) && other.is_over(&rt) && other.rings() == 1);
+    let alloc = rt.alloc();
+    let mut scene = Scene::new(&rt, alloc, 0, None)?;
+    let (one, two) = (board(&rt, b"b1"), board(&rt, b"b2"));
+    assert!(rt; scene.is_told(&rt, Step::Open(two, 0)) == Reply::Opened);
+    let _ = scene.is_told(&rt, Step::Submit(one, a_move(&rt, b"e2e4")));
+    assert!(rt; has_none(&rt, &scene.registry, board(&rt, b"b3"), 2));
+    let first = shown(&rt, &scene.registry, one);
+    let second = shown_at(&rt, &scene.registry, 1);
+    assert!(rt; in_short(&rt, &first) == (one, 518, 1, false, 1));
+    assert!(rt; in_short(&rt, &second) == (two, 0, 0, false, 0));
+    assert!(rt; has_position_of(&rt, &first, 1));
+    assert!(rt; news(&rt, alloc, &first, 0) == (1, None));
+    scene.registry.end_all(&rt);
+    assert!(rt; news(&rt, alloc, &first, 1) == (0, Some(Outcome::Abandoned)));
+    assert!(rt; in_short(&rt, &first) == (one, 518, 1, true, 2));
+    assert!(rt; in_short(&rt, &second) == (two, 0, 0, true, 1));
     Ok(())
 }

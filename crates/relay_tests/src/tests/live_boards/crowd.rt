@@ -1,7 +1,8 @@
 //! As many followers as a board may have.
 
+use crate::tests::deeds::{gets, leaves, opened, plays, takes};
 use crate::tests::live_boards::games::limits_of;
-use crate::tests::values::{account, move_of};
+use crate::tests::values::account;
 use c960_game::Refusal;
 use live_board::{Board, Follower};
 use relay_core::Taken;
@@ -29,45 +30,64 @@ fn crowd(
     Ok(followers)
 }
 
-/// Asserts that the follower takes this move, then none, and leaves with an account that says so.
-fn assert_takes_one(rt: &impl Abort, mut follower: Follower, place: u16, text: &str, cut: bool) {
-    assert!(rt; follower.take() == Taken::Move(place, move_of(rt, text)));
+/// Whether a follower takes this move, then none, and leaves with an account that says so.
+fn takes_one(rt: &impl Abort, mut follower: Follower, place: u16, text: &str, cut: bool) -> bool {
     let idle = if cut { Taken::Cut } else { Taken::Nothing };
-    assert!(rt; follower.take() == idle);
-    let (told, _) = follower.leave();
     let taken = place.saturating_add(1);
-    assert!(rt; told == account(0, taken, taken, cut));
+    gets(rt, &mut follower, place, text)
+        && takes(&mut follower) == idle
+        && leaves(follower) == account(0, taken, taken, cut)
+}
+
+/// Every second one takes the first move.
+fn half_takes(rt: &impl Abort, followers: &mut [Follower]) {
+    let mut may_take = true;
+    for follower in followers.iter_mut() {
+        assert!(rt; !may_take || gets(rt, follower, 0, "e2e4"));
+        may_take = !may_take;
+    }
+}
+
+/// Those who took the first move take the second, and the others were closed by it. All leave.
+fn all_leave(rt: &impl Abort, followers: Vec<Follower>) {
+    let mut took = true;
+    for follower in followers {
+        assert!(rt;
+            if took {
+                takes_one(rt, follower, 1, "e7e5", false)
+            } else {
+                takes_one(rt, follower, 0, "e2e4", true)
+            }
+        );
+        took = !took;
+    }
+}
+
+/// A crowd comes before the first move, and leaves behind the second.
+fn first_crowd(rt: &impl Abort, alloc: Global, board: &mut Board) -> Result<(), AllocError> {
+    let mut followers = crowd(rt, alloc, board, None)?;
+    assert!(rt; plays(rt, board, 0, "e2e4"));
+    half_takes(rt, &mut followers);
+    assert!(rt; plays(rt, board, 1, "e7e5"));
+    all_leave(rt, followers);
+    Ok(())
+}
+
+/// A crowd comes behind the second move, and takes it.
+fn second_crowd(rt: &impl Abort, alloc: Global, board: &mut Board) -> Result<(), AllocError> {
+    let mut followers = crowd(rt, alloc, board, Some(1))?;
+    for follower in followers.iter_mut() {
+        assert!(rt; gets(rt, follower, 1, "e7e5"));
+        assert!(rt; takes(follower) == Taken::Nothing);
+    }
+    Ok(())
 }
 
 #[test]
 fn a_board_has_a_thousand_and_twenty_four_followers(rt: HostRuntime) -> Result<(), Fail> {
     let alloc = rt.alloc();
-    let Ok(mut board) = Board::open(alloc, 518, limits_of(&rt, 1024, 1, 1024)) else {
-        panic!(rt; "no board");
-    };
-    let mut followers = crowd(&rt, alloc, &mut board, None)?;
-    assert!(rt; board.submit(move_of(&rt, "e2e4")) == Ok((0, None)));
-    // Every second one takes the move, and the others are closed by the next.
-    let mut takes = true;
-    for follower in &mut followers {
-        if takes {
-            assert!(rt; follower.take() == Taken::Move(0, move_of(&rt, "e2e4")));
-        }
-        takes = !takes;
-    }
-    assert!(rt; board.submit(move_of(&rt, "e7e5")) == Ok((1, None)));
-    let mut took = true;
-    for follower in followers {
-        if took {
-            assert_takes_one(&rt, follower, 1, "e7e5", false);
-        } else {
-            assert_takes_one(&rt, follower, 0, "e2e4", true);
-        }
-        took = !took;
-    }
-    for mut follower in crowd(&rt, alloc, &mut board, Some(1))? {
-        assert!(rt; follower.take() == Taken::Move(1, move_of(&rt, "e7e5")));
-        assert!(rt; follower.take() == Taken::Nothing);
-    }
+    let mut board = opened(&rt, alloc, 518, limits_of(&rt, 1024, 1, 1024));
+    first_crowd(&rt, alloc, &mut board)?;
+    second_crowd(&rt, alloc, &mut board)?;
     Ok(())
 }

@@ -1,12 +1,13 @@
 //! A game of as many plies as there may be, of which each move is taken at once, since a queue holds one.
 
+use crate::tests::deeds::{followed, leaves, opened};
 use crate::tests::live_boards::games::limits_of;
 use crate::tests::values::{account, move_of};
 use c960_board::{Move, read_move};
 use c960_game::Refusal;
-use live_board::Board;
+use live_board::{Board, Follower};
 use relay_core::Taken;
-use std::alloc::AllocError;
+use std::alloc::{AllocError, Global};
 use std::process::Abort;
 use std::test::Fail;
 
@@ -142,31 +143,43 @@ fn add_part(rt: &impl Abort, moves: &mut Vec<Move>, part: &str) -> Result<(), Al
     Ok(())
 }
 
-#[test]
-fn each_move_of_a_game_of_the_most_plies_is_taken(rt: HostRuntime) -> Result<(), Fail> {
-    let alloc = rt.alloc();
+/// Whether a board takes a move, which a follower takes at once.
+fn goes_on(board: &mut Board, follower: &mut Follower, place: u16, m: Move) -> bool {
+    board.submit(m) == Ok((place, None)) && follower.take() == Taken::Move(place, m)
+}
+
+/// Whether a board takes no more moves, and a follower none.
+fn goes_no_further(board: &mut Board, follower: &mut Follower, m: Move) -> bool {
+    board.submit(m) == Err(Refusal::LogFull) && follower.take() == Taken::Nothing
+}
+
+/// The moves of all parts.
+fn all_moves(rt: &impl Abort, alloc: Global) -> Result<Vec<Move>, AllocError> {
     let mut moves = Vec::new(alloc);
     for part in parts() {
-        add_part(&rt, &mut moves, part)?;
+        add_part(rt, &mut moves, part)?;
     }
+    Ok(moves)
+}
+
+/// One follower takes each move at once, and another none.
+fn all_are_taken(rt: &impl Abort, board: &mut Board, moves: &[Move], next: Move) {
+    let mut quick = followed(rt, board, None);
+    let slow = followed(rt, board, None);
+    for (place, m) in (0..PLIES).zip(moves) {
+        assert!(rt; goes_on(board, &mut quick, place, *m), "{place}");
+    }
+    assert!(rt; goes_no_further(board, &mut quick, next));
+    assert!(rt; leaves(quick) == account(0, PLIES, PLIES, false));
+    assert!(rt; leaves(slow) == account(0, 0, 1, true));
+}
+
+#[test]
+fn each_move_of_a_game_of_the_most_plies_is_taken(rt: HostRuntime) -> Result<(), Fail> {
+    let moves = all_moves(&rt, rt.alloc())?;
     assert!(rt; moves.len() > usize::from(PLIES));
-    let Ok(mut board) = Board::open(alloc, 518, limits_of(&rt, 2, 1, PLIES)) else {
-        panic!(rt; "no board");
-    };
-    let (Ok(mut quick), Ok(slow)) = (board.follow(None), board.follow(None)) else {
-        panic!(rt; "nobody follows");
-    };
-    for place in 0..PLIES {
-        let m = moves[usize::from(place)];
-        assert!(rt; board.submit(m) == Ok((place, None)), "{place}");
-        assert!(rt; quick.take() == Taken::Move(place, m), "{place}");
-    }
     let next = moves[usize::from(PLIES)];
-    assert!(rt; board.submit(next) == Err(Refusal::LogFull));
-    assert!(rt; quick.take() == Taken::Nothing);
-    let (told, _) = quick.leave();
-    assert!(rt; told == account(0, PLIES, PLIES, false));
-    let (told, _) = slow.leave();
-    assert!(rt; told == account(0, 0, 1, true));
+    let mut board = opened(&rt, rt.alloc(), 518, limits_of(&rt, 2, 1, PLIES));
+    all_are_taken(&rt, &mut board, moves.as_slice(), next);
     Ok(())
 }

@@ -2,37 +2,44 @@
 //! so and changes nothing, and is accepted when made again; no other call allocates.
 
 use crate::tests::again::{follow, open};
+use crate::tests::deeds::{agrees, gets, is_bad_start, is_full, leaves, plays, takes};
 use crate::tests::live_boards::games::limits_of;
-use crate::tests::values::{account, move_of};
-use c960_game::{Ending, Outcome, Refusal};
-use live_board::Board;
+use crate::tests::values::account;
+use c960_game::Outcome;
+use live_board::{Board, Follower};
 use relay_core::Taken;
+use std::process::Abort;
+
+/// Two follow a board that has two slots, whose queues hold one move. One of them is closed, and leaves. Returns the other.
+fn one_of_two(rt: &impl Abort, board: &mut Board) -> Follower {
+    let mut one = follow(rt, board, None);
+    assert!(rt; plays(rt, board, 0, "e2e4"));
+    let mut two = follow(rt, board, Some(0));
+    assert!(rt; is_full(board));
+    assert!(rt; gets(rt, &mut one, 0, "e2e4"));
+    assert!(rt; plays(rt, board, 1, "e7e5"));
+    assert!(rt; gets(rt, &mut one, 1, "e7e5"));
+    assert!(rt; gets(rt, &mut two, 0, "e2e4"));
+    assert!(rt; takes(&mut two) == Taken::Cut);
+    assert!(rt; leaves(two) == account(0, 1, 1, true));
+    one
+}
+
+/// A third one comes, and the game ends.
+fn a_third_to_the_end(rt: &impl Abort, board: &mut Board) {
+    let mut three = follow(rt, board, Some(1));
+    assert!(rt; agrees(board));
+    assert!(rt; gets(rt, &mut three, 1, "e7e5"));
+    assert!(rt; takes(&mut three) == Taken::Over(Outcome::Agreed));
+}
 
 #[test]
 fn one_allocation_may_be_refused(rt: HostRuntime) {
-    let mut board = open(&rt, rt.alloc(), limits_of(&rt, 2, 1, 16));
-    assert!(rt;
-        matches!(
-            Board::open(rt.alloc(), 960, limits_of(&rt, 2, 1, 16)),
-            Err(Refusal::BadStart)
-        )
-    );
-    let mut one = follow(&rt, &mut board, None);
-    assert!(rt; board.submit(move_of(&rt, "e2e4")) == Ok((0, None)));
-    let mut two = follow(&rt, &mut board, Some(0));
-    assert!(rt; matches!(board.follow(None), Err(Refusal::TooManyFollowers)));
-    assert!(rt; one.take() == Taken::Move(0, move_of(&rt, "e2e4")));
-    assert!(rt; board.submit(move_of(&rt, "e7e5")) == Ok((1, None)));
-    assert!(rt; one.take() == Taken::Move(1, move_of(&rt, "e7e5")));
-    assert!(rt; two.take() == Taken::Move(0, move_of(&rt, "e2e4")));
-    assert!(rt; two.take() == Taken::Cut);
-    let (told, _) = two.leave();
-    assert!(rt; told == account(0, 1, 1, true));
-    let mut three = follow(&rt, &mut board, Some(1));
-    assert!(rt; board.end(Ending::Agreed) == Ok(Outcome::Agreed));
-    assert!(rt; three.take() == Taken::Move(1, move_of(&rt, "e7e5")));
-    assert!(rt; three.take() == Taken::Over(Outcome::Agreed));
-    assert!(rt; one.take() == Taken::Over(Outcome::Agreed));
-    let (told, _) = one.leave();
-    assert!(rt; told == account(0, 2, 2, false));
+    let limits = limits_of(&rt, 2, 1, 16);
+    let mut board = open(&rt, rt.alloc(), limits);
+    assert!(rt; is_bad_start(rt.alloc(), 960, limits));
+    let mut one = one_of_two(&rt, &mut board);
+    a_third_to_the_end(&rt, &mut board);
+    assert!(rt; takes(&mut one) == Taken::Over(Outcome::Agreed));
+    assert!(rt; leaves(one) == account(0, 2, 2, false));
 }

@@ -89,6 +89,24 @@ fn line_of(asked: Asked) -> &'static str {
     }
 }
 
+/// Asserts that a board answers as a row says, each move of its line in turn.
+fn assert_row(
+    rt: &impl Abort,
+    stage: &mut Stage,
+    (name, row): (&str, usize),
+    (asked, told): (Asked, Told),
+) {
+    let mut after = 0u16;
+    for text in line_of(asked).split(' ') {
+        let answer = stage.ask(ask_of(rt, asked, text));
+        assert!(rt;
+            answer == answer_of(rt, told, after),
+            "{name}, row {row}, {text}"
+        );
+        after = after.saturating_add(1);
+    }
+}
+
 /// Asserts that a new board of start 518 with these limits (followers, capacity, plies) answers as the rows say.
 pub fn assert_case(
     rt: &impl Abort,
@@ -103,16 +121,7 @@ pub fn assert_case(
         panic!(rt; "no board");
     };
     for row in 0..rows.len() {
-        let (asked, told) = rows[row];
-        let mut after = 0u16;
-        for text in line_of(asked).split(' ') {
-            let answer = stage.ask(ask_of(rt, asked, text));
-            assert!(rt;
-                answer == answer_of(rt, told, after),
-                "{name}, row {row}, {text}"
-            );
-            after = after.saturating_add(1);
-        }
+        assert_row(rt, &mut stage, (name, row), rows[row]);
     }
     Ok(())
 }

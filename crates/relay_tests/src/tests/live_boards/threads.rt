@@ -1,8 +1,9 @@
 //! A game that one thread plays while two others take its moves.
 
+use crate::tests::deeds::{followed, is_full, leaves, opened};
 use crate::tests::live_boards::games::{hundred_plies, limits_of};
 use c960_board::Move;
-use c960_game::{Ending, Outcome, Refusal};
+use c960_game::{Ending, Outcome};
 use live_board::{Board, Follower};
 use relay_core::{Account, Taken};
 use std::alloc::{AllocError, Global};
@@ -98,9 +99,7 @@ fn play_with_two<R: Threads + Abort>(
 ) -> Result<Vec<(Follower, Took)>, Fail> {
     let mut running = Vec::new(alloc);
     for _ in 0..2 {
-        let Ok(mut follower) = board.follow(None) else {
-            panic!(rt; "nobody follows");
-        };
+        let mut follower = followed(rt, board, None);
         running.push(thread::spawn(rt, move || {
             let took = take_all(alloc, &mut follower, MOST_TAKES);
             (follower, took)
@@ -116,6 +115,20 @@ fn play_with_two<R: Threads + Abort>(
     Ok(ended)
 }
 
+/// Asserts what each had, and that its account says so. Returns whether one of them was closed.
+fn all_had(rt: &impl Abort, moves: &[Move], ended: Vec<(Follower, Took)>) -> bool {
+    let mut is_closed = false;
+    for (follower, had) in ended {
+        is_closed = assert_had(rt, moves, &had, leaves(follower)) || is_closed;
+    }
+    is_closed
+}
+
+/// Whether two more may follow a board.
+fn has_room_for_two(board: &mut Board) -> bool {
+    board.follow(None).is_ok() && board.follow(None).is_ok()
+}
+
 /// Plays a game while two others, whose queues hold `capacity` moves, take it. Returns whether one of them was closed.
 fn play_before_two<R: Threads + Abort>(
     rt: &R,
@@ -123,17 +136,11 @@ fn play_before_two<R: Threads + Abort>(
     moves: &[Move],
     capacity: u16,
 ) -> Result<bool, Fail> {
-    let Ok(mut board) = Board::open(alloc, 518, limits_of(rt, 2, capacity, 1024)) else {
-        panic!(rt; "no board");
-    };
+    let mut board = opened(rt, alloc, 518, limits_of(rt, 2, capacity, 1024));
     let ended = play_with_two(rt, alloc, &mut board, moves)?;
-    assert!(rt; matches!(board.follow(None), Err(Refusal::TooManyFollowers)));
-    let mut is_closed = false;
-    for (follower, had) in ended {
-        let (account, _) = follower.leave();
-        is_closed = assert_had(rt, moves, &had, account) || is_closed;
-    }
-    assert!(rt; board.follow(None).is_ok() && board.follow(None).is_ok());
+    assert!(rt; is_full(&mut board));
+    let is_closed = all_had(rt, moves, ended);
+    assert!(rt; has_room_for_two(&mut board));
     Ok(is_closed)
 }
 

@@ -1,10 +1,11 @@
 //! A game that one thread plays while followers come, take in threads of their own, and leave again, many times over.
 
 use crate::tests::chance::Dice;
+use crate::tests::deeds::{agrees, leaves, opened};
 use crate::tests::live_boards::games::{hundred_plies, limits_of};
 use crate::tests::live_boards::threads::{Took, take_all};
 use c960_board::Move;
-use c960_game::{Ending, Outcome, Refusal};
+use c960_game::{Outcome, Refusal};
 use live_board::{Board, Follower};
 use relay_core::{Account, Taken};
 use std::alloc::{AllocError, Global};
@@ -20,8 +21,7 @@ type Visit = (u16, Result<Took, AllocError>, Account);
 fn visit(alloc: Global, mut follower: Follower, most: u32) -> Visit {
     let joined = follower.joined();
     let took = take_all(alloc, &mut follower, most);
-    let (account, _) = follower.leave();
-    (joined, took, account)
+    (joined, took, leaves(follower))
 }
 
 /// Asserts that the follower's moves are the stretch of the game from its joining place, and that its account says so.
@@ -71,6 +71,28 @@ fn come<R: Threads + Abort>(
     }
 }
 
+/// Asserts that each had a stretch of the game. Returns how many came.
+fn all_had_stretches<R: Threads + Abort>(
+    rt: &R,
+    moves: &[Move],
+    visits: Vec<JoinHandle<Visit>>,
+) -> Result<u32, AllocError> {
+    let mut count = 0u32;
+    for handle in visits {
+        assert_stretch(rt, moves, handle.join(rt))?;
+        count = count.wrapping_add(1);
+    }
+    Ok(count)
+}
+
+/// Whether another one finds a slot behind the last move, and leaves.
+fn has_room(alloc: Global, board: &mut Board) -> bool {
+    match board.follow(None) {
+        Ok(follower) => visit(alloc, follower, 1).0 == 100,
+        Err(_) => false,
+    }
+}
+
 /// One game, with the visits that it had.
 fn play<R: Threads + Abort>(
     rt: &R,
@@ -79,9 +101,7 @@ fn play<R: Threads + Abort>(
     capacity: u16,
     dice: &mut Dice,
 ) -> Result<u32, Fail> {
-    let Ok(mut board) = Board::open(alloc, 518, limits_of(rt, 3, capacity, 1024)) else {
-        panic!(rt; "no board");
-    };
+    let mut board = opened(rt, alloc, 518, limits_of(rt, 3, capacity, 1024));
     let mut visits: Vec<JoinHandle<Visit>> = Vec::new(alloc);
     let mut place = 0u16;
     for m in moves {
@@ -93,19 +113,11 @@ fn play<R: Threads + Abort>(
         assert!(rt; board.submit(*m) == Ok((place, None)));
         place = place.saturating_add(1);
     }
-    assert!(rt; board.end(Ending::Agreed) == Ok(Outcome::Agreed));
-    let mut count = 0u32;
-    for handle in visits {
-        assert_stretch(rt, moves, handle.join(rt))?;
-        count = count.wrapping_add(1);
-    }
+    assert!(rt; agrees(&mut board));
+    let count = all_had_stretches(rt, moves, visits)?;
     // All have left, so that there is as much room as ever.
     for _ in 0..3 {
-        let Ok(follower) = board.follow(None) else {
-            panic!(rt; "a slot was not found again");
-        };
-        assert!(rt; follower.joined() == 100);
-        let _ = visit(alloc, follower, 1);
+        assert!(rt; has_room(alloc, &mut board));
     }
     Ok(count)
 }

@@ -2,9 +2,10 @@
 
 use crate::tests::relays::table::limits_of;
 use crate::tests::values::{board_of, move_of};
+use c960_game::Limits;
 use relay_core::{BoardName, Relay, Reply, Spectator, Step};
 use relay_live::LiveRelay;
-use std::alloc::AllocError;
+use std::alloc::{AllocError, Global};
 use std::process::Abort;
 
 /// How many follow at a time.
@@ -35,6 +36,13 @@ fn leaver(order: Order, others: u32) -> Spectator {
 pub struct Both {
     pub plain: Relay,
     pub live: LiveRelay,
+}
+
+/// Relays without boards.
+pub fn both_of(alloc: Global, limits: Limits) -> Result<Both, AllocError> {
+    let plain = Relay::new(alloc, limits)?;
+    let live = LiveRelay::new(alloc, limits)?;
+    Ok(Both { plain, live })
 }
 
 /// Asserts that both answer a step alike. Returns whether they accept it.
@@ -79,6 +87,15 @@ fn disperse(rt: &impl Abort, both: &mut Both, order: Order) {
     }
 }
 
+/// A crowd comes to a new board, and leaves in this order.
+fn come_and_go(rt: &impl Abort, both: &mut Both, board: BoardName, order: Order) {
+    assert!(rt; ask(rt, both, &Step::Open(board, 518)));
+    gather(rt, both, board);
+    halve(rt, both, order);
+    join_again(rt, both, board);
+    disperse(rt, both, order);
+}
+
 #[test]
 fn a_crowd_that_leaves_in_any_order_is_answered_as_by_the_plain_relay(
     rt: HostRuntime,
@@ -91,15 +108,8 @@ fn a_crowd_that_leaves_in_any_order_is_answered_as_by_the_plain_relay(
         Order::LastComeFirst,
         Order::Scattered,
     ] {
-        let mut both = Both {
-            plain: Relay::new(alloc, limits)?,
-            live: LiveRelay::new(alloc, limits)?,
-        };
-        assert!(rt; ask(&rt, &mut both, &Step::Open(board, 518)));
-        gather(&rt, &mut both, board);
-        halve(&rt, &mut both, order);
-        join_again(&rt, &mut both, board);
-        disperse(&rt, &mut both, order);
+        let mut both = both_of(alloc, limits)?;
+        come_and_go(&rt, &mut both, board, order);
     }
     Ok(())
 }

@@ -1,10 +1,10 @@
 //! A board that a relay over live boards hands out.
 
 use crate::handing::play_and_hand_out;
+use crate::tests::deeds::{followed, is_full, leaves};
 use crate::tests::relays::closing::full_queue;
 use crate::tests::relays::table::{Asked, Told, case_of, limits_of};
-use crate::tests::values::board_of;
-use c960_game::Refusal;
+use crate::tests::values::{account, board_of};
 use relay_live::Board;
 use std::alloc::{AllocError, Global};
 use std::process::Abort;
@@ -30,12 +30,9 @@ fn a_board_is_handed_out_with_its_game(rt: HostRuntime) -> Result<(), Fail> {
     let Some(mut board) = board_after(&rt, rt.alloc(), full_queue(), "b1")? else {
         panic!(rt; "no board");
     };
-    assert!(rt; board.len() == 3);
-    assert!(rt; board.outcome().is_none());
-    let Ok(follower) = board.follow(None) else {
-        panic!(rt; "no follower");
-    };
-    assert!(rt; follower.joined() == 3);
+    assert!(rt; board.len() == 3 && board.outcome().is_none());
+    let follower = followed(&rt, &mut board, None);
+    assert!(rt; leaves(follower) == account(3, 0, 3, false));
     assert!(rt; board_after(&rt, rt.alloc(), full_queue(), "b9")?.is_none());
     Ok(())
 }
@@ -46,6 +43,6 @@ fn who_followed_a_board_keeps_its_place_there(rt: HostRuntime) -> Result<(), Fai
     let Some(mut board) = board_after(&rt, rt.alloc(), &full_queue()[..9], "b1")? else {
         panic!(rt; "no board");
     };
-    assert!(rt; matches!(board.follow(None), Err(Refusal::TooManyFollowers)));
+    assert!(rt; is_full(&mut board));
     Ok(())
 }

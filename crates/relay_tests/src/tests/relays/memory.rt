@@ -176,15 +176,11 @@ fn the_steps_after_an_opening_and_a_follow_are_answered_whatever_is_refused(rt: 
     assert_rows(&rt, rt.alloc(), (16, 64, 64, 1024), mate());
 }
 
-/// Asserts that a new relay of the kind answers a run. Returns how many calls were refused for lack of memory.
-fn refusals_of_a_run<K: Kind>(rt: &impl Abort, alloc: Global) -> u32 {
-    let mut refused = Refused { count: 0 };
-    let limits = limits_of(rt, (1, 1, 1, 1024));
-    let mut relay: K = new_relay(rt, alloc, limits, &mut refused);
+/// The steps of a run. Each that takes memory occurs twice: if the first is refused for lack of it, the second is accepted.
+fn steps_of_a_run(rt: &impl Abort) -> [Step; 10] {
     let board = board_of(rt, "a");
     let (e2e4, e7e5) = (move_of(rt, "e2e4"), move_of(rt, "e7e5"));
-    // Each step that takes memory occurs twice: if the first is refused for lack of it, the second is accepted.
-    let steps = [
+    [
         Step::Open(board, 518),
         Step::Open(board, 518),
         Step::Follow(1, board, None),
@@ -195,7 +191,12 @@ fn refusals_of_a_run<K: Kind>(rt: &impl Abort, alloc: Global) -> u32 {
         Step::Take(1),
         Step::Leave(1),
         Step::Submit(board, e2e4),
-    ];
+    ]
+}
+
+/// Asserts that these are the replies to that run, of whose first four one of two was refused for lack of memory, or none was.
+fn assert_replies_of_a_run(rt: &impl Abort, replies: &[Reply], refused: &mut Refused) {
+    assert!(rt; replies.len() == 10);
     let opened = (Reply::Opened, Reply::Refused(Refusal::BoardExists));
     let followed = (
         following(rt, 0, START_518),
@@ -204,16 +205,23 @@ fn refusals_of_a_run<K: Kind>(rt: &impl Abort, alloc: Global) -> u32 {
     let rest = [
         played(0),
         played(1),
-        Reply::Took(Taken::Move(0, e2e4)),
+        Reply::Took(Taken::Move(0, move_of(rt, "e2e4"))),
         Reply::Took(Taken::Cut),
         Reply::Left(account(0, 1, 1, true)),
         Reply::Refused(Refusal::Illegal),
     ];
-    let replies = run(rt, &mut relay, &steps, &mut refused);
-    assert!(rt; replies.len() == 10);
-    assert_pair(rt, (replies[0], replies[1]), opened, &mut refused);
-    assert_pair(rt, (replies[2], replies[3]), followed, &mut refused);
+    assert_pair(rt, (replies[0], replies[1]), opened, refused);
+    assert_pair(rt, (replies[2], replies[3]), followed, refused);
     assert!(rt; &replies[4..] == rest.as_slice());
+}
+
+/// Asserts that a new relay of the kind answers a run. Returns how many calls were refused for lack of memory.
+fn refusals_of_a_run<K: Kind>(rt: &impl Abort, alloc: Global) -> u32 {
+    let mut refused = Refused { count: 0 };
+    let limits = limits_of(rt, (1, 1, 1, 1024));
+    let mut relay: K = new_relay(rt, alloc, limits, &mut refused);
+    let replies = run(rt, &mut relay, &steps_of_a_run(rt), &mut refused);
+    assert_replies_of_a_run(rt, replies.as_slice(), &mut refused);
     refused.count
 }
 

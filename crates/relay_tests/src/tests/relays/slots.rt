@@ -1,10 +1,10 @@
 //! The slots of a live board, which are given out again once they are left.
 
-use crate::tests::relays::crowds::{Both, ask};
+use crate::tests::relays::crowds::{Both, ask, both_of};
 use crate::tests::relays::table::limits_of;
 use crate::tests::values::board_of;
-use relay_core::{BoardName, Relay, Spectator, Step};
-use relay_live::{Board, LiveRelay};
+use relay_core::{BoardName, Spectator, Step};
+use relay_live::Board;
 use std::alloc::{AllocError, Global};
 use std::process::Abort;
 use std::test::Fail;
@@ -14,6 +14,27 @@ const MOST: u32 = 6;
 
 /// How often two leave and follow again.
 const ROUNDS: u32 = 3;
+
+/// All come to a new board, each to the slot of its own number. Two leave and come again, several times; then both leave, and the first
+/// comes back.
+fn come_and_go(
+    rt: &impl Abort,
+    both: &mut Both,
+    board: BoardName,
+    first: Spectator,
+    second: Spectator,
+) {
+    assert!(rt; ask(rt, both, &Step::Open(board, 518)));
+    for who in 0..MOST {
+        assert!(rt; ask(rt, both, &Step::Follow(who, board, None)));
+    }
+    for _ in 0..ROUNDS {
+        swap_places(rt, both, board, first, second);
+    }
+    assert!(rt; ask(rt, both, &Step::Leave(first)));
+    assert!(rt; ask(rt, both, &Step::Leave(second)));
+    assert!(rt; ask(rt, both, &Step::Follow(first, board, None)));
+}
 
 /// Two leave and follow again, while one more asks in vain.
 fn swap_places(
@@ -47,21 +68,8 @@ fn assert_lower(
 ) -> Result<(), AllocError> {
     let limits = limits_of(rt, (1, MOST as u16, 64, 64));
     let board = board_of(rt, "crowded");
-    let mut both = Both {
-        plain: Relay::new(alloc, limits)?,
-        live: LiveRelay::new(alloc, limits)?,
-    };
-    assert!(rt; ask(rt, &mut both, &Step::Open(board, 518)));
-    // Each has the slot of its own number.
-    for who in 0..MOST {
-        assert!(rt; ask(rt, &mut both, &Step::Follow(who, board, None)));
-    }
-    for _ in 0..ROUNDS {
-        swap_places(rt, &mut both, board, first, second);
-    }
-    assert!(rt; ask(rt, &mut both, &Step::Leave(first)));
-    assert!(rt; ask(rt, &mut both, &Step::Leave(second)));
-    assert!(rt; ask(rt, &mut both, &Step::Follow(first, board, None)));
+    let mut both = both_of(alloc, limits)?;
+    come_and_go(rt, &mut both, board, first, second);
     let Both { plain: _, live } = both;
     let Some(board) = live.into_board(&board) else {
         panic!(rt; "no board");

@@ -140,8 +140,8 @@ pub fn case_of(rt: &impl Abort, alloc: Global, rows: &[(Asked, Told)]) -> Result
     Ok(case)
 }
 
-/// Asserts that new relays of the kind, which is named so, give these replies to these steps, one step by step and one in one run.
-fn assert_kind<K: Kind>(
+/// Asserts that a new relay of the kind, which is named so, gives these replies to these steps, step by step.
+fn assert_steps<K: Kind>(
     rt: &impl Abort,
     alloc: Global,
     name: &str,
@@ -152,6 +152,17 @@ fn assert_kind<K: Kind>(
     for i in 0..steps.len().min(replies.len()) {
         assert!(rt; relay.step(steps[i]) == replies[i], "{name} by step");
     }
+    Ok(())
+}
+
+/// Asserts that a new relay of the kind, which is named so, gives these replies to these steps in one run.
+fn assert_run<K: Kind>(
+    rt: &impl Abort,
+    alloc: Global,
+    name: &str,
+    limits: Limits,
+    (steps, replies): (&[Step], &[Reply]),
+) -> Result<(), Fail> {
     let mut relay = K::made(alloc, limits)?;
     let given = relay.ran(steps)?;
     assert!(rt; given.as_slice() == replies, "{name} by run");
@@ -166,8 +177,10 @@ pub fn assert_replies(
     steps: &[Step],
     replies: &[Reply],
 ) -> Result<(), Fail> {
-    assert_kind::<Relay>(rt, alloc, "relay", limits, (steps, replies))?;
-    assert_kind::<LiveRelay>(rt, alloc, "live relay", limits, (steps, replies))
+    assert_steps::<Relay>(rt, alloc, "relay", limits, (steps, replies))?;
+    assert_run::<Relay>(rt, alloc, "relay", limits, (steps, replies))?;
+    assert_steps::<LiveRelay>(rt, alloc, "live relay", limits, (steps, replies))?;
+    assert_run::<LiveRelay>(rt, alloc, "live relay", limits, (steps, replies))
 }
 
 /// Asserts that a relay of either kind with these limits answers each row in this way, step by step and in runs.
