@@ -8,7 +8,7 @@ use relay_core::{Account, Taken};
 use std::alloc::Global;
 use std::process::Abort;
 
-/// A new board of this start.
+/// A new board of this start. It is not refused, for lack of memory either (`again::open` asks once more then).
 pub fn opened(rt: &impl Abort, alloc: Global, start: u16, limits: Limits) -> Board {
     let Ok(board) = Board::open(alloc, start, limits) else {
         panic!(rt; "no board {start}");
@@ -21,7 +21,7 @@ pub fn is_bad_start(alloc: Global, start: u16, limits: Limits) -> bool {
     matches!(Board::open(alloc, start, limits), Err(Refusal::BadStart))
 }
 
-/// A new follower.
+/// A new follower. It is not refused, for lack of memory either (`again::follow` asks once more then).
 pub fn followed(rt: &impl Abort, board: &mut Board, from: Option<u16>) -> Follower {
     let Ok(follower) = board.follow(from) else {
         panic!(rt; "nobody follows");

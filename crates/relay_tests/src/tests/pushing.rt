@@ -73,7 +73,7 @@ fn assert_rest<R: Wait + Abort, S: Source>(rt: &R, alloc: Global, source: &mut S
 }
 
 /// Asserts that what a follower has that was closed at its capacity of 2 is pushed to a device that takes so many texts, that pushing ends
-/// so, and that so many texts were sent.
+/// so, and that so many texts were sent; or, if memory was refused, that the rest is pushed afterwards.
 pub fn assert_cut<R: Wait + Abort, S: Source>(
     rt: &R,
     alloc: Global,

@@ -54,23 +54,7 @@ fn hall(rt: &impl Abort, alloc: Global) -> Hall {
     hall
 }
 
-/// A connection that was fed the bytes in two pieces, of which the first has so many. Only what the second one says is heeded.
-fn fed_in_two(
-    alloc: Global,
-    hall: &mut Hall,
-    bytes: &[u8],
-    n: usize,
-) -> Result<Caller, AllocError> {
-    let mut caller = Caller::new(alloc, 1, true);
-    let (first, second) = bytes.split_at(n.min(bytes.len()));
-    if is_heard(&mut caller, hall, first, false) && is_heard(&mut caller, hall, second, true) {
-        Ok(caller)
-    } else {
-        Err(AllocError)
-    }
-}
-
-/// Whether bytes that are cut there are answered by these.
+/// Whether bytes that are cut there are answered by these, and only the second piece says what is heeded.
 fn is_answered_in_two(
     alloc: Global,
     hall: &mut Hall,
@@ -78,10 +62,11 @@ fn is_answered_in_two(
     n: usize,
     wanted: &[u8],
 ) -> bool {
-    match fed_in_two(alloc, hall, bytes, n) {
-        Ok(caller) => is_due(&caller, wanted, Stage::Asks),
-        Err(AllocError) => false,
-    }
+    let mut caller = Caller::new(alloc, 1, true);
+    let (first, second) = bytes.split_at(n.min(bytes.len()));
+    is_heard(&mut caller, hall, first, false)
+        && is_heard(&mut caller, hall, second, true)
+        && is_due(&caller, wanted, Stage::Asks)
 }
 
 /// A request with a ping behind it, and the acceptance with a pong behind it.

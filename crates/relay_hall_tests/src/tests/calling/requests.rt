@@ -16,8 +16,8 @@ pub const ACCEPTED: &[u8] =
 const BEHIND_TARGET: &[u8] =
     b" HTTP/1.1\r\nHost: a\r\nConnection: upgrade\r\nUpgrade: websocket\r\nSec-WebSocket-Version: 13\r\nSec-WebSocket-Key: dGhlIHNhbXBsZSBub25jZQ==\r\n\r\n";
 
-/// Feeds a connection these bytes, if there is memory. Whoever calls this, `hears` or `is_due` carries no clause of a caller along, so that
-/// its proof is short.
+/// Feeds a connection these bytes. Returns whether there was memory. Whoever calls this, `hears` or `is_due` carries no clause of a caller
+/// along, so that its proof is short.
 pub fn is_fed(caller: &mut Caller, bytes: &[u8]) -> bool {
     caller.feed(bytes).is_ok()
 }
@@ -33,7 +33,7 @@ pub fn hears(
     Ok((some?, handed))
 }
 
-/// Whether bytes say something, for which nothing is handed out, or say nothing yet.
+/// Whether bytes say something exactly if `some`, and nothing is handed out.
 pub fn is_heard(caller: &mut Caller, hall: &mut Hall, bytes: &[u8], some: bool) -> bool {
     match hears(caller, hall, bytes) {
         Ok((found, None)) => found == some,

@@ -51,15 +51,21 @@ fn takes_turn(rt: &impl Abort, alloc: Global, caller: &mut Caller, hall: &mut Ha
     };
     let (first, second) = bytes.as_slice().split_at(bytes.len() / 2);
     assert!(rt; is_heard(caller, hall, first, false));
-    is_answered(rt, caller, hall, second, then);
+    assert_answered(rt, caller, hall, second, then);
     let Ok(wanted) = told(alloc, tells.0, tells.1.as_bytes()) else {
         panic!(rt; "no memory");
     };
     assert!(rt; is_taken_in_two(caller, wanted.as_slice(), then));
 }
 
-/// A frame's second piece is answered.
-fn is_answered(rt: &impl Abort, caller: &mut Caller, hall: &mut Hall, piece: &[u8], then: Stage) {
+/// Asserts that a frame is answered once its second piece has come.
+fn assert_answered(
+    rt: &impl Abort,
+    caller: &mut Caller,
+    hall: &mut Hall,
+    piece: &[u8],
+    then: Stage,
+) {
     let Ok((true, handed)) = hears(caller, hall, piece) else {
         panic!(rt; "a frame was not answered");
     };

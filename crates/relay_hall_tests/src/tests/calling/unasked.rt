@@ -118,12 +118,12 @@ impl Scene {
         }
     }
 
-    /// Whether a frame that it sends is heeded, or is not.
+    /// Whether a frame that it sends is heeded exactly if `some`.
     fn is_heeded(&mut self, first: u8, payload: &[u8], some: bool) -> bool {
         self.sends(first, payload) == Ok(some)
     }
 
-    /// Whether a piece of a frame says something, or nothing yet.
+    /// Whether a piece of a frame says something exactly if `some`.
     fn is_heard(&mut self, piece: &[u8], some: bool) -> bool {
         is_fed(&mut self.caller, piece) && self.heeds() == Ok(some)
     }
@@ -133,12 +133,12 @@ impl Scene {
     }
 
     /// Whether a whole text or binary message was answered since this was last asked, and whether anything that came whole.
-    fn said(&mut self) -> (bool, bool) {
+    fn take_both(&mut self) -> (bool, bool) {
         (self.caller.take_said(), self.caller.take_whole())
     }
 
-    /// Whether it is sent away with this code.
-    fn is_sent_away(&mut self, code: Code) -> bool {
+    /// Sends it away with this code. Returns whether there was memory.
+    fn sends_away(&mut self, code: Code) -> bool {
         self.caller.send_away(code).is_ok()
     }
 
@@ -210,14 +210,14 @@ fn pong_and_close(alloc: Global, payload: &[u8]) -> Result<Vec<u8>, AllocError> 
     Ok(bytes)
 }
 
-/// A connection that has sent a ping, which was answered, is sent away with this code, and is heeded no more.
-fn is_sent_away(rt: &impl Abort, alloc: Global, number: u16, payload: &[u8]) {
+/// Asserts that a connection whose ping was answered is sent away with this code, and is heeded no more.
+fn assert_sent_away(rt: &impl Abort, alloc: Global, number: u16, payload: &[u8]) {
     let mut scene = Scene::new(rt, alloc);
     let Ok(wanted) = pong_and_close(alloc, payload) else {
         panic!(rt; "no memory");
     };
     assert!(rt; scene.is_heeded(PING, b"a", true));
-    assert!(rt; scene.is_sent_away(code(rt, number)));
+    assert!(rt; scene.sends_away(code(rt, number)));
     assert!(rt; scene.is_heeded(PING, b"b", false));
     assert!(rt; is_due(&scene.caller, wanted.as_slice(), Stage::Leaves));
 }
@@ -225,10 +225,10 @@ fn is_sent_away(rt: &impl Abort, alloc: Global, number: u16, payload: &[u8]) {
 #[test]
 fn one_that_is_sent_away_is_told_the_code(rt: HostRuntime) {
     let alloc = rt.alloc();
-    is_sent_away(&rt, alloc, 1000, &[3, 0xe8]);
-    is_sent_away(&rt, alloc, 1001, &[3, 0xe9]);
-    is_sent_away(&rt, alloc, 1008, &[3, 0xf0]);
-    is_sent_away(&rt, alloc, 1013, &[3, 0xf5]);
+    assert_sent_away(&rt, alloc, 1000, &[3, 0xe8]);
+    assert_sent_away(&rt, alloc, 1001, &[3, 0xe9]);
+    assert_sent_away(&rt, alloc, 1008, &[3, 0xf0]);
+    assert_sent_away(&rt, alloc, 1013, &[3, 0xf5]);
 }
 
 /// Neither a ping nor a close changes what is due to a connection and what it does.
@@ -286,11 +286,11 @@ fn said() -> &'static [(u8, &'static [u8], bool, bool)] {
 #[test]
 fn what_came_whole_of_it_is_told_once(rt: HostRuntime) {
     let mut scene = Scene::new(&rt, rt.alloc());
-    assert!(rt; scene.said() == (false, false));
+    assert!(rt; scene.take_both() == (false, false));
     for (first, payload, has_said, is_whole) in said() {
         assert!(rt; scene.is_heeded(*first, *payload, true));
-        assert!(rt; scene.said() == (*has_said, *is_whole));
-        assert!(rt; scene.said() == (false, false));
+        assert!(rt; scene.take_both() == (*has_said, *is_whole));
+        assert!(rt; scene.take_both() == (false, false));
     }
 }
 

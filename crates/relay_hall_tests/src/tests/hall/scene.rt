@@ -72,6 +72,7 @@ impl Scene {
             events: 0,
             numbers: 0,
             refused: 0,
+            // The last one, so that no way out of here lets it go.
             hall: Hall::new(alloc, limits, grace)?,
         })
     }

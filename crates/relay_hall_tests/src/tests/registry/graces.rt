@@ -10,7 +10,6 @@ use std::time::Duration;
 fn boards_wait_for_their_key_and_end_behind_the_grace(rt: HostRuntime) -> Result<(), Fail> {
     let scene = Scene::new(&rt, rt.alloc(), 1, Some(key(&rt)))?;
     scene.registry.set_watched(true);
-    assert!(rt; scene.operator.owns_any(&rt, &scene.registry));
     assert!(rt; scene.registry.tick(&rt).is_none());
 
     assert!(rt; scene.operator.goes(&rt, &scene.registry));

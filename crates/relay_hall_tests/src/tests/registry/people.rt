@@ -91,6 +91,7 @@ impl Scene {
         key: Option<Key>,
     ) -> Result<Scene, AllocError> {
         let registry = registry(rt, alloc, seconds)?;
+        let has_key = key.is_some();
         if let Some(key) = key {
             registry.arrive(rt, &key)?;
         }
@@ -101,6 +102,7 @@ impl Scene {
         };
         let told = scene.is_told(rt, Step::Open(board(rt, b"b1"), 518));
         assert!(rt; told == Reply::Opened);
+        assert!(rt; scene.operator.owns_any(rt, &scene.registry) == has_key);
         Ok(scene)
     }
 

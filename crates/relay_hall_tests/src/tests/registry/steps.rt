@@ -1,11 +1,11 @@
 //! What is made of steps, who is rung for, and what is shown.
 
 use crate::tests::registry::people::{Person, Scene, a_move, board};
+use c960_board::Move;
 use c960_game::{Outcome, Refusal};
 use live_board::Follower;
 use relay_core::{BoardName, Reply, Step};
 use relay_registry::{Registry, Shown};
-use std::alloc::Global;
 use std::process::Abort;
 use std::sync::Wait;
 use std::sync::atomic::Ordering;
@@ -29,7 +29,7 @@ fn a_board_is_rung_for_at_each_move_and_at_its_end(rt: HostRuntime) -> Result<()
     let submit = Step::Submit(board(&rt, b"b1"), a_move(&rt, b"e2e4"));
     assert!(rt; becomes(&rt, &mut scene, submit) == (Some(0), false, Some(0), 1));
     assert!(rt; becomes(&rt, &mut scene, submit) == (Some(0), true, None, 1));
-    scene.operator.goes(&rt, &scene.registry);
+    assert!(rt; !scene.operator.goes(&rt, &scene.registry));
     assert!(rt; scene.registry.rings(0) == 2 && scene.registry.rings(1) == 1);
     Ok(())
 }
@@ -90,7 +90,7 @@ fn nobody_else_plays_a_board_without_a_key(rt: HostRuntime) -> Result<(), Fail> 
     assert!(rt; told == Reply::Refused(Refusal::NotYourBoard));
     assert!(rt; !scene.operator.owns_any(&rt, &scene.registry));
     assert!(rt; !scene.other.owns_any(&rt, &scene.registry));
-    scene.other.goes(&rt, &scene.registry);
+    assert!(rt; !scene.other.goes(&rt, &scene.registry));
     assert!(rt; !scene.is_over(&rt, 0));
     Ok(())
 }
@@ -131,22 +131,20 @@ fn has_position_of<R: Wait>(rt: &R, shown: &Shown, plies: u16) -> bool {
     shown.position_at(rt, plies).is_some() && shown.position_at(rt, more).is_none()
 }
 
-/// How many moves a board has from this place on, and how its game ended.
+/// Appends the moves of a board from this place on. Returns how many there are then, and how its game ended.
 fn news<R: Wait + Abort>(
     rt: &R,
-    alloc: Global,
     shown: &Shown,
     from: u16,
+    moves: &mut Vec<Move>,
 ) -> (usize, Option<Outcome>) {
-    let mut moves = Vec::new(alloc);
-    let outcome = shown.news(rt, from, &mut moves).expect(rt, "memory");
+    let outcome = shown.news(rt, from, moves).expect(rt, "memory");
     (moves.len(), outcome)
 }
 
 #[test]
 fn a_board_is_shown_by_its_name_and_by_its_index(rt: HostRuntime) -> Result<(), Fail> {
-    let alloc = rt.alloc();
-    let mut scene = Scene::new(&rt, alloc, 0, None)?;
+    let mut scene = Scene::new(&rt, rt.alloc(), 0, None)?;
     let (one, two) = (board(&rt, b"b1"), board(&rt, b"b2"));
     assert!(rt; scene.is_told(&rt, Step::Open(two, 0)) == Reply::Opened);
     let _ = scene.is_told(&rt, Step::Submit(one, a_move(&rt, b"e2e4")));
@@ -156,9 +154,10 @@ fn a_board_is_shown_by_its_name_and_by_its_index(rt: HostRuntime) -> Result<(), 
     assert!(rt; in_short(&rt, &first) == (one, 518, 1, false, 1));
     assert!(rt; in_short(&rt, &second) == (two, 0, 0, false, 0));
     assert!(rt; has_position_of(&rt, &first, 1));
-    assert!(rt; news(&rt, alloc, &first, 0) == (1, None));
+    let mut moves = Vec::new(rt.alloc());
+    assert!(rt; news(&rt, &first, 0, &mut moves) == (1, None));
     scene.registry.end_all(&rt);
-    assert!(rt; news(&rt, alloc, &first, 1) == (0, Some(Outcome::Abandoned)));
+    assert!(rt; news(&rt, &first, 1, &mut moves) == (1, Some(Outcome::Abandoned)));
     assert!(rt; in_short(&rt, &first) == (one, 518, 1, true, 2));
     assert!(rt; in_short(&rt, &second) == (two, 0, 0, true, 1));
     Ok(())

@@ -194,7 +194,8 @@ fn steps_of_a_run(rt: &impl Abort) -> [Step; 10] {
     ]
 }
 
-/// Asserts that these are the replies to that run, of whose first four one of two was refused for lack of memory, or none was.
+/// Asserts that these are the replies to that run. Of each of the first two pairs the second may be accepted where the first was refused
+/// for lack of memory, which is noted.
 fn assert_replies_of_a_run(rt: &impl Abort, replies: &[Reply], refused: &mut Refused) {
     assert!(rt; replies.len() == 10);
     let opened = (Reply::Opened, Reply::Refused(Refusal::BoardExists));
