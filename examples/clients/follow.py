@@ -4,6 +4,7 @@ import asyncio, json, pathlib, sys, websockets  # noqa: E401
 sys.path.append(str(pathlib.Path(__file__).resolve().parent.parent.parent / "tools"))  # A relay_client beside this file is found first.
 from relay_client.men import men_of, play  # noqa: E402
 
+
 async def follow(server, board):
     men, place, reply = None, {"from": 0}, None  # The position, and the place of the next move; without one: from now on.
     while reply != "over":
