@@ -116,8 +116,9 @@ class Plan:
         return sorted(found, key=lambda it: -self.ways[it])
 
     def leads(self, name, running):
-        """Whether no crate that runs has a longer way than this one."""
-        return self.ways[name] >= self.longest(running)
+        """Whether a crate has precedence: no other that runs has a longer way, or it would be waited for if it took twice as long, as one
+        that stands back does."""
+        return self.ways[name] + self.seconds[name] >= self.longest(running)
 
     def jobs(self, name, running, most):
         """How many jobs a crate gets that begins now, where `most` are to be had: few if one that runs has a way so much longer that this
@@ -232,15 +233,14 @@ class Build:
             self.stop()
 
 
-def main(words):
-    """Proves the program and all below it, or all below the crates that are named."""
-    crates, named = Crates(), [it for it in words if it != BY_RT]
-    below = [it for name in named for it in crates.below(name)] if named else [*crates.below(NAME), NAME]
-    names = list(dict.fromkeys(below))
-    for it in ("rt", "rattle"):
-        if shutil.which(it) is None:
-            sys.exit(f"{it} is not on the PATH: it is a command of the kit that proves the program (README.md)")
-    records = Records(crates, Rt(crates) if words else Compiler(crates))
+def names_below(crates, names):
+    """What is below these crates, each before those that depend on it."""
+    return list(dict.fromkeys(it for name in names for it in crates.below(name)))
+
+
+def prove(crates, names, maker):
+    """Proves and builds these crates as far as they are not. Returns the status."""
+    records = Records(crates, maker)
     if records.proved(names) == names:
         return 0
     for it in (signal.SIGTERM, signal.SIGHUP):
@@ -253,6 +253,24 @@ def main(words):
     except KeyboardInterrupt:
         return 130
     return 0
+
+
+def libraries_below(crates, names):
+    """Builds the libraries below these crates, with the statements alone. Returns what gives the library of a crate."""
+    maker = Compiler(crates)
+    if prove(crates, names_below(crates, names), maker):
+        sys.exit("the crates below are not proved, so nothing was tried")
+    return maker.made
+
+
+def main(words):
+    """Proves the program and all below it, or by `rt` all below the crates that are named."""
+    crates, named = Crates(), [it for it in words if it != BY_RT]
+    names = names_below(crates, named) if named else [*crates.below(NAME), NAME]
+    for it in ("rt", "rattle"):
+        if shutil.which(it) is None:
+            sys.exit(f"{it} is not on the PATH: it is a command of the kit that proves the program (README.md)")
+    return prove(crates, names, Rt(crates) if words else Compiler(crates))
 
 
 if __name__ == "__main__":

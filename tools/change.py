@@ -12,13 +12,14 @@ import sys
 import time
 
 import build
-import planted
 from crates import SECONDS_UNKNOWN, Crates, measured, minutes
 
 # A proof over what an earlier one kept, where little has changed.
 SECONDS_AT_LEAST = 15
 # What tests take that the table lacks: their own proof, compiling, and the run.
 SECONDS_OF_TESTS = 180
+# What a wrong body takes, its part of what the copy takes that it shares with others.
+SECONDS_OF_AN_EDIT = 12
 FLAGS = {"--above", "--planted"}
 
 
@@ -55,10 +56,11 @@ def tests(crates, name, unbuilt=()):
 
 def wrong_bodies(crates, name):
     steps = []
-    for what, verb in (("must-fail", ["rt", "must-fail", name]), ("planted", [crates.root / "planted.sh", name])):
+    refused = [sys.executable, "-B", crates.root / "tools/refused.py", name]
+    for what, verb in (("must-fail", ["rt", "must-fail", name]), ("refused", refused), ("planted", [crates.root / "planted.sh", name])):
         count = len(list((crates.folder(name) / what).glob("*.edit")))
         if count:
-            most = planted.seconds_of(name, count)
+            most = measured().get(name, SECONDS_UNKNOWN) * (what == "must-fail") + count * SECONDS_OF_AN_EDIT
             steps.append(Step(f"the {count} wrong bodies of {name}/{what}", crates.root, verb, most // 2, most))
     return steps
 

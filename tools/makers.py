@@ -13,14 +13,37 @@ import subprocess
 from workplace import Workplace
 
 
+def kit_folder():
+    return pathlib.Path(os.path.realpath(shutil.which("rattle"))).parent.parent
+
+
+def inputs_of(crates, kit, name, library_of):
+    """The words by which the compiler is given a crate, in whose folder it runs, and the libraries below."""
+    used = crates.uses[name]
+    words = ["--crate-name", name, "src/main.rt" if crates.is_program(name) else "src/lib.rt"]
+    for it in ["std", *(it for it in used if it not in crates)]:
+        words += ["--extern", f"{it}={kit}/rlibs/{it}.rlib"]
+    for it in used:
+        if it in crates:
+            words += ["--extern", f"{it}={library_of(it)}"]
+    for folder in dict.fromkeys([kit / "rlibs", *(library_of(it).parent for it in crates.below(name))]):
+        words += ["-L", f"dependency={folder}"]
+    return [*words, "--antt-project", f"{kit}/rattle/logic/antt-project.json", "--logic-built", f"{kit}/logic_built"]
+
+
+def check_words(crates, name, library_of):
+    """The words that check a copy of a crate, by one job."""
+    kit = kit_folder()
+    return [f"{kit}/bin/rattle", "check", *inputs_of(crates, kit, name, library_of), "--jobs", "1"]
+
+
 class Compiler:
     """Proves and builds a crate in its folder, by `rattle`, over the statements of those below it."""
 
     RECORD = "proved"
 
     def __init__(self, crates):
-        self.crates = crates
-        self.kit = pathlib.Path(os.path.realpath(shutil.which("rattle"))).parent.parent
+        self.crates, self.kit = crates, kit_folder()
 
     def made(self, name):
         """What is made of a crate: the program, or the folder of the library."""
@@ -33,20 +56,11 @@ class Compiler:
 
     def begin(self, name, jobs, _scratch):
         """Where a crate is proved, with this many jobs, and built, and by which words."""
-        made, used = self.made(name), self.crates.uses[name]
+        made = self.made(name)
         made.parent.mkdir(parents=True, exist_ok=True)
-        is_program = self.crates.is_program(name)
-        words = [f"{self.kit}/bin/rattle", "build", "--crate-name", name, "src/main.rt" if is_program else "src/lib.rt"]
-        for it in ["std", *(it for it in used if it not in self.crates)]:
-            words += ["--extern", f"{it}={self.kit}/rlibs/{it}.rlib"]
-        for it in used:
-            if it in self.crates:
-                words += ["--extern", f"{it}={self.made(it)}"]
-        for folder in [self.kit / "rlibs", *(self.made(it).parent for it in self.crates.below(name))]:
-            words += ["-L", f"dependency={folder}"]
-        words += ["--antt-project", f"{self.kit}/rattle/logic/antt-project.json", "--logic-built", f"{self.kit}/logic_built"]
+        words = [f"{self.kit}/bin/rattle", "build", *inputs_of(self.crates, self.kit, name, self.made)]
         words += ["--links", f"{name}=", "--jobs", str(jobs)]
-        if is_program:
+        if self.crates.is_program(name):
             return self.crates.folder(name), [*words, "--toolchain", f"{self.kit}/toolchain", "--backend", "llvm", "-o", f"{made}.o"]
         return self.crates.folder(name), [*words, "--statements", "-o", str(made)]
 

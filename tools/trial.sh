@@ -4,7 +4,7 @@
 # Whether a package of Debian is there, however it came.
 is_there() {
     case $1 in
-        chromium | firefox-esr | mandoc | openssl | qrencode | redis-server) command -v "$1" ;;
+        chromium | curl | firefox-esr | mandoc | openssl | qrencode | redis-server) command -v "$1" ;;
         dpkg) command -v dpkg-deb ;;
         systemd) command -v systemd-analyze ;;
         nginx-light) command -v nginx ;;
@@ -15,6 +15,7 @@ is_there() {
         pgn-extract | stockfish) command -v "$1" || test -x "/usr/games/$1" ;;
         webkit2gtk-driver) command -v WebKitWebDriver ;;
         xvfb) command -v xvfb-run ;;
+        python3-prometheus-client) /usr/bin/python3 -c 'import prometheus_client' ;;
         python3-websockets) /usr/bin/python3 -c 'import websockets' ;;
         zbar-tools) command -v zbarimg ;;
         *) false ;;

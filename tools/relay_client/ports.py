@@ -1,4 +1,4 @@
-"""Ports of loopback. For the shell scripts of examples/:
+"""Ports of loopback. For the shell scripts of apps/:
 
     python3 -m relay_client.ports free PORT..       ends with status 1 if one is taken
     python3 -m relay_client.ports wait PORT..       waits until all are listened on, for at most 30 seconds

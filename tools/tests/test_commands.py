@@ -15,7 +15,9 @@ TOP = pathlib.Path(__file__).resolve().parents[2]
 sys.path.insert(0, str(TOP / "tools"))
 
 import planted  # noqa: E402
+import refused  # noqa: E402
 from build import Plan  # noqa: E402
+from crates import Crates  # noqa: E402
 from workplace import most_jobs, width_of_machine  # noqa: E402
 
 # Each writes what it was asked in `calls`, makes what the true one makes, and refuses the crates and the edits that are named in `wrong`.
@@ -42,9 +44,12 @@ if words[:1] == ["version"]:
     print("stand-in")
 elif words[:1] == ["try"]:
     print("\n".join(words))
-elif words[:1] == ["must-fail"]:
-    for edit in sorted((folder / "crates" / words[1] / "must-fail").glob("*.edit")):
-        print(f"rt: must-fail {words[1]}/{edit.name}: " + ("NOT refused" if edit.name in wrong else "refused, as it must be"))
+elif words[:1] == ["check"] and "--only" in words:
+    crate = words[words.index("--crate-name") + 1]
+    for before, it in zip(words, words[1:]):
+        if before == "--only":
+            print(f"fn {crate}::{it}: " + ("proved" if it in wrong else "no proof: `search` did not prove `returns`"))
+    sys.exit(1)
 elif words[0] in ("build", "lib", "run", "check", "test"):
     meets = (state / "meet").exists() and words[0] == "build" and folder.name in ("left", "right")
     both = [f"{it}: build" for it in ("left", "right")] if meets else []
@@ -117,7 +122,7 @@ class Commands(unittest.TestCase):
         write(self.state / "wrong", " ".join(names))
 
     def calls(self):
-        """The calls of `rt` and of `rattle` that do some work, with when they began and ended."""
+        """The calls of `rt` and of `rattle` that do some work, with when they began and ended. A crate's copy is a folder `NAME-1`."""
         found, file = [], self.state / "calls"
         for line in file.read_text().splitlines() if file.exists() else []:
             when, _, call = line.partition(" ")
@@ -132,8 +137,12 @@ class Commands(unittest.TestCase):
         return found
 
     def edits(self, name, *edits):
-        for edit in edits:
-            write(self.top / f"crates/{name}/planted/{edit}.edit", "")
+        """An edit for each of these functions, which the crate has then."""
+        lines = [f"fn {it}() -> u32 {{\n    // {it}\n    1\n}}\n" for it in edits]
+        with (self.top / f"crates/{name}/src/lib.rt").open("a") as file:
+            file.write("\n".join(lines))
+        for it in edits:
+            write(self.top / f"crates/{name}/planted/{it}.edit", f"file: src/lib.rt\nold:     // {it}\nnew:     // none\n")
 
 
 class Try(Commands):
@@ -208,11 +217,12 @@ class Run(Commands):
         return Plan(mock.Mock(below=below.get), list(below), seconds)
 
     def test_the_crate_with_the_longest_way_leads_and_one_with_a_much_shorter_way_has_few_jobs(self):
+        """`right` leads beside `left`, since it would be waited for if it took twice as long."""
         plan = self.plan(low=50, left=200, right=180, short=20, top=100)
         for name, running, jobs, leads in (
             ("low", [], 4, True),
             ("left", [], 4, True),
-            ("right", ["left"], 4, False),
+            ("right", ["left"], 4, True),
             ("left", ["right"], 4, True),
             ("short", ["left", "right"], 2, False),
             ("short", ["right"], 2, False),
@@ -305,33 +315,38 @@ class Check(Commands):
 
 class Planted(Commands):
     def test_the_rotation_begins_with_what_was_tried_longest_ago_and_keeps_its_place(self):
-        """No edit fits a minute, so each crate tries a tenth of its own, and two at least."""
         self.edits("left", *(f"edit{at:02}" for at in range(30)))
-        self.run_it("planted.sh", "--rotate", "1")
-        self.assertEqual(self.tried(), ["left/edit00.edit", "left/edit01.edit", "left/edit02.edit"])
-        self.run_it("planted.sh", "--rotate", "1")
-        self.assertEqual(len(self.tried()), 6)
+        self.edits("right", "one", "two")
+        with mock.patch.object(planted, "KEPT", self.state / "tried"):
+            (self.state / "tried").write_text("".join(f"2020-01-0{1 + at % 2} left/edit{at:02}.edit\n" for at in range(30)))
+            edits, _ = refused.edits_in(Crates(self.top), ["left", "right"], "planted")
+            queue = planted.Queue(edits, planted.Rotation(edits))
+            order = [(name, [it.file.stem for it in copy.edits]) for name, copy in iter(queue.next, None)]
+        self.assertEqual(order[0], ("right", ["one", "two"]))
+        self.assertEqual(order[1], ("left", [f"edit{at:02}" for at in range(0, 24, 2)]))
+        self.assertEqual([name for name, _ in order[1:]], ["left"] * 3)
+        self.assertEqual(sum(len(its) for _, its in order), 32)
 
-    def test_a_crate_that_was_never_tried_comes_before_others(self):
+    def test_a_rotation_notes_what_it_tried(self):
         self.edits("left", "one", "two")
-        self.run_it("planted.sh", "--rotate", "1")
-        self.edits("right", "three", "four")
-        self.assertRegex(self.run_it("planted.sh", "--rotate", "1").stdout, r"(?s)right: 2 edits.*4 of 4 tried")
-        self.assertEqual(self.tried(), ["left/one.edit", "left/two.edit", "right/four.edit", "right/three.edit"])
+        self.assertRegex(self.run_it("planted.sh", "--rotate", "1").stdout, r"(?s)2 of 2 tried.*2 refused, 0 not")
+        self.assertEqual(self.tried(), ["left/one.edit", "left/two.edit"])
 
     def tried(self):
         return [it.split()[1] for it in (self.top / "out/planted").read_text().splitlines()]
 
-    def test_each_crate_is_through_after_ten_turns(self):
-        for count in range(1, 200):
-            self.assertLessEqual(-(-count // planted.least_of(count)), 10, count)
-
     def test_an_edit_that_is_proved_is_named(self):
         self.edits("left", "one", "two")
-        self.is_wrong("two.edit")
+        self.is_wrong("two")
         done = self.run_it("planted.sh", "left")
-        self.assertEqual(done.stdout.splitlines()[-2:], ["not refused: left/two.edit", "1 refused, 1 not"])
+        self.assertEqual(done.stdout.splitlines()[-2:], ["left/two.edit: NOT REFUSED: two: proved", "1 refused, 1 not"], done.stderr)
         self.assertEqual(done.returncode, 1)
+
+    def test_the_crates_below_are_proved_first_by_their_statements(self):
+        self.edits("left", "one")
+        self.run_it("planted.sh", "left")
+        calls = [(it[0], it[1].split()[0]) for it in self.calls()]
+        self.assertEqual([(calls[0]), calls[1][1]], [("low", "build"), "check"])
 
 
 class Quick(Commands):
@@ -339,7 +354,7 @@ class Quick(Commands):
 
     def setUp(self):
         super().setUp()
-        for linter in ("rattle", "pyflakes3", "shellcheck", "node"):
+        for linter in ("rattle", "flake8", "shellcheck", "node"):
             write(self.state / "bin" / linter, "#!/bin/sh\n", 0o755)
         shutil.rmtree(self.top / "tools/tests")
         write(self.top / "tools/tests/test_one.py",
@@ -377,20 +392,19 @@ class Quick(Commands):
 class Gate(Commands):
     """`.ci/run`, with stand-ins for everything that it calls. Its proofs go on for a second after the program is built."""
 
-    CALLED = ("replay .ci/replay", "replay crates/relay960/replays/all.py", "replay .ci/replay-sessions", "replay benches/refusals.py")
+    CALLED = ("replay test.sh", "replay .ci/replay", "replay crates/relay960/replays/all.py", "replay .ci/replay-sessions",
+              "replay bench/refusals.py")
 
     def setUp(self):
         super().setUp()
-        shutil.rmtree(self.top / "tools/tests")
-        write(self.top / "tools/tests/test_one.py",
-              "import unittest\nclass One(unittest.TestCase):\n    def test_it(self):\n        pass\n")
         write(self.state / "bin/cc", "#!/bin/sh\n", 0o755)
         write(self.state / "bin/rt", """#!/bin/sh
             sleep 0.5; mkdir -p crates/relay960/out; cp /bin/true crates/relay960/out/relay960
             echo "rt: relay960 proved"; sleep "${RT_SLEEP:-3}"; echo 0 proofs: $* >> "$RT_STAND_IN/calls"
             ! grep -q proofs "$RT_STAND_IN/wrong"
             """, 0o755)
-        for called in (".ci/replay", "crates/relay960/replays/all.py", ".ci/replay-sessions", "benches/refusals.py"):
+        for called in ("test.sh", ".ci/replay", "crates/relay960/replays/all.py", ".ci/replay-sessions", "bench/refusals.py",
+                       "bench/instructions", "tools/refused.py"):
             write(self.top / called, f"#!/bin/sh\necho 0 replay: {called} >> \"$RT_STAND_IN/calls\"\n"
                   f"[ ! -f \"$RT_STAND_IN/$(basename {called})\" ] || {{ rm \"$RT_STAND_IN/$(basename {called})\"; exit 1; }}\n", 0o755)
         shutil.copy2(TOP / ".ci/run", self.top / ".ci/run")
@@ -402,22 +416,30 @@ class Gate(Commands):
     def test_the_replays_begin_while_proofs_go_on(self):
         done = self.run_it(".ci/run")
         self.assertEqual(done.returncode, 0, done.stdout + done.stderr)
-        replays, tables, sessions, refusals = self.CALLED
+        tests, replays, tables, sessions, refusals = self.CALLED
         called = self.called()
-        self.assertEqual(called, [replays, tables, "proofs ci", sessions, sessions, refusals, refusals, refusals, refusals])
+        called.remove("replay tools/refused.py")
+        instructions = "replay bench/instructions"
+        self.assertEqual(called, [tests, replays, tables, "proofs ci", instructions, sessions, sessions, *4 * [refusals]])
 
     def test_replays_that_failed_beside_proofs_are_tried_again(self):
         write(self.state / "all.py", "")
         done = self.run_it(".ci/run")
-        self.assertEqual((done.returncode, self.called().count(self.CALLED[1])), (0, 2), done.stdout + done.stderr)
+        self.assertEqual((done.returncode, self.called().count(self.CALLED[2])), (0, 2), done.stdout + done.stderr)
 
     def test_it_fails_where_anything_fails(self):
         self.env["RT_SLEEP"] = "0"
-        for wrong in ("proofs", "replay-sessions", "refusals.py"):
+        for wrong in ("test.sh", "proofs", "refused.py", "instructions", "replay-sessions", "refusals.py"):
             self.is_wrong(wrong)
             if wrong != "proofs":
                 write(self.state / wrong, "")
             self.assertNotEqual(self.run_it(".ci/run").returncode, 0, wrong)
+
+    def test_what_it_calls_can_be_run(self):
+        called = re.findall(r"(?:^|[ &(])(\./[\w./-]+)", (TOP / ".ci/run").read_text(), re.M)
+        self.assertGreater(len(called), 6)
+        for it in called:
+            self.assertTrue(os.access(TOP / it, os.X_OK), it)
 
     def test_it_fails_without_a_c_compiler(self):
         (self.state / "bin/cc").unlink()
@@ -430,7 +452,7 @@ class Gate(Commands):
 class Trials(unittest.TestCase):
     """The tests of the pages, the package and the examples."""
 
-    SCRIPTS = sorted([*TOP.glob("examples/*/test.sh"), TOP / "web/test.sh"])
+    SCRIPTS = sorted([*TOP.glob("apps/*/test.sh"), TOP / "web/test.sh"])
     # What a path without /usr/bin lacks.
     FROM_THE_PATH = {"chromium", "dpkg", "firefox-esr", "mandoc", "nodejs", "openssl", "qrencode", "redis-server", "zbar-tools"}
 
@@ -471,8 +493,8 @@ class Package(unittest.TestCase):
                 self.assertTrue((root / path).is_file(), path)
             library = root / "usr/lib/relay960"
             there = {str(it.relative_to(library).with_suffix("")).replace("/", ".") for it in library.rglob("*.py")}
-            examples = [TOP / "examples" / folder for folder in ("many_spectators", "recorder", "hall", "pgn_in")]
-            ours = {it.stem for folder in examples for it in folder.glob("*.py")}
+            apps = [TOP / "apps" / folder for folder in ("many_spectators", "recorder", "hall", "pgn_in", "metrics")]
+            ours = {it.stem for folder in apps for it in folder.glob("*.py")}
             for path in library.rglob("*.py"):
                 for module in re.findall(r"^\s*(?:from|import) ([\w.]+)", path.read_text(), re.M):
                     if module in ours or module.startswith("relay_client."):

@@ -1,4 +1,4 @@
-"""What the documents name is there: files, headings, crates, functions, definitions and tests."""
+"""What the documents name is there: files, headings, crates, functions, definitions and tests. At the end it tells each page's words."""
 import pathlib
 import re
 import shutil
@@ -14,7 +14,7 @@ SKIPPED = {"out", "out.new", ".git"}
 # Files of a machine, of a worked change, or of a reader: they are named and are not here.
 ELSEWHERE = {"NAME.edit", "Early.antt", "round3.txt", "nginx.conf", "code.png", "nftables.conf"}
 ENDINGS = "rt|antt|py|sh|js|mjs|html|css|conf|service|md|edit|txt|c|rs|svg|png"
-FOLDERS = r"(?:crates|web|tools|docs|examples|benches|\.ci)"
+FOLDERS = r"(?:crates|web|tools|docs|apps|bench|examples|\.ci)"
 # Documents in which nearly all sentences are short.
 PLAIN = ("README.md", "CONTRIBUTING.md", "CHANGELOG.md", "docs/TERMS.md", "docs/PROTOCOL.md", "docs/SCRIPTS.md", "docs/DEPLOYMENT.md",
          "docs/DECISIONS.md", "docs/HEADLINE.md", "docs/LIVE.md", "docs/PROVED.md", "docs/TRUST.md")
@@ -65,6 +65,17 @@ def code(text):
     return re.findall(r"`([^`\n]+)`", text)
 
 
+def words():
+    """How many words each page has, the longest first, and all of them: so that whoever reads what the gate prints sees a page grow."""
+    counts = {name: len(text.split()) for name, text in DOCUMENTS.items()}
+    rows = [f"{count:>8,}  {name}" for name, count in sorted(counts.items(), key=lambda it: -it[1])]
+    return "\n".join(["words of each page:", *rows, f"{sum(counts.values()):>8,}  in all"])
+
+
+def tearDownModule():
+    print(words(), flush=True)
+
+
 class Names(unittest.TestCase):
     def test_each_link_leads_to_a_file_and_to_a_heading_of_it(self):
         for name, text in DOCUMENTS.items():
@@ -92,7 +103,7 @@ class Names(unittest.TestCase):
         for name, text in DOCUMENTS.items():
             for file in re.findall(r"(?<![\w./])\./([\w\-]+\.sh)\b", text):
                 there = (ROOT / file).exists() or ((ROOT / name).parent / file).exists()
-                self.assertTrue(there or name.startswith("docs/BENCHMARKS"), f"{name}: ./{file}")
+                self.assertTrue(there, f"{name}: ./{file}")
 
 
 class Crate:
@@ -195,31 +206,20 @@ class Map(unittest.TestCase):
         table = re.search(r"^\| Crate \| What it does.*?(?=^$)", self.TEXT, re.S | re.M)[0]
         self.assertEqual(sorted(code(row[0])[0] for row in rows(table)), sorted(CRATES))
 
-    def test_each_room_has_the_files_that_are_named(self):
-        for name in CRATES:
-            found = re.search(rf"^## {name}\n(.*?)(?=^## |\Z)", self.TEXT, re.S | re.M)
-            for row in rows(found[1]) if found else []:
-                for file in code(row[1]):
-                    goal = CRATES[name].folder / "src" / file
-                    if re.fullmatch(r"[\w/]+(?:\.rt|/)", file):
-                        self.assertTrue(goal.exists() or list((CRATES[name].folder / "src").rglob(file)), f"{name}: {file}")
+    def test_the_way_of_a_command_names_functions_of_its_crates(self):
+        count = 0
+        for row in rows(section(self.TEXT, "The way of a command")):
+            texts = [text for name in code(row[1]) for text in CRATES[name].sources("*.rt")]
+            for word in code(row[2]):
+                if re.fullmatch(r"(?:\w+::)?[a-z_]+", word):
+                    self.assertTrue(any(has_function(text, word) for text in texts), f"{row[0]}: {word}")
+                    count += 1
+        self.assertGreater(count, 40)
 
     def test_each_crate_of_the_table_of_tests_is_there(self):
         for row in rows(section(self.TEXT, "Where the tests of a crate stand")):
             for name in code(row[0]) + [it for it in code(row[1]) if it.endswith(TESTS)]:
                 self.assertIn(name, CRATES)
-
-
-class WrongBodies(unittest.TestCase):
-    def test_the_gate_tries_as_many_as_are_said(self):
-        """In docs/PROVED.md, by crate."""
-        numbers = ["no", "a", "two", "three", "four", "five", "six", "seven"]
-        said = 0
-        for heading, text in re.findall(r"^## `(\w+)`\n(.*?)(?=^## |\Z)", DOCUMENTS["docs/PROVED.md"], re.S | re.M):
-            for number in re.findall(r"\btries\s+(\w+)\s+wrong\s+bod(?:y|ies)\b", text):
-                self.assertEqual(numbers.index(number), len(list((CRATES[heading].folder / "must-fail").glob("*.edit"))), heading)
-                said += 1
-        self.assertGreater(said, 3)
 
 
 class Terms(unittest.TestCase):
@@ -255,16 +255,22 @@ class Terms(unittest.TestCase):
 
 
 class Lengths(unittest.TestCase):
+    def test_the_words_of_each_page_are_told(self):
+        told = dict(reversed(line.split(maxsplit=1)) for line in words().splitlines()[1:])
+        self.assertEqual(told.keys() - {"in all"}, DOCUMENTS.keys())
+        number = {name: int(count.replace(",", "")) for name, count in told.items()}
+        self.assertEqual(number["README.md"], len(re.findall(r"\S+", (ROOT / "README.md").read_text())))
+        self.assertEqual(number.pop("in all"), sum(number.values()))
+
     def test_the_readme_is_short_and_begins_with_a_picture(self):
         text = DOCUMENTS["README.md"]
-        self.assertLessEqual(len(text.split()), 1200)
+        self.assertLessEqual(len(text.split()), 1100)
         self.assertRegex(text[:1200], r"!\[.*\]\(docs/pictures/\w+\.png\)")
 
     def test_the_sample_clients_have_forty_lines(self):
         for path in sorted((ROOT / "examples/clients").iterdir()):
             if path.suffix in (".py", ".js"):
                 self.assertLessEqual(len(path.read_text().splitlines()), 40, path.name)
-
 
     def test_most_sentences_have_at_most_25_words(self):
         for name in PLAIN:
@@ -282,7 +288,7 @@ class ManualPage(unittest.TestCase):
         self.assertEqual((found.stdout + found.stderr, found.returncode), ("", 0))
 
     def test_that_of_the_electronic_boards_has_each_option(self):
-        options = re.findall(r'add_argument\("--([a-z]+)"', (ROOT / "examples/pgn_in/enter.py").read_text())
+        options = re.findall(r'add_argument\("--([a-z]+)"', (ROOT / "apps/pgn_in/enter.py").read_text())
         self.assertGreater(len(options), 5)
         for option in options:
             self.assertRegex(self.ENTER.read_text(), rf"It Fl -{option}\b")

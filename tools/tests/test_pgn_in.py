@@ -1,13 +1,13 @@
-"""The tests of examples/pgn_in/tests, which need neither a relay nor a package of Debian."""
+"""The tests of apps/pgn_in/tests, which need neither a relay nor a package of Debian."""
 import pathlib
 import sys
 import unittest
 
 TOP = pathlib.Path(__file__).resolve().parents[2]
-EXAMPLES = TOP / "examples"
-sys.path += [str(EXAMPLES / it) for it in ("pgn_in", "recorder", "hall")] + [str(TOP / "tools")]
+APPS = TOP / "apps"
+sys.path += [str(APPS / it) for it in ("pgn_in", "recorder", "hall")] + [str(TOP / "tools")]
 
 
 def load_tests(_loader, _tests, _pattern):
-    folder = str(EXAMPLES / "pgn_in/tests")
+    folder = str(APPS / "pgn_in/tests")
     return unittest.TestLoader().discover(folder, top_level_dir=folder)

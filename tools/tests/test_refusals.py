@@ -1,4 +1,4 @@
-"""`benches/refusals.py --tests` fails for a test that meets no refusal, unless its list says so."""
+"""`bench/refusals.py --tests` fails for a test that meets no refusal, unless its list says so."""
 import contextlib
 import importlib
 import io
@@ -16,7 +16,7 @@ CRATE = "some_tests"
 def imported():
     """The program as a module. It imports two modules whose names others have too, in other folders."""
     path, others = list(sys.path), {name: sys.modules.pop(name) for name in ("games", "runs") if name in sys.modules}
-    sys.path.insert(0, str(TOP / "benches"))
+    sys.path.insert(0, str(TOP / "bench"))
     try:
         return importlib.import_module("refusals")
     finally:

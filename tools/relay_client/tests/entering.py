@@ -21,7 +21,7 @@ from relay_client.texts import BOARDS, follows
 # Not of each callback that was slow.
 logging.getLogger("asyncio").setLevel(logging.ERROR)
 
-ENTER = TOP / "examples/pgn_in/enter.py"
+ENTER = TOP / "apps/pgn_in/enter.py"
 ITALIAN = "e4 e5 Nf3 Nc6 Bc4 Bc5 O-O Nf6 d3 O-O c3 d6".split()
 ITALIAN_SENT = "e2e4 e7e5 g1f3 b8c6 f1c4 f8c5 e1h1 g8f6 d2d3 e8h8 c2c3 d7d6".split()
 DUTCH, DUTCH_SENT = "d4 f5 g3 Nf6".split(), "d2d4 f7f5 g2g3 g8f6".split()
@@ -68,16 +68,20 @@ def boards_of(relay):
 
 
 class Site(http.server.ThreadingHTTPServer):
-    """A site on a free port that has one file, and answers with `status` or with a part of it."""
+    """A site on a free port that has one file, and answers with `status` or with a part of it. If it has a `goal`, it sends all there."""
 
     class Answer(http.server.BaseHTTPRequestHandler):
+        protocol_version = "HTTP/1.1"  # As WebSocket wants it.
+
         def do_GET(self):
             site = self.server
             tag = f'"{hash(site.body)}"'
-            status = 304 if site.status == 200 and self.headers["If-None-Match"] == tag else site.status
+            status = 301 if site.goal else 304 if site.status == 200 and self.headers["If-None-Match"] == tag else site.status
             site.answered.append(status)
             self.send_response(status)
             self.send_header("ETag", tag)
+            if site.goal:
+                self.send_header("Location", site.goal + self.path)
             if status == 200:
                 self.send_header("Content-Length", str(len(site.body)))
             self.end_headers()
@@ -89,7 +93,7 @@ class Site(http.server.ThreadingHTTPServer):
 
     def __init__(self):
         super().__init__(("127.0.0.1", 0), self.Answer)
-        self.body, self.status, self.is_half, self.answered = b"", 200, False, []
+        self.body, self.status, self.is_half, self.answered, self.goal = b"", 200, False, [], None
         threading.Thread(target=self.serve_forever, daemon=True).start()
 
 

@@ -5,7 +5,7 @@ import unittest
 
 from relay_client.program import TOP
 
-FILES = ["README.md", "CONTRIBUTING.md", "docs/*.md", "docs/relay960.1", "examples/*/README.md", "examples/*/*.service", "examples/*/*.sh"]
+FILES = ["README.md", "CONTRIBUTING.md", "docs/*.md", "docs/relay960.1", "apps/*/README.md", "apps/*/*.service", "apps/*/*.sh"]
 # A command on a line of its own. Sessions begin with `$`, and have the limits that they show.
 COMMAND = re.compile(r'^(?: {4}|\.Dl |(?: {4})?ExecStart=(?:/usr/lib/relay960/until-term )?|begin \w+ )?'
                      r'(?:[\w./"$]*relay960"?|\./(?:try|run)\.sh|"\$RELAY960") serve\b.*$', re.M)
@@ -26,7 +26,7 @@ class Commands(unittest.TestCase):
 class Logs(unittest.TestCase):
     def test_the_log_of_a_proxy_has_no_arguments(self):
         """An operator's key is there. Before, the whole request was written, as nginx does by itself."""
-        http, server = (TOP.joinpath(f"examples/deployment/relay960-{it}.conf").read_text() for it in ("http", "server"))
+        http, server = (TOP.joinpath(f"apps/deployment/relay960-operators-{it}.conf").read_text() for it in ("http", "server"))
         form = re.search(r"^log_format relay960 ([^;]*);", http, re.M)[1]
         self.assertIn("$uri", form)
         for word in "$request ", '$request"', "$request_uri", "$args", "$query_string", "$arg_", "$http_referer":

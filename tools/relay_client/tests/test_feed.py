@@ -1,4 +1,4 @@
-"""The feed of examples/many_spectators over a stand-in for the channels of nginx: what it publishes of boards that are gone or go on
+"""The feed of apps/many_spectators over a stand-in for the channels of nginx: what it publishes of boards that are gone or go on
 elsewhere, its beats, and its names. Its own tests, by hand, try it over nginx itself. It needs Debian's python3-websockets."""
 
 import base64
@@ -22,7 +22,7 @@ from relay_client.server import Server
 from relay_client.tests.sessions import owner_of
 from relay_client.texts import following, moved, over, played, submits, text
 
-FEED = TOP / "examples/many_spectators/feed.py"
+FEED = TOP / "apps/many_spectators/feed.py"
 ACCEPTS = b"258EAFA5-E914-47DA-95CA-C5AB0DC85B11"  # RFC 6455, section 1.3.
 BEAT = 15  # Seconds.
 SOON = 10  # Seconds more, on a busy machine.

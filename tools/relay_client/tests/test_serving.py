@@ -24,7 +24,7 @@ LEAVING = 4  # Seconds for which peers are waited for that do not go.
 MOVES = ["e2e4", "e7e5", "g1f3", "b8c6", "f1b5", "a7a6"]
 AWAY = "close 1001"
 NOT_YOURS = refused(13, "NotYourBoard")
-UNTIL_TERM = TOP / "examples/deployment/until-term"
+UNTIL_TERM = TOP / "apps/deployment/until-term"
 
 
 def refuses(port):
@@ -66,7 +66,6 @@ class HowLong(unittest.TestCase):
             guest.hears(ABANDONED, "close 1000")
             guest.close()
             server.has_served(2)
-
 
     def test_the_last_connection_that_may_come_is_told_of_once_while_it_is_served(self):
         """Before, a server that nobody reached any more said nothing. The line names the flag that helps."""

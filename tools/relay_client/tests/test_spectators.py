@@ -134,7 +134,6 @@ class Places(unittest.TestCase):
             guest.hears("close 4001")
             close_all(owner, guest, newcomer)
 
-
     def test_one_whose_connection_takes_nothing_is_cut_all_the_same_and_sent_the_rest_once_it_takes_it(self):
         """Pongs fill its connection before the moves come: the server keeps some, or so many that it hears no more. Once it is cut it says
         that it sends no more, and still is sent all."""

@@ -25,7 +25,7 @@ def noted(connection):
 def came_at(connection):
     """The seconds and nanoseconds at which the system had the next text, which is read later."""
     _, notes, _, _ = connection.stream.recvmsg(1, 64, socket.MSG_PEEK)
-    seconds, nanoseconds = (int.from_bytes(notes[0][2][at : at + 8], "little") for at in (0, 8))
+    seconds, nanoseconds = (int.from_bytes(notes[0][2][at:at + 8], "little") for at in (0, 8))
     return seconds, nanoseconds
 
 
