@@ -10,6 +10,7 @@ use crate::walk::{start, step};
 use c960_board::Move;
 use c960_game::Limits;
 use relay_frames::{Event, Peer, outgoing};
+use relay_messages::Decoder;
 use relay_pushing::{Conn, LastText, PushEnd, Turn, push_some};
 use relay_watching::{Tape, Watcher};
 use std::alloc::{AllocError, Global};
@@ -33,8 +34,8 @@ struct Operator {
     wire: Wire,
 }
 
-/// Answers what the peer has sent.
-fn answer_all(operator: &mut Operator) -> Result<(), AllocError> {
+/// Answers what the peer has sent. One decoder reads the texts of all connections.
+fn answer_all(decoder: &mut Decoder, operator: &mut Operator) -> Result<(), AllocError> {
     for _ in 0..u64::MAX {
         let Some(event) = operator.peer.next()? else {
             break;
@@ -43,7 +44,9 @@ fn answer_all(operator: &mut Operator) -> Result<(), AllocError> {
             operator.wire.bytes.extend_from_slice(frame.as_slice())?;
         }
         if let Event::Text(text) = &event {
-            let answer = operator.conn.answer(text.as_bytes(), &mut operator.hall)?;
+            let answer = operator
+                .conn
+                .answer_with(decoder, text.as_bytes(), &mut operator.hall)?;
             outgoing::text(answer.as_str(), &mut operator.wire.bytes)?;
         }
     }
@@ -51,13 +54,18 @@ fn answer_all(operator: &mut Operator) -> Result<(), AllocError> {
 }
 
 /// The operator sends a line, which comes in pieces.
-fn send(chance: &mut Chance, operator: &mut Operator, line: &[u8]) -> Result<(), AllocError> {
+fn send(
+    chance: &mut Chance,
+    decoder: &mut Decoder,
+    operator: &mut Operator,
+    line: &[u8],
+) -> Result<(), AllocError> {
     let mut frame = Vec::new(operator.alloc);
     push_text(chance, &mut frame, line)?;
     let size = chance.below(80).saturating_add(1);
     for piece in frame.as_slice().chunks(size) {
         operator.peer.feed(piece)?;
-        answer_all(operator)?;
+        answer_all(decoder, operator)?;
     }
     Ok(())
 }
@@ -149,13 +157,14 @@ fn write(digest: &mut Digest, tape: &Tape, watchers: &mut Vec<Watcher>, most: us
 fn ply(
     chance: &mut Chance,
     digest: &mut Digest,
+    decoder: &mut Decoder,
     operator: &mut Operator,
     crowd: &mut Crowd,
     m: Move,
 ) -> Result<(), AllocError> {
     let mut lines = Lines::new(operator.alloc);
     lines.submit(chance.below(FORMS), 1, m)?;
-    send(chance, operator, lines.as_slice())?;
+    send(chance, decoder, operator, lines.as_slice())?;
     push(digest, crowd);
     if !crowd.tape.is_over() && crowd.tape.len() < 65536 {
         crowd.tape.push(m)?;
@@ -192,6 +201,7 @@ fn game(
     alloc: Global,
     chance: &mut Chance,
     digest: &mut Digest,
+    decoder: &mut Decoder,
     limits: Limits,
 ) -> Result<(), AllocError> {
     let number = chance.small(960);
@@ -201,18 +211,18 @@ fn game(
     let mut operator = newcomer(alloc, limits);
     let mut lines = Lines::new(alloc);
     lines.open(1, number)?;
-    send(chance, &mut operator, lines.as_slice())?;
+    send(chance, decoder, &mut operator, lines.as_slice())?;
     let mut crowd = gather(alloc, &mut operator)?;
     for _ in 0..PLIES {
         let Some((m, next)) = step(alloc, chance, &lawful, false)? else {
             break;
         };
-        ply(chance, digest, &mut operator, &mut crowd, m)?;
+        ply(chance, digest, decoder, &mut operator, &mut crowd, m)?;
         lawful = next;
     }
     let mut lines = Lines::new(alloc);
     lines.agree(1)?;
-    send(chance, &mut operator, lines.as_slice())?;
+    send(chance, decoder, &mut operator, lines.as_slice())?;
     push(digest, &mut crowd);
     digest.add_bytes(operator.wire.bytes.as_slice());
     Ok(())
@@ -228,8 +238,9 @@ pub fn run(
     let Some(limits) = Limits::new(1, FOLLOWERS, 64, 1024) else {
         return Ok(());
     };
+    let mut decoder = Decoder::new(alloc);
     for _ in 0..games {
-        game(alloc, chance, digest, limits)?;
+        game(alloc, chance, digest, &mut decoder, limits)?;
     }
     Ok(())
 }

@@ -1,4 +1,5 @@
-//! The main port: one loop answers all connections until they follow a board. It owns what it needs for that, and waits for no peer.
+//! The main port: one loop answers all connections until they follow a board. It owns its connections, not the hall, which is behind a
+//! lock, and waits for no peer.
 //!
 //! What a connection is answered is decided by `relay_calling` and `relay_hall`, which know of no socket. This crate decides who is read
 //! and written when, and how long each is waited for. Connections that follow are handed over to the loops of `relay_loops`.

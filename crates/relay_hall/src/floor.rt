@@ -27,7 +27,7 @@ use c960_game::{Ending, Limits, Outcome, Refusal};
 use indexmap::IndexMap;
 use live_board::Board;
 use relay_core::{BoardKey, BoardName, Reply, Step, may_open};
-use relay_messages::{Answer, MessageFault, encode};
+use relay_messages::{Answer, Decoder, MessageFault, encode};
 use relay_pushing::{Conn, Keeper};
 use std::alloc::{AllocError, Global};
 use std::marker::Model;
@@ -210,13 +210,14 @@ impl Floor {
         }
     }
 
-    /// Answers a text of a connection, for this speaker.
+    /// Answers a text of a connection, for this speaker. The decoder reads it.
     ///
     /// # Errors
     ///
     /// There was no memory for the text of the answer.
     pub(crate) fn answer(
         &mut self,
+        decoder: &mut Decoder,
         conn: &mut Conn,
         speaker: &Owner,
         text: &[u8],
@@ -226,7 +227,7 @@ impl Floor {
         ensures err { OnErr result (IsUnansweredBy self.old.floor speaker.now conn.old text.now self.new.handed self.new.floor conn.new) }
     {
         self.speaker = *speaker;
-        conn.answer(text, self)
+        conn.answer_with(decoder, text, self)
     }
 
     /// Replies to a step of a connection, for this speaker. With `is_full` a follow that may be made is refused, and no slot is looked at.

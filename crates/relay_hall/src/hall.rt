@@ -25,7 +25,7 @@ use crate::reply::HallReply;
 use crate::shown::Shown;
 use c960_game::Limits;
 use relay_core::{BoardName, Step};
-use relay_messages::MessageFault;
+use relay_messages::{Decoder, MessageFault};
 use relay_pushing::Conn;
 use std::alloc::{AllocError, Global};
 use std::marker::Model;
@@ -36,6 +36,8 @@ use std::marker::Model;
 #[derive(Drop)]
 pub struct Hall {
     floor: Floor,
+    /// What reads the texts of all connections.
+    decoder: Decoder,
     /// The keys that connections hold, and those whose boards wait.
     holders: Holders,
     /// How long boards wait for a connection to come back, in milliseconds.
@@ -100,6 +102,7 @@ impl Hall {
     {
         Ok(Hall {
             floor: Floor::new(alloc, limits)?,
+            decoder: Decoder::new(alloc),
             holders: Holders::new(alloc),
             grace,
             time: 0,
@@ -125,7 +128,7 @@ impl Hall {
         ensures rest { self.new ≡ record self.old { floor = self.new.floor } }
         ensures reached { IsReached self.old × IsReached self.new }
     {
-        let heard = self.floor.answer(conn, speaker, text);
+        let heard = self.floor.answer(&mut self.decoder, conn, speaker, text);
         (heard, self.floor.take_handed())
     }
 

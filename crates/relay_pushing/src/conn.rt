@@ -7,9 +7,19 @@ ghost use Rattle.relay_pushing.specs.Connections.{Answered, Bars, Ends, IsUnmove
 use crate::keeper::Keeper;
 use c960_game::{Ending, Refusal};
 use relay_core::{BoardName, Reply, Step};
-use relay_messages::{Answer, MessageFault, decode, encode};
+use relay_messages::{Answer, Decoder, MessageFault, decode, encode};
 use std::alloc::{AllocError, Global};
 use std::marker::Model;
+
+/// The step that a text asks for, read by this decoder, or without one in room for this text alone.
+fn read_by(alloc: Global, decoder: Option<&mut Decoder>, text: &[u8]) -> Result<Step, MessageFault>
+    ensures { IsDecoding text.now result }
+{
+    match decoder {
+        Some(decoder) => decoder.decode(text),
+        None => decode(alloc, text),
+    }
+}
 
 /// A connection. Contracts see the boards that it opened, in the order of opening.
 #[derive(Drop)]
@@ -124,12 +134,17 @@ impl Conn {
         Ok(reply)
     }
 
-    /// The answer to a text.
-    fn answer_to<K: Keeper>(&mut self, text: &[u8], keeper: &mut K) -> Result<Answer, AllocError>
+    /// The answer to a text, which this decoder reads, if there is one.
+    fn answer_to<K: Keeper>(
+        &mut self,
+        decoder: Option<&mut Decoder>,
+        text: &[u8],
+        keeper: &mut K,
+    ) -> Result<Answer, AllocError>
         ensures ok { IfOk result (λ answer. Leads (K.tells keeper.old) K.makes self.old keeper.old text.now answer self.new keeper.new) }
         ensures err { OnErr result (IsUnmoved self.old keeper.old self.new keeper.new) }
     {
-        match self.read(text) {
+        match read_by(self.alloc, decoder, text) {
             Ok(step) => Ok(Answer::Reply(self.reply(&step, keeper)?)),
             Err(fault) => Ok(Answer::Fault(fault)),
         }
@@ -150,7 +165,27 @@ impl Conn {
         ensures ok { IfOk result (λ s. Answered (K.tells keeper.old) K.makes self.old keeper.old text.now (string_bytes s) self.new keeper.new) }
         ensures err { OnErr result (Stopped (K.tells keeper.old) K.makes self.old keeper.old text.now self.new keeper.new) }
     {
-        let answer = self.answer_to(text, keeper)?;
+        let answer = self.answer_to(None, text, keeper)?;
+        encode(self.alloc, &answer)
+    }
+
+    /// The same for a caller that answers many connections: it keeps one decoder for all of them, which has the room for the places of a
+    /// text that is neither usual nor compact. `answer` clears such room for each of these texts.
+    ///
+    /// # Errors
+    ///
+    /// Those of `answer`.
+    #[tactic(auto, using(crate::proofs::Stops::stopped_after))]
+    pub fn answer_with<K: Keeper>(
+        &mut self,
+        decoder: &mut Decoder,
+        text: &[u8],
+        keeper: &mut K,
+    ) -> Result<String, AllocError>
+        ensures ok { IfOk result (λ s. Answered (K.tells keeper.old) K.makes self.old keeper.old text.now (string_bytes s) self.new keeper.new) }
+        ensures err { OnErr result (Stopped (K.tells keeper.old) K.makes self.old keeper.old text.now self.new keeper.new) }
+    {
+        let answer = self.answer_to(Some(decoder), text, keeper)?;
         encode(self.alloc, &answer)
     }
 

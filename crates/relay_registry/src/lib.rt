@@ -1,6 +1,6 @@
 //! The boards of a server, which all connections share: a hall behind one lock, and what wakes those who follow its boards and watch them.
-//! Within one hold of the lock one thing is done, exactly as the hall's definitions say. Texts are read and written, and positions worked
-//! out, without it.
+//! What is done within one hold of the lock is what the hall's definitions say of the hall that is found; no contract says that the next
+//! hold finds the hall that this one left. Texts are read and written, and positions worked out, without it.
 #![tactic(auto)]
 
 mod chime;

@@ -1,5 +1,5 @@
-//! Sessions of a relay over WebSocket (RFC 6455): a thread for each connection that answers commands. Those that follow move to loops
-//! (`relay_loops`).
+//! Sessions of a relay over WebSocket (RFC 6455), a thread for each connection that answers commands: the program serves by them with
+//! `--threads`, or if the system lacks what `main_port` takes. Those that follow move to loops (`relay_loops`).
 #![tactic(auto)]
 
 mod serving;

@@ -29,7 +29,7 @@ use std::sync::{Arc, Wait};
 use std::thread::{Builder, Threads};
 use std::time::Clock;
 
-/// How many bytes the stack of a session's thread has. Sessions were seen to touch some 100 KiB of it at most (`benches/pinned.py`). What a
+/// How many bytes the stack of a session's thread has. Sessions were seen to touch some 100 KiB of it at most (`bench/pinned.py`). What a
 /// session does not touch takes no memory.
 const STACK_BYTES: usize = 512 * 1024;
 

@@ -1,9 +1,11 @@
-//! `frames` makes the frames of both sides, `requests` the request before them; `coming` has the beginnings of a connection, `talking` two
-//! callers over one hall, `leaving` the ends of a connection, `unasked` what it is sent unasked.
+//! `frames` makes the frames of both sides, `requests` the request before them, `scene` a connection over a hall of its own; `coming` has
+//! the beginnings of a connection, `talking` two callers over one hall, `leaving` the ends of a connection, `unasked` what it is sent
+//! unasked.
 
 mod coming;
 mod frames;
 mod leaving;
 mod requests;
+mod scene;
 mod talking;
 mod unasked;

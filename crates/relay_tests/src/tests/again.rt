@@ -1,5 +1,6 @@
 //! Calls that are made again if they were refused for lack of memory: where one allocation is refused, the second call is accepted.
 
+use crate::tests::claims::claim;
 use c960_game::{Limits, Refusal};
 use live_board::{Board, Follower};
 use std::alloc::{AllocError, Global};
@@ -20,11 +21,8 @@ pub fn open(rt: &impl Abort, alloc: Global, limits: Limits) -> Board {
     match Board::open(alloc, 518, limits) {
         Ok(board) => board,
         Err(refusal) => {
-            assert!(rt; refusal == Refusal::OutOfMemory);
-            let Ok(board) = Board::open(alloc, 518, limits) else {
-                panic!(rt; "one refusal at the most");
-            };
-            board
+            claim(rt, refusal == Refusal::OutOfMemory, "want of memory");
+            Board::open(alloc, 518, limits).expect(rt, "one refusal at the most")
         }
     }
 }
@@ -35,12 +33,9 @@ pub fn follow(rt: &impl Abort, board: &mut Board, from: Option<u16>) -> Follower
     match board.follow(from) {
         Ok(follower) => follower,
         Err(refusal) => {
-            assert!(rt; refusal == Refusal::OutOfMemory);
-            assert!(rt; board.len() == len);
-            let Ok(follower) = board.follow(from) else {
-                panic!(rt; "one refusal at the most");
-            };
-            follower
+            claim(rt, refusal == Refusal::OutOfMemory, "want of memory");
+            claim(rt, board.len() == len, "as many moves as before");
+            board.follow(from).expect(rt, "one refusal at the most")
         }
     }
 }

@@ -3,6 +3,7 @@
 
 use crate::relay_keeper::RelayKeeper;
 use crate::tests::again::again;
+use crate::tests::claims::{claim, claim_of};
 use crate::tests::connections::Keeping::{Makes, NotAsked, Refuses};
 use crate::tests::connections::Who::{Guest, Owner, Stranger};
 use crate::tests::fakes::NotingKeeper;
@@ -149,33 +150,63 @@ fn rows() -> &'static [Row] {
     &ROWS
 }
 
-/// Whether a text gets this answer.
-fn is_answered(conn: &mut Conn, noting: &mut NotingKeeper, text: &str, wanted: &str) -> bool {
-    match conn.answer(text.as_bytes(), noting) {
-        Ok(answer) => answer.as_str() == wanted,
-        Err(AllocError) => false,
+/// What a text was answered.
+#[derive(Clone, Copy, PartialEq)]
+enum Said {
+    /// What was wanted.
+    Wanted,
+    /// That there was no memory.
+    Want,
+    /// Something else.
+    Else,
+    /// There was no memory for the answer.
+    Nothing,
+}
+
+/// What a text says, if one of these is wanted.
+fn kind_of(text: &str, wanted: [&str; 2]) -> Said {
+    if text == WANT {
+        Said::Want
+    } else if wanted.contains(&text) {
+        Said::Wanted
+    } else {
+        Said::Else
     }
+}
+
+/// What an answer says, if one of these is wanted. Behind this no text is kept.
+fn said_by(answer: Result<String, AllocError>, wanted: [&str; 2]) -> Said {
+    match answer {
+        Ok(answer) => kind_of(answer.as_str(), wanted),
+        Err(AllocError) => Said::Nothing,
+    }
+}
+
+/// What a text is answered over a keeper that notes.
+fn said_to(conn: &mut Conn, noting: &mut NotingKeeper, text: &str, wanted: &str) -> Said {
+    said_by(conn.answer(text.as_bytes(), noting), [wanted, wanted])
 }
 
 /// Asserts that a row holds. Returns whether memory was refused; then the text was sent once more.
 fn assert_row(rt: &impl Abort, conn: &mut Conn, noting: &mut NotingKeeper, row: &Row) -> bool {
     let (_, text, wanted, keeping) = *row;
     let (asked, accepted) = (noting.steps.len(), noting.accepted);
-    let answer = conn.answer(text.as_bytes(), noting);
-    if let Ok(answer) = &answer {
-        if answer.as_str() != WANT {
-            assert_eq!(rt; answer.as_str(), wanted);
-            let not_asked = matches!(keeping, NotAsked);
-            assert!(rt; (noting.steps.len() == asked) == not_asked, "{text}");
-            return false;
-        }
-        assert!(rt; noting.accepted == accepted, "{text}");
+    let said = said_to(conn, noting, text, wanted);
+    let is_asked = noting.steps.len() != asked;
+    let is_made = noting.accepted != accepted;
+    claim_of(rt, said != Said::Else, "the answer", text);
+    if said == Said::Wanted {
+        let not_asked = matches!(keeping, NotAsked);
+        claim_of(rt, is_asked != not_asked, "the step", text);
+        return false;
     }
+    claim_of(rt, said != Said::Want || !is_made, "the refusal", text);
     let again = match keeping {
-        Makes(again) if noting.accepted != accepted => again,
+        Makes(again) if is_made => again,
         _ => wanted,
     };
-    assert!(rt; is_answered(conn, noting, text, again), "{text}");
+    let said = said_to(conn, noting, text, again);
+    claim_of(rt, said == Said::Wanted, "the second answer", text);
     true
 }
 
@@ -236,21 +267,36 @@ fn ended(scene: Scene) -> NotingKeeper {
 fn a_connection_may_what_its_boards_let_it(rt: HostRuntime) {
     let (noting, was_refused) = new_noting(&rt, rt.alloc());
     let mut scene = scene_of(rt.alloc(), noting);
-    let mut refusals = u32::from(was_refused);
-    for row in rows() {
-        let was_refused = assert_row_of(&rt, &mut scene, row);
-        refusals = refusals.saturating_add(u32::from(was_refused));
-    }
-    assert!(rt; refusals <= 1);
-    // The boards are ended in the order of opening, including one that has ended.
+    let refusals = refusals_in(&rt, &mut scene);
+    let is_one = refusals.saturating_add(u32::from(was_refused)) <= 1;
+    claim(&rt, is_one, "one refusal at the most");
     let asked = scene.noting.steps.len();
     let noting = ended(scene);
+    claim(
+        &rt,
+        are_ended(&rt, &noting, asked),
+        "the ends of three boards",
+    );
+}
+
+/// Asserts that each row holds. Returns how often memory was refused.
+fn refusals_in(rt: &impl Abort, scene: &mut Scene) -> u32 {
+    let mut refusals = 0u32;
+    for row in rows() {
+        let was_refused = assert_row_of(rt, scene, row);
+        refusals = refusals.saturating_add(u32::from(was_refused));
+    }
+    refusals
+}
+
+/// Whether the steps behind so many end the boards in the order of opening, including one that has ended.
+fn are_ended(rt: &impl Abort, noting: &NotingKeeper, asked: usize) -> bool {
     let ends = [
-        Step::End(board_of(&rt, "b1"), Ending::Abandoned),
-        Step::End(board_of(&rt, "a"), Ending::Abandoned),
-        Step::End(board_of(&rt, "c"), Ending::Abandoned),
+        Step::End(board_of(rt, "b1"), Ending::Abandoned),
+        Step::End(board_of(rt, "a"), Ending::Abandoned),
+        Step::End(board_of(rt, "c"), Ending::Abandoned),
     ];
-    assert_eq!(rt; noting.steps.as_slice().get(asked..), Some(ends.as_slice()));
+    noting.steps.as_slice().get(asked..) == Some(ends.as_slice())
 }
 
 /// How the game of a board ended, as a spectator that comes now is told. If there was no memory to follow, it is asked once more.
@@ -290,6 +336,11 @@ fn answers() -> &'static [(Who, &'static str, [&'static str; 2])] {
     &ANSWERS
 }
 
+/// What a text is answered over a relay.
+fn said_over(keeper: &mut RelayKeeper, conn: &mut Conn, text: &str, wanted: [&str; 2]) -> Said {
+    said_by(keeper.answer(conn, text.as_bytes()), wanted)
+}
+
 /// Asserts that a text gets this answer. Returns whether memory was refused; then the text was sent once more.
 fn assert_answer(
     rt: &impl Abort,
@@ -298,19 +349,13 @@ fn assert_answer(
     text: &str,
     wanted: [&str; 2],
 ) -> bool {
-    if let Ok(answer) = keeper.answer(conn, text.as_bytes()) {
-        if answer.as_str() != WANT {
-            assert!(rt; answer.as_str() == wanted[0], "{text}");
-            return false;
-        }
+    let said = said_over(keeper, conn, text, [wanted[0], wanted[0]]);
+    claim_of(rt, said != Said::Else, "the answer", text);
+    if said == Said::Wanted {
+        return false;
     }
-    let again = keeper
-        .answer(conn, text.as_bytes())
-        .expect(rt, "one refusal at the most");
-    assert!(rt;
-        again.as_str() == wanted[0] || again.as_str() == wanted[1],
-        "{text}"
-    );
+    let said = said_over(keeper, conn, text, wanted);
+    claim_of(rt, said == Said::Wanted, "the second answer", text);
     true
 }
 
@@ -355,10 +400,13 @@ fn assert_ends(rt: &impl Abort, relayed: Relayed) {
         stranger,
     } = relayed;
     keeper.finish(stranger);
-    assert!(rt; outcome_of(&mut keeper, board_of(rt, "a")).is_none());
+    let before = outcome_of(&mut keeper, board_of(rt, "a"));
     keeper.finish(owner);
-    assert!(rt; outcome_of(&mut keeper, board_of(rt, "a")) == Some(Outcome::Abandoned));
-    assert!(rt; outcome_of(&mut keeper, board_of(rt, "b1")) == Some(Outcome::Agreed));
+    let a = outcome_of(&mut keeper, board_of(rt, "a"));
+    let b1 = outcome_of(&mut keeper, board_of(rt, "b1"));
+    claim(rt, before.is_none(), "the stranger ends no board");
+    claim(rt, a == Some(Outcome::Abandoned), "the owner ends a");
+    claim(rt, b1 == Some(Outcome::Agreed), "b1 has ended before");
 }
 
 #[test]
@@ -369,6 +417,6 @@ fn a_relay_answers_as_its_history_asks(rt: HostRuntime) {
         let was_refused = assert_answer_of(&rt, &mut relayed, *who, *text, *wanted);
         refusals = refusals.saturating_add(u32::from(was_refused));
     }
-    assert!(rt; refusals <= 1);
+    claim(&rt, refusals <= 1, "one refusal at the most");
     assert_ends(&rt, relayed);
 }

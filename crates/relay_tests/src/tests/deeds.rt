@@ -10,10 +10,7 @@ use std::process::Abort;
 
 /// A new board of this start. It is not refused, for lack of memory either (`again::open` asks once more then).
 pub fn opened(rt: &impl Abort, alloc: Global, start: u16, limits: Limits) -> Board {
-    let Ok(board) = Board::open(alloc, start, limits) else {
-        panic!(rt; "no board {start}");
-    };
-    board
+    Board::open(alloc, start, limits).expect(rt, "a board is opened")
 }
 
 /// Whether no board is opened, since there is no such start.
@@ -23,10 +20,7 @@ pub fn is_bad_start(alloc: Global, start: u16, limits: Limits) -> bool {
 
 /// A new follower. It is not refused, for lack of memory either (`again::follow` asks once more then).
 pub fn followed(rt: &impl Abort, board: &mut Board, from: Option<u16>) -> Follower {
-    let Ok(follower) = board.follow(from) else {
-        panic!(rt; "nobody follows");
-    };
-    follower
+    board.follow(from).expect(rt, "one follows")
 }
 
 /// Whether a board has no vacant slot.

@@ -1,6 +1,7 @@
 //! What `relay_frames` does and no session shows: the bytes of a pong and of a binary message, at which nobody looks, those of a ping that
 //! has some, and the lengths of texts that no answer has. All else is tried on the built server.
 
+use crate::tests::claims::{claim, claim_at};
 use relay_frames::{Event, Peer, outgoing};
 use std::alloc::{AllocError, Global};
 
@@ -13,17 +14,25 @@ const BINARY: &[u8] = b"\x82\x85\x37\xfa\x21\x3d\x7f\x9f\x4d\x51\x58";
 fn is_hello(alloc: Global, bytes: &[u8], is_pong: bool) -> Result<bool, AllocError> {
     let mut peer = Peer::new(alloc);
     peer.feed(bytes)?;
-    match peer.next()? {
-        Some(Event::Pong(payload)) => Ok(is_pong && payload.as_slice() == b"Hello".as_slice()),
-        Some(Event::Binary(payload)) => Ok(!is_pong && payload.as_slice() == b"Hello".as_slice()),
-        _ => Ok(false),
+    let event = peer.next()?;
+    Ok(event.is_some_and(|event| says_hello(event, is_pong)))
+}
+
+/// Whether an event is a pong or a binary message, as it is said, and has these bytes.
+fn says_hello(event: Event, is_pong: bool) -> bool {
+    match event {
+        Event::Pong(payload) => is_pong && payload.as_slice() == b"Hello".as_slice(),
+        Event::Binary(payload) => !is_pong && payload.as_slice() == b"Hello".as_slice(),
+        _ => false,
     }
 }
 
 #[test]
 fn a_masked_pong_and_a_masked_binary_message(rt: HostRuntime) -> Result<(), AllocError> {
-    assert!(rt; is_hello(rt.alloc(), PONG, true)?);
-    assert!(rt; is_hello(rt.alloc(), BINARY, false)?);
+    let is_pong = is_hello(rt.alloc(), PONG, true)?;
+    claim(&rt, is_pong, "a pong");
+    let is_binary = is_hello(rt.alloc(), BINARY, false)?;
+    claim(&rt, is_binary, "a binary message");
     Ok(())
 }
 
@@ -31,7 +40,7 @@ fn a_masked_pong_and_a_masked_binary_message(rt: HostRuntime) -> Result<(), Allo
 fn a_ping_has_its_bytes(rt: HostRuntime) -> Result<(), AllocError> {
     let mut out = Vec::new(rt.alloc());
     outgoing::ping(b"Hello", &mut out)?;
-    assert!(rt; out.as_slice() == b"\x89\x05Hello".as_slice());
+    claim(&rt, out.as_slice() == b"\x89\x05Hello".as_slice(), "a ping");
     Ok(())
 }
 
@@ -62,7 +71,8 @@ fn is_written(alloc: Global, size: usize, head: &[u8]) -> Result<bool, AllocErro
 #[test]
 fn the_three_forms_of_a_length(rt: HostRuntime) -> Result<(), AllocError> {
     for (size, head) in HEADS {
-        assert!(rt; is_written(rt.alloc(), size, head)?, "{size} bytes");
+        let is_written = is_written(rt.alloc(), size, head)?;
+        claim_at(&rt, is_written, "a text of as many bytes as", size);
     }
     Ok(())
 }

@@ -1,6 +1,7 @@
 //! What becomes due between a look and the wait after it.
 
 use crate::list_outlet::ListOutlet;
+use crate::tests::claims::claim;
 use crate::tests::fakes::Ringing;
 use relay_core::Taken;
 use relay_pushing::{Bell, PushEnd, SendFault, Source, push_all};
@@ -34,7 +35,9 @@ fn a_ring_behind_a_look_is_not_slept_through(rt: HostRuntime) {
     };
     let mut outlet = ListOutlet::new(rt.alloc(), 9, 9);
     let end = push_all(&rt, rt.alloc(), &mut outlet, &mut source, &bell);
-    assert_eq!(rt; bell.sleeps.get(), 0);
-    assert_eq!(rt; source.looks, 2);
-    assert!(rt; end == PushEnd::Cut || end == PushEnd::Failed(SendFault::OutOfMemory));
+    claim(&rt, bell.sleeps.get() == 0, "no wait lasts");
+    claim(&rt, source.looks == 2, "two looks");
+    let is_cut = end == PushEnd::Cut;
+    let no_memory = end == PushEnd::Failed(SendFault::OutOfMemory);
+    claim(&rt, is_cut || no_memory, "how pushing ends");
 }

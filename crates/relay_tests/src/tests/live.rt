@@ -2,6 +2,7 @@
 //! (`rt try --test --fail-alloc N`): then pushing ends after the texts that were sent before.
 
 use crate::tests::again::{follow, open};
+use crate::tests::claims::claim;
 use crate::tests::deeds::{is_full, leaves, plays};
 use crate::tests::pushing::{NO_DEVICE, assert_cut};
 use crate::tests::values::account;
@@ -34,16 +35,18 @@ fn full_queue(rt: &impl Abort, alloc: Global) -> (Board, Live) {
     let mut board = open(rt, alloc, limits);
     let follower = follow(rt, &mut board, None);
     for (place, text) in [(0, "e2e4"), (1, "e7e5"), (2, "g1f3")] {
-        assert!(rt; plays(rt, &mut board, place, text));
+        claim(rt, plays(rt, &mut board, place, text), text);
     }
     (board, Live { follower })
 }
 
 /// Asserts that the follower leaves with this many moves taken, and that its slot on the board is given back.
 fn assert_leaves(rt: &impl Abort, mut board: Board, live: Live, taken: u16) {
-    assert!(rt; is_full(&mut board));
-    assert!(rt; leaves(live.follower) == account(0, taken, 2, true));
-    assert!(rt; leaves(follow(rt, &mut board, None)) == account(3, 0, 3, false));
+    claim(rt, is_full(&mut board), "its slot is taken");
+    let told = leaves(live.follower);
+    claim(rt, told == account(0, taken, 2, true), "its account");
+    let told = leaves(follow(rt, &mut board, None));
+    claim(rt, told == account(3, 0, 3, false), "its slot is vacant");
 }
 
 #[test]

@@ -1,6 +1,7 @@
 //! Worked cases of live boards, comparisons with a plain one, and games that threads take.
 
 mod boards;
+mod both;
 mod cases;
 mod crowd;
 mod games;

@@ -3,6 +3,7 @@
 
 use crate::list_outlet::ListOutlet;
 use crate::tests::again::again;
+use crate::tests::claims::claim;
 use crate::tests::fakes::{Answers, RelaySource, Ringing, relay};
 use crate::tests::values::{board_of, move_of};
 use c960_game::{Outcome, Refusal};
@@ -54,22 +55,57 @@ fn full_queue(rt: &impl Abort, alloc: Global) -> RelaySource {
 
 /// Asserts that the outlet has the first of these texts.
 fn assert_first(rt: &impl Abort, outlet: &ListOutlet, wanted: &[&[u8]]) {
-    assert!(rt; outlet.texts.len() <= wanted.len());
+    claim(rt, outlet.texts.len() <= wanted.len(), "no text more");
     for (text, wanted) in outlet.texts.iter().zip(wanted) {
-        assert_eq!(rt; text.as_slice(), *wanted);
+        claim(rt, text.as_slice() == *wanted, "a text that was sent");
     }
+}
+
+/// What pushing did: the outlet, how it ended, and how often the bell was waited for.
+#[derive(Drop)]
+struct Pushed {
+    outlet: ListOutlet,
+    end: PushEnd,
+    waits: u64,
+}
+
+/// What is pushed from a source to a device that takes so many texts and so many flushes.
+fn push_to<R: Wait + Abort, S: Source>(
+    rt: &R,
+    alloc: Global,
+    source: &mut S,
+    (room, flushes): (usize, usize),
+) -> Pushed {
+    let mut outlet = ListOutlet::new(alloc, room, flushes);
+    let bell = Ringing::new();
+    let end = push_all(rt, alloc, &mut outlet, source, &bell);
+    Pushed {
+        outlet,
+        end,
+        waits: bell.waits.get(),
+    }
+}
+
+/// Asserts that pushing ended so, or that there was no memory; and that the device failed once if it ended for that, and else never.
+fn assert_failures(rt: &impl Abort, pushed: &Pushed, wanted: PushEnd) {
+    let has_ended = pushed.end == NO_MEMORY || pushed.end == wanted;
+    claim(rt, has_ended, "how pushing ends");
+    let failures = u64::from(pushed.end == NO_DEVICE);
+    claim(
+        rt,
+        pushed.outlet.failures == failures,
+        "the device's failures",
+    );
 }
 
 /// Asserts that pushing goes on after the text that was lost, and sends the end again if that was lost.
 fn assert_rest<R: Wait + Abort, S: Source>(rt: &R, alloc: Global, source: &mut S, sent: usize) {
-    let Some(wanted) = TEXTS_OF_CUT.get(sent.saturating_add(1).min(2)..) else {
-        panic!(rt; "there is an end");
-    };
-    let mut outlet = ListOutlet::new(alloc, 9, 9);
-    let end = push_all(rt, alloc, &mut outlet, source, &Ringing::new());
-    assert_eq!(rt; end, PushEnd::Cut);
-    assert_eq!(rt; outlet.texts.len(), wanted.len());
-    assert_first(rt, &outlet, wanted);
+    let rest = TEXTS_OF_CUT.get(sent.saturating_add(1).min(2)..);
+    let wanted = rest.expect(rt, "there is an end");
+    let pushed = push_to(rt, alloc, source, (9, 9));
+    claim(rt, pushed.end == PushEnd::Cut, "the rest is pushed");
+    claim(rt, pushed.outlet.texts.len() == wanted.len(), "each text");
+    assert_first(rt, &pushed.outlet, wanted);
 }
 
 /// Asserts that what a follower has that was closed at its capacity of 2 is pushed to a device that takes so many texts, that pushing ends
@@ -81,20 +117,16 @@ pub fn assert_cut<R: Wait + Abort, S: Source>(
     room: usize,
     (wanted, texts): (PushEnd, usize),
 ) {
-    let mut outlet = ListOutlet::new(alloc, room, 9);
-    let bell = Ringing::new();
-    let end = push_all(rt, alloc, &mut outlet, source, &bell);
-    let sent = outlet.texts.len();
-    assert_first(rt, &outlet, &TEXTS_OF_CUT);
-    assert_eq!(rt; bell.waits.get(), 0);
-    if end == NO_MEMORY {
-        assert_eq!(rt; outlet.failures, 0);
+    let pushed = push_to(rt, alloc, source, (room, 9));
+    let sent = pushed.outlet.texts.len();
+    assert_first(rt, &pushed.outlet, &TEXTS_OF_CUT);
+    claim(rt, pushed.waits == 0, "nothing is waited for");
+    assert_failures(rt, &pushed, wanted);
+    if pushed.end == NO_MEMORY {
         assert_rest(rt, alloc, source, sent);
         return;
     }
-    assert_eq!(rt; end, wanted);
-    assert_eq!(rt; sent, texts);
-    assert_eq!(rt; outlet.failures, u64::from(wanted == NO_DEVICE));
+    claim(rt, sent == texts, "as many texts");
 }
 
 #[test]
@@ -104,8 +136,12 @@ fn cut_pushed(rt: HostRuntime) {
         let mut source = full_queue(&rt, rt.alloc());
         assert_cut(&rt, rt.alloc(), &mut source, room, (wanted, texts));
     }
-    assert_eq!(rt; SendFault::Device.code(), 41);
-    assert_eq!(rt; SendFault::OutOfMemory.code(), 12);
+    claim(&rt, SendFault::Device.code() == 41, "the device's code");
+    claim(
+        &rt,
+        SendFault::OutOfMemory.code() == 12,
+        "the code of memory",
+    );
 }
 
 /// What the device takes, texts and flushes; how pushing ends; and how many texts were sent, how often the bell was waited for, and
@@ -126,20 +162,13 @@ fn rows() -> &'static [Row] {
 
 /// Asserts that these answers are pushed as a row says.
 fn assert_pushed<R: Wait + Abort>(rt: &R, alloc: Global, answers: &[Taken], row: &Row) {
-    let ((room, flushes), wanted, counts) = *row;
-    let mut outlet = ListOutlet::new(alloc, room, flushes);
+    let (device, wanted, counts) = *row;
     let mut source = Answers { rest: answers };
-    let bell = Ringing::new();
-    let end = push_all(rt, alloc, &mut outlet, &mut source, &bell);
-    let sent = outlet.texts.len();
-    assert_first(rt, &outlet, &TEXTS_OF_OVER);
-    if end == NO_MEMORY {
-        assert_eq!(rt; outlet.failures, 0);
-        return;
-    }
-    assert_eq!(rt; end, wanted);
-    assert_eq!(rt; (sent, bell.waits.get(), source.rest.len()), counts);
-    assert_eq!(rt; outlet.failures, u64::from(wanted == NO_DEVICE));
+    let pushed = push_to(rt, alloc, &mut source, device);
+    assert_first(rt, &pushed.outlet, &TEXTS_OF_OVER);
+    assert_failures(rt, &pushed, wanted);
+    let given = (pushed.outlet.texts.len(), pushed.waits, source.rest.len());
+    claim(rt, pushed.end == NO_MEMORY || given == counts, "the counts");
 }
 
 #[test]

@@ -42,28 +42,19 @@ pub const NINETY_EIGHT: &str = "\
 /// How the game ends in which Black mates.
 pub const BLACK_MATES: Outcome = Outcome::Checkmate(Colour::Black);
 
-/// The board of a name.
+/// The board of a name. Where it is none, the test ends with the text; so do the two below.
 pub fn board_of(rt: &impl Abort, text: &str) -> BoardName {
-    let Some(board) = BoardName::new(text.as_bytes()) else {
-        panic!(rt; "no name: {text}");
-    };
-    board
+    BoardName::new(text.as_bytes()).expect(rt, text)
 }
 
 /// The move of a text.
 pub fn move_of(rt: &impl Abort, text: &str) -> Move {
-    let Ok(m) = read_move(text.as_bytes()) else {
-        panic!(rt; "no move: {text}");
-    };
-    m
+    read_move(text.as_bytes()).expect(rt, text)
 }
 
 /// The position of a text.
 pub fn position_of(rt: &impl Abort, text: &str) -> Position {
-    let Ok(position) = read_fen(text.as_bytes()) else {
-        panic!(rt; "no position: {text}");
-    };
-    position
+    read_fen(text.as_bytes()).expect(rt, text)
 }
 
 /// The account of a follower: the place at which it joined, how many it took, its limit, and whether it was closed.

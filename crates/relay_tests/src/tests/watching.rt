@@ -3,6 +3,7 @@
 
 ghost use Rattle.std.specs.Prelude.{◌≡◌, ◌+◌, ◌<◌, length, None, OnOk};
 
+use crate::tests::claims::{claim, claim_at};
 use crate::tests::values::move_of;
 use c960_board::{Colour, Position, read_fen};
 use c960_game::{Game, Outcome};
@@ -47,22 +48,16 @@ fn at_crowded() -> &'static [u8] {
 }
 
 /// Everything that is due is written, at most `most` bytes at a time.
-fn write_all(
-    got: &mut Vec<u8>,
-    watcher: &mut Watcher,
-    tape: &Tape,
-    most: usize,
-) -> Result<(), Fail> {
+fn write_all(rt: &impl Abort, got: &mut Vec<u8>, watcher: &mut Watcher, tape: &Tape, most: usize) {
     for _ in 0..1000 {
         let due = watcher.due(tape);
         if due.is_empty() {
             break;
         }
         let n = due.len().min(most);
-        got.extend_from_slice(&due[..n])?;
+        got.extend_from_slice(&due[..n]).expect(rt, "memory");
         watcher.wrote(tape, n);
     }
-    Ok(())
 }
 
 /// A move is made on the board and put on its tape.
@@ -86,22 +81,24 @@ fn sent_in_pieces(rt: &impl Abort, alloc: Global, most: usize) -> Result<(Vec<u8
     let mut first_got = Vec::new(alloc);
     let mut second_got = Vec::new(alloc);
     let start = game.position_at(0).expect(rt, "the start");
-    let mut first = tape.join(0, &start)?;
-    write_all(&mut first_got, &mut first, &tape, most)?;
+    let mut first = tape.join(0, &start).expect(rt, "memory");
+    write_all(rt, &mut first_got, &mut first, &tape, most);
     make(rt, &mut game, &mut tape, "f2f3")?;
     make(rt, &mut game, &mut tape, "e7e5")?;
     let later = game.position_at(1).expect(rt, "one move was made");
-    let mut second = tape.join(1, &later)?;
-    write_all(&mut first_got, &mut first, &tape, most)?;
+    let mut second = tape.join(1, &later).expect(rt, "memory");
+    write_all(rt, &mut first_got, &mut first, &tape, most);
     make(rt, &mut game, &mut tape, "g2g4")?;
-    write_all(&mut second_got, &mut second, &tape, most)?;
+    write_all(rt, &mut second_got, &mut second, &tape, most);
     make(rt, &mut game, &mut tape, "d8h4")?;
-    write_all(&mut second_got, &mut second, &tape, most)?;
-    assert!(rt; !second.is_done(&tape));
-    tape.finish(Outcome::Checkmate(Colour::Black))?;
-    write_all(&mut first_got, &mut first, &tape, most)?;
-    write_all(&mut second_got, &mut second, &tape, most)?;
-    assert!(rt; first.is_done(&tape) && second.is_done(&tape));
+    write_all(rt, &mut second_got, &mut second, &tape, most);
+    claim(rt, !second.is_done(&tape), "it goes on");
+    let end = tape.finish(Outcome::Checkmate(Colour::Black));
+    end.expect(rt, "memory");
+    write_all(rt, &mut first_got, &mut first, &tape, most);
+    write_all(rt, &mut second_got, &mut second, &tape, most);
+    claim(rt, first.is_done(&tape), "the first has all");
+    claim(rt, second.is_done(&tape), "the second has all");
     Ok((first_got, second_got))
 }
 
@@ -122,8 +119,8 @@ fn each_is_sent_the_frames_from_its_place_on(rt: HostRuntime) -> Result<(), Fail
     let later = joined(alloc, &[at_place_1(), from_place_1(), the_end()])?;
     for most in [1, 2, 41, 42, 43, 1000] {
         let (first, second) = sent_in_pieces(&rt, alloc, most)?;
-        assert!(rt; first == from_the_start);
-        assert!(rt; second == later);
+        claim(&rt, first == from_the_start, "from the start");
+        claim(&rt, second == later, "from place 1");
     }
     Ok(())
 }
@@ -137,22 +134,26 @@ fn other_frames_go_between_frames(rt: HostRuntime) -> Result<(), Fail> {
     let mut watcher = tape.join(0, &start)?;
     tape.push_all(&[move_of(&rt, "f2f3"), move_of(&rt, "e7e5")])?;
     for k in 0..183 {
-        assert!(rt; watcher.is_between_frames(&tape) == (k == 99 || k == 141));
-        assert!(rt; !watcher.due(&tape).is_empty());
+        let is_between = watcher.is_between_frames(&tape);
+        claim_at(&rt, is_between == (k == 99 || k == 141), "byte", k);
+        // What is written rests on it, so it is asserted here.
+        assert!(rt; !watcher.due(&tape).is_empty(), "due behind {k}");
         watcher.wrote(&tape, 1);
     }
-    assert!(rt; watcher.is_between_frames(&tape));
-    assert!(rt; watcher.due(&tape).is_empty());
+    claim(
+        &rt,
+        watcher.is_between_frames(&tape),
+        "behind the last frame",
+    );
+    claim(&rt, watcher.due(&tape).is_empty(), "nothing is due");
     Ok(())
 }
 
 #[test]
 fn a_long_greeting_has_its_length_in_two_bytes(rt: HostRuntime) -> Result<(), Fail> {
     let tape = Tape::new(rt.alloc());
-    let Ok(position) = read_fen(crowded()) else {
-        panic!(rt; "a position");
-    };
+    let position = read_fen(crowded()).expect(&rt, "a position");
     let watcher = tape.join(0, &position)?;
-    assert!(rt; watcher.due(&tape) == at_crowded());
+    claim(&rt, watcher.due(&tape) == at_crowded(), "the greeting");
     Ok(())
 }

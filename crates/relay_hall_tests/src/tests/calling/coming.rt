@@ -1,11 +1,12 @@
 //! The request of a connection, by bytes (RFC 9112, sections 2 and 3; RFC 6455, section 4).
 
-use crate::tests::calling::frames::{PING, PONG, TEXT, asked, tell};
-use crate::tests::calling::requests::{ACCEPTED, REQUEST, is_due, is_fed, is_heard, with_target};
-use c960_game::Limits;
+use crate::tests::calling::frames::{PING, PONG, TEXT, add, asked, tell};
+use crate::tests::calling::requests::{
+    ACCEPTED, REQUEST, hall, is_due, is_fed, is_heard, with_target,
+};
 use relay_calling::{Caller, Stage};
 use relay_hall::Hall;
-use std::alloc::{AllocError, Global};
+use std::alloc::Global;
 use std::process::Abort;
 
 const BAD: &[u8] = b"HTTP/1.1 400 Bad Request\r\nConnection: close\r\nContent-Length: 0\r\n\r\n";
@@ -46,79 +47,80 @@ fn refused() -> &'static [(&'static [u8], &'static [u8])] {
     &REFUSED
 }
 
-fn hall(rt: &impl Abort, alloc: Global) -> Hall {
-    let limits = Limits::new(4, 4, 4, 64).expect(rt, "limits");
-    let Ok(hall) = Hall::new(alloc, limits, 1000) else {
-        panic!(rt; "no memory");
-    };
-    hall
-}
-
 /// Whether bytes that are cut there are answered by these, and only the second piece says what is heeded.
 fn is_answered_in_two(
-    alloc: Global,
+    caller: &mut Caller,
     hall: &mut Hall,
     bytes: &[u8],
     n: usize,
     wanted: &[u8],
 ) -> bool {
-    let mut caller = Caller::new(alloc, 1, true);
     let (first, second) = bytes.split_at(n.min(bytes.len()));
-    is_heard(&mut caller, hall, first, false)
-        && is_heard(&mut caller, hall, second, true)
-        && is_due(&caller, wanted, Stage::Asks)
+    is_heard(caller, hall, first, false)
+        && is_heard(caller, hall, second, true)
+        && is_due(caller, wanted, Stage::Asks)
 }
 
-/// A request with a ping behind it, and the acceptance with a pong behind it.
-fn exchange(alloc: Global) -> Result<(Vec<u8>, Vec<u8>), AllocError> {
+/// The same of a new connection.
+fn answers_cut_at(alloc: Global, hall: &mut Hall, bytes: &[u8], n: usize, wanted: &[u8]) -> bool {
+    is_answered_in_two(&mut Caller::new(alloc, 1, true), hall, bytes, n, wanted)
+}
+
+/// A request with a ping behind it.
+fn sent(rt: &impl Abort, alloc: Global) -> Vec<u8> {
     let mut sent = Vec::new(alloc);
-    sent.extend_from_slice(REQUEST)?;
-    sent.extend_from_slice(asked(alloc, PING, b"hm")?.as_slice())?;
+    add(rt, &mut sent, REQUEST);
+    let ping = asked(rt, alloc, PING, b"hm");
+    add(rt, &mut sent, ping.as_slice());
+    sent
+}
+
+/// The acceptance with a pong behind it.
+fn wanted(rt: &impl Abort, alloc: Global) -> Vec<u8> {
     let mut wanted = Vec::new(alloc);
-    wanted.extend_from_slice(ACCEPTED)?;
-    tell(&mut wanted, PONG, b"hm")?;
-    Ok((sent, wanted))
+    add(rt, &mut wanted, ACCEPTED);
+    tell(rt, &mut wanted, PONG, b"hm");
+    wanted
 }
 
 #[test]
 fn a_request_is_answered_and_what_is_behind_it_however_they_are_cut(rt: HostRuntime) {
     let alloc = rt.alloc();
     let mut hall = hall(&rt, alloc);
-    let Ok((sent, wanted)) = exchange(alloc) else {
-        panic!(rt; "no memory");
-    };
+    let (sent, wanted) = (sent(&rt, alloc), wanted(&rt, alloc));
     // In front of the ping's last byte the first piece says nothing that is heeded.
     for n in 0..sent.len() {
         assert!(rt;
-            is_answered_in_two(alloc, &mut hall, sent.as_slice(), n, wanted.as_slice()),
+            answers_cut_at(alloc, &mut hall, sent.as_slice(), n, wanted.as_slice()),
             "cut at {n}"
         );
     }
 }
 
 /// Whether this request is refused by this answer, and a good one behind it is answered no more.
-fn is_refused(alloc: Global, request: &[u8], answer: &[u8]) -> bool {
-    let mut caller = Caller::new(alloc, 1, true);
-    is_fed(&mut caller, request)
-        && is_fed(&mut caller, REQUEST)
-        && is_due(&caller, answer, Stage::Leaves)
+fn is_refused(caller: &mut Caller, request: &[u8], answer: &[u8]) -> bool {
+    is_fed(caller, request) && is_fed(caller, REQUEST) && is_due(caller, answer, Stage::Leaves)
 }
 
 #[test]
 fn a_request_that_is_refused_has_its_answer_and_nothing_more(rt: HostRuntime) {
     for (request, answer) in refused() {
-        assert!(rt; is_refused(rt.alloc(), *request, *answer));
+        let is_refused = is_refused(&mut Caller::new(rt.alloc(), 1, true), *request, *answer);
+        assert!(rt; is_refused);
     }
 }
 
 /// How many bytes of a head without an end came, and what is due then.
-const ENDLESS: [(usize, &[u8]); 2] = [(8191, b""), (8192, TOO_LARGE)];
+static ENDLESS: [(usize, &[u8]); 2] = [(8191, b""), (8192, TOO_LARGE)];
+
+fn endless() -> &'static [(usize, &'static [u8])] {
+    &ENDLESS
+}
 
 /// Whether these bytes are due after so many of a head without an end.
-fn is_due_after(alloc: Global, size: usize, answer: &[u8]) -> bool {
-    let mut caller = Caller::new(alloc, 1, true);
+fn is_due_after(caller: &mut Caller, size: usize, answer: &[u8]) -> bool {
     for _ in 0..size {
-        if !is_fed(&mut caller, b"a") {
+        if !is_fed(caller, b"a") {
             return false;
         }
     }
@@ -127,35 +129,24 @@ fn is_due_after(alloc: Global, size: usize, answer: &[u8]) -> bool {
 
 #[test]
 fn a_head_without_an_end_is_refused_at_8192_bytes(rt: HostRuntime) {
-    for (size, answer) in ENDLESS {
-        assert!(rt;
-            is_due_after(rt.alloc(), size, answer),
-            "after {size} bytes"
-        );
+    for (size, answer) in endless() {
+        let is_due = is_due_after(&mut Caller::new(rt.alloc(), 1, true), *size, *answer);
+        assert!(rt; is_due, "after {size} bytes");
     }
 }
 
-/// A connection with this target, after it has opened a board or without that. Returns whether any board belongs to it.
-fn owns(
-    alloc: Global,
-    hall: &mut Hall,
-    takes_keys: bool,
-    target: &[u8],
-    opens: bool,
-) -> Result<bool, AllocError> {
-    let mut caller = with_target(alloc, 2, takes_keys, target)?;
-    if opens {
-        let text = b"{\"cmd\":\"open\",\"board\":\"a\",\"start\":518}";
-        if !is_heard(
-            &mut caller,
-            hall,
-            asked(alloc, TEXT, text)?.as_slice(),
-            true,
-        ) {
-            return Err(AllocError);
-        }
-    }
-    Ok(caller.is_owner(hall))
+/// The owner, a connection with a key, opens a board.
+fn opens(rt: &impl Abort, alloc: Global, hall: &mut Hall) {
+    let mut caller = with_target(rt, alloc, 2, true, b"/?key=0123456789abcdef");
+    let text = b"{\"cmd\":\"open\",\"board\":\"a\",\"start\":518}";
+    let open = asked(rt, alloc, TEXT, text);
+    assert!(rt; is_heard(&mut caller, hall, open.as_slice(), true));
+    assert!(rt; caller.is_owner(hall));
+}
+
+/// Whether any board belongs to a connection with this target.
+fn owns(rt: &impl Abort, alloc: Global, hall: &Hall, takes_keys: bool, target: &[u8]) -> bool {
+    with_target(rt, alloc, 2, takes_keys, target).is_owner(hall)
 }
 
 /// Targets, whether they may name a key, and whether they name the one of the owner.
@@ -180,9 +171,8 @@ fn targets() -> &'static [(&'static [u8], bool, bool)] {
 fn the_first_key_in_the_query_is_the_key(rt: HostRuntime) {
     let alloc = rt.alloc();
     let mut hall = hall(&rt, alloc);
-    let owner = owns(alloc, &mut hall, true, b"/?key=0123456789abcdef", true);
-    assert!(rt; owner == Ok(true));
+    opens(&rt, alloc, &mut hall);
     for (target, takes_keys, is_owner) in targets() {
-        assert!(rt; owns(alloc, &mut hall, *takes_keys, *target, false) == Ok(*is_owner));
+        assert!(rt; owns(&rt, alloc, &hall, *takes_keys, *target) == *is_owner);
     }
 }

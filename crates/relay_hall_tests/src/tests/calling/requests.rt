@@ -1,8 +1,10 @@
 //! Requests and their answers (RFC 6455, sections 1.3 and 4). The key and its answer are those of section 1.3.
 
+use c960_game::Limits;
 use relay_calling::{Caller, Stage};
 use relay_hall::{Hall, Handed};
-use std::alloc::{AllocError, Global};
+use std::alloc::Global;
+use std::process::Abort;
 
 /// A request for a WebSocket.
 pub const REQUEST: &[u8] =
@@ -16,27 +18,67 @@ pub const ACCEPTED: &[u8] =
 const BEHIND_TARGET: &[u8] =
     b" HTTP/1.1\r\nHost: a\r\nConnection: upgrade\r\nUpgrade: websocket\r\nSec-WebSocket-Version: 13\r\nSec-WebSocket-Key: dGhlIHNhbXBsZSBub25jZQ==\r\n\r\n";
 
+/// What a connection said next.
+#[derive(Clone, Copy, PartialEq)]
+pub enum Heard {
+    Nothing,
+    /// It was heeded.
+    Something,
+    /// It was heeded, and handed a follower, which joins at this place, and has left.
+    Joins(u16),
+    /// There was no memory, or a follower was handed out for nothing.
+    Fails,
+}
+
+/// A hall with this much room, in which boards of a key wait for a second.
+pub fn hall(rt: &impl Abort, alloc: Global) -> Hall {
+    let limits = Limits::new(4, 4, 4, 64).expect(rt, "limits");
+    Hall::new(alloc, limits, 1000).expect(rt, "memory")
+}
+
 /// Feeds a connection these bytes. Returns whether there was memory. Whoever calls this, `hears` or `is_due` carries no clause of a caller
 /// along, so that its proof is short.
 pub fn is_fed(caller: &mut Caller, bytes: &[u8]) -> bool {
     caller.feed(bytes).is_ok()
 }
 
-/// Feeds bytes, and heeds what they say next. Returns whether they said anything, and what was handed out.
-pub fn hears(
-    caller: &mut Caller,
-    hall: &mut Hall,
-    bytes: &[u8],
-) -> Result<(bool, Option<Handed>), AllocError> {
-    caller.feed(bytes)?;
+/// A follower that was handed out leaves its board. Returns where it joined.
+fn leaves(handed: Option<Handed>) -> Option<u16> {
+    match handed {
+        Some(handed) => {
+            let joined = handed.follower.joined();
+            let _ = handed.follower.leave();
+            Some(joined)
+        }
+        None => None,
+    }
+}
+
+/// Heeds what a connection says next.
+fn heeds(caller: &mut Caller, hall: &mut Hall) -> Heard {
     let (some, handed) = caller.heed(hall);
-    Ok((some?, handed))
+    match (some, leaves(handed)) {
+        (Ok(true), None) => Heard::Something,
+        (Ok(true), Some(joined)) => Heard::Joins(joined),
+        (Ok(false), None) => Heard::Nothing,
+        _ => Heard::Fails,
+    }
+}
+
+/// Feeds bytes, and heeds what they say next.
+pub fn hears(caller: &mut Caller, hall: &mut Hall, bytes: &[u8]) -> Heard {
+    if is_fed(caller, bytes) {
+        heeds(caller, hall)
+    } else {
+        Heard::Fails
+    }
 }
 
 /// Whether bytes say something exactly if `some`, and nothing is handed out.
 pub fn is_heard(caller: &mut Caller, hall: &mut Hall, bytes: &[u8], some: bool) -> bool {
     match hears(caller, hall, bytes) {
-        Ok((found, None)) => found == some,
+        Heard::Something => some,
+        Heard::Nothing => !some,
         _ => false,
     }
 }
@@ -48,24 +90,21 @@ pub fn is_due(caller: &Caller, bytes: &[u8], stage: Stage) -> bool {
 
 /// A connection of this number whose request has this target. Its acceptance is written.
 pub fn with_target(
+    rt: &impl Abort,
     alloc: Global,
     number: u64,
     takes_keys: bool,
     target: &[u8],
-) -> Result<Caller, AllocError> {
+) -> Caller {
     let mut caller = Caller::new(alloc, number, takes_keys);
-    if is_fed(&mut caller, b"GET ")
-        && is_fed(&mut caller, target)
-        && is_fed(&mut caller, BEHIND_TARGET)
-    {
-        caller.wrote(ACCEPTED.len());
-        Ok(caller)
-    } else {
-        Err(AllocError)
-    }
+    assert!(rt; is_fed(&mut caller, b"GET "));
+    assert!(rt; is_fed(&mut caller, target));
+    assert!(rt; is_fed(&mut caller, BEHIND_TARGET));
+    caller.wrote(ACCEPTED.len());
+    caller
 }
 
 /// A connection of this number that has shaken hands.
-pub fn shaken(alloc: Global, number: u64) -> Result<Caller, AllocError> {
-    with_target(alloc, number, true, b"/")
+pub fn shaken(rt: &impl Abort, alloc: Global, number: u64) -> Caller {
+    with_target(rt, alloc, number, true, b"/")
 }

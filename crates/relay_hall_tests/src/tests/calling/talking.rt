@@ -1,11 +1,11 @@
 //! Two callers over one hall, by bytes. The texts are those of docs/PROTOCOL.md.
 
-use crate::tests::calling::frames::{BINARY, CLOSE, PING, PONG, TEXT, asked, told};
-use crate::tests::calling::requests::{hears, is_due, is_heard, shaken};
-use c960_game::Limits;
+use crate::tests::calling::frames::{BINARY, CLOSE, PING, PONG, TEXT, asked, tell};
+use crate::tests::calling::requests::{Heard, hall, hears, is_due, is_heard, shaken};
+use crate::tests::holds;
 use relay_calling::{Caller, Stage};
-use relay_hall::{Hall, Handed};
-use std::alloc::{AllocError, Global};
+use relay_hall::Hall;
+use std::alloc::Global;
 use std::process::Abort;
 
 /// Whether the second of two connections sends it, what frame it sends, what frame it is sent for that, and what it does then.
@@ -43,33 +43,16 @@ fn turns() -> &'static [Turn] {
     &TURNS
 }
 
-/// The connection sends a frame in two pieces. It is answered after the second one, and what is due is taken in two pieces as well.
-fn takes_turn(rt: &impl Abort, alloc: Global, caller: &mut Caller, hall: &mut Hall, turn: Turn) {
-    let (_, asks, tells, then) = turn;
-    let Ok(bytes) = asked(alloc, asks.0, asks.1.as_bytes()) else {
-        panic!(rt; "no memory");
+/// Whether a connection is answered after the second piece of a frame. A follower is handed out exactly if it hands over, and joins after
+/// the first move.
+fn is_answered(caller: &mut Caller, hall: &mut Hall, frame: &[u8], then: Stage) -> bool {
+    let (first, second) = frame.split_at(frame.len() / 2);
+    let wanted = if then == Stage::HandsOver {
+        Heard::Joins(1)
+    } else {
+        Heard::Something
     };
-    let (first, second) = bytes.as_slice().split_at(bytes.len() / 2);
-    assert!(rt; is_heard(caller, hall, first, false));
-    assert_answered(rt, caller, hall, second, then);
-    let Ok(wanted) = told(alloc, tells.0, tells.1.as_bytes()) else {
-        panic!(rt; "no memory");
-    };
-    assert!(rt; is_taken_in_two(caller, wanted.as_slice(), then));
-}
-
-/// Asserts that a frame is answered once its second piece has come.
-fn assert_answered(
-    rt: &impl Abort,
-    caller: &mut Caller,
-    hall: &mut Hall,
-    piece: &[u8],
-    then: Stage,
-) {
-    let Ok((true, handed)) = hears(caller, hall, piece) else {
-        panic!(rt; "a frame was not answered");
-    };
-    leaves(rt, handed, then);
+    is_heard(caller, hall, first, false) && hears(caller, hall, second) == wanted
 }
 
 /// Whether these bytes are due, and are taken in two pieces, of which the first is a byte.
@@ -88,13 +71,22 @@ fn is_all_taken(caller: &mut Caller, n: usize, then: Stage) -> bool {
     is_due(caller, b"", then)
 }
 
-/// A follower is handed out exactly if the connection hands over. It joins after the first move, and leaves.
-fn leaves(rt: &impl Abort, handed: Option<Handed>, then: Stage) {
-    assert!(rt; handed.is_some() == (then == Stage::HandsOver));
-    if let Some(handed) = handed {
-        assert_eq!(rt; handed.follower.joined(), 1);
-        let _ = handed.follower.leave();
-    }
+/// The connection sends a frame in two pieces. It is answered after the second one, and what is due is taken in two pieces as well.
+fn takes_turn(rt: &impl Abort, alloc: Global, caller: &mut Caller, hall: &mut Hall, turn: Turn) {
+    let (_, asks, tells, then) = turn;
+    let frame = asked(rt, alloc, asks.0, asks.1.as_bytes());
+    holds(
+        rt,
+        is_answered(caller, hall, frame.as_slice(), then),
+        asks.1,
+    );
+    let mut wanted = Vec::new(alloc);
+    tell(rt, &mut wanted, tells.0, tells.1.as_bytes());
+    holds(
+        rt,
+        is_taken_in_two(caller, wanted.as_slice(), then),
+        tells.1,
+    );
 }
 
 /// Two connections over one hall.
@@ -106,13 +98,12 @@ struct Pair {
 }
 
 /// Both have shaken hands.
-fn two_over_one(alloc: Global) -> Result<Pair, AllocError> {
-    let limits = Limits::new(4, 4, 4, 64).ok_or(AllocError)?;
-    Ok(Pair {
-        hall: Hall::new(alloc, limits, 1000)?,
-        first: shaken(alloc, 1)?,
-        second: shaken(alloc, 2)?,
-    })
+fn two_over_one(rt: &impl Abort, alloc: Global) -> Pair {
+    Pair {
+        hall: hall(rt, alloc),
+        first: shaken(rt, alloc, 1),
+        second: shaken(rt, alloc, 2),
+    }
 }
 
 /// Takes a turn of one of them.
@@ -127,9 +118,7 @@ fn takes_turn_of(rt: &impl Abort, alloc: Global, pair: &mut Pair, turn: Turn) {
 #[test]
 fn each_is_answered_in_turn(rt: HostRuntime) {
     let alloc = rt.alloc();
-    let Ok(mut pair) = two_over_one(alloc) else {
-        panic!(rt; "no memory");
-    };
+    let mut pair = two_over_one(&rt, alloc);
     for turn in turns() {
         takes_turn_of(&rt, alloc, &mut pair, *turn);
     }

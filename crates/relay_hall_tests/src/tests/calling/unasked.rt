@@ -2,12 +2,11 @@
 //! know when.
 
 use crate::tests::calling::frames::{BINARY, CLOSE, PING, PONG, TEXT, asked, tell};
-use crate::tests::calling::requests::{ACCEPTED, REQUEST, is_due, is_fed, is_heard, shaken};
-use c960_game::Limits;
+use crate::tests::calling::requests::{ACCEPTED, Heard, REQUEST, is_due, is_fed, is_heard, shaken};
+use crate::tests::calling::scene::{Scene, code};
 use relay_calling::{Caller, Stage};
-use relay_frames::Code;
 use relay_hall::Hall;
-use std::alloc::{AllocError, Global};
+use std::alloc::Global;
 use std::process::Abort;
 
 /// The first byte of a text that goes on in further frames (RFC 6455, section 5.4).
@@ -71,239 +70,168 @@ fn sent() -> &'static [(u8, &'static [u8])] {
     &SENT
 }
 
-/// A connection without a key, over a hall of its own, and what it has taken.
-#[derive(Drop)]
-struct Scene {
-    alloc: Global,
-    hall: Hall,
-    caller: Caller,
-    taken: Vec<u8>,
-    away: Code,
-}
-
-/// The code with this number, which may be sent.
-fn code(rt: &impl Abort, number: u16) -> Code {
-    let Some(code) = Code::new(number) else {
-        panic!(rt; "no code");
-    };
-    code
-}
-
-impl Scene {
-    fn new(rt: &impl Abort, alloc: Global) -> Scene {
-        let limits = Limits::new(4, 4, 4, 64).expect(rt, "limits");
-        let Ok(hall) = Hall::new(alloc, limits, 1000) else {
-            panic!(rt; "no memory");
-        };
-        let Ok(caller) = shaken(alloc, 1) else {
-            panic!(rt; "no memory");
-        };
-        Scene {
-            alloc,
-            hall,
-            caller,
-            taken: Vec::new(alloc),
-            away: code(rt, 1001),
-        }
-    }
-
-    /// Another connection opens a board. It may be followed, since whoever opened one may not.
-    fn has_a_board(&mut self) -> Result<(), AllocError> {
-        let bytes = asked(self.alloc, TEXT, OPEN)?;
-        let mut other = shaken(self.alloc, 2)?;
-        if is_heard(&mut other, &mut self.hall, bytes.as_slice(), true) {
-            Ok(())
-        } else {
-            Err(AllocError)
-        }
-    }
-
-    /// Whether a frame that it sends is heeded exactly if `some`.
-    fn is_heeded(&mut self, first: u8, payload: &[u8], some: bool) -> bool {
-        self.sends(first, payload) == Ok(some)
-    }
-
-    /// Whether a piece of a frame says something exactly if `some`.
-    fn is_heard(&mut self, piece: &[u8], some: bool) -> bool {
-        is_fed(&mut self.caller, piece) && self.heeds() == Ok(some)
-    }
-
-    fn is_midway(&self) -> bool {
-        self.caller.is_midway()
-    }
-
-    /// Whether a whole text or binary message was answered since this was last asked, and whether anything that came whole.
-    fn take_both(&mut self) -> (bool, bool) {
-        (self.caller.take_said(), self.caller.take_whole())
-    }
-
-    /// Sends it away with this code. Returns whether there was memory.
-    fn sends_away(&mut self, code: Code) -> bool {
-        self.caller.send_away(code).is_ok()
-    }
-
-    /// The connection sends a frame. Returns whether that is heeded. A follower that is handed out leaves.
-    fn sends(&mut self, first: u8, payload: &[u8]) -> Result<bool, AllocError> {
-        let bytes = asked(self.alloc, first, payload)?;
-        self.caller.feed(bytes.as_slice())?;
-        self.heeds()
-    }
-
-    fn heeds(&mut self) -> Result<bool, AllocError> {
-        let (some, handed) = self.caller.heed(&mut self.hall);
-        if let Some(handed) = handed {
-            let _ = handed.follower.leave();
-        }
-        some
-    }
-
-    fn takes(&mut self, n: usize) -> Result<(), AllocError> {
-        let due = self.caller.due();
-        let (first, _) = due.split_at(n.min(due.len()));
-        self.taken.extend_from_slice(first)?;
-        self.caller.wrote(n);
-        Ok(())
-    }
-
-    fn goes_on(&mut self, deed: Deed) -> Result<(), AllocError> {
-        match deed {
-            Deed::Sends(first, payload) => {
-                self.sends(first, payload)?;
-                Ok(())
-            }
-            Deed::Pinged => self.caller.ping(),
-            Deed::SentAway => self.caller.send_away(self.away),
-            Deed::Takes(n) => self.takes(n),
+/// What happens to it. Returns whether there was memory.
+fn goes_on(rt: &impl Abort, scene: &mut Scene, deed: Deed) -> bool {
+    match deed {
+        Deed::Sends(first, payload) => scene.hears_frame(rt, first, payload) != Heard::Fails,
+        Deed::Pinged => scene.pings(),
+        Deed::SentAway => scene.sends_away(rt, 1001),
+        Deed::Takes(n) => {
+            scene.takes(rt, n);
+            true
         }
     }
 }
 
-/// The frames that it is sent.
-fn all_sent(alloc: Global) -> Result<Vec<u8>, AllocError> {
+/// The bytes of all that it is sent.
+fn all_sent(rt: &impl Abort, alloc: Global) -> Vec<u8> {
     let mut bytes = Vec::new(alloc);
     for (first, payload) in sent() {
-        tell(&mut bytes, *first, *payload)?;
+        tell(rt, &mut bytes, *first, *payload);
     }
-    Ok(bytes)
+    bytes
 }
 
 #[test]
 fn each_ping_stands_where_it_was_put_and_a_close_is_the_last(rt: HostRuntime) {
-    let alloc = rt.alloc();
-    let mut scene = Scene::new(&rt, alloc);
-    let Ok(wanted) = all_sent(alloc) else {
-        panic!(rt; "no memory");
-    };
+    let mut scene = Scene::new(&rt, rt.alloc());
     for deed in deeds() {
-        assert!(rt; scene.goes_on(*deed).is_ok());
+        assert!(rt; goes_on(&rt, &mut scene, *deed));
     }
-    assert!(rt; scene.takes(1000).is_ok());
-    assert!(rt; scene.taken.as_slice() == wanted.as_slice());
-    assert!(rt; is_due(&scene.caller, b"", Stage::Leaves));
+    scene.takes(&rt, 1000);
+    assert!(rt; scene.has_taken(all_sent(&rt, rt.alloc())));
+    assert!(rt; scene.is_due(b"", Stage::Leaves));
 }
 
-/// A pong, and a close with this payload.
-fn pong_and_close(alloc: Global, payload: &[u8]) -> Result<Vec<u8>, AllocError> {
-    let mut bytes = Vec::new(alloc);
-    tell(&mut bytes, PONG, b"a")?;
-    tell(&mut bytes, CLOSE, payload)?;
-    Ok(bytes)
+/// Codes, and the payloads of their closes.
+static CODES: [(u16, &[u8]); 4] = [
+    (1000, &[3, 0xe8]),
+    (1001, &[3, 0xe9]),
+    (1008, &[3, 0xf0]),
+    (1013, &[3, 0xf5]),
+];
+
+fn codes() -> &'static [(u16, &'static [u8])] {
+    &CODES
 }
 
-/// Asserts that a connection whose ping was answered is sent away with this code, and is heeded no more.
-fn assert_sent_away(rt: &impl Abort, alloc: Global, number: u16, payload: &[u8]) {
+/// Whether a connection whose ping was answered is sent away with this code, and is heeded no more.
+fn is_sent_away(rt: &impl Abort, alloc: Global, number: u16, payload: &[u8]) -> bool {
+    let mut wanted = Vec::new(alloc);
+    tell(rt, &mut wanted, PONG, b"a");
+    tell(rt, &mut wanted, CLOSE, payload);
     let mut scene = Scene::new(rt, alloc);
-    let Ok(wanted) = pong_and_close(alloc, payload) else {
-        panic!(rt; "no memory");
-    };
-    assert!(rt; scene.is_heeded(PING, b"a", true));
-    assert!(rt; scene.sends_away(code(rt, number)));
-    assert!(rt; scene.is_heeded(PING, b"b", false));
-    assert!(rt; is_due(&scene.caller, wanted.as_slice(), Stage::Leaves));
+    scene.is_heeded(rt, PING, b"a", true)
+        && scene.sends_away(rt, number)
+        && scene.is_heeded(rt, PING, b"b", false)
+        && scene.is_due(wanted.as_slice(), Stage::Leaves)
 }
 
 #[test]
 fn one_that_is_sent_away_is_told_the_code(rt: HostRuntime) {
-    let alloc = rt.alloc();
-    assert_sent_away(&rt, alloc, 1000, &[3, 0xe8]);
-    assert_sent_away(&rt, alloc, 1001, &[3, 0xe9]);
-    assert_sent_away(&rt, alloc, 1008, &[3, 0xf0]);
-    assert_sent_away(&rt, alloc, 1013, &[3, 0xf5]);
+    for (number, payload) in codes() {
+        assert!(rt;
+            is_sent_away(&rt, rt.alloc(), *number, *payload),
+            "{number}"
+        );
+    }
 }
 
 /// Neither a ping nor a close changes what is due to a connection and what it does.
-fn stays(rt: &impl Abort, caller: &mut Caller, due: &[u8], stage: Stage) {
-    assert!(rt; caller.ping().is_ok());
-    assert!(rt; caller.send_away(code(rt, 1001)).is_ok());
-    assert!(rt; is_due(caller, due, stage));
+fn stays(rt: &impl Abort, caller: &mut Caller, due: &[u8], stage: Stage) -> bool {
+    caller.ping().is_ok() && caller.send_away(code(rt, 1001)).is_ok() && is_due(caller, due, stage)
 }
 
 #[test]
 fn before_its_request_is_answered_it_is_sent_nothing_unasked(rt: HostRuntime) {
     let mut caller = Caller::new(rt.alloc(), 1, true);
     let (first, second) = REQUEST.split_at(REQUEST.len() / 2);
-    stays(&rt, &mut caller, b"", Stage::Comes);
+    assert!(rt; stays(&rt, &mut caller, b"", Stage::Comes));
     assert!(rt; is_fed(&mut caller, first));
-    stays(&rt, &mut caller, b"", Stage::Comes);
+    assert!(rt; stays(&rt, &mut caller, b"", Stage::Comes));
     assert!(rt; is_fed(&mut caller, second));
     assert!(rt; is_due(&caller, ACCEPTED, Stage::Asks));
+}
+
+/// Another connection opens a board. It may be followed, since whoever opened one may not.
+fn opens(rt: &impl Abort, alloc: Global, hall: &mut Hall) {
+    let mut other = shaken(rt, alloc, 2);
+    let open = asked(rt, alloc, TEXT, OPEN);
+    assert!(rt; is_heard(&mut other, hall, open.as_slice(), true));
 }
 
 #[test]
 fn one_that_follows_is_sent_nothing_unasked(rt: HostRuntime) {
     let mut scene = Scene::new(&rt, rt.alloc());
-    assert!(rt; scene.has_a_board().is_ok());
-    assert!(rt; scene.is_heeded(TEXT, FOLLOW, true));
-    assert!(rt; scene.takes(1000).is_ok());
-    stays(&rt, &mut scene.caller, b"", Stage::HandsOver);
+    opens(&rt, rt.alloc(), &mut scene.hall);
+    assert!(rt; scene.is_heeded(&rt, TEXT, FOLLOW, true));
+    scene.takes(&rt, 1000);
+    assert!(rt; stays(&rt, &mut scene.caller, b"", Stage::HandsOver));
 }
 
 #[test]
 fn one_that_leaves_is_sent_nothing_unasked(rt: HostRuntime) {
     let mut scene = Scene::new(&rt, rt.alloc());
-    assert!(rt; scene.is_heeded(CLOSE, b"", true));
-    stays(&rt, &mut scene.caller, &[CLOSE, 0], Stage::Leaves);
+    assert!(rt; scene.is_heeded(&rt, CLOSE, b"", true));
+    assert!(rt; stays(&rt, &mut scene.caller, &[CLOSE, 0], Stage::Leaves));
 }
 
 /// Frames in order; whether a whole text or binary message was then answered since the last one; and whether anything that came whole and
 /// not between the parts of a message.
-static SAID: [(u8, &[u8], bool, bool); 8] = [
-    (TEXT, b"?", true, true),
-    (PING, b"", false, true),
-    (BINARY, b"?", true, true),
-    (PONG, b"", false, true),
-    (FIRST_PART, b"?", false, false),
-    (PING, b"", false, false),
-    (LAST_PART, b"?", true, true),
-    (CLOSE, b"", false, true),
+static SAID: [Said; 8] = [
+    ((TEXT, b"?"), (true, true)),
+    ((PING, b""), (false, true)),
+    ((BINARY, b"?"), (true, true)),
+    ((PONG, b""), (false, true)),
+    ((FIRST_PART, b"?"), (false, false)),
+    ((PING, b""), (false, false)),
+    ((LAST_PART, b"?"), (true, true)),
+    ((CLOSE, b""), (false, true)),
 ];
 
+type Said = ((u8, &'static [u8]), (bool, bool));
+
 /// The frames.
-fn said() -> &'static [(u8, &'static [u8], bool, bool)] {
+fn said() -> &'static [Said] {
     &SAID
+}
+
+/// Whether of a frame it is told once whether a message was answered, and whether it came whole.
+fn is_told_once(
+    rt: &impl Abort,
+    scene: &mut Scene,
+    frame: (u8, &[u8]),
+    wanted: (bool, bool),
+) -> bool {
+    scene.is_heeded(rt, frame.0, frame.1, true)
+        && scene.take_both() == wanted
+        && scene.take_both() == (false, false)
 }
 
 #[test]
 fn what_came_whole_of_it_is_told_once(rt: HostRuntime) {
     let mut scene = Scene::new(&rt, rt.alloc());
     assert!(rt; scene.take_both() == (false, false));
-    for (first, payload, has_said, is_whole) in said() {
-        assert!(rt; scene.is_heeded(*first, *payload, true));
-        assert!(rt; scene.take_both() == (*has_said, *is_whole));
-        assert!(rt; scene.take_both() == (false, false));
+    for (frame, wanted) in said() {
+        assert!(rt; is_told_once(&rt, &mut scene, *frame, *wanted));
     }
+}
+
+/// Whether a frame in two pieces is midway in between, and no more once it is heeded.
+fn is_midway_in_between(scene: &mut Scene, frame: &[u8]) -> bool {
+    let (first, second) = frame.split_at(frame.len() / 2);
+    scene.is_heard(first, false)
+        && scene.is_midway()
+        && scene.is_heard(second, true)
+        && !scene.is_midway()
 }
 
 #[test]
 fn it_is_midway_until_its_message_is_whole(rt: HostRuntime) {
     let mut scene = Scene::new(&rt, rt.alloc());
-    let Ok(ping) = asked(rt.alloc(), PING, b"a") else {
-        panic!(rt; "no memory");
-    };
-    let (first, second) = ping.as_slice().split_at(ping.len() / 2);
+    let ping = asked(&rt, rt.alloc(), PING, b"a");
     assert!(rt; !scene.is_midway());
-    assert!(rt; scene.is_heard(first, false) && scene.is_midway());
-    assert!(rt; scene.is_heard(second, true) && !scene.is_midway());
-    assert!(rt; scene.is_heeded(FIRST_PART, b"?", true) && scene.is_midway());
-    assert!(rt; scene.is_heeded(LAST_PART, b"?", true) && !scene.is_midway());
+    assert!(rt; is_midway_in_between(&mut scene, ping.as_slice()));
+    assert!(rt; scene.is_heeded(&rt, FIRST_PART, b"?", true) && scene.is_midway());
+    assert!(rt; scene.is_heeded(&rt, LAST_PART, b"?", true) && !scene.is_midway());
 }

@@ -1,26 +1,53 @@
-//! What a connection asks for.
+//! The commands of the random events, and their texts.
 
 use crate::tests::hall::answers::{AGREED, BLACK_RESIGNS, THREEFOLD};
 use crate::tests::hall::chance::Dice;
 use crate::tests::hall::plain::{Plain, Speaker};
-use crate::tests::hall::values::{MOVES, NAMES};
+use crate::tests::hall::room::TWICE;
 use c960_board::Colour;
 use c960_game::Outcome;
 use std::alloc::{AllocError, Global};
+use std::process::Abort;
 
-/// Endings: how each is asked for, its outcome, and the answer if it is accepted.
-pub const ENDINGS: [(&str, Outcome, &str); 3] = [
-    ("\"agreed\"", Outcome::Agreed, AGREED),
-    (
-        "\"resign\",\"side\":\"black\"",
-        Outcome::Resigned(Colour::Black),
-        BLACK_RESIGNS,
-    ),
-    (
-        "\"threefold\",\"side\":\"white\"",
-        Outcome::Threefold,
-        THREEFOLD,
-    ),
+/// How many names of boards occur: more than there may be boards.
+pub const NAMES: u32 = 20;
+
+/// Endings: how each is asked for.
+static HOW: [&str; 3] = [
+    "\"how\":\"agreed\"",
+    "\"how\":\"resign\",\"side\":\"black\"",
+    "\"how\":\"threefold\",\"side\":\"white\"",
+];
+
+/// Their outcomes, and the answers if they are accepted.
+static ENDINGS: [(Outcome, &str); 3] = [
+    (Outcome::Agreed, AGREED),
+    (Outcome::Resigned(Colour::Black), BLACK_RESIGNS),
+    (Outcome::Threefold, THREEFOLD),
+];
+
+/// The moves.
+static PLAYED: [&str; 4] = [
+    "\"move\":\"g1f3\"",
+    "\"move\":\"g8f6\"",
+    "\"move\":\"f3g1\"",
+    "\"move\":\"f6g8\"",
+];
+
+/// Follows from each place, and from the one behind the last.
+static FROM: [&str; 12] = [
+    "\"spectator\":1,\"from\":0",
+    "\"spectator\":1,\"from\":1",
+    "\"spectator\":1,\"from\":2",
+    "\"spectator\":1,\"from\":3",
+    "\"spectator\":1,\"from\":4",
+    "\"spectator\":1,\"from\":5",
+    "\"spectator\":1,\"from\":6",
+    "\"spectator\":1,\"from\":7",
+    "\"spectator\":1,\"from\":8",
+    "\"spectator\":1,\"from\":9",
+    "\"spectator\":1,\"from\":10",
+    "\"spectator\":1,\"from\":11",
 ];
 
 /// A command, with the number of its board's name.
@@ -35,10 +62,55 @@ pub enum Command {
     FollowFrom(u32, u16),
 }
 
+/// The endings' outcomes and answers.
+fn endings() -> &'static [(Outcome, &'static str)] {
+    &ENDINGS
+}
+
+/// The outcome and the answer of the ending of this index.
+pub fn ending(which: usize) -> Option<(Outcome, &'static str)> {
+    endings().get(which).copied()
+}
+
+/// How endings are asked for.
+fn hows() -> &'static [&'static str] {
+    &HOW
+}
+
+fn moves() -> &'static [&'static str] {
+    &PLAYED
+}
+
+fn froms() -> &'static [&'static str] {
+    &FROM
+}
+
+/// The text of this index, or none.
+pub fn text_at(texts: &'static [&'static str], at: usize) -> &'static str {
+    match texts.get(at) {
+        Some(text) => *text,
+        None => "",
+    }
+}
+
 /// Any move, or as often the one of this place.
 fn any_move(dice: &mut Dice, place: u16) -> u16 {
     let any = dice.few(8);
     if any < 4 { any } else { place % 4 }
+}
+
+/// A command for this board, of this kind, or an opening under this name.
+fn of_kind(dice: &mut Dice, board: u32, plies: u16, kind: u32, name: u32) -> Command {
+    match kind {
+        0..=13 => Command::Submit(board, any_move(dice, plies)),
+        14 => Command::End(board, (dice.below(8) as usize).min(2)),
+        15..=17 => Command::Follow(board),
+        18..=25 => {
+            let back = dice.few(6);
+            Command::FollowFrom(board, plies.wrapping_add(1).saturating_sub(back))
+        }
+        _ => Command::Open(name, if dice.below(8) == 0 { 960 } else { 518 }),
+    }
 }
 
 impl Command {
@@ -50,42 +122,33 @@ impl Command {
             _ if dice.below(8) > 0 => (plain.some_name(name), dice.below(16).wrapping_add(12)),
             _ => (name, dice.below(16).wrapping_add(12)),
         };
-        let plies = plain.plies(board).unwrap_or(0);
-        match kind {
-            0..=13 => Command::Submit(board, any_move(dice, plies)),
-            14 => Command::End(board, (dice.below(8) as usize).min(2)),
-            15..=17 => Command::Follow(board),
-            18..=25 => {
-                let back = dice.few(6);
-                Command::FollowFrom(board, plies.wrapping_add(1).saturating_sub(back))
+        of_kind(dice, board, plain.plies(board), kind, name)
+    }
+
+    /// The command's word, its board, and what is behind that in its text.
+    fn parts(self) -> (&'static str, u32, &'static str) {
+        match self {
+            Command::Open(name, 518) => ("open", name, "\"start\":518"),
+            Command::Open(name, _) => ("open", name, "\"start\":960"),
+            Command::Submit(name, which) => ("submit", name, text_at(moves(), usize::from(which))),
+            Command::End(name, which) => ("end", name, text_at(hows(), which)),
+            Command::Follow(name) => ("follow", name, "\"spectator\":1"),
+            Command::FollowFrom(name, from) => {
+                ("follow", name, text_at(froms(), usize::from(from)))
             }
-            _ => Command::Open(name, if dice.below(8) == 0 { 960 } else { 518 }),
         }
     }
 
+    fn text(self, alloc: Global) -> Result<String, AllocError> {
+        let (word, name, rest) = self.parts();
+        format!(in alloc; "{{\"cmd\":\"{word}\",\"board\":\"b{name}\",{rest}}}")
+    }
+
     /// Its text.
-    pub fn spelt(self, alloc: Global) -> Result<String, AllocError> {
-        match self {
-            Command::Open(name, start) => {
-                format!(in alloc; "{{\"cmd\":\"open\",\"board\":\"b{name}\",\"start\":{start}}}")
-            }
-            Command::Submit(name, which) => {
-                let m = MOVES.get(usize::from(which)).unwrap_or(&"");
-                format!(in alloc; "{{\"cmd\":\"submit\",\"board\":\"b{name}\",\"move\":\"{m}\"}}")
-            }
-            Command::End(name, which) => {
-                let how = match ENDINGS.get(which) {
-                    Some((how, _, _)) => *how,
-                    None => "",
-                };
-                format!(in alloc; "{{\"cmd\":\"end\",\"board\":\"b{name}\",\"how\":{how}}}")
-            }
-            Command::Follow(name) => {
-                format!(in alloc; "{{\"cmd\":\"follow\",\"board\":\"b{name}\",\"spectator\":1}}")
-            }
-            Command::FollowFrom(name, from) => format!(in alloc;
-                "{{\"cmd\":\"follow\",\"board\":\"b{name}\",\"spectator\":1,\"from\":{from}}}"
-            ),
+    pub fn spelt(self, rt: &impl Abort, alloc: Global) -> String {
+        match self.text(alloc) {
+            Ok(text) => text,
+            Err(AllocError) => self.text(alloc).expect(rt, TWICE),
         }
     }
 }

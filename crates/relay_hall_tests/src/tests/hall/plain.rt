@@ -4,10 +4,12 @@ use crate::tests::hall::answers::{
     BAD_START, BOARD_EXISTS, CLAIM_REFUSED, GAME_OVER, ILLEGAL, LOG_FULL, NO_SUCH_BOARD, NOT_YET,
     NOT_YOUR_BOARD, OPENED, TOO_FAR_BACK, TOO_MANY_BOARDS, TOO_MANY_FOLLOWERS, WRONG_MODE,
 };
-use crate::tests::hall::command::{Command, ENDINGS};
+use crate::tests::hall::command::{Command, ending};
+use crate::tests::hall::room::room;
 use crate::tests::hall::seen::Seen;
 use c960_game::Outcome;
-use std::alloc::{AllocError, Global};
+use std::alloc::Global;
+use std::process::Abort;
 
 pub const BOARDS: u16 = 16;
 
@@ -18,6 +20,9 @@ pub const CAPACITY: u16 = 3;
 pub const PLIES: u16 = 10;
 
 pub const KEYS: usize = 6;
+
+/// The number of no connection.
+const NOBODY: u64 = 0;
 
 /// A board.
 #[derive(Clone, Copy)]
@@ -47,6 +52,16 @@ pub struct Speaker {
     pub key: usize,
 }
 
+/// Boards whose games are abandoned.
+#[derive(Clone, Copy)]
+enum Left {
+    All,
+    /// Those without a key that this number opened.
+    By(u64),
+    /// Those of this key.
+    Of(usize),
+}
+
 /// What is answered.
 #[derive(Clone, Copy)]
 pub enum Answer {
@@ -69,25 +84,89 @@ pub struct Plain {
     pub seen: Seen,
 }
 
+impl Row {
+    /// Whether it is the speaker's.
+    fn is_of(&self, speaker: Speaker) -> bool {
+        self.opener == speaker.number || (speaker.key < KEYS && self.key == speaker.key)
+    }
+
+    fn is_left(&self, left: Left) -> bool {
+        match left {
+            Left::All => true,
+            Left::By(number) => self.key == KEYS && self.opener == number,
+            Left::Of(key) => self.key == key,
+        }
+    }
+
+    /// Its game is over, if it was not.
+    fn ends(&mut self, outcome: Outcome) {
+        if self.outcome.is_none() {
+            self.outcome = Some(outcome);
+            self.has_rung = true;
+        }
+    }
+
+    /// What a move in a game that goes on is answered.
+    fn submit(&mut self, which: u16) -> Answer {
+        if self.plies >= PLIES {
+            return Answer::Text(LOG_FULL);
+        }
+        if self.plies % 4 != which {
+            return Answer::Text(ILLEGAL);
+        }
+        let place = self.plies;
+        self.plies = place.wrapping_add(1);
+        self.has_rung = true;
+        Answer::Played(place)
+    }
+
+    /// What the end of a game that goes on is answered.
+    fn end(&mut self, which: usize) -> Answer {
+        let Some((outcome, answer)) = ending(which) else {
+            return Answer::Text(CLAIM_REFUSED);
+        };
+        // The first position has come back twice after eight moves, and White has the move.
+        if outcome == Outcome::Threefold && (self.plies < 8 || self.plies % 2 == 1) {
+            return Answer::Text(CLAIM_REFUSED);
+        }
+        self.ends(outcome);
+        Answer::Text(answer)
+    }
+
+    /// What a follow from this place of the board of this index is answered.
+    fn follow(&mut self, at: usize, place: u16) -> Answer {
+        if place > self.plies {
+            return Answer::Text(NOT_YET);
+        }
+        if self.plies.wrapping_sub(place) > CAPACITY {
+            return Answer::Text(TOO_FAR_BACK);
+        }
+        if self.followers >= FOLLOWERS {
+            return Answer::Text(TOO_MANY_FOLLOWERS);
+        }
+        self.followers = self.followers.wrapping_add(1);
+        Answer::Joined(at, place)
+    }
+}
+
 impl Plain {
     /// No boards, with room for all.
-    pub fn new(alloc: Global, grace: u64) -> Result<Plain, AllocError> {
-        Ok(Plain {
-            rows: Vec::with_capacity(alloc, usize::from(BOARDS))?,
+    pub fn new(rt: &impl Abort, alloc: Global, grace: u64) -> Plain {
+        Plain {
+            rows: room(rt, alloc, usize::from(BOARDS)),
             stands: [Stand::Gone; 6],
             grace,
             time: 0,
             is_shut: false,
-            seen: Seen::new(alloc)?,
-        })
+            seen: Seen::new(rt, alloc),
+        }
     }
 
     /// What a command is answered.
-    pub fn step(&mut self, speaker: Speaker, command: Command) -> Result<Answer, AllocError> {
+    pub fn step(&mut self, speaker: Speaker, command: Command) -> Answer {
         let answer = match command {
-            Command::Open(name, start) => self.open(speaker, name, start)?,
-            Command::Submit(name, which) => self.submit(speaker, name, which),
-            Command::End(name, which) => self.end(speaker, name, which),
+            Command::Open(name, start) => self.open(speaker, name, start),
+            Command::Submit(name, _) | Command::End(name, _) => self.play(speaker, name, command),
             Command::Follow(name) => self.follow(speaker, name, None),
             Command::FollowFrom(name, from) => self.follow(speaker, name, Some(from)),
         };
@@ -96,14 +175,15 @@ impl Plain {
             Answer::Played(_) => "played",
             Answer::Joined(_, _) => "following",
         });
-        Ok(answer)
+        answer
     }
 
-    /// How many moves the board of this name has.
-    pub fn plies(&self, name: u32) -> Option<u16> {
-        let at = self.find(name)?;
-        let row = self.rows.get(at)?;
-        Some(row.plies)
+    /// How many moves the board of this name has, or 0.
+    pub fn plies(&self, name: u32) -> u16 {
+        match self.rows.get(self.find(name)) {
+            Some(row) => row.plies,
+            None => 0,
+        }
     }
 
     /// The name of some board, if there is one.
@@ -122,7 +202,7 @@ impl Plain {
     pub fn own_going(&self, speaker: Speaker, name: u32) -> Option<u32> {
         let mut own = None;
         for row in self.rows.iter() {
-            if row.outcome.is_none() && Plain::owns(speaker, row) {
+            if row.outcome.is_none() && row.is_of(speaker) {
                 own = Some(row.name);
                 if row.name >= name {
                     return own;
@@ -132,31 +212,48 @@ impl Plain {
         own
     }
 
-    /// The index of the board of this name.
-    fn find(&self, name: u32) -> Option<usize> {
-        self.rows.iter().position(|row| row.name == name)
+    /// The index of the board of this name, or how many boards there are.
+    fn find(&self, name: u32) -> usize {
+        let mut at = 0usize;
+        for row in self.rows.iter() {
+            if row.name == name {
+                return at;
+            }
+            at = at.wrapping_add(1);
+        }
+        at
     }
 
-    fn owns(speaker: Speaker, row: &Row) -> bool {
-        row.opener == speaker.number || (speaker.key < KEYS && row.key == speaker.key)
+    /// Whether any board is the speaker's.
+    fn has_any(&self, speaker: Speaker) -> bool {
+        for row in self.rows.iter() {
+            if row.is_of(speaker) {
+                return true;
+            }
+        }
+        false
     }
 
     /// Whether a board was opened with this key.
     pub fn has_any_of(&self, key: usize) -> bool {
-        key < KEYS && self.rows.iter().any(|row| row.key == key)
+        self.has_any(Speaker {
+            number: NOBODY,
+            key,
+        })
     }
 
-    fn open(&mut self, speaker: Speaker, name: u32, start: u16) -> Result<Answer, AllocError> {
-        if self.find(name).is_some() {
-            return Ok(Answer::Text(BOARD_EXISTS));
+    fn open(&mut self, speaker: Speaker, name: u32, start: u16) -> Answer {
+        let boards = self.rows.len();
+        if self.find(name) < boards {
+            return Answer::Text(BOARD_EXISTS);
         }
         if start >= 960 {
-            return Ok(Answer::Text(BAD_START));
+            return Answer::Text(BAD_START);
         }
-        if self.rows.len() >= usize::from(BOARDS) {
-            return Ok(Answer::Text(TOO_MANY_BOARDS));
+        if boards >= usize::from(BOARDS) || boards >= self.rows.capacity() {
+            return Answer::Text(TOO_MANY_BOARDS);
         }
-        self.rows.push(Row {
+        self.rows.push_reserved(Row {
             name,
             opener: speaker.number,
             key: speaker.key,
@@ -164,83 +261,38 @@ impl Plain {
             outcome: None,
             followers: 0,
             has_rung: false,
-        })?;
-        Ok(Answer::Text(OPENED))
+        });
+        Answer::Text(OPENED)
     }
 
-    /// The board of this name, if it is the speaker's and its game goes on.
-    fn going(&mut self, speaker: Speaker, name: u32) -> Result<&mut Row, &'static str> {
-        let Some(at) = self.find(name) else {
-            return Err(NO_SUCH_BOARD);
-        };
+    /// What a move or an end is answered.
+    fn play(&mut self, speaker: Speaker, name: u32, command: Command) -> Answer {
+        let at = self.find(name);
         let Some(row) = self.rows.get_mut(at) else {
-            return Err(NO_SUCH_BOARD);
+            return Answer::Text(NO_SUCH_BOARD);
         };
-        if !Plain::owns(speaker, row) {
-            return Err(NOT_YOUR_BOARD);
+        if !row.is_of(speaker) {
+            return Answer::Text(NOT_YOUR_BOARD);
         }
         if row.outcome.is_some() {
-            return Err(GAME_OVER);
+            return Answer::Text(GAME_OVER);
         }
-        Ok(row)
-    }
-
-    fn submit(&mut self, speaker: Speaker, name: u32, which: u16) -> Answer {
-        let row = match self.going(speaker, name) {
-            Ok(row) => row,
-            Err(text) => return Answer::Text(text),
-        };
-        if row.plies >= PLIES {
-            return Answer::Text(LOG_FULL);
+        match command {
+            Command::Submit(_, which) => row.submit(which),
+            Command::End(_, which) => row.end(which),
+            _ => Answer::Text(CLAIM_REFUSED),
         }
-        if row.plies % 4 != which {
-            return Answer::Text(ILLEGAL);
-        }
-        let place = row.plies;
-        row.plies = place.wrapping_add(1);
-        row.has_rung = true;
-        Answer::Played(place)
-    }
-
-    fn end(&mut self, speaker: Speaker, name: u32, which: usize) -> Answer {
-        let row = match self.going(speaker, name) {
-            Ok(row) => row,
-            Err(text) => return Answer::Text(text),
-        };
-        let Some((_, outcome, answer)) = ENDINGS.get(which).copied() else {
-            return Answer::Text(CLAIM_REFUSED);
-        };
-        // The first position has come back twice after eight moves, and White has the move.
-        if outcome == Outcome::Threefold && (row.plies < 8 || row.plies % 2 == 1) {
-            return Answer::Text(CLAIM_REFUSED);
-        }
-        row.outcome = Some(outcome);
-        row.has_rung = true;
-        Answer::Text(answer)
     }
 
     fn follow(&mut self, speaker: Speaker, name: u32, from: Option<u16>) -> Answer {
-        if self.rows.iter().any(|row| Plain::owns(speaker, row)) {
+        if self.has_any(speaker) {
             return Answer::Text(WRONG_MODE);
         }
-        let Some(at) = self.find(name) else {
-            return Answer::Text(NO_SUCH_BOARD);
-        };
-        let Some(row) = self.rows.get_mut(at) else {
-            return Answer::Text(NO_SUCH_BOARD);
-        };
-        let place = from.unwrap_or(row.plies);
-        if place > row.plies {
-            return Answer::Text(NOT_YET);
+        let at = self.find(name);
+        match self.rows.get_mut(at) {
+            Some(row) => row.follow(at, from.unwrap_or(row.plies)),
+            None => Answer::Text(NO_SUCH_BOARD),
         }
-        if row.plies.wrapping_sub(place) > CAPACITY {
-            return Answer::Text(TOO_FAR_BACK);
-        }
-        if row.followers >= FOLLOWERS {
-            return Answer::Text(TOO_MANY_FOLLOWERS);
-        }
-        row.followers = row.followers.wrapping_add(1);
-        Answer::Joined(at, place)
     }
 
     pub fn unfollow(&mut self, at: usize) {
@@ -249,115 +301,103 @@ impl Plain {
         }
     }
 
-    /// Each game that goes on, of those without a key that this number opened, or of this key, is abandoned.
-    fn abandon(&mut self, number: Option<u64>, key: usize) {
+    /// Each game of these that goes on is abandoned.
+    fn abandon(&mut self, left: Left) {
         for row in self.rows.iter_mut() {
-            let is_left = match number {
-                Some(number) => row.key == KEYS && row.opener == number,
-                None => row.key == key,
-            };
-            if is_left && row.outcome.is_none() {
-                row.outcome = Some(Outcome::Abandoned);
-                row.has_rung = true;
+            if row.is_left(left) {
+                row.ends(Outcome::Abandoned);
             }
+        }
+    }
+
+    /// The connections with this key; none if it is no key.
+    fn stand(&self, key: usize) -> Stand {
+        match self.stands.get(key) {
+            Some(stand) => *stand,
+            None => Stand::Gone,
+        }
+    }
+
+    fn set_stand(&mut self, key: usize, stand: Stand) {
+        if let Some(place) = self.stands.get_mut(key) {
+            *place = stand;
         }
     }
 
     /// Returns whether boards waited.
     pub fn arrive(&mut self, key: usize) -> bool {
-        let Some(stand) = self.stands.get_mut(key) else {
-            return false;
+        let before = self.stand(key);
+        let (count, waited) = match before {
+            Stand::Gone => (1, false),
+            Stand::Here(count) => (count.wrapping_add(1), false),
+            Stand::Waits(_) => (1, true),
         };
-        match *stand {
-            Stand::Gone => {
-                *stand = Stand::Here(1);
-                false
+        self.set_stand(key, Stand::Here(count));
+        if waited {
+            self.seen.note("came back");
+        }
+        waited
+    }
+
+    /// What is left of the connections with this key once one goes.
+    fn left(&self, key: usize) -> Stand {
+        match self.stand(key) {
+            Stand::Here(count) if count > 1 => Stand::Here(count.wrapping_sub(1)),
+            _ if self.has_any_of(key) && !self.is_shut && self.grace > 0 => {
+                Stand::Waits(self.time.wrapping_add(self.grace))
             }
-            Stand::Here(count) => {
-                *stand = Stand::Here(count.wrapping_add(1));
-                false
-            }
-            Stand::Waits(_) => {
-                *stand = Stand::Here(1);
-                self.seen.note("came back");
-                true
-            }
+            _ => Stand::Gone,
         }
     }
 
     pub fn leave(&mut self, speaker: Speaker) {
         if speaker.key >= KEYS {
-            self.abandon(Some(speaker.number), KEYS);
+            self.abandon(Left::By(speaker.number));
             return;
         }
-        let may_wait = self.has_any_of(speaker.key) && !self.is_shut && self.grace > 0;
-        let until = self.time.wrapping_add(self.grace);
-        let Some(stand) = self.stands.get_mut(speaker.key) else {
-            return;
-        };
-        if let Stand::Here(count) = *stand {
-            if count > 1 {
-                *stand = Stand::Here(count.wrapping_sub(1));
-                return;
-            }
-        }
-        if may_wait {
-            *stand = Stand::Waits(until);
-            self.seen.note("waits");
-        } else {
-            *stand = Stand::Gone;
-            self.abandon(None, speaker.key);
+        let left = self.left(speaker.key);
+        self.set_stand(speaker.key, left);
+        match left {
+            Stand::Here(_) => {}
+            Stand::Waits(_) => self.seen.note("waits"),
+            Stand::Gone => self.abandon(Left::Of(speaker.key)),
         }
     }
 
-    /// Keys whose time has come, or all that wait, are gone.
-    fn expire(&mut self, now: Option<u64>) {
+    /// Keys whose time has come are gone, which is noted in this word.
+    fn expire(&mut self, now: u64, word: &'static str) {
         for key in 0..KEYS {
-            let is_due = match self.stands[key] {
-                Stand::Waits(until) => match now {
-                    Some(now) => until <= now,
-                    None => true,
-                },
-                Stand::Gone | Stand::Here(_) => false,
-            };
-            if is_due {
-                self.stands[key] = Stand::Gone;
-                self.abandon(None, key);
-                self.seen
-                    .note(if now.is_some() { "ran out" } else { "shut out" });
+            if let Stand::Waits(until) = self.stand(key) {
+                if until <= now {
+                    self.set_stand(key, Stand::Gone);
+                    self.abandon(Left::Of(key));
+                    self.seen.note(word);
+                }
             }
         }
     }
 
     pub fn tick(&mut self, now: u64) {
         self.time = self.time.max(now);
-        self.expire(Some(now));
+        self.expire(now, "ran out");
     }
 
     pub fn shut(&mut self) {
         self.is_shut = true;
-        self.expire(None);
+        self.expire(u64::MAX, "shut out");
     }
 
     pub fn end_all(&mut self) {
-        for row in self.rows.iter_mut() {
-            if row.outcome.is_none() {
-                row.outcome = Some(Outcome::Abandoned);
-                row.has_rung = true;
-            }
-        }
+        self.abandon(Left::All);
     }
 
     pub fn next_due(&self) -> Option<u64> {
-        let mut next: Option<u64> = None;
+        let mut next = u64::MAX;
         for stand in self.stands.iter() {
             if let Stand::Waits(until) = *stand {
-                next = match next {
-                    Some(earlier) => Some(earlier.min(until)),
-                    None => Some(until),
-                };
+                next = next.min(until);
             }
         }
-        next
+        if next == u64::MAX { None } else { Some(next) }
     }
 }

@@ -5,11 +5,10 @@ use crate::tests::hall::answers::{
     NO_SUCH_BOARD, NOT_YET, NOT_YOUR_BOARD, OPENED, THREEFOLD, TOO_FAR_BACK, TOO_MANY_BOARDS,
     TOO_MANY_FOLLOWERS, WRONG_MODE,
 };
-use crate::tests::hall::scene::Scene;
+use crate::tests::hall::scene::{Scene, people};
 use crate::tests::hall::seen::Seen;
 use std::alloc::Global;
 use std::process::Abort;
-use std::test::Fail;
 
 /// How many halls there are for each grace, and how many events in each.
 const HALLS: u32 = 46;
@@ -48,60 +47,51 @@ fn words() -> &'static [&'static str] {
 }
 
 /// What occurs if there is a grace.
-const WAITING: [&str; 4] = ["waits", "came back", "ran out", "shut out"];
+static WAITING: [&str; 4] = ["waits", "came back", "ran out", "shut out"];
+
+fn waiting() -> &'static [&'static str] {
+    &WAITING
+}
 
 /// A hall with this grace in milliseconds. Notes what has occurred.
-fn run_one(
-    rt: &impl Abort,
-    alloc: Global,
-    grace: u64,
-    seed: u32,
-    seen: &mut Seen,
-) -> Result<(), Fail> {
-    let mut scene = Scene::new(rt, alloc, grace, seed)?;
+fn run_one(rt: &impl Abort, alloc: Global, grace: u64, seed: u32, seen: &mut Seen) {
+    let mut people = people(rt, alloc);
+    let mut scene = Scene::new(rt, alloc, grace, seed);
     for _ in 0..EVENTS {
-        scene.happens(rt)?;
+        scene.happens(rt, people.as_mut_slice());
     }
     assert!(rt; scene.refused == 0);
     seen.note_all(&scene.plain.seen);
-    Ok(())
 }
 
-/// Halls with this grace in milliseconds. Returns what has occurred.
-fn run(rt: &impl Abort, alloc: Global, grace: u64) -> Result<Seen, Fail> {
-    let mut seen = Seen::new(alloc)?;
+/// Halls with this grace in milliseconds. All that occurs with any grace has occurred, and what occurs if there is one exactly then.
+fn run(rt: &impl Abort, alloc: Global, grace: u64) {
+    let mut seen = Seen::new(rt, alloc);
     for seed in 0..HALLS {
-        run_one(rt, alloc, grace, seed, &mut seen)?;
+        run_one(rt, alloc, grace, seed, &mut seen);
     }
-    for word in words() {
-        assert!(rt; seen.has(*word), "no {word}");
+    assert_seen(rt, &seen, words(), true);
+    assert_seen(rt, &seen, waiting(), grace > 0);
+}
+
+/// All of these words have occurred, or none.
+fn assert_seen(rt: &impl Abort, seen: &Seen, words: &'static [&'static str], all: bool) {
+    for word in words {
+        assert!(rt; seen.has(*word) == all, "{word}");
     }
-    Ok(seen)
 }
 
 #[test]
-fn a_hall_without_a_grace_is_the_plain_one(rt: HostRuntime) -> Result<(), Fail> {
-    let seen = run(&rt, rt.alloc(), 0)?;
-    for word in WAITING {
-        assert!(rt; !seen.has(word), "{word}");
-    }
-    Ok(())
+fn a_hall_without_a_grace_is_the_plain_one(rt: HostRuntime) {
+    run(&rt, rt.alloc(), 0);
 }
 
 #[test]
-fn a_hall_with_a_short_grace_is_the_plain_one(rt: HostRuntime) -> Result<(), Fail> {
-    let seen = run(&rt, rt.alloc(), 40)?;
-    for word in WAITING {
-        assert!(rt; seen.has(word), "no {word}");
-    }
-    Ok(())
+fn a_hall_with_a_short_grace_is_the_plain_one(rt: HostRuntime) {
+    run(&rt, rt.alloc(), 40);
 }
 
 #[test]
-fn a_hall_with_a_long_grace_is_the_plain_one(rt: HostRuntime) -> Result<(), Fail> {
-    let seen = run(&rt, rt.alloc(), 150)?;
-    for word in WAITING {
-        assert!(rt; seen.has(word), "no {word}");
-    }
-    Ok(())
+fn a_hall_with_a_long_grace_is_the_plain_one(rt: HostRuntime) {
+    run(&rt, rt.alloc(), 150);
 }

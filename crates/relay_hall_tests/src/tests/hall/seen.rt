@@ -1,6 +1,8 @@
 //! What has occurred.
 
-use std::alloc::{AllocError, Global};
+use crate::tests::hall::room::room;
+use std::alloc::Global;
+use std::process::Abort;
 
 /// How many words there may be.
 const MOST: usize = 40;
@@ -13,10 +15,10 @@ pub struct Seen {
 
 impl Seen {
     /// Nothing, with room for all words.
-    pub fn new(alloc: Global) -> Result<Seen, AllocError> {
-        Ok(Seen {
-            words: Vec::with_capacity(alloc, MOST)?,
-        })
+    pub fn new(rt: &impl Abort, alloc: Global) -> Seen {
+        Seen {
+            words: room(rt, alloc, MOST),
+        }
     }
 
     pub fn has(&self, word: &'static str) -> bool {

@@ -4,16 +4,17 @@ use crate::tests::hall::answers::{
     AGREED, BAD_FIELD, BOARD_EXISTS, GAME_OVER, ILLEGAL, LOG_FULL, NO_SUCH_BOARD, NOT_JSON,
     NOT_YET, NOT_YOUR_BOARD, OPENED, TOO_FAR_BACK, TOO_MANY_BOARDS, TOO_MANY_FOLLOWERS, WRONG_MODE,
 };
+use crate::tests::hall::heard::{Numbers, hall, is_said};
 use crate::tests::hall::sessions::Deed::{Comes, Due, Ends, Gets, Goes, Overs, Says, Shuts, Time};
+use crate::tests::holds;
 use c960_board::read_move;
-use c960_game::{Limits, Outcome};
+use c960_game::Outcome;
 use live_board::Follower;
 use relay_core::Taken;
 use relay_hall::{Hall, Handed, Key, Owner};
 use relay_pushing::Conn;
-use std::alloc::{AllocError, Global};
+use std::alloc::Global;
 use std::process::Abort;
-use std::test::Fail;
 
 /// What happens. Connections are known by their numbers.
 #[derive(Clone, Copy)]
@@ -294,11 +295,11 @@ fn without_grace() -> &'static [Deed] {
     &NO_GRACE
 }
 
-/// A connection of this number.
-fn newcomer(alloc: Global, number: u64, key: Option<Key>) -> Person {
+/// A connection of this number, without a key.
+fn newcomer(alloc: Global, number: u64) -> Person {
     Person {
         owner: Owner {
-            key,
+            key: None,
             opener: number,
         },
         conn: Conn::new(alloc),
@@ -324,146 +325,124 @@ fn taken(rt: &impl Abort, person: &mut Person) -> Taken {
 
 /// A follower gets the move of this place.
 fn gets(rt: &impl Abort, person: &mut Person, place: u16, text: &str) {
-    let Ok(m) = read_move(text.as_bytes()) else {
-        panic!(rt; "no move");
-    };
-    assert!(rt; taken(rt, person) == Taken::Move(place, m));
+    let m = read_move(text.as_bytes()).expect(rt, "a move");
+    holds(rt, taken(rt, person) == Taken::Move(place, m), text);
+}
+
+/// A follower is told that the game is over.
+fn overs(rt: &impl Abort, person: &mut Person, outcome: Outcome) {
+    holds(rt, taken(rt, person) == Taken::Over(outcome), "over");
 }
 
 /// One deed.
-fn happens(rt: &impl Abort, alloc: Global, hall: &mut Hall, people: &mut [Person], deed: Deed) {
+fn happens(rt: &impl Abort, hall: &mut Hall, people: &mut [Person], deed: Deed) {
     match deed {
-        Comes(who, key, waited) => comes(rt, alloc, hall, people, who, key, waited),
+        Comes(who, key, waited) => comes(rt, hall, at(rt, people, who), key, waited),
         Says(who, text, answer) => says(rt, hall, at(rt, people, who), text, answer),
         Gets(who, place, text) => gets(rt, at(rt, people, who), place, text),
-        Overs(who, outcome) => assert!(rt; taken(rt, at(rt, people, who)) == Taken::Over(outcome)),
+        Overs(who, outcome) => overs(rt, at(rt, people, who), outcome),
         Goes(who) => hall.leave(&at(rt, people, who).owner),
         Time(now) => hall.tick(now),
-        Due(due) => assert!(rt; hall.next_due() == due),
+        Due(due) => holds(rt, hall.next_due() == due, "due"),
         Shuts => hall.shut(),
         Ends => hall.end_all(),
     }
 }
 
+/// Whether a connection has a key, and comes with it, and then its boards waited or not.
+fn arrives(hall: &mut Hall, person: &Person, waited: bool) -> bool {
+    match &person.owner.key {
+        Some(key) => hall.arrive(key) == Ok(waited),
+        None => false,
+    }
+}
+
 /// A connection with this key comes.
-fn comes(
-    rt: &impl Abort,
-    alloc: Global,
-    hall: &mut Hall,
-    people: &mut [Person],
-    who: usize,
-    key: &str,
-    waited: bool,
-) {
-    let Some(key) = Key::parse(key.as_bytes()) else {
-        panic!(rt; "no key");
-    };
-    let Ok(did_wait) = hall.arrive(&key) else {
-        panic!(rt; "no memory");
-    };
-    assert!(rt; did_wait == waited);
-    let place = at(rt, people, who);
-    *place = newcomer(alloc, place.owner.opener, Some(key));
+fn comes(rt: &impl Abort, hall: &mut Hall, person: &mut Person, key: &str, waited: bool) {
+    person.owner.key = Key::parse(key.as_bytes());
+    holds(rt, arrives(hall, person, waited), key);
 }
 
 /// A connection sends this text, and gets this answer.
 fn says(rt: &impl Abort, hall: &mut Hall, person: &mut Person, text: &str, answer: &str) {
     let (said, handed) = hall.hear(&mut person.conn, &person.owner, text.as_bytes());
-    let Ok(said) = said else {
-        panic!(rt; "no memory");
-    };
-    assert_eq!(rt; said.as_str(), answer);
-    if let Some(Handed { follower, .. }) = handed {
-        person.follower = Some(follower);
-    }
+    person.keeps(handed);
+    holds(rt, is_said(said, answer), text);
 }
 
-/// Boards, followers of each, moves in a queue, plies of a game.
-type Numbers = (u16, u16, u16, u16);
+impl Person {
+    /// Keeps the follower that is handed out, if there is one.
+    fn keeps(&mut self, handed: Option<Handed>) {
+        if let Some(handed) = handed {
+            self.follower = Some(handed.follower);
+        }
+    }
+}
 
 const AMPLE: Numbers = (4, 4, 4, 64);
 
 /// Eight connections.
-fn newcomers(alloc: Global) -> Result<Vec<Person>, AllocError> {
+fn newcomers(rt: &impl Abort, alloc: Global) -> Vec<Person> {
     let mut people = Vec::new(alloc);
     for number in 0..8 {
-        people.push(newcomer(alloc, number, None))?;
+        people.push(newcomer(alloc, number)).expect(rt, "memory");
     }
-    Ok(people)
+    people
 }
 
 /// All deeds of a table, in a hall with these limits and this grace in milliseconds.
-fn play(
-    rt: &impl Abort,
-    alloc: Global,
-    numbers: Numbers,
-    grace: u64,
-    deeds: &[Deed],
-) -> Result<(), Fail> {
-    let (boards, followers, capacity, plies) = numbers;
-    let limits = Limits::new(boards, followers, capacity, plies).ok_or("limits")?;
-    let mut people = newcomers(alloc)?;
-    let mut hall = Hall::new(alloc, limits, grace)?;
-    for deed in deeds.iter() {
-        happens(rt, alloc, &mut hall, &mut people, *deed);
-    }
-    Ok(())
-}
-
-#[test]
-fn a_board_and_a_spectator(rt: HostRuntime) -> Result<(), Fail> {
-    play(&rt, rt.alloc(), AMPLE, 0, board_and_spectator())
-}
-
-#[test]
-fn a_board_ends_with_its_connection(rt: HostRuntime) -> Result<(), Fail> {
-    play(&rt, rt.alloc(), AMPLE, 0, board_ends())?;
-    play(&rt, rt.alloc(), AMPLE, 120000, board_ends())
-}
-
-#[test]
-fn an_operator_comes_back(rt: HostRuntime) -> Result<(), Fail> {
-    play(&rt, rt.alloc(), AMPLE, 120000, comes_back())
-}
-
-#[test]
-fn at_the_limits(rt: HostRuntime) -> Result<(), Fail> {
-    play(&rt, rt.alloc(), (1, 1, 2, 3), 0, at_limits())
-}
-
-#[test]
-fn nobody_comes_back(rt: HostRuntime) -> Result<(), Fail> {
-    play(&rt, rt.alloc(), AMPLE, 120000, comes_not_back())
-}
-
-#[test]
-fn each_loss_has_its_own_grace(rt: HostRuntime) -> Result<(), Fail> {
-    play(&rt, rt.alloc(), AMPLE, 120000, losses())
-}
-
-#[test]
-fn nobody_can_come_back(rt: HostRuntime) -> Result<(), Fail> {
-    play(&rt, rt.alloc(), AMPLE, 120000, cannot_come_back())
-}
-
-#[test]
-fn without_a_grace_boards_end_with_the_last_connection(rt: HostRuntime) -> Result<(), Fail> {
-    play(&rt, rt.alloc(), AMPLE, 0, without_grace())
-}
-
-/// Whether this was said.
-fn is_said(said: Result<String, AllocError>, answer: &str) -> bool {
-    match said {
-        Ok(said) => said.as_str() == answer,
-        Err(AllocError) => false,
+fn play(rt: &impl Abort, alloc: Global, numbers: Numbers, grace: u64, deeds: &'static [Deed]) {
+    let mut people = newcomers(rt, alloc);
+    let mut hall = hall(rt, alloc, numbers, grace);
+    for deed in deeds {
+        happens(rt, &mut hall, people.as_mut_slice(), *deed);
     }
 }
 
 #[test]
-fn what_is_no_text_or_too_long_is_answered(rt: HostRuntime) -> Result<(), Fail> {
-    let limits = Limits::new(1, 1, 1, 1).ok_or("limits")?;
-    let hall = Hall::new(rt.alloc(), limits, 0)?;
+fn a_board_and_a_spectator(rt: HostRuntime) {
+    play(&rt, rt.alloc(), AMPLE, 0, board_and_spectator());
+}
+
+#[test]
+fn a_board_ends_with_its_connection(rt: HostRuntime) {
+    play(&rt, rt.alloc(), AMPLE, 0, board_ends());
+    play(&rt, rt.alloc(), AMPLE, 120000, board_ends());
+}
+
+#[test]
+fn an_operator_comes_back(rt: HostRuntime) {
+    play(&rt, rt.alloc(), AMPLE, 120000, comes_back());
+}
+
+#[test]
+fn at_the_limits(rt: HostRuntime) {
+    play(&rt, rt.alloc(), (1, 1, 2, 3), 0, at_limits());
+}
+
+#[test]
+fn nobody_comes_back(rt: HostRuntime) {
+    play(&rt, rt.alloc(), AMPLE, 120000, comes_not_back());
+}
+
+#[test]
+fn each_loss_has_its_own_grace(rt: HostRuntime) {
+    play(&rt, rt.alloc(), AMPLE, 120000, losses());
+}
+
+#[test]
+fn nobody_can_come_back(rt: HostRuntime) {
+    play(&rt, rt.alloc(), AMPLE, 120000, cannot_come_back());
+}
+
+#[test]
+fn without_a_grace_boards_end_with_the_last_connection(rt: HostRuntime) {
+    play(&rt, rt.alloc(), AMPLE, 0, without_grace());
+}
+
+#[test]
+fn what_is_no_text_or_too_long_is_answered(rt: HostRuntime) {
+    let hall = hall(&rt, rt.alloc(), (1, 1, 1, 1), 0);
     assert!(rt; is_said(hall.hear_binary(), NOT_JSON));
     assert!(rt; is_said(hall.hear_too_long(), BAD_FIELD));
-    Ok(())
 }

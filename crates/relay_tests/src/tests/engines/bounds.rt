@@ -1,8 +1,10 @@
 //! The line engine at bounds that no argument of the program sets, and the ranges of bounds.
 
 use super::answerers::Lengths;
+use crate::tests::claims::claim_of;
 use relay960_engines::{Bounds, RunFault, ScriptLimits, default_limits, run_lines};
 use std::alloc::Global;
+use std::process::Abort;
 
 /// An input, the most lines and bytes that it may have, how its run ends, and what is written.
 type Row = (&'static str, u64, u64, Result<u64, RunFault>, &'static str);
@@ -42,8 +44,7 @@ fn ends(alloc: Global, row: &Row) -> bool {
 #[test]
 fn one_byte_past_a_bound_is_too_long(rt: HostRuntime) {
     for row in rows() {
-        let input = row.0;
-        assert!(rt; ends(rt.alloc(), row), "at {input:?}");
+        claim_of(&rt, ends(rt.alloc(), row), "the run", row.0);
     }
 }
 
@@ -65,12 +66,17 @@ fn are_bounds(lines: u64, bytes: u64, good: bool) -> bool {
     }
 }
 
+/// Asserts that these are bounds of a run, or are none, as it is said.
+fn assert_bounds(rt: &impl Abort, lines: u64, bytes: u64, good: bool) {
+    assert!(rt;
+        are_bounds(lines, bytes, good),
+        "{lines} lines, {bytes} bytes"
+    );
+}
+
 #[test]
 fn bounds_are_in_their_ranges(rt: HostRuntime) {
     for (lines, bytes, good) in RANGES {
-        assert!(rt;
-            are_bounds(lines, bytes, good),
-            "{lines} lines, {bytes} bytes"
-        );
+        assert_bounds(&rt, lines, bytes, good);
     }
 }

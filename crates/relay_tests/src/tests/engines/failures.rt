@@ -3,8 +3,10 @@
 
 use super::answerers::Lengths;
 use super::counting::{CountingReader, CountingWriter, Failure};
+use crate::tests::claims::claim_at;
 use relay960_engines::{Bounds, RunFault, moves_run, run_lines, start_run};
 use std::alloc::Global;
+use std::process::Abort;
 
 /// More bytes than any device here has left: one that is to fail at this number never does.
 const NEVER: usize = 999;
@@ -68,15 +70,18 @@ fn lines_are_told(alloc: Global, read: usize, write: usize, failure: Failure) ->
     is_told(&ran, reader.has_failed, &writer)
 }
 
+/// Asserts that a run told of its devices, which fail when so many bytes are left.
+fn assert_told(rt: &impl Abort, is_told: bool, read: usize, write: usize) {
+    assert!(rt; is_told, "{read} and {write} bytes left");
+}
+
 #[test]
 fn a_run_over_lines_tells_of_the_device_that_failed(rt: HostRuntime) {
     for failure in FAILURES {
         for read in PLACES {
             for write in PLACES {
-                assert!(rt;
-                    lines_are_told(rt.alloc(), read, write, failure),
-                    "{read} and {write} bytes left"
-                );
+                let is_told = lines_are_told(rt.alloc(), read, write, failure);
+                assert_told(&rt, is_told, read, write);
             }
         }
     }
@@ -106,15 +111,11 @@ fn moves_are_told(
 fn a_single_line_tells_of_the_writer_that_failed(rt: HostRuntime) {
     for failure in FAILURES {
         for write in PLACES {
-            assert!(rt; start_is_told(write, failure), "{write} bytes left");
-            assert!(rt;
-                moves_are_told(rt.alloc(), UNLAWFUL, b"unlawful\n", write, failure),
-                "{write} bytes left"
-            );
-            assert!(rt;
-                moves_are_told(rt.alloc(), STALEMATE, b"\nstalemate\n", write, failure),
-                "{write} bytes left"
-            );
+            claim_at(&rt, start_is_told(write, failure), "start", write);
+            let is_told = moves_are_told(rt.alloc(), UNLAWFUL, b"unlawful\n", write, failure);
+            claim_at(&rt, is_told, "unlawful", write);
+            let is_told = moves_are_told(rt.alloc(), STALEMATE, b"\nstalemate\n", write, failure);
+            claim_at(&rt, is_told, "stalemate", write);
         }
     }
 }

@@ -1,5 +1,6 @@
 //! What a board is opened with, its moves and its positions.
 
+use crate::tests::claims::{claim, claim_at};
 use crate::tests::deeds::{is_bad_start, opened};
 use crate::tests::live_boards::games::limits_of;
 use crate::tests::values::{
@@ -78,26 +79,27 @@ fn is_new(board: &Board, start: u16) -> bool {
 #[test]
 fn its_positions_are_those_of_the_game(rt: HostRuntime) {
     let mut board = opened(&rt, rt.alloc(), 518, limits_of(&rt, 1, 2, 1024));
-    assert!(rt; plays_all(&rt, &mut board));
-    assert!(rt; has_positions(&rt, &board));
+    claim(&rt, plays_all(&rt, &mut board), "each move is taken");
+    claim(&rt, has_positions(&rt, &board), "the positions");
 }
 
 #[test]
 fn its_start_is_one_of_960(rt: HostRuntime) {
     let limits = limits_of(&rt, 1, 1, 1);
     for start in [960, 961, 65535] {
-        assert!(rt; is_bad_start(rt.alloc(), start, limits), "{start}");
+        let is_bad = is_bad_start(rt.alloc(), start, limits);
+        claim_at(&rt, is_bad, "no start", usize::from(start));
     }
     for start in [0, 518, 959] {
         let board = opened(&rt, rt.alloc(), start, limits);
-        assert!(rt; is_new(&board, start), "{start}");
+        claim_at(&rt, is_new(&board, start), "start", usize::from(start));
     }
 }
 
 #[test]
 fn its_start_and_its_moves_can_be_read(rt: HostRuntime) {
     let mut board = opened(&rt, rt.alloc(), 518, limits_of(&rt, 1, 2, 1024));
-    assert!(rt; plays_all(&rt, &mut board));
-    assert!(rt; board.start() == 518);
-    assert!(rt; has_moves(&rt, &board));
+    claim(&rt, plays_all(&rt, &mut board), "each move is taken");
+    claim(&rt, board.start() == 518, "start 518");
+    claim(&rt, has_moves(&rt, &board), "the moves");
 }

@@ -1,6 +1,7 @@
 //! As many followers as a board may have.
 
-use crate::tests::deeds::{gets, leaves, opened, plays, takes};
+use crate::tests::claims::claim;
+use crate::tests::deeds::{followed, gets, leaves, opened, plays, takes};
 use crate::tests::live_boards::games::limits_of;
 use crate::tests::values::account;
 use c960_game::Refusal;
@@ -20,14 +21,16 @@ fn crowd(
     from: Option<u16>,
 ) -> Result<Vec<Follower>, AllocError> {
     let mut followers = Vec::new(alloc);
-    for number in 0..MOST {
-        let Ok(follower) = board.follow(from) else {
-            panic!(rt; "follower {number}");
-        };
-        followers.push(follower)?;
+    for _ in 0..MOST {
+        followers.push(followed(rt, board, from))?;
     }
-    assert!(rt; matches!(board.follow(from), Err(Refusal::TooManyFollowers)));
+    claim(rt, is_full_from(board, from), "no room for one more");
     Ok(followers)
+}
+
+/// Whether a board has no vacant slot for one that joins at this place.
+fn is_full_from(board: &mut Board, from: Option<u16>) -> bool {
+    matches!(board.follow(from), Err(Refusal::TooManyFollowers))
 }
 
 /// Whether a follower takes this move, then none, and leaves with an account that says so.
@@ -43,7 +46,8 @@ fn takes_one(rt: &impl Abort, mut follower: Follower, place: u16, text: &str, cu
 fn half_takes(rt: &impl Abort, followers: &mut [Follower]) {
     let mut may_take = true;
     for follower in followers.iter_mut() {
-        assert!(rt; !may_take || gets(rt, follower, 0, "e2e4"));
+        let takes_it = !may_take || gets(rt, follower, 0, "e2e4");
+        claim(rt, takes_it, "the first move");
         may_take = !may_take;
     }
 }
@@ -52,13 +56,8 @@ fn half_takes(rt: &impl Abort, followers: &mut [Follower]) {
 fn all_leave(rt: &impl Abort, followers: Vec<Follower>) {
     let mut took = true;
     for follower in followers {
-        assert!(rt;
-            if took {
-                takes_one(rt, follower, 1, "e7e5", false)
-            } else {
-                takes_one(rt, follower, 0, "e2e4", true)
-            }
-        );
+        let (place, text) = if took { (1, "e7e5") } else { (0, "e2e4") };
+        claim(rt, takes_one(rt, follower, place, text, !took), text);
         took = !took;
     }
 }
@@ -66,9 +65,9 @@ fn all_leave(rt: &impl Abort, followers: Vec<Follower>) {
 /// A crowd comes before the first move, and leaves behind the second.
 fn first_crowd(rt: &impl Abort, alloc: Global, board: &mut Board) -> Result<(), AllocError> {
     let mut followers = crowd(rt, alloc, board, None)?;
-    assert!(rt; plays(rt, board, 0, "e2e4"));
+    claim(rt, plays(rt, board, 0, "e2e4"), "e2e4");
     half_takes(rt, &mut followers);
-    assert!(rt; plays(rt, board, 1, "e7e5"));
+    claim(rt, plays(rt, board, 1, "e7e5"), "e7e5");
     all_leave(rt, followers);
     Ok(())
 }
@@ -77,8 +76,8 @@ fn first_crowd(rt: &impl Abort, alloc: Global, board: &mut Board) -> Result<(), 
 fn second_crowd(rt: &impl Abort, alloc: Global, board: &mut Board) -> Result<(), AllocError> {
     let mut followers = crowd(rt, alloc, board, Some(1))?;
     for follower in followers.iter_mut() {
-        assert!(rt; gets(rt, follower, 1, "e7e5"));
-        assert!(rt; takes(follower) == Taken::Nothing);
+        claim(rt, gets(rt, follower, 1, "e7e5"), "the second move");
+        claim(rt, takes(follower) == Taken::Nothing, "nothing behind it");
     }
     Ok(())
 }

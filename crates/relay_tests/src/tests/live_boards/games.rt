@@ -8,10 +8,7 @@ use std::process::Abort;
 
 /// The limits of one board: followers, capacity, plies.
 pub fn limits_of(rt: &impl Abort, followers: u16, capacity: u16, plies: u16) -> Limits {
-    let Some(limits) = Limits::new(1, followers, capacity, plies) else {
-        panic!(rt; "no limits");
-    };
-    limits
+    Limits::new(1, followers, capacity, plies).expect(rt, "limits")
 }
 
 /// The moves of a line.

@@ -1,5 +1,6 @@
 //! A game of as many plies as there may be, of which each move is taken at once, since a queue holds one.
 
+use crate::tests::claims::{claim, claim_at};
 use crate::tests::deeds::{followed, leaves, opened};
 use crate::tests::live_boards::games::limits_of;
 use crate::tests::values::{account, move_of};
@@ -97,46 +98,60 @@ fn parts() -> &'static [&'static str] {
 /// The move at a place of a line, which is repeated. Each has four letters, and they are separated by spaces.
 fn move_at(rt: &impl Abort, line: &str, place: usize) -> Move {
     let count = line.len().wrapping_add(1) / 5;
-    assert!(rt; count > 0);
-    let from = (place % count).wrapping_mul(5);
-    let Some(text) = line.as_bytes().get(from..from.wrapping_add(4)) else {
-        panic!(rt; "no move in {line}");
-    };
-    let Ok(m) = read_move(text) else {
-        panic!(rt; "no move in {line}");
-    };
-    m
+    let place = place.checked_rem(count).expect(rt, line);
+    let from = place.wrapping_mul(5);
+    let text = line.as_bytes().get(from..from.wrapping_add(4));
+    read_move(text.expect(rt, line)).expect(rt, line)
+}
+
+/// The lines of a part of the game, and how many moves each of them has given.
+#[derive(Drop)]
+struct Lines<'a> {
+    first: &'a str,
+    white: &'a str,
+    black: &'a str,
+    gone: usize,
+    by_white: usize,
+    by_black: usize,
+}
+
+impl Lines<'_> {
+    /// The next move behind so many of the game: of the first line until it ends, then of the side on move.
+    fn next(&mut self, rt: &impl Abort, moves: usize) -> Move {
+        if self.gone.wrapping_mul(5) < self.first.len() {
+            next_of(rt, self.first, &mut self.gone)
+        } else if moves % 2 == 0 {
+            next_of(rt, self.white, &mut self.by_white)
+        } else {
+            next_of(rt, self.black, &mut self.by_black)
+        }
+    }
+}
+
+/// The move of a line behind so many that it has given.
+fn next_of(rt: &impl Abort, line: &str, given: &mut usize) -> Move {
+    let place = *given;
+    *given = place.wrapping_add(1);
+    move_at(rt, line, place)
 }
 
 /// Adds the moves of a part of the game.
 fn add_part(rt: &impl Abort, moves: &mut Vec<Move>, part: &str) -> Result<(), AllocError> {
     let mut fields = part.split('/');
-    let count = fields.next().unwrap_or_default();
-    let Ok(count) = count.parse::<u8>() else {
-        panic!(rt; "no count: {part}");
+    let count = fields.next().expect(rt, part);
+    let count = count.parse::<u8>().expect(rt, part);
+    let mut lines = Lines {
+        first: fields.next().expect(rt, part),
+        white: fields.next().expect(rt, part),
+        black: fields.next().expect(rt, part),
+        gone: 0,
+        by_white: 0,
+        by_black: 0,
     };
-    let (Some(first), Some(white), Some(black), Some(last)) = (
-        fields.next(),
-        fields.next(),
-        fields.next(),
-        fields.next(),
-    ) else {
-        panic!(rt; "no moves: {part}");
-    };
-    let (mut gone, mut by_white, mut by_black) = (0usize, 0usize, 0usize);
+    let last = fields.next().expect(rt, part);
     for text in last.split(' ') {
         for _ in 0..count {
-            let m = if gone.wrapping_mul(5) < first.len() {
-                gone = gone.wrapping_add(1);
-                move_at(rt, first, gone.wrapping_sub(1))
-            } else if moves.len() % 2 == 0 {
-                by_white = by_white.wrapping_add(1);
-                move_at(rt, white, by_white.wrapping_sub(1))
-            } else {
-                by_black = by_black.wrapping_add(1);
-                move_at(rt, black, by_black.wrapping_sub(1))
-            };
-            moves.push(m)?;
+            moves.push(lines.next(rt, moves.len()))?;
         }
         moves.push(move_of(rt, text))?;
     }
@@ -167,18 +182,19 @@ fn all_are_taken(rt: &impl Abort, board: &mut Board, moves: &[Move], next: Move)
     let mut quick = followed(rt, board, None);
     let slow = followed(rt, board, None);
     for (place, m) in (0..PLIES).zip(moves) {
-        assert!(rt; goes_on(board, &mut quick, place, *m), "{place}");
+        let is_taken = goes_on(board, &mut quick, place, *m);
+        claim_at(rt, is_taken, "move", usize::from(place));
     }
-    assert!(rt; goes_no_further(board, &mut quick, next));
-    assert!(rt; leaves(quick) == account(0, PLIES, PLIES, false));
-    assert!(rt; leaves(slow) == account(0, 0, 1, true));
+    claim(rt, goes_no_further(board, &mut quick, next), "the last one");
+    let all = leaves(quick) == account(0, PLIES, PLIES, false);
+    claim(rt, all, "who took each");
+    claim(rt, leaves(slow) == account(0, 0, 1, true), "who took none");
 }
 
 #[test]
 fn each_move_of_a_game_of_the_most_plies_is_taken(rt: HostRuntime) -> Result<(), Fail> {
     let moves = all_moves(&rt, rt.alloc())?;
-    assert!(rt; moves.len() > usize::from(PLIES));
-    let next = moves[usize::from(PLIES)];
+    let next = *moves.get(usize::from(PLIES)).expect(&rt, "one move more");
     let mut board = opened(&rt, rt.alloc(), 518, limits_of(&rt, 2, 1, PLIES));
     all_are_taken(&rt, &mut board, moves.as_slice(), next);
     Ok(())

@@ -1,11 +1,11 @@
 //! Questions drawn at random, whose answers are those of the plain board.
 
 use crate::tests::chance::{Dice, ENDINGS, MOVES};
+use crate::tests::claims::claim;
+use crate::tests::live_boards::both::{ask_both, both_of};
 use crate::tests::live_boards::games::limits_of;
-use crate::tests::live_boards::plain::Plain;
-use crate::tests::live_boards::stage::{Answer, Ask, Stage};
+use crate::tests::live_boards::stage::{Answer, Ask};
 use crate::tests::values::move_of;
-use c960_game::Game;
 use relay_core::Taken;
 use std::alloc::{AllocError, Global};
 use std::process::Abort;
@@ -110,19 +110,9 @@ fn assert_same(
 ) -> Result<(), AllocError> {
     let (followers, capacity, plies) = limits;
     let limits = limits_of(rt, followers, capacity, plies);
-    let (Ok(mut stage), Ok(game)) = (
-        Stage::open(alloc, 518, limits, 4)?,
-        Game::open(alloc, 518, limits.plies()),
-    ) else {
-        panic!(rt; "no board");
-    };
-    let mut plain = Plain::new(alloc, game, limits, 4)?;
-    for turn in 0..160 {
-        let asked = any_ask(rt, dice);
-        let answer = stage.ask(asked);
-        let told = plain.ask(asked)?;
-        assert!(rt; answer == told, "turn {turn}");
-        seen.push(answer)?;
+    let mut both = both_of(rt, alloc, limits, 4)?;
+    for _ in 0..160 {
+        seen.push(ask_both(rt, &mut both, &any_ask(rt, dice))?)?;
     }
     Ok(())
 }
@@ -138,7 +128,7 @@ fn questions_by_chance_are_answered_as_by_the_plain_board(rt: HostRuntime) -> Re
         }
     }
     for kind in kinds() {
-        assert!(rt; has_kind(seen.as_slice(), *kind), "no {kind}");
+        claim(&rt, has_kind(seen.as_slice(), *kind), *kind);
     }
     Ok(())
 }

@@ -1,9 +1,10 @@
 //! The slots of a board, which are given out again once they are left.
 
+use crate::tests::claims::{claim, claim_at};
+use crate::tests::live_boards::both::{Both, ask_both, both_of};
 use crate::tests::live_boards::games::limits_of;
-use crate::tests::live_boards::plain::Plain;
-use crate::tests::live_boards::stage::{Answer, Ask, Stage};
-use c960_game::{Game, Refusal};
+use crate::tests::live_boards::stage::{Answer, Ask};
+use c960_game::Refusal;
 use std::alloc::{AllocError, Global};
 use std::process::Abort;
 use std::test::Fail;
@@ -14,32 +15,12 @@ const MOST: usize = 6;
 /// How often two leave and follow again.
 const ROUNDS: u32 = 3;
 
-/// A board and the plain one, asked the same questions.
-#[derive(Drop)]
-struct Both {
-    stage: Stage,
-    plain: Plain,
-}
-
-/// New boards, on which one more may ask to follow than may follow.
-fn boards(rt: &impl Abort, alloc: Global) -> Result<Both, AllocError> {
-    let limits = limits_of(rt, MOST as u16, 64, 64);
-    let (Ok(stage), Ok(game)) = (
-        Stage::open(alloc, 518, limits, MOST + 1)?,
-        Game::open(alloc, 518, limits.plies()),
-    ) else {
-        panic!(rt; "no board");
-    };
-    let plain = Plain::new(alloc, game, limits, MOST + 1)?;
-    Ok(Both { stage, plain })
-}
-
-/// Asserts that both answer alike. Returns the answer.
-fn ask(rt: &impl Abort, both: &mut Both, asked: &Ask) -> Result<Answer, AllocError> {
-    let answer = both.stage.ask(*asked);
-    let told = both.plain.ask(*asked)?;
-    assert!(rt; answer == told);
-    Ok(answer)
+/// Asserts that both answer each of these alike.
+fn ask_all(rt: &impl Abort, both: &mut Both, asked: &[Ask]) -> Result<(), AllocError> {
+    for it in asked {
+        let _ = ask_both(rt, both, it)?;
+    }
+    Ok(())
 }
 
 /// Two leave and follow again, while one more asks in vain.
@@ -49,13 +30,34 @@ fn swap_places(
     first: usize,
     second: usize,
 ) -> Result<(), AllocError> {
-    let _ = ask(rt, both, &Ask::Leave(first))?;
-    let _ = ask(rt, both, &Ask::Leave(second))?;
-    let _ = ask(rt, both, &Ask::Follow(first, None))?;
-    let _ = ask(rt, both, &Ask::Follow(second, None))?;
-    let refused = ask(rt, both, &Ask::Follow(MOST, None))?;
-    assert!(rt; refused == Answer::Refused(Refusal::TooManyFollowers));
+    let asked = [
+        Ask::Leave(first),
+        Ask::Leave(second),
+        Ask::Follow(first, None),
+        Ask::Follow(second, None),
+    ];
+    ask_all(rt, both, &asked)?;
+    let refused = ask_both(rt, both, &Ask::Follow(MOST, None))?;
+    let is_full = refused == Answer::Refused(Refusal::TooManyFollowers);
+    claim(rt, is_full, "no room for one more");
     Ok(())
+}
+
+/// All come, each to the slot of its own number.
+fn come(rt: &impl Abort, both: &mut Both) -> Result<(), AllocError> {
+    for who in 0..MOST {
+        let _ = ask_both(rt, both, &Ask::Follow(who, None))?;
+    }
+    Ok(())
+}
+
+/// Asserts that only this slot is vacant.
+fn assert_vacant(rt: &impl Abort, both: &Both, vacant: usize) {
+    for slot in 0..MOST {
+        let cursor = both.stage.board.word(slot as u64 + 2);
+        let is_vacant = cursor == Some(0);
+        claim_at(rt, is_vacant == (slot == vacant), "slot", slot);
+    }
 }
 
 /// Asserts that of two slots that were left a newcomer has the lower one, also after both were left and taken several times.
@@ -65,24 +67,20 @@ fn assert_lower(
     first: usize,
     second: usize,
 ) -> Result<(), AllocError> {
-    let mut both = boards(rt, alloc)?;
-    // Each has the slot of its own number.
-    for who in 0..MOST {
-        let _ = ask(rt, &mut both, &Ask::Follow(who, None))?;
-    }
+    let limits = limits_of(rt, MOST as u16, 64, 64);
+    // One more may ask to follow than may follow.
+    let mut both = both_of(rt, alloc, limits, MOST + 1)?;
+    come(rt, &mut both)?;
     for _ in 0..ROUNDS {
         swap_places(rt, &mut both, first, second)?;
     }
-    let _ = ask(rt, &mut both, &Ask::Leave(first))?;
-    let _ = ask(rt, &mut both, &Ask::Leave(second))?;
-    let _ = ask(rt, &mut both, &Ask::Follow(first, None))?;
-    for slot in 0..MOST {
-        let cursor = both.stage.board.word(slot as u64 + 2);
-        assert!(rt;
-            (cursor == Some(0)) == (slot == first.max(second)),
-            "slot {slot}"
-        );
-    }
+    let asked = [
+        Ask::Leave(first),
+        Ask::Leave(second),
+        Ask::Follow(first, None),
+    ];
+    ask_all(rt, &mut both, &asked)?;
+    assert_vacant(rt, &both, first.max(second));
     Ok(())
 }
 

@@ -1,10 +1,12 @@
 //! A live board with its followers on one thread.
 
+use crate::tests::deeds::opened;
 use c960_board::Move;
 use c960_game::{Ending, Limits, Outcome, Refusal};
 use live_board::{Board, Follower};
 use relay_core::{Account, Taken};
 use std::alloc::{AllocError, Global};
+use std::process::Abort;
 
 /// What is asked of a board, or of one of its followers.
 #[derive(Clone, Copy)]
@@ -37,6 +39,15 @@ pub enum Answer {
     Amiss,
 }
 
+/// Room for this many followers.
+fn vacant(alloc: Global, room: usize) -> Result<Vec<Option<Follower>>, AllocError> {
+    let mut followers = Vec::new(alloc);
+    for _ in 0..room {
+        followers.push(None)?;
+    }
+    Ok(followers)
+}
+
 /// A board and its followers.
 #[derive(Drop)]
 pub struct Stage {
@@ -45,21 +56,16 @@ pub struct Stage {
 }
 
 impl Stage {
-    /// A new board, with room for this many followers on the stage. If the board was refused, its refusal is inside.
+    /// A new board of start 518, with room for this many followers on the stage.
     pub fn open(
+        rt: &impl Abort,
         alloc: Global,
-        start: u16,
         limits: Limits,
         room: usize,
-    ) -> Result<Result<Stage, Refusal>, AllocError> {
-        let mut followers = Vec::with_capacity(alloc, room)?;
-        for _ in 0..room {
-            followers.push(None)?;
-        }
-        match Board::open(alloc, start, limits) {
-            Ok(board) => Ok(Ok(Stage { board, followers })),
-            Err(refusal) => Ok(Err(refusal)),
-        }
+    ) -> Result<Stage, AllocError> {
+        let followers = vacant(alloc, room)?;
+        let board = opened(rt, alloc, 518, limits);
+        Ok(Stage { board, followers })
     }
 
     /// Asks, and returns the answer.

@@ -1,5 +1,6 @@
 //! Cases as tables: what is asked of a live board and its followers, and what they have to answer, one row each.
 
+use crate::tests::claims::claim_at;
 use crate::tests::live_boards::games::limits_of;
 use crate::tests::live_boards::stage::{Answer, Ask, Stage};
 use crate::tests::values::{account, move_of};
@@ -99,10 +100,7 @@ fn assert_row(
     let mut after = 0u16;
     for text in line_of(asked).split(' ') {
         let answer = stage.ask(ask_of(rt, asked, text));
-        assert!(rt;
-            answer == answer_of(rt, told, after),
-            "{name}, row {row}, {text}"
-        );
+        claim_at(rt, answer == answer_of(rt, told, after), name, row);
         after = after.saturating_add(1);
     }
 }
@@ -117,9 +115,7 @@ pub fn assert_case(
 ) -> Result<(), Fail> {
     let (followers, capacity, plies) = limits;
     let limits = limits_of(rt, followers, capacity, plies);
-    let Ok(mut stage) = Stage::open(alloc, 518, limits, 8)? else {
-        panic!(rt; "no board");
-    };
+    let mut stage = Stage::open(rt, alloc, limits, 8)?;
     for row in 0..rows.len() {
         assert_row(rt, &mut stage, (name, row), rows[row]);
     }

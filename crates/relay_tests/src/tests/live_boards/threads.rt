@@ -1,5 +1,6 @@
 //! A game that one thread plays while two others take its moves.
 
+use crate::tests::claims::claim;
 use crate::tests::deeds::{followed, is_full, leaves, opened};
 use crate::tests::live_boards::games::{hundred_plies, limits_of};
 use c960_board::Move;
@@ -9,7 +10,7 @@ use relay_core::{Account, Taken};
 use std::alloc::{AllocError, Global};
 use std::process::Abort;
 use std::test::Fail;
-use std::thread::{self, Threads};
+use std::thread::{self, JoinHandle, Threads};
 
 /// How often a thread takes before it gives up.
 const MOST_TAKES: u32 = 1_000_000;
@@ -60,34 +61,65 @@ pub fn play_all(board: &mut Board, moves: &[Move]) -> bool {
 
 /// What a follower had in all, once it has taken what was left.
 fn with_the_rest(alloc: Global, follower: &mut Follower, early: Took) -> Result<Took, AllocError> {
+    let mut had = early;
     let late = take_all(alloc, follower, 200)?;
-    let mut moves = early.moves;
-    moves.extend_from_slice(late.moves.as_slice())?;
-    Ok(Took {
-        moves,
-        in_order: early.in_order && late.in_order,
-        last: late.last,
-    })
+    had.moves.extend_from_slice(late.moves.as_slice())?;
+    had.in_order = had.in_order && late.in_order;
+    had.last = late.last;
+    Ok(had)
+}
+
+/// Whether the last answer is that the follower was closed, or all of the game was had and it is over.
+fn is_last(had: &Took, plies: usize, cut: bool) -> bool {
+    if cut {
+        had.last == Taken::Cut
+    } else {
+        had.moves.len() == plies && had.last == Taken::Over(Outcome::Agreed)
+    }
 }
 
 /// Asserts that the follower had the game up to its closing if it was closed, and otherwise all of it and then its end; and that its
 /// account says so. Returns whether it was closed.
 fn assert_had(rt: &impl Abort, moves: &[Move], had: &Took, account: Account) -> bool {
     let count = had.moves.len();
-    assert!(rt; had.in_order && count <= moves.len());
-    assert!(rt; had.moves.as_slice() == &moves[..count]);
-    assert!(rt; account.joined == 0);
-    assert!(rt; usize::from(account.taken) == count);
-    assert!(rt; usize::from(account.limit) == count);
-    let is_whole = count == moves.len() && had.last == Taken::Over(Outcome::Agreed);
-    assert!(rt;
-        if account.cut {
-            had.last == Taken::Cut
-        } else {
-            is_whole
-        }
+    claim(rt, had.in_order, "each place follows the one before");
+    claim(rt, moves.starts_with(had.moves.as_slice()), "the game");
+    claim(rt, account.joined == 0, "at the start");
+    claim(rt, usize::from(account.taken) == count, "as many taken");
+    claim(rt, usize::from(account.limit) == count, "as many known");
+    claim(
+        rt,
+        is_last(had, moves.len(), account.cut),
+        "the last answer",
     );
     account.cut
+}
+
+/// A follower, and what it has taken, or that there was no memory for it.
+type Taking = (Follower, Result<Took, AllocError>);
+
+/// A thread in which a follower takes.
+fn started<R: Threads + Abort>(
+    rt: &R,
+    alloc: Global,
+    mut follower: Follower,
+) -> Result<JoinHandle<Taking>, Fail> {
+    let handle = thread::spawn(rt, move || {
+        let took = take_all(alloc, &mut follower, MOST_TAKES);
+        (follower, took)
+    })?;
+    Ok(handle)
+}
+
+/// The follower of a thread that has ended, and what it had in all.
+fn joined<R: Threads + Abort>(
+    rt: &R,
+    alloc: Global,
+    handle: JoinHandle<Taking>,
+) -> Result<(Follower, Took), AllocError> {
+    let (mut follower, early) = handle.join(rt);
+    let had = with_the_rest(alloc, &mut follower, early?)?;
+    Ok((follower, had))
 }
 
 /// Plays the board while two others take the moves, in threads of their own. Returns them with what each had.
@@ -99,18 +131,12 @@ fn play_with_two<R: Threads + Abort>(
 ) -> Result<Vec<(Follower, Took)>, Fail> {
     let mut running = Vec::new(alloc);
     for _ in 0..2 {
-        let mut follower = followed(rt, board, None);
-        running.push(thread::spawn(rt, move || {
-            let took = take_all(alloc, &mut follower, MOST_TAKES);
-            (follower, took)
-        })?)?;
+        running.push(started(rt, alloc, followed(rt, board, None))?)?;
     }
-    assert!(rt; play_all(board, moves));
+    claim(rt, play_all(board, moves), "each move is made at its place");
     let mut ended = Vec::new(alloc);
     for handle in running {
-        let (mut follower, early) = handle.join(rt);
-        let had = with_the_rest(alloc, &mut follower, early?)?;
-        ended.push((follower, had))?;
+        ended.push(joined(rt, alloc, handle)?)?;
     }
     Ok(ended)
 }
@@ -138,9 +164,9 @@ fn play_before_two<R: Threads + Abort>(
 ) -> Result<bool, Fail> {
     let mut board = opened(rt, alloc, 518, limits_of(rt, 2, capacity, 1024));
     let ended = play_with_two(rt, alloc, &mut board, moves)?;
-    assert!(rt; is_full(&mut board));
+    claim(rt, is_full(&mut board), "both slots are taken");
     let is_closed = all_had(rt, moves, ended);
-    assert!(rt; has_room_for_two(&mut board));
+    claim(rt, has_room_for_two(&mut board), "both slots are vacant");
     Ok(is_closed)
 }
 
@@ -150,7 +176,8 @@ fn two_threads_take_in_a_game(rt: HostRuntime) -> Result<(), Fail> {
     let moves = hundred_plies(&rt, alloc)?;
     // No follower is closed whose queue holds the whole game.
     for capacity in [128, 1024] {
-        assert!(rt; !play_before_two(&rt, alloc, moves.as_slice(), capacity)?);
+        let is_closed = play_before_two(&rt, alloc, moves.as_slice(), capacity)?;
+        claim(&rt, !is_closed, "room for the whole game");
     }
     for _ in 0..50 {
         play_before_two(&rt, alloc, moves.as_slice(), 4)?;

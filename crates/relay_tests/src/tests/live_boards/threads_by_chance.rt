@@ -1,6 +1,7 @@
 //! A game that one thread plays while followers come, take in threads of their own, and leave again, many times over.
 
 use crate::tests::chance::Dice;
+use crate::tests::claims::claim;
 use crate::tests::deeds::{agrees, leaves, opened};
 use crate::tests::live_boards::games::{hundred_plies, limits_of};
 use crate::tests::live_boards::threads::{Took, take_all};
@@ -24,26 +25,58 @@ fn visit(alloc: Global, mut follower: Follower, most: u32) -> Visit {
     (joined, took, leaves(follower))
 }
 
+/// Whether a follower that had the game up to a place may know it up to its limit.
+fn is_limit(account: &Account, to: usize, plies: usize) -> bool {
+    let limit = usize::from(account.limit);
+    to <= limit && limit <= plies
+}
+
+/// Whether a follower that had the game up to a place may be answered so last.
+fn is_last(last: Taken, account: &Account, to: usize, plies: usize) -> bool {
+    match last {
+        Taken::Cut => account.cut && usize::from(account.limit) == to,
+        Taken::Over(outcome) => outcome == Outcome::Agreed && to == plies && !account.cut,
+        _ => true,
+    }
+}
+
 /// Asserts that the follower's moves are the stretch of the game from its joining place, and that its account says so.
 fn assert_stretch(rt: &impl Abort, moves: &[Move], visit: Visit) -> Result<(), AllocError> {
     let (joined, took, account) = visit;
     let took = took?;
-    assert!(rt; took.in_order);
-    let from = usize::from(joined);
-    let to = from.saturating_add(took.moves.len());
-    assert!(rt; from <= to && to <= moves.len());
-    assert!(rt; took.moves.as_slice() == &moves[from..to]);
-    assert!(rt; account.joined == joined);
-    assert!(rt; usize::from(account.taken) == took.moves.len());
-    assert!(rt; usize::from(account.limit) >= to && usize::from(account.limit) <= moves.len());
-    match took.last {
-        Taken::Cut => assert!(rt; account.cut && usize::from(account.limit) == to),
-        Taken::Over(outcome) => {
-            assert!(rt; (outcome, to, account.cut) == (Outcome::Agreed, moves.len(), false));
-        }
-        _ => {}
-    }
+    claim(rt, took.in_order, "each place follows the one before");
+    claim(rt, account.joined == joined, "where it joined");
+    let count = usize::from(account.taken);
+    claim(rt, count == took.moves.len(), "as many taken");
+    let from = moves.get(usize::from(joined)..);
+    let is_stretch = from
+        .expect(rt, "a place")
+        .starts_with(took.moves.as_slice());
+    claim(rt, is_stretch, "a stretch of the game");
+    let to = usize::from(joined).saturating_add(count);
+    claim(rt, is_limit(&account, to, moves.len()), "what it knew");
+    claim(
+        rt,
+        is_last(took.last, &account, to, moves.len()),
+        "the last answer",
+    );
     Ok(())
+}
+
+/// A follower from the present or a place back; none if the board is full.
+fn follower_or_full(rt: &impl Abort, board: &mut Board, way: u32) -> Option<Follower> {
+    let from = match way {
+        0 => Some(board.len()),
+        1 => Some(board.len().saturating_sub(1)),
+        _ => None,
+    };
+    match board.follow(from) {
+        Ok(follower) => Some(follower),
+        Err(refusal) => {
+            claim(rt, refusal == Refusal::TooManyFollowers, "a full board");
+            None
+        }
+    }
 }
 
 /// A follower comes, from the present or a place back, and takes in a thread of its own; none if the board is full.
@@ -53,22 +86,12 @@ fn come<R: Threads + Abort>(
     board: &mut Board,
     dice: &mut Dice,
 ) -> Result<Option<JoinHandle<Visit>>, Fail> {
-    let from = match dice.roll() % 3 {
-        0 => Some(board.len()),
-        1 => Some(board.len().saturating_sub(1)),
-        _ => None,
+    let Some(follower) = follower_or_full(rt, board, dice.roll() % 3) else {
+        return Ok(None);
     };
-    match board.follow(from) {
-        Ok(follower) => {
-            let most = dice.roll() % 2000;
-            let handle = thread::spawn(rt, move || visit(alloc, follower, most))?;
-            Ok(Some(handle))
-        }
-        Err(refusal) => {
-            assert!(rt; refusal == Refusal::TooManyFollowers);
-            Ok(None)
-        }
-    }
+    let most = dice.roll() % 2000;
+    let handle = thread::spawn(rt, move || visit(alloc, follower, most))?;
+    Ok(Some(handle))
 }
 
 /// Asserts that each had a stretch of the game. Returns how many came.
@@ -102,24 +125,41 @@ fn play<R: Threads + Abort>(
     dice: &mut Dice,
 ) -> Result<u32, Fail> {
     let mut board = opened(rt, alloc, 518, limits_of(rt, 3, capacity, 1024));
-    let mut visits: Vec<JoinHandle<Visit>> = Vec::new(alloc);
-    let mut place = 0u16;
-    for m in moves {
-        if dice.roll() % 4 == 0 {
-            if let Some(handle) = come(rt, alloc, &mut board, dice)? {
-                visits.push(handle)?;
-            }
-        }
-        assert!(rt; board.submit(*m) == Ok((place, None)));
-        place = place.saturating_add(1);
-    }
-    assert!(rt; agrees(&mut board));
+    let visits = visits_of(rt, alloc, &mut board, moves, dice)?;
+    claim(rt, agrees(&mut board), "a draw is agreed");
     let count = all_had_stretches(rt, moves, visits)?;
     // All have left, so that there is as much room as ever.
     for _ in 0..3 {
-        assert!(rt; has_room(alloc, &mut board));
+        claim(rt, has_room(alloc, &mut board), "a vacant slot");
     }
     Ok(count)
+}
+
+/// Makes the moves, and has followers come meanwhile.
+fn visits_of<R: Threads + Abort>(
+    rt: &R,
+    alloc: Global,
+    board: &mut Board,
+    moves: &[Move],
+    dice: &mut Dice,
+) -> Result<Vec<JoinHandle<Visit>>, Fail> {
+    let mut visits = Vec::new(alloc);
+    let mut place = 0u16;
+    for m in moves {
+        if dice.roll() % 4 == 0 {
+            if let Some(handle) = come(rt, alloc, board, dice)? {
+                visits.push(handle)?;
+            }
+        }
+        claim(rt, is_taken(board, *m, place), "the next move");
+        place = place.saturating_add(1);
+    }
+    Ok(visits)
+}
+
+/// Whether a board takes a move at this place, and its game goes on.
+fn is_taken(board: &mut Board, m: Move, place: u16) -> bool {
+    board.submit(m) == Ok((place, None))
 }
 
 #[test]
@@ -133,6 +173,6 @@ fn what_each_follower_had_is_a_stretch_of_the_game(rt: HostRuntime) -> Result<()
             count = count.wrapping_add(play(&rt, alloc, moves.as_slice(), capacity, &mut dice)?);
         }
     }
-    assert!(rt; count > 100, "{count}");
+    claim(&rt, count > 100, "more than a hundred visits");
     Ok(())
 }

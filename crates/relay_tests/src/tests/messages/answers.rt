@@ -1,6 +1,7 @@
 //! The texts of answers. The tests hold with each allocation refused in turn (`rt try --test --fail-alloc N`).
 
 use crate::tests::again::again;
+use crate::tests::claims::{claim, claim_of};
 use crate::tests::relays::table::{Told, reply_of};
 use crate::tests::values::START_518;
 use arrayvec::ArrayVec;
@@ -20,23 +21,37 @@ fn space_with(left: usize) -> ArrayVec<u8, 258> {
     space
 }
 
-/// An answer has this text: in memory of its own, which is asked for again if it was refused, and behind what stands in a space that has
-/// just room for the text and for a line feed. Where the space has a byte less, it stays as it is.
-fn has_text(rt: &impl Abort, alloc: Global, answer: &Answer, text: &str) {
-    let own = again(rt, || encode(alloc, answer));
-    assert!(rt; own.as_str() == text);
-    let mut small = space_with(text.len());
-    assert!(rt; !encode_within(answer, &mut small));
-    assert!(rt; small.as_slice() == space_with(text.len()).as_slice());
+/// Whether an answer finds no room where a byte is missing for its text and a line feed, and the space stays as it is.
+fn needs_a_byte_more(answer: &Answer, size: usize) -> bool {
+    let mut small = space_with(size);
+    let is_written = encode_within(answer, &mut small);
+    !is_written && small.as_slice() == space_with(size).as_slice()
+}
+
+/// Whether an answer has this text behind what stands in a space that has just room for the text and for a line feed.
+fn is_written_behind(answer: &Answer, text: &str) -> bool {
     let mut space = space_with(text.len() + 1);
-    assert!(rt; encode_within(answer, &mut space));
-    assert!(rt; space.remaining_capacity() == 1);
-    assert!(rt;
-        space
+    let is_written = encode_within(answer, &mut space);
+    is_written
+        && space.remaining_capacity() == 1
+        && space
             .as_slice()
             .starts_with(space_with(text.len() + 1).as_slice())
-    );
-    assert!(rt; space.as_slice().ends_with(text.as_bytes()));
+        && space.as_slice().ends_with(text.as_bytes())
+}
+
+/// Whether an answer has this text in memory of its own, which is asked for again if it was refused.
+fn is_encoded(rt: &impl Abort, alloc: Global, answer: &Answer, text: &str) -> bool {
+    let own = again(rt, || encode(alloc, answer));
+    own.as_str() == text
+}
+
+/// Asserts that an answer has this text: in memory of its own, and in a space that has just room for the text and for a line feed. Where
+/// the space has a byte less, it stays as it is.
+fn has_text(rt: &impl Abort, alloc: Global, answer: &Answer, text: &str) {
+    claim_of(rt, is_encoded(rt, alloc, answer, text), "the memory", text);
+    claim_of(rt, needs_a_byte_more(answer, text.len()), "the room", text);
+    claim_of(rt, is_written_behind(answer, text), "the space", text);
 }
 
 #[test]
@@ -44,12 +59,21 @@ fn a_text_needs_room_for_a_line_feed_behind_it(rt: HostRuntime) {
     // {"reply":"nothing"} has 19 bytes.
     let nothing = Answer::Reply(Reply::Took(Taken::Nothing));
     let mut space = ArrayVec::<u8, 20>::new();
-    assert!(rt; encode_within(&nothing, &mut space));
-    assert!(rt; space.as_slice() == br#"{"reply":"nothing"}"#.as_slice());
+    claim(
+        &rt,
+        encode_within(&nothing, &mut space),
+        "room for 20 bytes",
+    );
+    let is_text = space.as_slice() == br#"{"reply":"nothing"}"#.as_slice();
+    claim(&rt, is_text, "19 bytes");
     let mut small = ArrayVec::<u8, 20>::new();
     small.push(b'.');
-    assert!(rt; !encode_within(&nothing, &mut small));
-    assert!(rt; small.as_slice() == b".".as_slice());
+    claim(
+        &rt,
+        !encode_within(&nothing, &mut small),
+        "room for 19 bytes",
+    );
+    claim(&rt, small.as_slice() == b".".as_slice(), "one byte");
 }
 
 /// A reply of each kind, and its text.

@@ -1,11 +1,12 @@
 //! The texts that describe boards.
 
 use crate::tests::again::again;
+use crate::tests::claims::{claim, claim_of};
+use crate::tests::messages::round_trip::{Member, assert_members};
 use crate::tests::values::{MATED, ONE_PLY, START_518, board_of, move_of, position_of};
 use c960_board::Colour;
 use c960_game::Outcome;
 use relay_messages::{BoardSummary, encode_board};
-use serde_json::Value;
 use std::alloc::Global;
 use std::process::Abort;
 use std::test::Fail;
@@ -126,7 +127,7 @@ fn each_board_has_its_text(rt: HostRuntime) {
     for row in rows() {
         let summary = summary_of(&rt, row);
         let given = text_of(&rt, rt.alloc(), &summary);
-        assert!(rt; given.as_str() == row.text, "{given}");
+        claim(&rt, given.as_str() == row.text, row.text);
     }
 }
 
@@ -157,58 +158,50 @@ fn each_outcome_has_its_text_at_a_board(rt: HostRuntime) -> Result<(), Fail> {
             outcome: Some(*outcome),
             ..opened(&rt)
         };
-        let given = encode_board(rt.alloc(), &summary)?;
-        let object = Value::from_str(rt.alloc(), given.as_str())?;
-        let said = object.get("outcome").and_then(Value::as_str);
-        assert!(rt; said == Some(*text), "{given}");
+        assert_read(
+            &rt,
+            rt.alloc(),
+            &summary,
+            &[("outcome", Member::Text(*text))],
+        )?;
     }
     Ok(())
 }
 
-/// The members of a board whose game was a mate that are texts.
-static TEXTS: [(&str, &str); 5] = [
-    ("board", "b1"),
-    ("fen", MATED),
-    ("last", "d8h4"),
-    ("outcome", "black mates"),
-    ("reply", "board"),
+/// The members of a board whose game was a mate.
+static MEMBERS: [(&str, Member); 7] = [
+    ("board", Member::Text("b1")),
+    ("fen", Member::Text(MATED)),
+    ("last", Member::Text("d8h4")),
+    ("outcome", Member::Text("black mates")),
+    ("reply", Member::Text("board")),
+    ("plies", Member::Number(4)),
+    ("start", Member::Number(518)),
 ];
 
-/// The texts.
-fn texts() -> &'static [(&'static str, &'static str)] {
-    &TEXTS
+/// The members.
+fn members() -> &'static [(&'static str, Member)] {
+    &MEMBERS
+}
+
+/// Asserts that the text of a board is read as an object of seven members, these among them.
+fn assert_read(
+    rt: &impl Abort,
+    alloc: Global,
+    summary: &BoardSummary,
+    members: &[(&'static str, Member)],
+) -> Result<(), Fail> {
+    let text = encode_board(alloc, summary)?;
+    let count = assert_members(rt, alloc, text.as_str(), members)?;
+    claim_of(rt, count == 7, "the number of members", text.as_str());
+    Ok(())
 }
 
 #[test]
 fn a_board_is_read_as_an_object_of_seven_members_that_say_the_same(
     rt: HostRuntime,
 ) -> Result<(), Fail> {
-    let text = encode_board(rt.alloc(), &mated(&rt))?;
-    let object = Value::from_str(rt.alloc(), text.as_str())?;
-    let Some(members) = object.as_object() else {
-        panic!(rt; "no object");
-    };
-    assert!(rt; members.len() == 7);
-    for (key, said) in texts() {
-        assert!(rt;
-            object.get(*key).and_then(Value::as_str) == Some(*said),
-            "{key}"
-        );
-    }
-    for (key, said) in [("plies", 4), ("start", 518)] {
-        assert!(rt;
-            object.get(key).and_then(Value::as_u64) == Some(said),
-            "{key}"
-        );
-    }
-    let text = encode_board(rt.alloc(), &opened(&rt))?;
-    let object = Value::from_str(rt.alloc(), text.as_str())?;
-    for key in ["last", "outcome"] {
-        let is_null = match object.get(key) {
-            Some(value) => value.is_null(),
-            None => false,
-        };
-        assert!(rt; is_null, "{key}");
-    }
-    Ok(())
+    assert_read(&rt, rt.alloc(), &mated(&rt), members())?;
+    let nulls = [("last", Member::Null), ("outcome", Member::Null)];
+    assert_read(&rt, rt.alloc(), &opened(&rt), &nulls)
 }

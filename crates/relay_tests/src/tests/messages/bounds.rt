@@ -1,5 +1,6 @@
 //! Numbers up to their bounds.
 
+use crate::tests::claims::claim;
 use crate::tests::relays::table::{Asked, line_of, step_of};
 use relay_messages::decode;
 
@@ -46,6 +47,7 @@ fn bounds() -> &'static [(&'static str, Asked)] {
 fn numbers_up_to_their_bounds_are_read(rt: HostRuntime) {
     for (text, asked) in bounds() {
         let step = step_of(&rt, *asked, line_of(*asked));
-        assert!(rt; decode(rt.alloc(), text.as_bytes()) == Ok(step), "{text}");
+        let said = decode(rt.alloc(), text.as_bytes());
+        claim(&rt, said == Ok(step), *text);
     }
 }

@@ -1,5 +1,6 @@
 //! Texts that give a command.
 
+use crate::tests::claims::claim;
 use crate::tests::relays::table::{Asked, line_of, step_of};
 use c960_board::Colour;
 use c960_game::Ending;
@@ -76,7 +77,8 @@ fn commands() -> &'static [(&'static str, Asked)] {
 fn each_command_is_read(rt: HostRuntime) {
     for (text, asked) in commands() {
         let step = step_of(&rt, *asked, line_of(*asked));
-        assert!(rt; decode(rt.alloc(), text.as_bytes()) == Ok(step), "{text}");
+        let said = decode(rt.alloc(), text.as_bytes());
+        claim(&rt, said == Ok(step), *text);
     }
 }
 
@@ -130,6 +132,7 @@ fn free_forms() -> &'static [(&'static str, Asked)] {
 fn white_space_escapes_and_the_order_and_number_of_keys_are_free(rt: HostRuntime) {
     for (text, asked) in free_forms() {
         let step = step_of(&rt, *asked, line_of(*asked));
-        assert!(rt; decode(rt.alloc(), text.as_bytes()) == Ok(step), "{text}");
+        let said = decode(rt.alloc(), text.as_bytes());
+        claim(&rt, said == Ok(step), *text);
     }
 }

@@ -4,6 +4,7 @@
 use crate::tests::chance::Dice;
 use relay_messages::{Decoder, MessageFault};
 use std::alloc::{AllocError, Global};
+use std::process::Abort;
 use std::test::Fail;
 
 /// Commands, some of them not as a client writes them.
@@ -83,7 +84,7 @@ const BETWEEN: [&str; 8] = [",", ",", ",", ",", ",", ", ", "", ":"];
 const BEHIND: [&str; 8] = ["}", "}", "}", "}", "} ", "}}", "},", ""];
 
 /// Whether a text is decoded as behind a space, on both ports.
-pub fn agrees(decoder: &mut Decoder, text: &[u8]) -> bool {
+fn agrees(decoder: &mut Decoder, text: &[u8]) -> bool {
     let mut spaced = [b' '; 1024];
     if text.len() >= 1024 {
         return false;
@@ -94,6 +95,11 @@ pub fn agrees(decoder: &mut Decoder, text: &[u8]) -> bool {
     let watch = decoder.decode_watch(behind);
     main == Err(MessageFault::OutOfMemory)
         || (decoder.decode(text) == main && decoder.decode_watch(text) == watch)
+}
+
+/// Asserts that a text is decoded as behind a space, on both ports.
+pub fn assert_agrees(rt: &impl Abort, decoder: &mut Decoder, text: &[u8]) {
+    assert!(rt; agrees(decoder, text), "{text:?}");
 }
 
 /// Members by chance, as many as an object may have that is read without the general way, or one or two more.
@@ -116,10 +122,7 @@ fn a_text_and_each_beginning_of_it_are_read_as_behind_a_space(rt: HostRuntime) {
     let mut decoder = Decoder::new(rt.alloc());
     for text in texts() {
         for length in 0..=text.len() {
-            assert!(rt;
-                agrees(&mut decoder, &text.as_bytes()[..length]),
-                "{length} bytes of {text}"
-            );
+            assert_agrees(&rt, &mut decoder, &text.as_bytes()[..length]);
         }
     }
 }
@@ -134,14 +137,8 @@ fn a_long_text_is_read_as_behind_a_space(rt: HostRuntime) {
     for length in 100..1000 {
         text[length] = b'"';
         text[length + 1] = b'}';
-        assert!(rt;
-            agrees(&mut decoder, &text[..length + 2]),
-            "{length} bytes and an end"
-        );
-        assert!(rt;
-            agrees(&mut decoder, &text[..=length]),
-            "{length} bytes and no brace"
-        );
+        assert_agrees(&rt, &mut decoder, &text[..length + 2]);
+        assert_agrees(&rt, &mut decoder, &text[..=length]);
         text[length] = b'x';
         text[length + 1] = b'x';
     }
@@ -159,10 +156,7 @@ fn a_text_with_any_other_byte_at_any_place_is_read_as_behind_a_space(rt: HostRun
             for byte in 0..=255 {
                 changed[..text.len()].copy_from_slice(text.as_bytes());
                 changed[place] = byte;
-                assert!(rt;
-                    agrees(&mut decoder, &changed[..text.len()]),
-                    "{byte} at {place} of {text}"
-                );
+                assert_agrees(&rt, &mut decoder, &changed[..text.len()]);
             }
         }
     }
@@ -174,7 +168,7 @@ fn members_by_chance_are_read_as_behind_a_space(rt: HostRuntime) -> Result<(), F
     let mut dice = Dice { seed: 5 };
     for _ in 0..20000 {
         let text = text_by_chance(rt.alloc(), &mut dice)?;
-        assert!(rt; agrees(&mut decoder, text.as_slice()), "{text:?}");
+        assert_agrees(&rt, &mut decoder, text.as_slice());
     }
     Ok(())
 }

@@ -1,5 +1,6 @@
 //! One decoder for many texts. The tests hold with each allocation refused in turn (`rt try --test --fail-alloc N`).
 
+use crate::tests::claims::claim;
 use crate::tests::relays::table::{Asked, line_of, step_of};
 use relay_core::Step;
 use relay_messages::{Decoder, MessageFault};
@@ -57,11 +58,9 @@ fn a_decoder_reads_texts_one_after_another(rt: HostRuntime) {
     for (text, read) in texts() {
         let answer = answer_of(&rt, *read);
         let said = decoder.decode(text.as_bytes());
-        assert!(rt;
-            said == answer || said == Err(MessageFault::OutOfMemory),
-            "{text}"
-        );
+        let is_right = said == answer || said == Err(MessageFault::OutOfMemory);
+        claim(&rt, is_right, *text);
     }
     let said = decoder.decode(TAKE.as_bytes());
-    assert!(rt; said == Ok(Step::Take(7)));
+    claim(&rt, said == Ok(Step::Take(7)), "the last text");
 }

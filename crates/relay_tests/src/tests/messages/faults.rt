@@ -1,5 +1,6 @@
 //! Texts that are not commands.
 
+use crate::tests::claims::claim;
 use relay_core::Step;
 use relay_messages::{MessageFault, decode};
 
@@ -33,12 +34,11 @@ fn faults() -> &'static [(&'static str, MessageFault)] {
 #[test]
 fn script_faults(rt: HostRuntime) {
     for (text, fault) in faults() {
-        assert!(rt;
-            decode(rt.alloc(), text.as_bytes()) == Err(*fault),
-            "{text}"
-        );
+        let said = decode(rt.alloc(), text.as_bytes());
+        claim(&rt, said == Err(*fault), *text);
     }
-    assert!(rt; answer_to_1025(&rt, b' ') == Err(MessageFault::BadField));
-    let text = br#"{"cmd":"take","spectator":7}"#;
-    assert!(rt; decode(rt.alloc(), text) == Ok(Step::Take(7)));
+    let said = answer_to_1025(&rt, b' ');
+    claim(&rt, said == Err(MessageFault::BadField), "1,025 bytes");
+    let said = decode(rt.alloc(), br#"{"cmd":"take","spectator":7}"#);
+    claim(&rt, said == Ok(Step::Take(7)), "a command");
 }

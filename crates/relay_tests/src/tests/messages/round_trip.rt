@@ -1,5 +1,6 @@
 //! The texts of answers, read again as JSON.
 
+use crate::tests::claims::{claim, claim_of};
 use crate::tests::relays::table::{Told, reply_of};
 use crate::tests::values::START_518;
 use c960_board::Colour;
@@ -12,7 +13,7 @@ use std::test::Fail;
 
 /// The value of a member.
 #[derive(Clone, Copy)]
-enum Member {
+pub enum Member {
     Text(&'static str),
     Number(u64),
     Flag(bool),
@@ -74,22 +75,40 @@ fn replies() -> &'static [(Told, &'static str, &'static str, Member)] {
     &REPLIES
 }
 
+/// Asserts that a text is read as an object with these members. Returns how many it has in all.
+pub fn assert_members(
+    rt: &impl Abort,
+    alloc: Global,
+    text: &str,
+    members: &[(&'static str, Member)],
+) -> Result<usize, Fail> {
+    let object = Value::from_str(alloc, text)?;
+    for (key, member) in members {
+        claim_of(rt, says(&object, *key, *member), *key, text);
+    }
+    Ok(count_of(&object))
+}
+
+/// How many members an object has; none if it is no object.
+fn count_of(object: &Value) -> usize {
+    match object.as_object() {
+        Some(members) => members.len(),
+        None => 0,
+    }
+}
+
 /// Asserts that the text of an answer is read as an object of this kind with this member.
 fn assert_says(
     rt: &impl Abort,
     alloc: Global,
     answer: &Answer,
     kind: &'static str,
-    key: &str,
-    member: Member,
+    (key, member): (&'static str, Member),
 ) -> Result<(), Fail> {
     let text = encode(alloc, answer)?;
-    let object = Value::from_str(alloc, text.as_str())?;
-    assert!(rt;
-        object.is_object() && says(&object, "reply", Member::Text(kind)),
-        "{text}"
-    );
-    assert!(rt; says(&object, key, member), "{key} of {text}");
+    let members = [("reply", Member::Text(kind)), (key, member)];
+    let count = assert_members(rt, alloc, text.as_str(), &members)?;
+    claim(rt, count > 0, text.as_str());
     Ok(())
 }
 
@@ -97,11 +116,11 @@ fn assert_says(
 fn answers_are_read_as_objects_that_say_the_same(rt: HostRuntime) -> Result<(), Fail> {
     for (told, kind, key, member) in replies() {
         let answer = Answer::Reply(reply_of(&rt, *told, 0));
-        assert_says(&rt, rt.alloc(), &answer, *kind, *key, *member)?;
+        assert_says(&rt, rt.alloc(), &answer, *kind, (*key, *member))?;
     }
     let fault = Answer::Fault(MessageFault::NotJson);
-    let code = Member::Number(21);
-    assert_says(&rt, rt.alloc(), &fault, "refused", "code", code)?;
-    let name = Member::Text("NotJson");
-    assert_says(&rt, rt.alloc(), &fault, "refused", "name", name)
+    let code = ("code", Member::Number(21));
+    assert_says(&rt, rt.alloc(), &fault, "refused", code)?;
+    let name = ("name", Member::Text("NotJson"));
+    assert_says(&rt, rt.alloc(), &fault, "refused", name)
 }

@@ -1,7 +1,7 @@
 //! Usual objects, whose keys stand in the order in which nearly all clients write them, are read apart from all other texts. On texts on
 //! both sides of the form, that way and the general one agree.
 
-use crate::tests::messages::compact::agrees;
+use crate::tests::messages::compact::assert_agrees;
 use relay_messages::Decoder;
 use std::alloc::{AllocError, Global};
 use std::test::Fail;
@@ -151,10 +151,10 @@ fn with_name(alloc: Global, length: usize, behind: &str) -> Result<Vec<u8>, Allo
 fn a_text_that_is_nearly_usual_is_read_as_behind_a_space(rt: HostRuntime) {
     let mut decoder = Decoder::new(rt.alloc());
     for text in usual() {
-        assert!(rt; agrees(&mut decoder, text.as_bytes()), "{text}");
+        assert_agrees(&rt, &mut decoder, text.as_bytes());
     }
     for text in near() {
-        assert!(rt; agrees(&mut decoder, text.as_bytes()), "{text}");
+        assert_agrees(&rt, &mut decoder, text.as_bytes());
     }
 }
 
@@ -167,10 +167,7 @@ fn a_usual_text_with_any_other_byte_at_any_place_is_read_as_behind_a_space(
         for place in 0..text.len() {
             for byte in 0..=255 {
                 let changed = changed(rt.alloc(), text.as_bytes(), place, byte)?;
-                assert!(rt;
-                    agrees(&mut decoder, changed.as_slice()),
-                    "{byte} at {place} of {text}"
-                );
+                assert_agrees(&rt, &mut decoder, changed.as_slice());
             }
         }
     }
@@ -187,10 +184,7 @@ fn a_usual_text_with_a_gap_at_any_place_is_read_as_behind_a_space(
             for gap in GAPS.iter() {
                 let bytes = text.as_bytes();
                 let spaced = joined(rt.alloc(), &[&bytes[..place], *gap, &bytes[place..]])?;
-                assert!(rt;
-                    agrees(&mut decoder, spaced.as_slice()),
-                    "{gap:?} at {place} of {text}"
-                );
+                assert_agrees(&rt, &mut decoder, spaced.as_slice());
             }
         }
     }
@@ -207,7 +201,7 @@ fn any_number_of_a_usual_text_is_read_as_behind_a_space(rt: HostRuntime) -> Resu
     ] {
         for number in numbers() {
             let text = joined(rt.alloc(), &[front.as_bytes(), number.as_bytes(), b"}"])?;
-            assert!(rt; agrees(&mut decoder, text.as_slice()), "{front}{number}");
+            assert_agrees(&rt, &mut decoder, text.as_slice());
         }
     }
     Ok(())
@@ -220,10 +214,7 @@ fn a_usual_text_of_any_length_is_read_as_behind_a_space(rt: HostRuntime) -> Resu
     for behind in [r#"","move":"e2e4"}"#, r#"","spectator":7}"#] {
         for length in 0..=120 {
             let text = with_name(rt.alloc(), length, behind)?;
-            assert!(rt;
-                agrees(&mut decoder, text.as_slice()),
-                "a name of {length} bytes before {behind}"
-            );
+            assert_agrees(&rt, &mut decoder, text.as_slice());
         }
     }
     Ok(())

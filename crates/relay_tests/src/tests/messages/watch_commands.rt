@@ -1,8 +1,33 @@
 //! Texts on the watch port, and the same texts on the main port.
 
+use crate::tests::claims::{claim, claim_of};
 use crate::tests::relays::table::{Asked, line_of, step_of};
 use c960_game::Ending;
+use relay_core::Step;
 use relay_messages::{Decoder, MessageFault, WatchCommand, decode};
+use std::process::Abort;
+
+/// Asserts what a text asks for on the watch port.
+pub fn assert_watch(
+    rt: &impl Abort,
+    decoder: &mut Decoder,
+    text: &str,
+    wanted: &Result<WatchCommand, MessageFault>,
+) {
+    let said = decoder.decode_watch(text.as_bytes());
+    claim_of(rt, said == *wanted, "on the watch port, the meaning", text);
+}
+
+/// Asserts what a text asks for on the main port.
+pub fn assert_main(
+    rt: &impl Abort,
+    decoder: &mut Decoder,
+    text: &str,
+    wanted: &Result<Step, MessageFault>,
+) {
+    let said = decoder.decode(text.as_bytes());
+    claim_of(rt, said == *wanted, "on the main port, the meaning", text);
+}
 
 /// Texts that ask for the boards.
 static BOARDS: [&str; 5] = [
@@ -23,10 +48,8 @@ fn boards() -> &'static [&'static str] {
 fn boards_is_read_on_the_watch_port_alone(rt: HostRuntime) {
     let mut decoder = Decoder::new(rt.alloc());
     for text in boards() {
-        let said = decoder.decode_watch(text.as_bytes());
-        assert!(rt; said == Ok(WatchCommand::Boards), "{text}");
-        let said = decoder.decode(text.as_bytes());
-        assert!(rt; said == Err(MessageFault::UnknownCommand), "{text}");
+        assert_watch(&rt, &mut decoder, *text, &Ok(WatchCommand::Boards));
+        assert_main(&rt, &mut decoder, *text, &Err(MessageFault::UnknownCommand));
     }
 }
 
@@ -51,10 +74,8 @@ fn boards_with_a_key_more_is_a_bad_field_on_the_watch_port_and_unknown_on_the_ma
 ) {
     let mut decoder = Decoder::new(rt.alloc());
     for text in with_a_key_more() {
-        let said = decoder.decode_watch(text.as_bytes());
-        assert!(rt; said == Err(MessageFault::BadField), "{text}");
-        let said = decoder.decode(text.as_bytes());
-        assert!(rt; said == Err(MessageFault::UnknownCommand), "{text}");
+        assert_watch(&rt, &mut decoder, *text, &Err(MessageFault::BadField));
+        assert_main(&rt, &mut decoder, *text, &Err(MessageFault::UnknownCommand));
     }
 }
 
@@ -93,14 +114,12 @@ fn faults() -> &'static [(&'static str, MessageFault)] {
 fn faults_are_the_same_on_both_ports(rt: HostRuntime) {
     let mut decoder = Decoder::new(rt.alloc());
     for (text, fault) in faults() {
-        let said = decoder.decode_watch(text.as_bytes());
-        assert!(rt; said == Err(*fault), "{text}");
-        let said = decoder.decode(text.as_bytes());
-        assert!(rt; said == Err(*fault), "{text}");
+        assert_watch(&rt, &mut decoder, *text, &Err(*fault));
+        assert_main(&rt, &mut decoder, *text, &Err(*fault));
     }
     // Not UTF-8.
     let said = decoder.decode_watch(b"{\"cmd\":\"boards\xff\"}");
-    assert!(rt; said == Err(MessageFault::NotJson));
+    claim(&rt, said == Err(MessageFault::NotJson), "not UTF-8");
 }
 
 /// Commands of the main port.
@@ -148,12 +167,10 @@ fn commands() -> &'static [(&'static str, Asked)] {
 fn the_six_commands_are_the_same_on_both_ports(rt: HostRuntime) {
     let mut decoder = Decoder::new(rt.alloc());
     for (text, asked) in commands() {
-        let step = step_of(&rt, *asked, line_of(*asked));
-        let Ok(WatchCommand::Step(said)) = decoder.decode_watch(text.as_bytes()) else {
-            panic!(rt; "no command of the main port: {text}");
-        };
-        assert!(rt; said == step, "{text}");
-        assert!(rt; decode(rt.alloc(), text.as_bytes()) == Ok(step), "{text}");
+        let step = &step_of(&rt, *asked, line_of(*asked));
+        assert_watch(&rt, &mut decoder, *text, &Ok(WatchCommand::Step(*step)));
+        let said = decode(rt.alloc(), text.as_bytes());
+        claim(&rt, said == Ok(*step), *text);
     }
 }
 
@@ -162,6 +179,8 @@ fn a_text_of_1024_bytes_is_read_on_the_watch_port_and_one_of_1025_is_not(rt: Hos
     let mut decoder = Decoder::new(rt.alloc());
     let mut text = [b' '; 1025];
     text[..16].copy_from_slice(br#"{"cmd":"boards"}"#);
-    assert!(rt; decoder.decode_watch(&text[..1024]) == Ok(WatchCommand::Boards));
-    assert!(rt; decoder.decode_watch(&text) == Err(MessageFault::BadField));
+    let said = decoder.decode_watch(&text[..1024]);
+    claim(&rt, said == Ok(WatchCommand::Boards), "1,024 bytes");
+    let said = decoder.decode_watch(&text);
+    claim(&rt, said == Err(MessageFault::BadField), "1,025 bytes");
 }

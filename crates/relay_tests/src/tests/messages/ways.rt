@@ -1,7 +1,9 @@
 //! The ways in which a text is read, with the memory that each takes. They are tried in this order: usual, compact and plain objects, and
-//! any other text. Where one allocation is refused, each in turn (`benches/refusals.py --tests`), a decoder answers the text that asked for
+//! any other text. Where one allocation is refused, each in turn (`bench/refusals.py --tests`), a decoder answers the text that asked for
 //! it with 12, and goes on. That list says which of these tests meets no refusal, and which meets more than one.
 
+use crate::tests::claims::claim;
+use crate::tests::messages::watch_commands::{assert_main, assert_watch};
 use crate::tests::relays::table::{Asked, line_of, step_of};
 use c960_game::Ending;
 use relay_core::Step;
@@ -77,16 +79,12 @@ fn usual_and_compact() -> &'static [(&'static str, Asked)] {
 fn usual_and_compact_texts_take_no_memory(rt: HostRuntime) {
     let mut decoder = Decoder::new(rt.alloc());
     for (text, asked) in usual_and_compact() {
-        let step = step_of(&rt, *asked, line_of(*asked));
-        let Ok(WatchCommand::Step(said)) = decoder.decode_watch(text.as_bytes()) else {
-            panic!(rt; "no command of the main port: {text}");
-        };
-        assert!(rt; said == step, "{text} on the watch port");
-        let said = decoder.decode(text.as_bytes());
-        assert!(rt; said == Ok(step), "{text}");
+        let step = &step_of(&rt, *asked, line_of(*asked));
+        assert_watch(&rt, &mut decoder, *text, &Ok(WatchCommand::Step(*step)));
+        assert_main(&rt, &mut decoder, *text, &Ok(*step));
     }
-    let said = decoder.decode_watch(br#"{"cmd":"boards"}"#);
-    assert!(rt; said == Ok(WatchCommand::Boards));
+    let boards = r#"{"cmd":"boards"}"#;
+    assert_watch(&rt, &mut decoder, boards, &Ok(WatchCommand::Boards));
 }
 
 /// Texts that are compact and no command, and their faults.
@@ -115,43 +113,51 @@ fn refused_at_once() -> &'static [(&'static str, MessageFault)] {
 fn texts_that_are_refused_at_once_take_no_memory(rt: HostRuntime) {
     let mut decoder = Decoder::new(rt.alloc());
     for (text, fault) in refused_at_once() {
-        let said = decoder.decode(text.as_bytes());
-        assert!(rt; said == Err(*fault), "{text}");
-        let said = decoder.decode_watch(text.as_bytes());
-        assert!(rt; said == Err(*fault), "{text} on the watch port");
+        assert_main(&rt, &mut decoder, *text, &Err(*fault));
+        assert_watch(&rt, &mut decoder, *text, &Err(*fault));
     }
     let said = decoder.decode(&[b' '; 1025]);
-    assert!(rt; said == Err(MessageFault::BadField));
+    claim(&rt, said == Err(MessageFault::BadField), "on the main port");
     let said = decoder.decode_watch(&[b' '; 1025]);
-    assert!(rt; said == Err(MessageFault::BadField));
+    claim(
+        &rt,
+        said == Err(MessageFault::BadField),
+        "on the watch port",
+    );
 }
 
 #[test]
 fn behind_want_of_memory_a_decoder_goes_on(rt: HostRuntime) {
     let mut decoder = Decoder::new(rt.alloc());
-    assert!(rt; read(&mut decoder, PLAIN) == Ok(Step::Take(7)));
-    assert!(rt; decoder.decode(PLAIN.as_bytes()) == Ok(Step::Take(7)));
+    let said = read(&mut decoder, PLAIN);
+    claim(&rt, said == Ok(Step::Take(7)), "read again");
+    assert_main(&rt, &mut decoder, PLAIN, &Ok(Step::Take(7)));
 }
 
 #[test]
 fn behind_want_of_memory_for_members_a_decoder_goes_on(rt: HostRuntime) {
     let mut decoder = Decoder::new(rt.alloc());
-    assert!(rt; read(&mut decoder, OTHER) == Ok(Step::Take(7)));
-    assert!(rt; decoder.decode(PLAIN.as_bytes()) == Ok(Step::Take(7)));
-    assert!(rt; read(&mut decoder, "[") == Err(MessageFault::NotJson));
+    let said = read(&mut decoder, OTHER);
+    claim(&rt, said == Ok(Step::Take(7)), "read again");
+    assert_main(&rt, &mut decoder, PLAIN, &Ok(Step::Take(7)));
+    let said = read(&mut decoder, "[");
+    claim(&rt, said == Err(MessageFault::NotJson), "no JSON");
 }
 
 #[test]
 fn behind_want_of_memory_a_decoder_goes_on_on_the_watch_port(rt: HostRuntime) {
     let mut decoder = Decoder::new(rt.alloc());
-    assert!(rt; read_watch(&mut decoder, PLAIN_BOARDS) == Ok(WatchCommand::Boards));
-    assert!(rt; decoder.decode_watch(PLAIN_BOARDS.as_bytes()) == Ok(WatchCommand::Boards));
+    let said = read_watch(&mut decoder, PLAIN_BOARDS);
+    claim(&rt, said == Ok(WatchCommand::Boards), "read again");
+    assert_watch(&rt, &mut decoder, PLAIN_BOARDS, &Ok(WatchCommand::Boards));
 }
 
 #[test]
 fn behind_want_of_memory_for_members_a_decoder_goes_on_on_the_watch_port(rt: HostRuntime) {
     let mut decoder = Decoder::new(rt.alloc());
-    assert!(rt; read_watch(&mut decoder, OTHER_BOARDS) == Ok(WatchCommand::Boards));
-    assert!(rt; decoder.decode_watch(PLAIN_BOARDS.as_bytes()) == Ok(WatchCommand::Boards));
-    assert!(rt; read_watch(&mut decoder, "[") == Err(MessageFault::NotJson));
+    let said = read_watch(&mut decoder, OTHER_BOARDS);
+    claim(&rt, said == Ok(WatchCommand::Boards), "read again");
+    assert_watch(&rt, &mut decoder, PLAIN_BOARDS, &Ok(WatchCommand::Boards));
+    let said = read_watch(&mut decoder, "[");
+    claim(&rt, said == Err(MessageFault::NotJson), "no JSON");
 }

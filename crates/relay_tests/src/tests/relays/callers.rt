@@ -1,5 +1,6 @@
 //! The example of a caller that is written for both kinds of relay, tried with each.
 
+use crate::tests::claims::claim;
 use crate::tests::relays::kinds::Kind;
 use crate::tests::relays::table::{following, limits_of, with_capacity};
 use crate::tests::values::{START_518, account, board_of};
@@ -13,10 +14,12 @@ use std::process::Abort;
 fn assert_visit<K: Kind>(rt: &impl Abort, alloc: Global) -> Result<(), AllocError> {
     let mut relay = K::made(alloc, limits_of(rt, with_capacity(64)))?;
     let board = board_of(rt, "b1");
-    assert!(rt; relay.step(Step::Open(board, 518)) == Reply::Opened);
+    let opened = relay.step(Step::Open(board, 518));
     let (joined, left) = visit(&mut relay, 1, board);
-    assert!(rt; joined == following(rt, 0, START_518));
-    assert!(rt; left == Reply::Left(account(0, 0, 0, false)));
+    claim(rt, opened == Reply::Opened, "a board is opened");
+    claim(rt, joined == following(rt, 0, START_518), "one follows");
+    let told = Reply::Left(account(0, 0, 0, false));
+    claim(rt, left == told, "and leaves");
     Ok(())
 }
 

@@ -1,5 +1,6 @@
 //! Crowds of followers, who leave in several orders.
 
+use crate::tests::claims::claim;
 use crate::tests::relays::table::limits_of;
 use crate::tests::values::{board_of, move_of};
 use c960_game::Limits;
@@ -49,8 +50,13 @@ pub fn both_of(alloc: Global, limits: Limits) -> Result<Both, AllocError> {
 pub fn ask(rt: &impl Abort, both: &mut Both, step: &Step) -> bool {
     let plain = both.plain.step(*step);
     let live = both.live.step(*step);
-    assert!(rt; live == plain);
+    claim(rt, live == plain, "both answer alike");
     !matches!(plain, Reply::Refused(_))
+}
+
+/// Asserts that both answer a step alike, and accept it.
+pub fn accept(rt: &impl Abort, both: &mut Both, step: &Step) {
+    claim(rt, ask(rt, both, step), "the step is accepted");
 }
 
 /// A crowd joins, ten at each place of the log.
@@ -58,17 +64,17 @@ fn gather(rt: &impl Abort, both: &mut Both, board: BoardName) {
     for who in 0..CROWD {
         if who % 10 == 0 {
             let m = move_of(rt, LINE[(who / 10) as usize]);
-            assert!(rt; ask(rt, both, &Step::Submit(board, m)));
+            accept(rt, both, &Step::Submit(board, m));
         }
-        assert!(rt; ask(rt, both, &Step::Follow(who, board, None)));
+        accept(rt, both, &Step::Follow(who, board, None));
     }
 }
 
 /// Half of a crowd leaves, while the others take.
 fn halve(rt: &impl Abort, both: &mut Both, order: Order) {
     for others in 0..CROWD / 2 {
-        assert!(rt; ask(rt, both, &Step::Leave(leaver(order, others))));
-        assert!(rt; ask(rt, both, &Step::Take(leaver(order, CROWD / 2 + others))));
+        accept(rt, both, &Step::Leave(leaver(order, others)));
+        accept(rt, both, &Step::Take(leaver(order, CROWD / 2 + others)));
     }
 }
 
@@ -76,20 +82,20 @@ fn halve(rt: &impl Abort, both: &mut Both, order: Order) {
 fn join_again(rt: &impl Abort, both: &mut Both, board: BoardName) {
     for who in 0..CROWD {
         let _ = ask(rt, both, &Step::Follow(who, board, Some(2)));
-        assert!(rt; ask(rt, both, &Step::Take(who)));
+        accept(rt, both, &Step::Take(who));
     }
 }
 
 /// All leave.
 fn disperse(rt: &impl Abort, both: &mut Both, order: Order) {
     for others in 0..CROWD {
-        assert!(rt; ask(rt, both, &Step::Leave(leaver(order, others))));
+        accept(rt, both, &Step::Leave(leaver(order, others)));
     }
 }
 
 /// A crowd comes to a new board, and leaves in this order.
 fn come_and_go(rt: &impl Abort, both: &mut Both, board: BoardName, order: Order) {
-    assert!(rt; ask(rt, both, &Step::Open(board, 518)));
+    accept(rt, both, &Step::Open(board, 518));
     gather(rt, both, board);
     halve(rt, both, order);
     join_again(rt, both, board);

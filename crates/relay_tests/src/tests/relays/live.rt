@@ -1,6 +1,7 @@
 //! A board that a relay over live boards hands out.
 
 use crate::handing::play_and_hand_out;
+use crate::tests::claims::claim;
 use crate::tests::deeds::{followed, is_full, leaves};
 use crate::tests::relays::closing::full_queue;
 use crate::tests::relays::table::{Asked, Told, case_of, limits_of};
@@ -21,28 +22,37 @@ fn board_after(
     let limits = limits_of(rt, (2, 1, 2, 64));
     let name = board_of(rt, name);
     let (replies, board) = play_and_hand_out(alloc, limits, case.steps.as_slice(), &name)?;
-    assert!(rt; replies.as_slice() == case.replies.as_slice());
+    claim(
+        rt,
+        replies.as_slice() == case.replies.as_slice(),
+        "the replies",
+    );
     Ok(board)
+}
+
+/// Asserts that a board has three moves and has not ended, and that one may follow it.
+fn assert_goes_on(rt: &impl Abort, mut board: Board) {
+    claim(rt, board.len() == 3, "three moves");
+    claim(rt, board.outcome().is_none(), "the game goes on");
+    let follower = followed(rt, &mut board, None);
+    let told = leaves(follower) == account(3, 0, 3, false);
+    claim(rt, told, "its slot was given back");
 }
 
 #[test]
 fn a_board_is_handed_out_with_its_game(rt: HostRuntime) -> Result<(), Fail> {
-    let Some(mut board) = board_after(&rt, rt.alloc(), full_queue(), "b1")? else {
-        panic!(rt; "no board");
-    };
-    assert!(rt; board.len() == 3 && board.outcome().is_none());
-    let follower = followed(&rt, &mut board, None);
-    assert!(rt; leaves(follower) == account(3, 0, 3, false));
-    assert!(rt; board_after(&rt, rt.alloc(), full_queue(), "b9")?.is_none());
+    let board = board_after(&rt, rt.alloc(), full_queue(), "b1")?;
+    assert_goes_on(&rt, board.expect(&rt, "a board"));
+    let other = board_after(&rt, rt.alloc(), full_queue(), "b9")?;
+    claim(&rt, other.is_none(), "no board b9");
     Ok(())
 }
 
 #[test]
 fn who_followed_a_board_keeps_its_place_there(rt: HostRuntime) -> Result<(), Fail> {
     // All rows but the last, in which the follower leaves.
-    let Some(mut board) = board_after(&rt, rt.alloc(), &full_queue()[..9], "b1")? else {
-        panic!(rt; "no board");
-    };
-    assert!(rt; is_full(&mut board));
+    let board = board_after(&rt, rt.alloc(), &full_queue()[..9], "b1")?;
+    let mut board = board.expect(&rt, "a board");
+    claim(&rt, is_full(&mut board), "its slot is taken");
     Ok(())
 }

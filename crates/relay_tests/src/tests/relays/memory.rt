@@ -1,6 +1,7 @@
 //! Lack of memory. If one allocation is refused (`rt try --test --fail-alloc N`, for each N in turn), the call that needed
 //! it says so and changes nothing, and is accepted when made again; everything else is answered as ever.
 
+use crate::tests::claims::claim;
 use crate::tests::relays::endings::mate;
 use crate::tests::relays::kinds::Kind;
 use crate::tests::relays::table::Asked::{End, Follow, FollowFrom, Leave, Open, Submit, Take};
@@ -65,17 +66,16 @@ fn assert_answer(
 ) {
     let first = relay.step(*step);
     let vain = in_vain(step);
-    if first != WANT || vain.is_none() {
-        assert!(rt; first == *reply);
-        return;
+    match vain {
+        Some((asked, told)) if first == WANT => {
+            refused.note();
+            let after = relay.step(asked);
+            let again = relay.step(*step);
+            claim(rt, after == told, "after a refusal");
+            claim(rt, again == *reply, "made again");
+        }
+        _ => claim(rt, first == *reply, "the answer"),
     }
-    refused.note();
-    if let Some((asked, told)) = vain {
-        let after = relay.step(asked);
-        assert!(rt; after == told, "after a refusal");
-    }
-    let again = relay.step(*step);
-    assert!(rt; again == *reply, "made again");
 }
 
 /// The replies of a run, made again if it was refused: then no step was made, as the replies show.
@@ -163,7 +163,11 @@ fn assert_rows(
 ) {
     let plain = refusals_in::<Relay>(rt, alloc, limits, rows);
     let live = refusals_in::<LiveRelay>(rt, alloc, limits, rows);
-    assert!(rt; plain.saturating_add(live) <= 1);
+    claim(
+        rt,
+        plain.saturating_add(live) <= 1,
+        "one refusal at the most",
+    );
 }
 
 #[test]
@@ -197,6 +201,7 @@ fn steps_of_a_run(rt: &impl Abort) -> [Step; 10] {
 /// Asserts that these are the replies to that run. Of each of the first two pairs the second may be accepted where the first was refused
 /// for lack of memory, which is noted.
 fn assert_replies_of_a_run(rt: &impl Abort, replies: &[Reply], refused: &mut Refused) {
+    // The places below rest on it, so it is asserted here.
     assert!(rt; replies.len() == 10);
     let opened = (Reply::Opened, Reply::Refused(Refusal::BoardExists));
     let followed = (
@@ -213,7 +218,7 @@ fn assert_replies_of_a_run(rt: &impl Abort, replies: &[Reply], refused: &mut Ref
     ];
     assert_pair(rt, (replies[0], replies[1]), opened, refused);
     assert_pair(rt, (replies[2], replies[3]), followed, refused);
-    assert!(rt; &replies[4..] == rest.as_slice());
+    claim(rt, replies.ends_with(rest.as_slice()), "the rest");
 }
 
 /// Asserts that a new relay of the kind answers a run. Returns how many calls were refused for lack of memory.
@@ -230,7 +235,11 @@ fn refusals_of_a_run<K: Kind>(rt: &impl Abort, alloc: Global) -> u32 {
 fn a_refused_run_makes_no_step(rt: HostRuntime) {
     let plain = refusals_of_a_run::<Relay>(&rt, rt.alloc());
     let live = refusals_of_a_run::<LiveRelay>(&rt, rt.alloc());
-    assert!(rt; plain.saturating_add(live) <= 1);
+    claim(
+        &rt,
+        plain.saturating_add(live) <= 1,
+        "one refusal at the most",
+    );
 }
 
 /// Asserts that a step made twice gets these answers, or that the first was refused for lack of memory and the second accepted.
@@ -242,9 +251,9 @@ fn assert_pair(
 ) {
     if given.0 == WANT {
         refused.note();
-        assert!(rt; given.1 == expected.0, "made again");
+        claim(rt, given.1 == expected.0, "made again");
     } else {
-        assert!(rt; given.0 == expected.0);
-        assert!(rt; given.1 == expected.1);
+        claim(rt, given.0 == expected.0, "made once");
+        claim(rt, given.1 == expected.1, "made twice");
     }
 }

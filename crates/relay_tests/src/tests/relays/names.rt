@@ -1,5 +1,6 @@
 //! The worked cases of names.
 
+use crate::tests::claims::{claim, claim_at};
 use relay_core::BoardName;
 use std::alloc::AllocError;
 
@@ -8,7 +9,7 @@ fn texts_of_1_to_32_bytes_are_names(rt: HostRuntime) {
     let text = b"AZaz09_-AZaz09_-AZaz09_-AZaz09_-";
     for length in 1..=32 {
         let name = BoardName::new(&text[..length]).expect(&rt, "a name");
-        assert!(rt; name.as_bytes() == &text[..length]);
+        claim_at(&rt, name.as_bytes() == &text[..length], "bytes", length);
     }
 }
 
@@ -37,10 +38,11 @@ fn other_texts_are_no_names(rt: HostRuntime) {
 #[test]
 fn a_name_is_its_text(rt: HostRuntime) -> Result<(), AllocError> {
     let name = BoardName::new(b"board-12").expect(&rt, "a name");
-    assert!(rt; name.as_str() == "board-12");
-    assert!(rt; name.to_string(rt.alloc())?.as_str() == "board-12");
+    claim(&rt, name.as_str() == "board-12", "its text");
+    let text = name.to_string(rt.alloc())?;
+    claim(&rt, text.as_str() == "board-12", "its text by itself");
     let name = BoardName::new(b"ab").expect(&rt, "a name");
-    assert!(rt; BoardName::new(b"ab") == Some(name));
+    claim(&rt, BoardName::new(b"ab") == Some(name), "the same name");
     for text in [
         b"a".as_slice(),
         b"abc".as_slice(),

@@ -1,6 +1,7 @@
 //! More followers than the sixty-four whose tags are compared at once. A relay is asked what a plain one is asked, which looks at its
 //! followers one by one.
 
+use crate::tests::claims::{claim, claim_at};
 use crate::tests::relays::plain::Plain;
 use crate::tests::relays::table::limits_of;
 use crate::tests::values::{board_of, move_of};
@@ -57,21 +58,26 @@ fn board(rt: &impl Abort, pair: &Pair, turn: u32) -> BoardName {
 
 /// Asserts that both answer a step alike. Returns whether they accept it.
 fn ask(rt: &impl Abort, pair: &mut Pair, step: Step) -> Result<bool, AllocError> {
-    let reply = pair.relay.step(step);
     let plain = pair.plain.step(step)?;
-    assert!(rt; reply == plain, "{step:?}");
+    let reply = pair.relay.step(step);
+    claim(rt, reply == plain, "both answer alike");
     Ok(!matches!(reply, Reply::Refused(_)))
+}
+
+/// Asserts that both answer a step alike, and accept it.
+fn accept(rt: &impl Abort, pair: &mut Pair, step: Step) -> Result<(), AllocError> {
+    let is_accepted = ask(rt, pair, step)?;
+    assert!(rt; is_accepted, "{step:?}");
+    Ok(())
 }
 
 /// The boards are opened, and the followers come, to each board by turns.
 fn gather(rt: &impl Abort, pair: &mut Pair) -> Result<(), AllocError> {
     for turn in 0..pair.boards {
-        let opened = ask(rt, pair, Step::Open(board(rt, pair, turn), 518))?;
-        assert!(rt; opened);
+        accept(rt, pair, Step::Open(board(rt, pair, turn), 518))?;
     }
     for who in 0..pair.followers {
-        let follows = ask(rt, pair, Step::Follow(who, board(rt, pair, who), None))?;
-        assert!(rt; follows);
+        accept(rt, pair, Step::Follow(who, board(rt, pair, who), None))?;
     }
     Ok(())
 }
@@ -81,22 +87,22 @@ fn change(rt: &impl Abort, pair: &mut Pair, who: u32, turn: u32) -> Result<(), A
     let more = pair.followers;
     let _ = ask(rt, pair, Step::Follow(more, board(rt, pair, turn), None))?;
     let _ = ask(rt, pair, Step::Leave(more))?;
-    let left = ask(rt, pair, Step::Leave(who))?;
-    assert!(rt; left);
+    accept(rt, pair, Step::Leave(who))?;
+    let mut has_room = false;
     for next in turn..turn.saturating_add(8) {
-        if ask(rt, pair, Step::Follow(who, board(rt, pair, next), None))? {
-            return Ok(());
+        if !has_room {
+            has_room = ask(rt, pair, Step::Follow(who, board(rt, pair, next), None))?;
         }
     }
-    panic!(rt; "no room for {who}");
+    claim_at(rt, has_room, "room for", who as usize);
+    Ok(())
 }
 
 /// The same move on each board by turns, behind which one of the first followers and one of the last change. Then four of five take.
 fn play(rt: &impl Abort, pair: &mut Pair, round: u32) -> Result<(), AllocError> {
     let m = move_of(rt, LINE[(round % 8) as usize]);
     for turn in 0..pair.boards {
-        let played = ask(rt, pair, Step::Submit(board(rt, pair, turn), m))?;
-        assert!(rt; played);
+        accept(rt, pair, Step::Submit(board(rt, pair, turn), m))?;
         let first = round.saturating_add(turn.saturating_mul(7));
         change(rt, pair, first, turn)?;
         let last = pair.followers.saturating_sub(first.saturating_add(1));
@@ -113,9 +119,8 @@ fn play(rt: &impl Abort, pair: &mut Pair, round: u32) -> Result<(), AllocError> 
 /// All take once more, and leave.
 fn disperse(rt: &impl Abort, pair: &mut Pair) -> Result<(), AllocError> {
     for who in 0..pair.followers {
-        let took = ask(rt, pair, Step::Take(who))?;
-        let left = ask(rt, pair, Step::Leave(who))?;
-        assert!(rt; took && left);
+        accept(rt, pair, Step::Take(who))?;
+        accept(rt, pair, Step::Leave(who))?;
     }
     Ok(())
 }

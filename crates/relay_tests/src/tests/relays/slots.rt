@@ -1,6 +1,7 @@
 //! The slots of a live board, which are given out again once they are left.
 
-use crate::tests::relays::crowds::{Both, ask, both_of};
+use crate::tests::claims::{claim, claim_at};
+use crate::tests::relays::crowds::{Both, accept, ask, both_of};
 use crate::tests::relays::table::limits_of;
 use crate::tests::values::board_of;
 use relay_core::{BoardName, Spectator, Step};
@@ -24,16 +25,16 @@ fn come_and_go(
     first: Spectator,
     second: Spectator,
 ) {
-    assert!(rt; ask(rt, both, &Step::Open(board, 518)));
+    accept(rt, both, &Step::Open(board, 518));
     for who in 0..MOST {
-        assert!(rt; ask(rt, both, &Step::Follow(who, board, None)));
+        accept(rt, both, &Step::Follow(who, board, None));
     }
     for _ in 0..ROUNDS {
         swap_places(rt, both, board, first, second);
     }
-    assert!(rt; ask(rt, both, &Step::Leave(first)));
-    assert!(rt; ask(rt, both, &Step::Leave(second)));
-    assert!(rt; ask(rt, both, &Step::Follow(first, board, None)));
+    accept(rt, both, &Step::Leave(first));
+    accept(rt, both, &Step::Leave(second));
+    accept(rt, both, &Step::Follow(first, board, None));
 }
 
 /// Two leave and follow again, while one more asks in vain.
@@ -44,18 +45,25 @@ fn swap_places(
     first: Spectator,
     second: Spectator,
 ) {
-    assert!(rt; ask(rt, both, &Step::Leave(first)));
-    assert!(rt; ask(rt, both, &Step::Leave(second)));
-    assert!(rt; ask(rt, both, &Step::Follow(first, board, None)));
-    assert!(rt; ask(rt, both, &Step::Follow(second, board, None)));
-    assert!(rt; !ask(rt, both, &Step::Follow(MOST, board, None)));
+    accept(rt, both, &Step::Leave(first));
+    accept(rt, both, &Step::Leave(second));
+    accept(rt, both, &Step::Follow(first, board, None));
+    accept(rt, both, &Step::Follow(second, board, None));
+    let follows = ask(rt, both, &Step::Follow(MOST, board, None));
+    claim(rt, !follows, "no room for one more");
+}
+
+/// The board of that name, from the relay over live boards.
+fn handed_out(rt: &impl Abort, both: Both, board: &BoardName) -> Board {
+    both.live.into_board(board).expect(rt, "a board")
 }
 
 /// Asserts that only this slot is vacant.
 fn assert_vacant(rt: &impl Abort, board: &Board, vacant: u32) {
     for slot in 0..MOST {
         let cursor = board.word(u64::from(slot) + 2);
-        assert!(rt; (cursor == Some(0)) == (slot == vacant), "slot {slot}");
+        let is_vacant = cursor == Some(0);
+        claim_at(rt, is_vacant == (slot == vacant), "slot", slot as usize);
     }
 }
 
@@ -70,10 +78,7 @@ fn assert_lower(
     let board = board_of(rt, "crowded");
     let mut both = both_of(alloc, limits)?;
     come_and_go(rt, &mut both, board, first, second);
-    let Both { plain: _, live } = both;
-    let Some(board) = live.into_board(&board) else {
-        panic!(rt; "no board");
-    };
+    let board = handed_out(rt, both, &board);
     assert_vacant(rt, &board, first.max(second));
     Ok(())
 }

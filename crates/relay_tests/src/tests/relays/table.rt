@@ -1,5 +1,6 @@
 //! Cases as tables: what is asked of a relay, and what it has to answer, one row each.
 
+use crate::tests::claims::{claim_at, claim_of};
 use crate::tests::relays::kinds::Kind;
 use crate::tests::values::{account, board_of, move_of, position_of};
 use c960_game::{Ending, Limits, Outcome, Refusal};
@@ -55,10 +56,7 @@ pub struct Case {
 /// The limits with these numbers: boards, followers a board, capacity, plies.
 pub fn limits_of(rt: &impl Abort, numbers: (u16, u16, u16, u16)) -> Limits {
     let (boards, followers, capacity, plies) = numbers;
-    let Some(limits) = Limits::new(boards, followers, capacity, plies) else {
-        panic!(rt; "no limits");
-    };
-    limits
+    Limits::new(boards, followers, capacity, plies).expect(rt, "limits")
 }
 
 /// 16 boards, 64 followers a board, 1,024 plies, and queues of this capacity.
@@ -129,15 +127,22 @@ pub fn case_of(rt: &impl Abort, alloc: Global, rows: &[(Asked, Told)]) -> Result
         steps: Vec::new(alloc),
         replies: Vec::new(alloc),
     };
-    for (asked, told) in rows {
-        let mut after = 0u16;
-        for m in line_of(*asked).split(' ') {
-            case.steps.push(step_of(rt, *asked, m))?;
-            case.replies.push(reply_of(rt, *told, after))?;
-            after = after.saturating_add(1);
-        }
+    for row in rows {
+        add_row(rt, &mut case, row)?;
     }
     Ok(case)
+}
+
+/// Adds the steps of a row, and their replies.
+fn add_row(rt: &impl Abort, case: &mut Case, row: &(Asked, Told)) -> Result<(), AllocError> {
+    let (asked, told) = *row;
+    let mut after = 0u16;
+    for m in line_of(asked).split(' ') {
+        case.steps.push(step_of(rt, asked, m))?;
+        case.replies.push(reply_of(rt, told, after))?;
+        after = after.saturating_add(1);
+    }
+    Ok(())
 }
 
 /// Asserts that a new relay of the kind, which is named so, gives these replies to these steps, step by step.
@@ -150,7 +155,7 @@ fn assert_steps<K: Kind>(
 ) -> Result<(), Fail> {
     let mut relay = K::made(alloc, limits)?;
     for i in 0..steps.len().min(replies.len()) {
-        assert!(rt; relay.step(steps[i]) == replies[i], "{name} by step");
+        claim_at(rt, relay.step(steps[i]) == replies[i], name, i);
     }
     Ok(())
 }
@@ -165,7 +170,7 @@ fn assert_run<K: Kind>(
 ) -> Result<(), Fail> {
     let mut relay = K::made(alloc, limits)?;
     let given = relay.ran(steps)?;
-    assert!(rt; given.as_slice() == replies, "{name} by run");
+    claim_of(rt, given.as_slice() == replies, "a run", name);
     Ok(())
 }
 

@@ -1,6 +1,7 @@
 //! What threads may do with a relay: either kind may go to another one, and the plain one may be read by several at once. A caller needs
 //! this of the types, and no contract says it.
 
+use crate::tests::claims::claim;
 use c960_game::Limits;
 use relay_core::Relay;
 use relay_live::LiveRelay;
@@ -20,7 +21,7 @@ fn may_be_shared<T: Sync>(_value: &T) -> bool {
 fn a_relay_may_go_to_another_thread_and_be_shared(rt: HostRuntime) -> Result<(), Fail> {
     let limits = Limits::new(1, 1, 1, 1).expect(&rt, "limits");
     let relay = Relay::new(rt.alloc(), limits)?;
-    assert!(rt; may_go(&relay) && may_be_shared(&relay));
+    claim(&rt, may_go(&relay) && may_be_shared(&relay), "it may");
     Ok(())
 }
 
@@ -28,6 +29,6 @@ fn a_relay_may_go_to_another_thread_and_be_shared(rt: HostRuntime) -> Result<(),
 fn a_live_relay_may_go_to_another_thread(rt: HostRuntime) -> Result<(), Fail> {
     let limits = Limits::new(1, 1, 1, 1).expect(&rt, "limits");
     let relay = LiveRelay::new(rt.alloc(), limits)?;
-    assert!(rt; may_go(&relay));
+    claim(&rt, may_go(&relay), "it may");
     Ok(())
 }

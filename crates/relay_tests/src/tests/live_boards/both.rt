@@ -1,0 +1,36 @@
+//! A board and the plain one, asked the same questions.
+
+use crate::tests::claims::claim;
+use crate::tests::live_boards::plain::Plain;
+use crate::tests::live_boards::stage::{Answer, Ask, Stage};
+use c960_game::{Game, Limits};
+use std::alloc::{AllocError, Global};
+use std::process::Abort;
+
+/// A board and the plain one.
+#[derive(Drop)]
+pub struct Both {
+    pub stage: Stage,
+    plain: Plain,
+}
+
+/// New boards of start 518, with room for this many followers.
+pub fn both_of(
+    rt: &impl Abort,
+    alloc: Global,
+    limits: Limits,
+    room: usize,
+) -> Result<Both, AllocError> {
+    let game = Game::open(alloc, 518, limits.plies()).expect(rt, "a game");
+    let plain = Plain::new(alloc, game, limits, room)?;
+    let stage = Stage::open(rt, alloc, limits, room)?;
+    Ok(Both { stage, plain })
+}
+
+/// Asserts that both answer alike. Returns the answer.
+pub fn ask_both(rt: &impl Abort, both: &mut Both, asked: &Ask) -> Result<Answer, AllocError> {
+    let told = both.plain.ask(*asked)?;
+    let answer = both.stage.ask(*asked);
+    claim(rt, answer == told, "both answer alike");
+    Ok(answer)
+}
