@@ -4,6 +4,7 @@
  *   watch=ws://HOST:PORT      the relay's watch port
  *   server=ws://HOST:PORT     the relay, at its main port or at its watch port
  *   channel=wss://HOST/sub    the channels to read, in place of a relay
+ *   event=TEXT, round=TEXT    the event and its round, for the games that are saved as PGN
  *   board=NAME                one board
  *   boards=NAME,NAME,..       the boards of a round
  *   players=A–B;C–D;..        their players, White first, in the order of the boards. A name may have a comma, as in "Carlsen, Magnus",
@@ -67,11 +68,18 @@ const Address = (() => {
   const link = (page, keys) => page + Object.entries(keys).filter(([, value]) => value !== null)
     .map(([key, value], index) => `${index === 0 ? "?" : "&"}${key}${value === "" ? "" : `=${written(value)}`}`).join("");
 
+  /** The keys of the event and its round, for another page's address. */
+  const ofEvent = () => ({ event: given.get("event"), round: given.get("round") });
+
+  /** The tags of a game's PGN that say the event and its round, "" where they are not known. */
+  const tags = () => ({ Event: given.get("event") || "", Round: given.get("round") || "" });
+
   /** The address at which one board is watched, from where this page has its texts, with its players. */
   const ofBoard = (board, players) => link("watch.html", {
     channel: given.get("channel"), watch: given.get("watch"), server: given.get("server"), board, players: Players.written(players) || null,
+    ...ofEvent(),
   });
 
   return { RELAY, IS_OF_SITE, source, saysSource: () => sourceKey() !== undefined, keysOf, ofChannel, boards, named, wrongNames, isName,
-    link, ofBoard, get: (key) => given.get(key), has: (key) => given.has(key) };
+    link, ofBoard, ofEvent, tags, get: (key) => given.get(key), has: (key) => given.has(key) };
 })();

@@ -107,8 +107,8 @@ const createAnew = ({ at, back, open }) => {
 
   /** Saves the game that is offered as PGN, with the day on which it was kept. */
   function savePgn() {
-    const { board, players, saved } = chosen;
-    Saved.pgn(board, Pgn.write(board, recordOf(chosen), Players.tags(players), new Date(saved)));
+    const { board, players, saved, tags = {} } = chosen;
+    Saved.pgn(board, Pgn.write(board, recordOf(chosen), { ...tags, ...Players.tags(players) }, new Date(saved)));
   }
 
   at("kept").addEventListener("change", choose);

@@ -1,8 +1,11 @@
 "use strict";
-/* The last games of this browser's boards, kept by the browser after each move, so that none is lost with the page. */
+/* The last games of this browser's boards, kept by the browser when they are opened and after each move: none is lost with the page. */
 const Kept = (() => {
   const KEY = "sirvandu.games";
-  const MOST = 40;
+  const MOST = 100;
+  const HOURS = 12; // For which a result is shown by itself: a board of another day may have the same name.
+  /* Which game a tab of the browser has, by the board that the page's address names: it outlasts a reload. */
+  const HERE = `sirvandu.here ${Address.get("board") || ""}`;
 
   function all() {
     try {
@@ -23,5 +26,42 @@ const Kept = (() => {
     }
   }
 
-  return { all, keep };
+  /** Notes that this page has the game with this number. */
+  function here(id) {
+    try {
+      sessionStorage.setItem(HERE, id);
+    } catch (fault) {
+      // A browser that keeps nothing: the board's name has to do.
+    }
+  }
+
+  function hereId() {
+    try {
+      return sessionStorage.getItem(HERE);
+    } catch (fault) {
+      return null;
+    }
+  }
+
+  const isFresh = ({ saved }) => Date.now() - Date.parse(saved) < HOURS * 3600 * 1000;
+
+  /**
+   * The last game of the board that this page had before it was loaded again, or of this board at this relay, where it has ended; or null.
+   * Another window may have gone on with it.
+   */
+  function ended(board, server) {
+    const games = all();
+    const own = games.find((it) => it.id === hereId());
+    const wanted = own || { board, server };
+    const isOfBoard = (it) => it.board === wanted.board || Words.isHeir(it.board, wanted.board);
+    const isSame = (it) => wanted.board !== "" && it.server === wanted.server && isFresh(it) && isOfBoard(it);
+    const last = games.find((it) => it === own || isSame(it));
+    return last && last.outcome ? last : null;
+  }
+
+  /** The game of a board at this relay that has no end, under whatever name it goes on; or null. */
+  const going = (board, server) => all()
+    .find((it) => !it.outcome && it.server === server && Words.firstName(it.board) === Words.firstName(board)) || null;
+
+  return { all, keep, here, ended, going };
 })();

@@ -2,7 +2,8 @@
 /*
  * The list of a relay's boards, on one connection: its watch port tells it, or a feed keeps it in the channel _boards. Each text tells of
  * one board all that there is to be shown; the last of a board counts. What a connection hands out at first is the whole list. So it is
- * taken together, and boards that are not in it are gone: the relay was restarted.
+ * taken together, and boards that are not in it are gone: the relay was restarted. At a watch port their results stay (results.js); of a
+ * channel the feed sees to that.
  *
  * `view` is what shows the list:
  *   listed()                     the whole list is another
@@ -18,8 +19,9 @@ const createList = (view) => {
   const KEPT = 5000; // of a channel, which has more to tell.
 
   const wish = { kind: "relay", server: "", waits: Link.waits(true) };
-  /* The last text of each board, in the order of their opening. */
+  /* The last text of each board of the relay, in the order of their opening, and of those that had ended before it was restarted. */
   let texts = new Map();
+  let left = new Map();
 
   /*
    * The states, and what belongs to each:
@@ -55,10 +57,20 @@ const createList = (view) => {
     list.set(text.board, text);
   }
 
+  const all = () => Results.together(left, texts);
+
+  /** Lets the browser keep the results, once there is another one. */
+  function keep() {
+    if (!isChannel()) {
+      Results.keep(wish.server, all());
+    }
+  }
+
   /* The connection. */
 
   function begin(_, given) {
     Object.assign(wish, given);
+    left = isChannel() ? left : Results.kept(wish.server);
     connect();
   }
 
@@ -139,7 +151,9 @@ const createList = (view) => {
   function settle({ timer, kept, ...value }) {
     clearTimeout(timer);
     wish.waits.again();
+    left = isChannel() ? left : Results.left(all(), kept);
     texts = kept;
+    keep();
     view.listed();
     listen(value);
   }
@@ -158,6 +172,9 @@ const createList = (view) => {
 
   function told(value, text) {
     put(texts, text);
+    if (text.outcome !== null) {
+      keep();
+    }
     view.told(text);
     beat(value, text);
   }
@@ -185,6 +202,6 @@ const createList = (view) => {
   return {
     /** Reads the list of a source (address.js), and never gives up. */
     begin: (source) => phase.take("begin", source),
-    texts: () => texts,
+    texts: all,
   };
 };

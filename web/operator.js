@@ -13,28 +13,38 @@
  *   keep()                     the game has got further and is to be kept
  *   opened(), over()           the board is open; the game has ended
  *   offer(moves)               the game, with these moves, can be gone on with
+ *   kept(board)                the game of this board that has no end, where the browser keeps one, or null
  *   server(), isAlone()        the relay's address, and whether a lost game is reopened without a question
  *   entered()                  the operator is in another state
  */
 const createOperator = (view) => {
   const NAMES = 20;
+  const HEIRS = 3; // How many next names are tried for a game that somebody else goes on with.
   /* No man ever goes so. A relay refuses it on the first ground that holds, and thereby tells how a board stands to the one who asks. */
   const KNOCK = "a1b8";
   const OURS = ["Illegal", "LogFull"];
+  const THERE = [...OURS, "NotYourBoard"];
   const NO_ROOM = ["TooManyFollowers", "OutOfMemory"];
-  const FRESH = { resend: [], pending: null, correct: null, doubt: null, isBack: false, wasSent: false, tried: 0 };
+  const FRESH = {
+    resend: [], pending: null, correct: null, doubt: null, isBack: false, isFirst: false, isAlone: false, wasSent: false, tried: 0,
+  };
 
-  /* The game that the page has: { id, board, start, players, anew, outcome }. It outlasts the states: it can be saved when it is over. */
+  /* The game that the page has: { id, board, start, players, anew, outcome, next }. It outlasts the states: it can be saved when it is
+   * over. Under the next name it is reopened. */
   let game = null;
 
   /*
    * The states, and what belongs to each:
    *   idle                           no board is open, and none is wanted
+   *   claiming    attempt            the browser is asked whether another window has the board
+   *   doubted     attempt, label, goOn   somebody else seems to operate the board, and nothing is sent until the operator says so
    *   connecting  link, attempt      the connection is being made
+   *   sounding    link, attempt, asked, left   the relay is asked whether the game goes on under a next name already
    *   opening     link, attempt      the relay is asked for the board
    *   knocking    link, attempt      it is asked whether it still has the board, and gives it back
    *   looking     link, attempt, glance, isOver    another connection looks how far the game has come, or how it ended
    *   playing     link               the board is open, and nothing is asked
+   *   probing     link, command, correct           it is asked whether the next name is free, before a game is ended to be corrected
    *   asked       link, command, resend, correct   the relay was sent a move or an ending, and has not answered
    *   lost        attempt            there is no connection; it is tried again by itself
    *   over                           the game has ended
@@ -44,26 +54,41 @@ const createOperator = (view) => {
    *   correct   the moves with which the game is reopened once it has ended, or null: it is ended to be corrected
    *   doubt     the refusal of a pending move that is legal on this page, or null
    *   isBack    whether the board was open before
+   *   isFirst   whether the board is opened under the name of its first game
+   *   isAlone   whether this page reopens the game by itself
    *   wasSent   whether the relay was asked for the board on a connection before
    *   tried     how many names were taken
    *   waits     those between two tries
    * The relay is asked for one thing at a time, so that an answer is that to what was asked. Where none comes in time, the connection
    * counts as lost: a cable that was pulled tells nothing.
    */
-  const ways = { closed: tryAgain, late: tryAgain, broken, stop };
+  const ways = { closed: tryAgain, late: tryAgain, broken, stop, taken };
   const phase = createPhase({
-    idle: { open, back },
-    connecting: { connected, closed: tryAgain, broken, stop },
+    idle: { open, back, show },
+    claiming: { claimed, held, stop },
+    doubted: { open, back, anyway },
+    connecting: { connected, closed: tryAgain, broken, stop, taken },
+    sounding: { ...ways, refused: sounded },
     opening: { ...ways, opened, refused: notOpened },
     knocking: { ...ways, refused: knocked },
     looking: { ...ways, seen, unseen },
-    playing: { enter, closed: lost, broken },
-    asked: { played, ended, refused, closed: lost, late: lost, broken },
-    lost: { retry, stop },
+    playing: { enter, closed: lost, broken, taken },
+    probing: { refused: probed, closed: lost, late: lost, broken, taken },
+    asked: { played, ended, refused, closed: lost, late: lost, broken, taken },
+    lost: { retry, stop, taken },
     over: { open, back },
-  }, view.entered, { opening: 10, knocking: 10, looking: 30, asked: 10 });
+  }, entered, { sounding: 10, opening: 10, knocking: 10, looking: 30, probing: 10, asked: 10 });
+  const claim = Claim.create(() => phase.take("taken"));
 
-  const isOpen = () => phase.is("playing", "asked");
+  const isIdle = () => phase.is("idle", "over", "doubted");
+
+  /** A board that is not operated is let go of, unless its game goes on at once. */
+  function entered() {
+    setTimeout(() => isIdle() && claim.release(), 0);
+    view.entered();
+  }
+
+  const isOpen = () => phase.is("playing", "probing", "asked");
 
   /** Whether a move or an ending may be entered. */
   const isReady = () => phase.is("playing");
@@ -79,20 +104,27 @@ const createOperator = (view) => {
   /* Opening a board, and coming back to one. */
 
   function begin(wanted, plies) {
-    game = { id: `${Date.now()}-${wanted.board}`, outcome: null, ...wanted };
+    game = { id: `${Date.now()}-${wanted.board}`, outcome: null, next: Words.nextName(wanted.board), ...wanted };
     view.say("");
     view.begin(game, plies);
   }
 
-  function open(_, wanted, resend) {
+  function open(_, wanted, resend, isAlone = false) {
     begin(wanted, []);
-    connect({ ...FRESH, resend, waits: Link.waits() });
+    seize({ ...FRESH, resend, isFirst: !wanted.anew, isAlone, waits: Link.waits() });
   }
 
   /** Goes on with a game that was kept. */
-  function back(_, kept) {
+  function back(_, kept, isForced = false) {
     begin({ id: kept.id, board: kept.board, start: kept.start, players: kept.players, anew: true }, kept.moves);
-    connect({ ...FRESH, isBack: true, waits: Link.waits() });
+    seize({ ...FRESH, isBack: true, waits: Link.waits() }, isForced);
+  }
+
+  /** Shows a game that was kept and has ended. */
+  function show(_, kept) {
+    begin({ id: kept.id, board: kept.board, start: kept.start, players: kept.players, outcome: kept.outcome }, kept.moves);
+    finished(kept.outcome);
+    view.refresh();
   }
 
   function connect(attempt) {
@@ -104,6 +136,8 @@ const createOperator = (view) => {
   function connected({ link, attempt }) {
     if (attempt.isBack) {
       knock(link, attempt);
+    } else if (attempt.isFirst) {
+      sound(link, attempt, [game.board, ...Words.nextNames(game.board, HEIRS)]);
     } else {
       ask(link, attempt);
     }
@@ -128,6 +162,75 @@ const createOperator = (view) => {
     phase.go("looking", { link, attempt, glance, isOver });
   }
 
+  /* A board has one operator, in one window. Where another seems to operate it, nothing is sent until this one says so. */
+
+  function seize(attempt, isForced = false) {
+    view.state("connecting", "Connecting …");
+    phase.go("claiming", { attempt });
+    claim.take(view.server(), game.board, isForced).then((isOurs) => phase.take(isOurs ? "claimed" : "held", attempt));
+  }
+
+  /** False where this was asked for something that is no longer wanted. */
+  function claimed({ attempt }, asked) {
+    if (asked !== attempt) {
+      return false;
+    }
+    connect(attempt);
+    return true;
+  }
+
+  function held({ attempt }, asked) {
+    if (asked !== attempt) {
+      return false;
+    }
+    const text = `Another window of this browser operates ${game.board}. Use that window, or take the board over.`;
+    const kept = attempt.isBack ? null : view.kept(game.board);
+    doubt(text, "Take the board over", attempt, () => (kept ? back(null, kept, true) : seize(attempt, true)));
+    return true;
+  }
+
+  function doubt(text, label, attempt, goOn) {
+    view.say(`${text} Nothing was sent.`);
+    view.notice(text);
+    view.state("refused", "The board was not opened");
+    phase.go("doubted", { attempt, label, goOn });
+  }
+
+  function anyway({ goOn }) {
+    view.say("");
+    goOn();
+  }
+
+  /** Asks whether the game of a board goes on under one of these names, before the board is opened. */
+  function sound(link, attempt, [asked, ...left]) {
+    if (asked === undefined) {
+      ask(link, { ...attempt, isFirst: false });
+    } else {
+      phase.go("sounding", { link, attempt, asked, left });
+      link.send({ cmd: "submit", board: asked, move: KNOCK });
+    }
+  }
+
+  /** Where the board itself is there, the relay refuses to open it, and that is all there is to be said. */
+  function sounded({ link, attempt, asked, left }, answer) {
+    if (!THERE.includes(answer.name) || asked === game.board) {
+      sound(link, attempt, answer.name === "NoSuchBoard" || asked !== game.board ? left : []);
+    } else {
+      link.close();
+      const others = `Another window or program seems to go on with ${game.board} there.`;
+      const goOn = () => seize({ ...attempt, isFirst: false });
+      doubt(`${asked} is at the relay, and this page did not open it. ${others}`, `Open ${game.board}`, attempt, goOn);
+    }
+  }
+
+  /** Another window of the browser has taken the board over: this one sends nothing more. */
+  function taken(value) {
+    const text = `Another window of this browser has taken ${game.board} over.`;
+    stop(value);
+    view.notice(text);
+    view.state("refused", text);
+  }
+
   /* What the relay answers. */
 
   /** Takes an answer, and says whether it is one to what was asked. */
@@ -138,6 +241,9 @@ const createOperator = (view) => {
   function opened({ link, attempt }) {
     view.opened();
     view.notice(`Board ${game.board} is open with start ${game.start}.`);
+    if (attempt.resend.length === 0) {
+      view.keep(); // A game whose moves are sent again is kept with them.
+    }
     goOn(link, attempt.resend);
   }
 
@@ -160,7 +266,26 @@ const createOperator = (view) => {
   }
 
   function enter({ link }, command, correct) {
-    send(link, command, [], correct);
+    if (correct === null) {
+      send(link, command);
+    } else {
+      phase.go("probing", { link, command, correct });
+      link.send({ cmd: "submit", board: game.next, move: KNOCK });
+    }
+  }
+
+  /** Ends a game to correct it, unless somebody else has its next name: then that is said first, and another name proposed. */
+  function probed({ link, command, correct }, answer) {
+    if (!THERE.includes(answer.name)) {
+      send(link, command, [], correct);
+      return;
+    }
+    const others = "Another window or program seems to operate this board.";
+    const other = game.next;
+    game.next = Words.nextName(other);
+    goOn(link, []);
+    view.say(`${other} is at the relay, and this page did not open it. ${others} Nothing was entered. Correct the game again: it goes on `
+      + `as ${game.next}.`);
   }
 
   /** A move was played; false where it is none of the game that this page has. */
@@ -200,16 +325,20 @@ const createOperator = (view) => {
   }
 
   function openNext(resend) {
-    phase.take("open", { board: Words.nextName(game.board), start: game.start, players: game.players, anew: true }, resend);
+    phase.take("open", { board: game.next, start: game.start, players: game.players, anew: true }, resend, true);
   }
 
   function over(link, outcome) {
     link.close();
     game.outcome = outcome;
+    finished(outcome);
+    view.notice(`${game.board}: ${Words.outcome(outcome)}`);
+  }
+
+  function finished(outcome) {
     phase.go("over");
     view.record().take({ reply: "over", outcome });
     view.state("over", `The game on ${game.board} is over`);
-    view.notice(`${game.board}: ${Words.outcome(outcome)}`);
     view.over();
   }
 
@@ -220,8 +349,11 @@ const createOperator = (view) => {
   function notOpened({ link, attempt }, answer) {
     if (answer.name === "BoardExists" && attempt.wasSent) {
       knock(link, { ...attempt, wasSent: false });
+    } else if (answer.name === "BoardExists" && attempt.isAlone) {
+      link.close();
+      overtaken(attempt);
     } else if (answer.name === "BoardExists" && game.anew && attempt.tried < NAMES) {
-      game.board = Words.nextName(game.board);
+      rename();
       ask(link, { ...attempt, tried: attempt.tried + 1 });
     } else {
       view.say(Words.refusal(answer));
@@ -229,6 +361,21 @@ const createOperator = (view) => {
       view.state("refused", "The board was not opened");
       stop({ link, attempt });
     }
+  }
+
+  /** Gives the game its next name. */
+  function rename() {
+    game.board = game.next;
+    game.next = Words.nextName(game.board);
+  }
+
+  /** The next name, under which this page reopens a game by itself, was given to somebody else's. */
+  function overtaken(attempt) {
+    const others = "Another window or program seems to operate this board.";
+    doubt(`${game.board} is at the relay, and this page did not open it. ${others}`, `Open ${game.next}`, attempt, () => {
+      rename();
+      seize({ ...attempt, isAlone: false });
+    });
   }
 
   /** A move or an ending was refused. A move that is legal on this page was played already, or the game has come further or has ended. */
@@ -396,11 +543,16 @@ const createOperator = (view) => {
     open: (wanted, resend) => phase.take("open", wanted, resend),
     /** Goes on with a game that was kept. */
     back: (kept) => phase.take("back", kept),
+    /** Shows a game that was kept and has ended, where no other is played. */
+    show: (kept) => phase.take("show", kept),
     /** Enters a move or an ending. With `correct` the game is reopened with those moves once it has ended. */
     enter: (command, correct = null) => phase.take("enter", command, correct),
     /** Answers false where nothing was tried. */
     stop: () => phase.take("stop"),
-    isIdle: () => phase.is("idle", "over"),
-    isOpen, isReady, moves, allMoves, game: () => game,
+    /** Goes on in spite of a doubt, where there is one. */
+    anyway: () => phase.take("anyway"),
+    /** What the operator may do in spite of a doubt, in words, or null where there is none. */
+    doubted: () => (phase.is("doubted") ? phase.now().label : null),
+    isIdle, isOpen, isReady, moves, allMoves, game: () => game,
   };
 };

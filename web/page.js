@@ -188,7 +188,7 @@ const createPage = ({ browsed = () => {}, ...hand } = {}) => {
 
   /** Saves the game that is shown, under the name of its board. */
   function savePgn(name) {
-    Saved.pgn(name, Pgn.write(name, page.record, Players.tags(page.players)));
+    Saved.pgn(name, Pgn.write(name, page.record, { ...Address.tags(), ...Players.tags(page.players) }));
   }
 
   /** Adds a line to what happened. */
@@ -231,7 +231,7 @@ const createPage = ({ browsed = () => {}, ...hand } = {}) => {
 
   draw(false);
   return {
-    at, board, start, goOn, named, refresh, state, notice, savePgn,
+    at, board, start, goOn, named, refresh, state, notice, savePgn, alarm: sounds.alarm,
     redraw: () => draw(false), record: () => page.record, players: () => page.players, cursor: moves.cursor,
     usableWhen: (test) => { page.usable = test; },
   };

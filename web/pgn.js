@@ -1,6 +1,6 @@
 "use strict";
 /*
- * A game as PGN, which other chess programs read. It is written as examples/recorder/pgn.py writes it. A record that has a gap gives what
+ * A game as PGN, which other chess programs read. It is written as apps/recorder/pgn.py writes it. A record that has a gap gives what
  * stands behind the last gap, from the position there on.
  */
 const Pgn = (() => {
@@ -96,6 +96,12 @@ const Pgn = (() => {
     return `${date.getFullYear()}.${two(date.getMonth() + 1)}.${two(date.getDate())}`;
   }
 
+  /** The round and the table that a board's name says: 3.1 of r3-1, and of the names under which its game goes on; else "". */
+  function roundOf(board) {
+    const found = /^r(\d+)-(\d+)$/.exec(Words.firstName(board));
+    return found ? `${found[1]}.${found[2]}` : "";
+  }
+
   /**
    * The PGN of a record that has a position, of a game that was played at this date. `labels` has what the relay does not know: Event,
    * White and so on.
@@ -104,9 +110,10 @@ const Pgn = (() => {
     const { position, moves } = known(record);
     const [score, said, termination] = ENDS[record.outcome] || GOING_ON;
     const words = [...numbered(position, moves), ...(said ? `{${said}}`.split(" ") : []), score];
+    const given = Object.fromEntries(Object.entries(labels).filter(([, value]) => value !== ""));
     const head = tags({
-      Date: day(date), Result: score, BoardName: board, FEN: fen(position), SetUp: "1", Termination: termination, Variant: "Chess960",
-      ...labels,
+      Date: day(date), Round: roundOf(board), Result: score, BoardName: board, FEN: fen(position), SetUp: "1",
+      Termination: termination, Variant: "Chess960", ...given,
     });
     return `${head}\n${filled(words)}\n`;
   }

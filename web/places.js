@@ -1,7 +1,8 @@
 "use strict";
 /*
- * The places of a round that is shown from a list: first the boards of the list in the order of their opening, then those that the page's
- * address names and that are not open yet. A board whose game was abandoned gives its place to that under which the game goes on.
+ * The places of a round that is shown from a list: first the boards that the page's address names, in its order, whether they are open or
+ * not, then the others of the list in the order of their opening. A board whose game was abandoned gives its place to that under which the
+ * game goes on.
  */
 const Places = (() => {
   const HEIRS = 99;
@@ -27,17 +28,17 @@ const Places = (() => {
 
   /**
    * The places: of each the board's `name`, its `players`, and its `text`, which is null where it is not open yet. `named` are the boards
-   * whose players are known.
+   * whose players are known. They keep their order, and so do those under which their games go on.
    */
   function of(texts, named) {
-    const there = new Set();
-    const placed = boards(texts).map((name) => {
-      const namer = named.find((it) => it.name === name) || named.find((it) => Words.isHeir(name, it.name));
-      there.add(namer);
-      return { name, players: namer ? namer.players : Players.NONE, text: texts.get(name) };
-    });
-    const waiting = named.filter((it) => !there.has(it)).map(({ name, players }) => ({ name, players, text: null }));
-    return [...placed, ...waiting];
+    const namerOf = (name) => named.find((it) => it.name === name) || named.find((it) => Words.isHeir(name, it.name));
+    const placed = boards(texts).map((name) => ({ name, namer: namerOf(name), text: texts.get(name) }));
+    const placeOf = ({ name, namer, text }) => ({ name, players: namer ? namer.players : Players.NONE, text });
+    const placesOf = (namer) => {
+      const own = placed.filter((it) => it.namer === namer);
+      return own.length > 0 ? own.map(placeOf) : [{ ...namer, text: null }];
+    };
+    return [...named.flatMap(placesOf), ...placed.filter((it) => !it.namer).map(placeOf)];
   }
 
   return { of };

@@ -1,17 +1,33 @@
 "use strict";
 /* What the operator's page asks before it sends something: which move is meant, and whether the game is really to end. */
 const createQuestions = (at) => {
+  /* Who waits for the answer to the question that stands open, by its box. */
+  const waiting = new Map();
+
+  /** Gives an answer, once. That a box was closed is told later, when the next question may stand there: so it decides nothing then. */
+  function answer(box, value) {
+    const give = waiting.get(box);
+    waiting.delete(box);
+    if (give) {
+      give(value);
+    }
+  }
+
+  /** Shows a question. The answer is the value of the button that is pressed, and "" for one without, and for Escape. */
+  function ask(box) {
+    box.showModal();
+    return new Promise((resolve) => {
+      waiting.set(box, resolve);
+    });
+  }
+
   /** Asks which of several moves is meant, or what a pawn becomes; null where the operator goes back. */
   function which(position, moves) {
     const box = at("which");
     const isPromotion = Position.parts(moves[0]).promotion !== null;
     at("which-head").textContent = isPromotion ? "Promote to" : "Which move?";
     at("choices").replaceChildren(...moves.map((move) => choice(position, move, isPromotion)));
-    box.returnValue = "";
-    box.showModal();
-    return new Promise((resolve) => {
-      box.addEventListener("close", () => resolve(box.returnValue || null), { once: true });
-    });
+    return ask(box).then((value) => value || null);
   }
 
   function choice(position, move, isPromotion) {
@@ -21,7 +37,10 @@ const createQuestions = (at) => {
     it.dataset.move = move;
     it.append(Pieces.draw(isPromotion ? Position.pieceOf(colour, promotion) : man));
     it.append(isPromotion ? Words.kind(promotion) : San.write(position, move));
-    it.addEventListener("click", () => at("which").close(move));
+    it.addEventListener("click", () => {
+      answer(at("which"), move);
+      at("which").close();
+    });
     return it;
   }
 
@@ -47,22 +66,23 @@ const createQuestions = (at) => {
     at("sure-head").textContent = head;
     at("sure-text").textContent = text;
     at("sure-yes").textContent = yes;
-    box.returnValue = "";
-    box.showModal();
+    const answered = ask(box);
     at("sure-no").focus(); // Not by `autofocus`: a browser complains of that in the frame of a page from disk.
-    return new Promise((resolve) => {
-      box.addEventListener("close", () => resolve(box.returnValue === "yes"), { once: true });
-    });
+    return answered.then((value) => value === "yes");
   }
 
   /** What is asked before a game is corrected: how many of its moves it keeps, and how many are taken back. */
-  function correction(board, kept, dropped) {
+  function correction({ board, next }, kept, dropped) {
     const some = (which, number) => (number === 1 ? `${which} move` : `${which} ${number} moves`);
-    const next = Words.nextName(board);
     const text = `${board} ends as abandoned and goes on as ${next}, with ${kept === 0 ? "no move" : some("the first", kept)}. `
       + `${some("The last", dropped)} will be lost. The spectators' pages follow automatically.`;
     return { head: "Correct the game?", text, yes: "Correct" };
   }
+
+  [at("which"), at("sure")].forEach((box) => {
+    box.addEventListener("submit", (event) => answer(box, event.submitter.value));
+    box.addEventListener("close", () => box.open || answer(box, ""));
+  });
 
   return { which, words, correction, sure };
 };

@@ -302,6 +302,7 @@
       ...Address.keysOf(at("kind").value, at("server").value.trim()),
       boards: isEvery ? null : wanted.map((it) => it.name).join(","),
       players: isEvery ? Lines.named(wanted) : Lines.players(wanted),
+      ...Address.ofEvent(),
       hall: at("hall").checked ? "" : null,
     }));
   }

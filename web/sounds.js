@@ -1,8 +1,8 @@
 "use strict";
 /*
- * The sounds of a game: of a move, a capture, a check and the end. The browser makes them itself, so nothing is loaded. They are off until
- * their switch is pressed, and the browser remembers that. A browser makes no sound on a page before the first click or key there; until
- * then the switch says so, and what was not heard is not made up for.
+ * The sounds of a game: of a move, a capture, a check, the end, and a board that needs its operator. The browser makes them itself, so
+ * nothing is loaded. They are off until their switch is pressed, and the browser remembers that. A browser makes no sound on a page before
+ * the first click or key there; until then the switch says so, and what was not heard is not made up for.
  */
 const createSounds = (at) => {
   /* The notes of each: a frequency in hertz, and when it begins and ends, in seconds. */
@@ -11,6 +11,7 @@ const createSounds = (at) => {
     capture: [[392, 0, 0.06], [262, 0.06, 0.16]],
     check: [[523, 0, 0.07], [659, 0.08, 0.2]],
     over: [[523, 0, 0.14], [392, 0.16, 0.3], [262, 0.32, 0.7]],
+    alarm: [[880, 0, 0.2], [660, 0.25, 0.45], [880, 0.5, 0.7], [660, 0.75, 0.95]],
   };
   const LOUD = 0.2;
   const SETTLED = 300; // Milliseconds without a text, after which a game's moves so far have all come.
@@ -90,5 +91,5 @@ const createSounds = (at) => {
   at("sounds").addEventListener("change", turned);
   ["pointerup", "keydown"].forEach((it) => document.addEventListener(it, wake));
 
-  return { start, hear };
+  return { start, hear, alarm: () => play("alarm") };
 };

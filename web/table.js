@@ -6,9 +6,10 @@
     goals: (position, square) => Rules.from(position, square).map((it) => Position.parts(it).to),
     browsed,
   });
-  const { at, state } = page;
+  const { at } = page;
   const isAlone = () => at("alone").checked;
-  const operator = createOperator({ ...page, begin, say, keep, opened, over, offer, entered: controls, server, isAlone });
+  const kept = (board) => Kept.going(board, server());
+  const operator = createOperator({ ...page, state, begin, say, keep, opened, over, offer, kept, entered: controls, server, isAlone });
   const questions = createQuestions(at);
   const start = createStart(page);
   const report = createReport(stand);
@@ -27,7 +28,8 @@
 
   /* What the operator shows. */
 
-  function begin({ start: from, players }, plies) {
+  function begin({ id, start: from, players }, plies) {
+    Kept.here(id);
     page.named(players);
     page.start(recordOf({ start: from, moves: plies }));
   }
@@ -41,7 +43,28 @@
     return at("server").value.trim();
   }
 
-  const entitle = (text) => { document.title = `${text} – Operate a board`; };
+  /* What the title says, and whether the board needs its operator. That is heard, too, where it lasts. */
+  const LASTS = 3; // Seconds.
+  const title = { text: "", isAlarm: false, timer: null };
+
+  function entitle(text = title.text) {
+    title.text = text;
+    const words = [text, "Operate a board"].filter((it) => it !== "").join(" – ");
+    document.title = title.isAlarm ? `⚠ ${words}` : words;
+  }
+
+  /** Says how the connection is. */
+  function state(name, text) {
+    const isTrying = name === "connecting"; // What was lost is so until it is back.
+    const isAlarm = isTrying ? title.isAlarm : ["lost", "refused", "stopped"].includes(name) && operator.game() !== null;
+    page.state(name, text);
+    if (isAlarm !== title.isAlarm) {
+      clearTimeout(title.timer);
+      title.isAlarm = isAlarm;
+      title.timer = isAlarm ? setTimeout(page.alarm, 1000 * LASTS) : null;
+      entitle();
+    }
+  }
 
   function opened() {
     entitle(operator.game().board);
@@ -59,12 +82,24 @@
   const now = () => new Date().toISOString();
 
   function keep() {
-    Kept.keep({ ...operator.game(), moves: operator.moves(), saved: now() });
+    Kept.keep({ ...operator.game(), moves: operator.moves(), server: server(), tags: Address.tags(), saved: now() });
     anew.list();
   }
 
   function offer(moves) {
     anew.offer({ ...operator.game(), moves, saved: now() });
+  }
+
+  /** Shows the result that the page had before it was loaded again, or offers the last game without an end. */
+  function restore() {
+    const ended = Address.has("open") ? null : Kept.ended(at("name").value, server());
+    if (ended === null) {
+      anew.offerLast(at("name").value);
+    } else {
+      operator.show(ended);
+      at("kept").value = ended.id;
+      anew.offer(ended);
+    }
   }
 
   function save() {
@@ -98,7 +133,7 @@
   function correct() {
     const moves = operator.moves();
     const kept = moves.slice(0, shownMoves());
-    const words = questions.correction(operator.game().board, kept.length, moves.length - kept.length);
+    const words = questions.correction(operator.game(), kept.length, moves.length - kept.length);
     confirmed(words, { cmd: "end", how: "abandoned" }, kept);
   }
 
@@ -135,7 +170,8 @@
     const source = server() === Address.RELAY ? null : server();
     at("watch").href = game === null
       ? ""
-      : Address.link("watch.html", { server: source, board: game.board, players: Players.written(game.players) || null });
+      : Address.link("watch.html", { server: source, board: game.board, players: Players.written(game.players) || null,
+        ...Address.ofEvent() });
   }
 
   function controls() {
@@ -150,6 +186,8 @@
     at("ending").querySelectorAll("button").forEach((it) => it.setAttribute("aria-disabled", String(!operator.isReady())));
     at("save").hidden = operator.game() === null;
     at("typed").hidden = !isOpen;
+    at("anyway").hidden = operator.doubted() === null;
+    at("anyway").textContent = operator.doubted() || "";
     entry.freed();
     spectators();
     browsed();
@@ -172,6 +210,7 @@
       state("idle", "No board open");
     }
   });
+  at("anyway").addEventListener("click", operator.anyway);
   at("correct").addEventListener("click", () => operator.isReady() && correct());
   at("save").addEventListener("click", save);
   at("save-pgn").addEventListener("click", () => page.savePgn(operator.game().board));
@@ -191,7 +230,7 @@
   page.named(players);
   start.show();
   anew.list();
-  anew.offerLast(at("name").value);
+  restore();
   controls();
   if (Address.has("open") && at("opening").checkValidity()) {
     at("opening").requestSubmit();

@@ -8,16 +8,17 @@
   const at = (id) => document.getElementById(id);
   const server = Address.get("server") || Address.RELAY;
   const OPENING = "sirvandu.opening"; // The address whose boards are to be opened when it is shown first, and not when it is loaded again.
+  const LOOKS = 3000; // Milliseconds between two looks for other windows.
   const tabs = [];
 
   /* What is said of a board. */
 
   /** What a board wants: "alarm", "near" or nothing, and else whether it is over, live or none yet. */
-  function wants({ state, near, outcome }) {
+  function wants({ state, near, outcome }, before) {
     if (outcome !== null) {
       return "over";
     }
-    if (["lost", "refused", "stopped"].includes(state)) {
+    if (["lost", "refused", "stopped"].includes(state) || (state === "connecting" && before === "alarm")) {
       return "alarm";
     }
     return near !== "" ? "near" : state === "live" ? "live" : "idle";
@@ -51,20 +52,31 @@
   const games = () => tabs.flatMap((it) => it.games);
 
   function save() {
-    const whole = games().map((it) => ({ board: it.board, record: recordOf(it), labels: Players.tags(it.players) }));
+    const labels = (it) => ({ ...Address.tags(), ...Players.tags(it.players) });
+    const whole = games().map((it) => ({ board: it.board, record: recordOf(it), labels: labels(it) }));
     Saved.pgn("round", Pgn.round(whole));
   }
 
   /* The whole round in words. */
 
   function sum() {
-    const count = (name) => tabs.filter((it) => it.told && wants(it.told) === name).length;
+    const count = (name) => tabs.filter((it) => it.wants === name).length;
     const alarms = count("alarm");
-    const words = [[count("live") + count("near"), "open"], [count("over"), "over"], [alarms, "without connection"]];
+    const refused = tabs.filter((it) => it.wants === "alarm" && it.told.state === "refused").length;
+    const words = [[count("live") + count("near"), "open"], [count("over"), "over"], [alarms - refused, "without connection"],
+      [refused, "not open"]];
     const text = words.filter(([number]) => number > 0).map(([number, word]) => `${number} ${word}`).join(", ");
     at("state").dataset.state = alarms > 0 ? "lost" : count("live") + count("near") > 0 ? "live" : "idle";
     at("state").textContent = text || (tabs.length > 0 ? "No board open" : "No boards");
     at("save-round").hidden = games().length === 0;
+    entitle();
+  }
+
+  /** Names the boards that want attention in the title, those without connection first: the browser's tab shows it. */
+  function entitle() {
+    const named = (name) => tabs.filter((it) => it.wants === name).map((it) => it.told.name);
+    const those = [...named("alarm"), ...named("near")];
+    document.title = `${those.length === 0 ? "" : `⚠ ${those.join(", ")} – `}Operate a round`;
   }
 
   function hear({ source, data }) {
@@ -75,12 +87,32 @@
       tab.frame.title = tab.told.name;
       tab.button.title = stand(tab.told);
       tab.stand.textContent = inShort(tab.button.title);
-      tab.button.dataset.wants = wants(tab.told);
+      tab.wants = wants(tab.told, tab.wants);
+      tab.button.dataset.wants = tab.wants;
       if (tab.told.game !== null) {
         tab.players.textContent = Players.written(tab.told.game.players);
         keep(tab, tab.told.game);
       }
       sum();
+    }
+  }
+
+  /* Other windows. */
+
+  const wrong = Address.wrongNames();
+
+  /** Says which names no board can have, and that another window of the browser operates other boards of the relay. */
+  async function warn() {
+    const own = tabs.map((it) => Words.firstName(it.name.textContent));
+    const others = (await Claim.boards(server)).filter((it) => !own.includes(it));
+    const words = [
+      wrong.length === 0 ? "" : `No board can have this name: ${wrong.join(", ")}.`,
+      others.length === 0 ? "" : `Another window of this browser operates boards of this relay: ${others.join(", ")}. `
+        + "Keep all boards in one window.",
+    ].filter((it) => it !== "").join(" ");
+    at("said").hidden = words === "";
+    if (at("said").textContent !== words) {
+      at("said").textContent = words;
     }
   }
 
@@ -121,7 +153,7 @@
     const frame = document.createElement("iframe");
     const names = make("span", "players", Players.written(players));
     const words = { name: make("b", "", name), players: names, stand: make("span", "stand", "") };
-    const tab = { button, panel, frame, ...words, told: null, games: [] };
+    const tab = { button, panel, frame, ...words, told: null, wants: "", games: [] };
     button.type = "button";
     button.id = `tab-${tabs.length}`;
     panel.id = `board-${tabs.length}`;
@@ -134,7 +166,7 @@
     button.addEventListener("keydown", key);
     tab.frame.title = name;
     tab.frame.src = Address.link("table.html", {
-      server, board: name, start, players: Lines.players([{ players }]), open: opens ? "" : null,
+      server, board: name, start, players: Lines.players([{ players }]), ...Address.ofEvent(), open: opens ? "" : null,
     });
     tabs.push(tab);
     at("tabs").append(button);
@@ -154,6 +186,8 @@
       boards: wanted.map((it) => it.name).join(","),
       starts: wanted.map((it) => (it.start === null ? Number(at("start").value) : it.start)).join(","),
       players: Lines.players(wanted),
+      event: at("event").value.trim() || null,
+      round: at("round").value.trim() || null,
     });
     sessionStorage.setItem(OPENING, new URL(address, location.href).search);
     location.assign(address);
@@ -172,12 +206,13 @@
     const opens = isAsked();
     boards.forEach((board, index) => add(board, starts[index] || "518", opens));
     at("server").value = server;
+    ["event", "round"].forEach((it) => { at(it).value = Address.get(it) || ""; });
     const line = (it, index) => `${it.name} ${starts[index] || ""} ${Players.written(it.players)}`.replace(/ +/g, " ").trim();
     at("lines").value = boards.map(line).join("\n");
     at("settings").open = boards.length === 0;
     at("watch").hidden = boards.length === 0 || Address.IS_OF_SITE; // A site's spectators have its channels, at another address.
     at("watch").href = Address.link("round.html", {
-      server, boards: boards.map((it) => it.name).join(","), players: Lines.players(boards),
+      server, boards: boards.map((it) => it.name).join(","), players: Lines.players(boards), ...Address.ofEvent(),
     });
     if (tabs.length > 0) {
       show(tabs[0]);
@@ -185,12 +220,11 @@
     sum();
   }
 
-  const wrong = Address.wrongNames();
-  at("said").hidden = wrong.length === 0;
-  at("said").textContent = `No board can have this name: ${wrong.join(", ")}.`;
   addEventListener("message", hear);
   at("lines").addEventListener("input", () => at("lines").setCustomValidity(Lines.fault(lines())));
   at("source").addEventListener("submit", submit);
   at("save-round").addEventListener("click", save);
   fill();
+  setInterval(warn, LOOKS);
+  warn();
 })();

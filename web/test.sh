@@ -1,7 +1,7 @@
 #!/bin/sh
 # Tries what the pages know of chess beside Stockfish and PyChess, then watch.html, table.html, tables.html and round.html in Chromium, and
 # in Firefox and WebKit what a person does most, beside the built program (or the one that RELAY960 names). One test, broadcast, starts
-# nginx with nchan and the feed from ../examples/many_spectators. Words are passed on: ./test.sh chess tries the first alone, ./test.sh mate
+# nginx with nchan and the feed from ../apps/many_spectators. Words are passed on: ./test.sh chess tries the first alone, ./test.sh mate
 # crash these two in Chromium, ./test.sh firefox all of it in Firefox, ./test.sh webkit mate one in WebKit, and ./test.sh --pictures
 # ../docs/pictures takes the pictures of the guides. It uses no address but loopback.
 set -eu

@@ -7,7 +7,10 @@
 const createTile = ({ name, players, href, shown }) => {
   const tile = {
     name, record: createRecord(), told: null, state: "connecting", text: "", short: "", origin: null, start: null, ply: null, move: "",
+    bare: { told: null, text: "" },
   };
+
+  const isLong = Settings.isOn("long");
 
   function make(tag, className, ...children) {
     const it = document.createElement(tag);
@@ -58,13 +61,26 @@ const createTile = ({ name, players, href, shown }) => {
 
   const present = () => (tile.record.origin === null ? null : tile.record.present());
 
-  function written(ply, before) {
-    const isBlack = ply.deed.colour === Position.BLACK;
-    return `${before.number}${isBlack ? "…" : "."} ${San.write(before, ply.text)}`;
+  /** A move with its number, in the form that the browser's user has chosen. */
+  function written(before, text) {
+    const long = () => Words.sheet(Position.effect(before, text)) + San.mark(Position.after(before, text));
+    const number = `${before.number}${before.turn === Position.BLACK ? "…" : "."}`;
+    return `${number} ${isLong ? long() : San.write(before, text)}`;
   }
 
-  /** The last move that a list tells, where the position before it is not known: 12… g8–f6. */
-  function bareMove({ last }) {
+  /** The last move that a list tells: 12… Nf6. Where it may be one of two moves, it has its squares. It is written once. */
+  function bareMove() {
+    if (tile.bare.told !== tile.told) {
+      tile.bare = { told: tile.told, text: writtenBare(tile.told) };
+    }
+    return tile.bare.text;
+  }
+
+  function writtenBare({ last, start }) {
+    const before = Last.before(present(), start, last);
+    if (before !== null) {
+      return written(before, last);
+    }
     const { turn, number } = present();
     return `${turn === Position.BLACK ? `${number}.` : `${number - 1}…`} ${last.slice(0, 2)}–${last.slice(2)}`;
   }
@@ -75,12 +91,12 @@ const createTile = ({ name, players, href, shown }) => {
   function lastMove() {
     const { plies, origin } = tile.record;
     if (isBare()) {
-      return bareMove(tile.told);
+      return bareMove();
     }
     const [before, ply = null] = [{ after: origin && origin.position }, ...plies].slice(-2);
     if (ply !== tile.ply) {
       tile.ply = ply;
-      tile.move = ply === null || ply.gap ? "" : written(ply, before.after);
+      tile.move = ply === null || ply.gap ? "" : written(before.after, ply.text);
     }
     return tile.move;
   }
@@ -196,6 +212,6 @@ const createTile = ({ name, players, href, shown }) => {
   return {
     element, refresh, start, goOn: start, tell, state, renamed, mark, notice: () => {}, entered: () => {},
     record: () => tile.record, told: () => tile.told, name: () => tile.name, stateName: () => tile.state,
-    game: (record = tile.record) => ({ board: tile.name, record, labels: Players.tags(players) }),
+    game: (record = tile.record) => ({ board: tile.name, record, labels: { ...Address.tags(), ...Players.tags(players) } }),
   };
 };

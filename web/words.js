@@ -136,6 +136,12 @@ const Words = (() => {
     return (found ? found[1] : name).slice(0, 32 - tail.length) + tail;
   }
 
+  /** The name of the first game, of one that goes on under this name; else the name itself. */
+  function firstName(name) {
+    const found = /^(.+)_(\d{1,3})$/.exec(name);
+    return found && Number(found[2]) > 1 ? found[1] : name;
+  }
+
   /** So many next names, in their order. */
   function nextNames(name, count) {
     const names = [];
@@ -151,6 +157,7 @@ const Words = (() => {
   const isHeir = (name, board) => name.startsWith(board.replace(/_\d{1,3}$/, "").slice(0, 27)) && nextNames(board, HEIRS).includes(name);
 
   return {
-    ILLEGAL, outcome, score, refusal, coded, kind, colour, piece, sheet, spoken, missed, near, placement, nextName, nextNames, isHeir,
+    ILLEGAL, outcome, score, refusal, coded, kind, colour, piece, sheet, spoken, missed, near, placement, nextName, nextNames, firstName,
+    isHeir,
   };
 })();

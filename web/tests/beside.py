@@ -11,7 +11,7 @@ from relay_client.tests.entering import DUTCH, DUTCH_SENT, ENTER, ITALIAN, ITALI
 from steps import GRACE, WEB, enter, text, until_moves
 from tabs import frame, play, site, until_stand
 
-RECORDER = WEB.parent / "examples/recorder/record.py"
+RECORDER = WEB.parent / "apps/recorder/record.py"
 
 
 async def start(*words):

@@ -1,4 +1,4 @@
-"""A test of the round behind nginx with nchan, as examples/many_spectators sets it up; pages.py runs it with its own."""
+"""A test of the round behind nginx with nchan, as apps/many_spectators sets it up; pages.py runs it with its own."""
 import asyncio
 import contextlib
 import os
@@ -15,7 +15,7 @@ from relay_client.wire import Wire
 from rounds import MATE, MOVES, START, boards_of, men, until_tiles
 from steps import WEB, listed, shows, state, text, until_state, url
 
-EXAMPLE = WEB.parent / "examples" / "many_spectators"
+EXAMPLE = WEB.parent / "apps" / "many_spectators"
 CHANNELS = 9100  # The port of the first nginx, as the example's nginx-a.conf has it.
 BEAT = 40  # Seconds: the feed gives a sign every 15 s.
 
@@ -64,8 +64,8 @@ async def try_broadcast(browser):
             had = [(tile["name"], tile["start"], tile["stand"], tile["turn"], tile["state"]) for tile in tiles]
             assert had == [("n3", "no. 387", "", ["White"], "live"), ("n1", "no. 518", "0–1", [], "over"),
                            ("n2", "no. 0", "", ["White"], "live")], had
-        # A page that came late knows no position before the last move, so it has that in its two squares.
-        assert [it["move"] for it in tiles] == ["3… c7–c5", "2… d8–h4", ""] and tiles[0]["marked"] == ["c5", "c7"], tiles
+        # A page that came late knows no position before the last move.
+        assert [it["move"] for it in tiles] == ["3… c5", "2… Qh4#", ""] and tiles[0]["marked"] == ["c5", "c7"], tiles
         assert await text(late, "#state") == "2 live, 1 over"
 
         await client.submit("n3", "e1d3")

@@ -44,13 +44,19 @@ const rare = (fen) => {
   return Rules.legal(position).filter((it) => it.length === 5 || Position.effect(position, it).castling !== null);
 };
 const checked = (fen) => Position.inCheck(Position.read(fen));
+const behind = (fen, start) => {
+  const position = Position.read(fen);
+  const told = (move) => Position.read(Position.write(Position.after(position, move)));
+  const before = (move) => Last.before(told(move), start, move);
+  return Rules.legal(position).map((it) => [it, before(it) && San.write(before(it), it)]);
+};
 const next = (fen, move) => Position.write(Position.after(Position.read(fen), move));
 """
 
 
 def chess():
     """The pages' scripts of chess, in node."""
-    scripts = Scripts("position", "rules", "san", "texts", "record", "draws", "players", "pgn")
+    scripts = Scripts("position", "rules", "san", "last", "texts", "words", "record", "draws", "players", "pgn")
     scripts.run(HELPERS)
     return scripts
 
@@ -159,6 +165,33 @@ def try_san():
     found["told apart"] = sum(it[0] in "NRQB" and len(it.strip("+#").replace("x", "")) > 3 for it in seen)
     print(f"    {len(seen)} moves, of them {', '.join(f'{count} {name}' for name, count in found.items())}")
     assert len(seen) > 50000 and min(found.values()) > 10
+
+
+def try_last():
+    """From the position behind a move alone, its SAN is what PyChess writes before it. Only a king that castles while its rook stays, and
+    the rook's move that ends in the same position, are left open."""
+    chance = random.Random(SEED + 3)
+    seen, left = [], []
+    with chess() as pages:
+        for _ in range(60):
+            start = chance.randrange(960)
+            fen = start_fen(start)
+            for ply in range(60):
+                moves = pages.run(f"Rules.legal(Position.read({json.dumps(fen)}))")
+                if not moves:
+                    break
+                rare = pages.call("rare", fen)
+                if ply % 8 == 7 or any(len(it) == 4 for it in rare):
+                    board = board_of(fen)
+                    expected = {text: lmove.toSAN(board, move) for text, move in peers(board).items()}
+                    had = dict(pages.call("behind", fen, start))
+                    left += [expected[it] for it in had if had[it] is None]
+                    assert {it: had[it] or expected[it] for it in had} == expected, (fen, start, set(had.items()) ^ set(expected.items()))
+                    seen += [it for it in had.values() if it]
+                fen = pages.call("next", fen, chance.choice(rare or moves))
+    castlings = sum(it.startswith("O-O") for it in seen)
+    print(f"    {len(seen)} moves, {castlings} castlings; left open: {collections.Counter(it.rstrip('+#') for it in left)}")
+    assert all(it[0] in "OR" for it in left) and castlings > 30 and sum("x" in it for it in seen) > 300 and len(left) < len(seen) / 500
 
 
 # The built program.
@@ -361,7 +394,7 @@ def try_pgn():
 TWO_GAMES = """[Event "?"]
 [Site "?"]
 [Date "%(day)s"]
-[Round "?"]
+[Round "1.1"]
 [White "Carlsen, Magnus"]
 [Black "Caruana"]
 [Result "0-1"]
@@ -376,7 +409,7 @@ TWO_GAMES = """[Event "?"]
 [Event "?"]
 [Site "?"]
 [Date "%(day)s"]
-[Round "?"]
+[Round "1.2"]
 [White "?"]
 [Black "?"]
 [Result "*"]

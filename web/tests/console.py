@@ -38,8 +38,7 @@ async def try_silent_console(browser):
             await until_moves(page, ply)
     for page in rounds:
         await page.front()
-        # Where a list overtook the moves before, it is not known that it takes.
-        await page.until('[...document.querySelectorAll(".last-move")].some((it) => /^2… e(x|5–)f4$/.test(it.textContent))')
+        await page.until('[...document.querySelectorAll(".last-move")].some((it) => it.textContent === "2… exf4")')
     await table.click("#ending [data-how=agreed]")
     await table.until('document.querySelector("#sure").open')
     assert await table.run("document.activeElement.textContent") == "Cancel"

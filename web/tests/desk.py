@@ -4,7 +4,7 @@ import json
 
 from back import close, table_of, until_open
 from relay_client.relay import Relay
-from steps import GRACE, enter, open_table, said, text, until_moves, until_state, url
+from steps import GRACE, enter, open_table, said, say_end, text, until_moves, until_state, url
 from tabs import frame, play, site, until_stand
 
 DESKS = ((1280, 900), (1366, 768))
@@ -148,8 +148,37 @@ async def try_interrupted(browser):
     await until_state(table, "over")
     assert await table.run(OFFERED) == ""
     await table.go(address)
-    assert await table.run(OFFERED) == "" and not table.faults, table.faults
+    assert await table.run(OFFERED) == ""
+    await until_state(table, "over")
+    await table.until('document.querySelector("#outcome b").textContent === "½–½"')
+    assert await table.run("document.title") == "½–½, b1 – Operate a board"
+    assert not await table.run('document.querySelector("#save-pgn").hidden')
+    await table.click("#opening .main")
+    await until_open(table, "b1_2")
+    assert not table.faults, table.faults
     await table.close()
+
+
+async def try_reloaded(browser):
+    """A page whose address names no board has its result, too, when it is loaded again, and another window has not."""
+    relay = await Relay().start()
+    address = url("table.html", server=relay.address)
+    table = await browser.open(address)
+    await table.fill("#name", "plain")
+    await table.click("#opening .main")
+    await until_open(table, "plain")
+    await enter(table, "e4", "type")
+    await until_moves(table, 1)
+    await say_end(table, "#ending [data-side=white]")
+    await until_state(table, "over")
+    await table.go(address)
+    await until_moves(table, 1)
+    assert await text(table, "#outcome b") == "0–1" and await text(table, "#state") == "The game on plain is over"
+    other = await browser.open(address)
+    assert await text(other, "#state") == "No board open" and await text(other, "#outcome b") == ""
+    for it in table, other:
+        assert not it.faults, it.faults
+        await it.close()
 
 
 async def try_freed(browser):

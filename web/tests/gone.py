@@ -17,7 +17,7 @@ from told import Channels
 
 FIRST = ["d2d4", "d7d5"]
 OTHER = ["e2e4", "e7e5"]
-UNIT = WEB.parent / "examples" / "deployment" / "relay960.service"
+UNIT = WEB.parent / "apps" / "deployment" / "relay960.service"
 
 
 def following(moves=()):

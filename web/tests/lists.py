@@ -63,9 +63,15 @@ async def try_listed(browser):
         had = [(it["start"], it["parts"], it["stand"], it["turn"], it["state"]) for it in them]
         assert had == [("no. 387", ["", "to move"], "", ["White"], "live"), ("no. 518", ["1", "0"], "0–1", [], "over"),
                        ("no. 0", ["", "to move"], "", ["White"], "live"), ("no. 959", ["", "to move"], "", ["White"], "live")], had
-    assert [it["move"] for it in later] == ["3… c7–c5", "2… d8–h4", "", ""], later
-    assert later[0]["marked"] == ["c5", "c7"] and later[0]["label"] == "r1-3, start 387, last move 3… c7–c5, White to move", later[0]
+    assert [it["move"] for it in later] == ["3… c5", "2… Qh4#", "", ""], later
+    assert later[0]["marked"] == ["c5", "c7"] and later[0]["label"] == "r1-3, start 387, last move 3… c5, White to move", later[0]
     assert await text(late, "#state") == "3 live, 1 over"
+    await late.run("""localStorage.setItem("sirvandu.settings", '{"long":true}')""")
+    long = await open_round(browser, wire.address)
+    await until_tiles(long, lambda them: [it["move"] for it in them] == ["3… c7-c5", "2… Qd8-h4#", "", ""])
+    await long.run('localStorage.removeItem("sirvandu.settings")')
+    await long.close()
+    await late.front()
     await client.submit("r1-3", "e1d3")
     await client.submit("r1-2", "f2f4")
     for it in (page, late):
@@ -203,7 +209,8 @@ async def try_dead_wire(browser):
 
 
 async def try_listed_heirs(browser):
-    """A board whose game was abandoned gives its place to that under which it goes on, with its players; an ended game keeps its own."""
+    """The boards that the address names stand in its order, open or not. One whose game was abandoned gives its place to that under which
+    it goes on, with its players; an ended game keeps its own."""
     relay = await Relay(watch=True).start()
     client = await boards_of(relay, ("r1", 518, MATE[:2]), ("r2", 518, MATE), ("r3", 518, []))
     page = await open_round(browser, relay.watch_address, players="r1%20Carlsen–Caruana;r2%20So;r3%20Ding%20-%20Nepo;r4%20Adams–Baker;r5")
@@ -219,15 +226,50 @@ async def try_listed_heirs(browser):
     await client.open("r2_2")
     await client.open("x")
     await client.open("r5", 959)
-    tiles = await until_names(page, "r1_3", "r2", "r3", "r2_2", "x", "r5", "r4")
-    assert [it["sides"] for it in tiles] == [["Caruana", "Carlsen"], ["Black", "So"], ["Nepo", "Ding"], ["Black", "So"], ["Black", "White"],
-                                             ["Black", "White"], ["Baker", "Adams"]], tiles
+    tiles = await until_names(page, "r1_3", "r2", "r2_2", "r3", "r4", "r5", "x")
+    assert [it["sides"] for it in tiles] == [["Caruana", "Carlsen"], ["Black", "So"], ["Black", "So"], ["Nepo", "Ding"], ["Baker", "Adams"],
+                                             ["Black", "White"], ["Black", "White"]], tiles
     assert tiles[0]["href"].endswith("&board=r1_3&players=Carlsen–Caruana") or "r1_3" in tiles[0]["href"], tiles[0]
     await relay.kill()
     await relay.start()
     await boards_of(relay, ("r2_2", 518, []), ("r1_4", 518, []))
-    tiles = await until_names(page, "r2_2", "r1_4", "r3", "r4", "r5")
-    assert [it["sides"] for it in tiles][:2] == [["Black", "So"], ["Caruana", "Carlsen"]] and tiles[2]["men"] == "8/8/8/8/8/8/8/8", tiles
+    tiles = await until_names(page, "r1_4", "r2", "r2_2", "r3", "r4", "r5")
+    assert [it["sides"] for it in tiles][:3] == [["Caruana", "Carlsen"], ["Black", "So"], ["Black", "So"]], tiles
+    assert tiles[1]["stand"] == "0–1" and tiles[3]["men"] == "8/8/8/8/8/8/8/8", tiles
+    assert not page.faults, page.faults
+    await page.close()
+
+
+async def until_stands(page, *stands):
+    return await until_tiles(page, lambda them: [it["stand"] for it in them] == list(stands))
+
+
+async def try_listed_results(browser):
+    """When the relay is restarted, the results of a round stay in their places, also on a page that is loaded again, until a board of
+    another round is opened."""
+    relay = await Relay(watch=True).start()
+    client = await boards_of(relay, ("r1", 518, MATE[:2]), ("r2", 518, MATE), ("r3", 518, MATE[:3]))
+    page = await open_round(browser, relay.watch_address, players="r1%20Adams–Baker;r2%20So–Ding;r3;r4", hall="")
+    await until_names(page, "r1", "r2", "r3", "r4")
+    await client.end("r3")
+    await until_stands(page, "", "0–1", "½–½", "Not open yet")
+    for heir in ("r1_2", "r1_3"):
+        await relay.kill()
+        await until_stands(page, "No connection", "0–1", "½–½", "No connection")
+        await relay.start()
+        await until_stands(page, "Not open yet", "0–1", "½–½", "Not open yet")
+        await boards_of(relay, (heir, 518, MATE[:2]))
+        for _ in "12":
+            tiles = await until_names(page, heir, "r2", "r3", "r4")
+            assert [it["stand"] for it in tiles] == ["", "0–1", "½–½", "Not open yet"], tiles
+            assert tiles[1]["men"] == men(fens(518, MATE)[-1]) and tiles[1]["sides"] == ["Ding", "So"], tiles
+            assert tiles[2]["move"] == "2. g4", tiles
+            await page.go(await page.run("location.href"))
+    await relay.kill()
+    await relay.start()
+    await boards_of(relay, ("s1", 518, []), ("r3", 518, []))
+    tiles = await until_names(page, "r1", "r2", "r3", "r4", "s1")
+    assert [it["stand"] for it in tiles] == ["Not open yet", "Not open yet", "", "Not open yet", ""], tiles
     assert not page.faults, page.faults
     await page.close()
 
@@ -242,7 +284,7 @@ async def try_listed_channel(browser):
         tiles = await until_names(page, "a", "b", "c")
         assert [it["state"] for it in tiles] == ["connecting"] * 3, tiles
         assert await text(page, "#state") == "Connected. Waiting for a signal …", tiles
-        assert [it["move"] for it in tiles] == ["1… e7–e5", "1. f2–f4", ""]
+        assert [it["move"] for it in tiles] == ["1… e5", "1. f4", ""]
         await channels.says("_boards", beat())
         await until_tiles(page, lambda them: [it["state"] for it in them] == ["live"] * 3)
         await channels.says("_boards", told("a", moves=MATE[:3]), told("d", 100))
@@ -455,8 +497,8 @@ async def try_form_of_list(browser):
     await page.fill("#lines", "f2 518 Carlsen, Magnus – Caruana\nf3")
     await page.click("#every")
     await page.click("#source .main")
-    tiles = await until_names(page, "f1", "f2", "f3")
-    assert [it["sides"] for it in tiles] == [["Black", "White"], ["Caruana", "Carlsen, Magnus"], ["Black", "White"]], tiles
+    tiles = await until_names(page, "f2", "f3", "f1")
+    assert [it["sides"] for it in tiles] == [["Caruana", "Carlsen, Magnus"], ["Black", "White"], ["Black", "White"]], tiles
     assert await page.run("decodeURIComponent(location.search)") == f"?watch={relay.watch_address}&players=f2 Carlsen, Magnus–Caruana;f3"
     await unfold(page)
     entered = await page.run('[document.querySelector("#lines").value, document.querySelector("#every").checked]')
@@ -464,7 +506,7 @@ async def try_form_of_list(browser):
     await page.click("#hall")
     await page.click("#source .main")
     await page.until('document.body && document.body.classList.contains("hall")')
-    await until_names(page, "f1", "f2", "f3")
+    await until_names(page, "f2", "f3", "f1")
     assert not page.faults, page.faults
     await page.close()
     hall = await browser.open(url("round.html", watch="ws://127.0.0.1:9", hall=""), (1280, 720))

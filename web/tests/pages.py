@@ -21,6 +21,7 @@ import notation
 import rounds
 import senses
 import tabs
+import windows
 from relay_client.browser import Browser
 from relay_client.client import Client
 from relay_client.firefox import Firefox
@@ -32,7 +33,7 @@ from steps import (WEB, enter, listed, open_table, placement, said, say_end, sho
                    until_state, url, watch)
 from told import Told
 
-RECORDER = WEB.parent / "examples" / "recorder" / "record.py"
+RECORDER = WEB.parent / "apps" / "recorder" / "record.py"
 SEED = 960
 GAMES = 6
 PLIES = 60
@@ -320,12 +321,13 @@ async def try_next_name(browser):
     typed is opened or refused."""
     relay = await Relay().start()
     other = await Client.to(relay.address)
-    await other.open("b1_3")
     table = await browser.open(url("table.html", server=relay.address, board="b1", start=518, players="Adams–Baker"))
     fields = '["name", "white", "black"].map((it) => document.querySelector(`#${it}`).value)'
     for name, following in (("b1", "b1_2"), ("b1_2", "b1_3"), ("b1_4", "b1_5")):
         await table.click("#opening .main")
         await table.until(f'document.querySelector("#state").textContent === "Board {name} is open"')
+        if name == "b1":
+            await other.open("b1_3")
         await say_end(table, "#ending [data-how=agreed]")
         await until_state(table, "over")
         assert await table.run(fields) == [following, "", ""], await table.run(fields)
@@ -532,6 +534,9 @@ async def try_strangers(browser):
             await wrong.close()
 
 
+LINES = 'document.querySelectorAll("#notices li").length'
+
+
 async def try_claims(browser):
     """Before a claim is sent, the page says who claims what, and that the relay tests it; nothing is ended by a key that is held."""
     async with Told() as relay:
@@ -540,6 +545,7 @@ async def try_claims(browser):
         await relay.hears(cmd="open", board="b1", start=518)
         await relay.says(reply="opened")
         await until_state(table, "live")
+        lines = await table.run(LINES)
         for colour, move in (("White", "g1f3"), ("Black", "g8f6")):
             for how, label, ground in (("threefold", "Claim: threefold repetition", "has occurred at least three times"),
                                        ("fifty", "Claim: fifty moves", "fifty moves by each side")):
@@ -555,7 +561,9 @@ async def try_claims(browser):
                 await say_end(table, f"#ending [data-how={how}]")
                 await relay.hears(cmd="end", board="b1", how=how, side=colour.lower())
                 await relay.refuses(8, "ClaimRefused")
-                await table.until('document.querySelector("#said").textContent.startsWith("Claim refused")')
+                lines += 1  # What is said may be said of the claim before.
+                await table.until(f'{LINES} === {lines}')
+                assert (await said(table)).startswith("Claim refused")
             await enter(table, move, "type")
             await relay.hears(cmd="submit", board="b1", move=move)
             await relay.plays(0 if colour == "White" else 1)
@@ -569,6 +577,30 @@ async def try_claims(browser):
         await relay.says(outcome="black resigns", reply="ended")
         await until_state(table, "over")
         assert not table.faults, table.faults
+        await table.close()
+
+
+async def try_questions(browser):
+    """An answer is that to the question that stands there, however fast one follows another: what was cancelled is never sent."""
+    async with Told() as relay:
+        table = await browser.open(url("table.html", server=relay.address, board="b1", start=518))
+        await table.click("#opening .main")
+        await relay.hears(cmd="open", board="b1", start=518)
+        await relay.says(reply="opened")
+        await until_state(table, "live")
+        presses = ["#ending [data-side=white]", "#sure-no", "#ending [data-how=agreed]", "#sure-yes"]
+        await table.run(f"{json.dumps(presses)}.forEach((it) => document.querySelector(it).click())")
+        await relay.hears(cmd="end", board="b1", how="agreed")
+        await relay.refuses(20, "BadField")
+        await table.until('!document.querySelector("#said").hidden')
+        for how in ("threefold", "fifty"):
+            await table.click(f"#ending [data-how={how}]")
+            await table.until('document.querySelector("#sure").open')
+            await table.press("Escape")
+            await table.until('!document.querySelector("#sure").open')
+        await say_end(table, "#ending [data-side=black]")
+        await relay.hears(cmd="end", board="b1", how="resign", side="black")
+        assert relay.asked.empty() and not table.faults, table.faults
         await table.close()
 
 
@@ -969,7 +1001,8 @@ OTHERS = {"firefox": Firefox, "webkit": WebKit}
 # What is tried in these too: what a person does most. Without a device for sound it makes none, so sounds are not among it.
 OFTEN = ["games", "castling", "mate", "typed", "goals", "refused_claim", "next_name", "next", "wire", "cut", "on_its_way", "ending_lost",
          "correct", "crash", "interrupted", "freed", "kept_pgn", "records", "list", "newer", "round", "round_pgn", "listed",
-         "broadcast", "watch_port", "tabs", "tabs_pgn", "tabs_attention", "tabs_from_disk", "tabs_desk"]
+         "broadcast", "watch_port", "tabs", "tabs_pgn", "tabs_attention", "tabs_from_disk", "tabs_desk", "tabs_reloaded",
+         "questions", "two_windows", "listed_results"]
 
 
 async def main():
@@ -977,7 +1010,7 @@ async def main():
     pictures = words[1] if words[:1] == ["--pictures"] else None
     other = OTHERS.get(words[0]) if words else None
     words = (words[1:] or OFTEN) if other else words
-    modules = (back, beside, broadcast, console, contrast, desk, gone, lists, notation, rounds, senses, tabs)
+    modules = (back, beside, broadcast, console, contrast, desk, gone, lists, notation, rounds, senses, tabs, windows)
     tries = {name[4:]: it for module in (globals(), *map(vars, modules)) for name, it in module.items() if name.startswith("try_")}
     # A test's site makes its own certificate, and has a name of its own.
     hosts = f"--host-resolver-rules=MAP {rounds.OTHER_HOST} 127.0.0.1, MAP * ~NOTFOUND, EXCLUDE 127.0.0.1, EXCLUDE localhost"

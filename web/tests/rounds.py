@@ -16,7 +16,7 @@ from gone import beat, following, moved, over
 from relay_client.client import Client
 from relay_client.program import fens, start_fen
 from relay_client.relay import Relay
-from steps import WEB, catch_files, pgn, text, tightened, today, unfold, until_moves, until_state, url
+from steps import WEB, catch_files, pgn, text, tightened, today, unfold, until_moves, until_state, url, watch
 from told import Channels
 
 START = 387
@@ -124,7 +124,7 @@ async def try_round(browser):
 
 async def try_round_pgn(browser):
     """The games of a round are saved as one file, one of each board that is or was open, in their order; a board that goes on has its next
-    name."""
+    name. The round is that of the board's name, or of the address, which has the event, too."""
     relay = await Relay().start()
     page = await browser.open(url("round.html", server=relay.address, boards="r1-1,r1-2,r1-3,r1-4,r1-5",
                                   players="Carlsen, Magnus–Caruana;Ding"))
@@ -138,18 +138,27 @@ async def try_round_pgn(browser):
     await until_tiles(page, lambda them: [it["move"] for it in them] == ["3… c5", "2… Qh4#", "", "", "1. f3"]
                       and them[3]["state"] == "live")
     day = await today(page)
-    others = [pgn("r1-2", 518, "1. f3 e5 2. g4 Qh4# {Black mates.} 0-1", day, ("Ding", "?"), "normal"), pgn("r1-4", 0, "*", day)]
+    mate = "1. f3 e5 2. g4 Qh4# {Black mates.} 0-1"
+    others = [pgn("r1-2", 518, mate, day, ("Ding", "?"), "normal", round_="1.2"), pgn("r1-4", 0, "*", day, round_="1.4")]
     await page.click("#save-round")
-    first = pgn("r1-1", START, "1. Ne3 Nd6 2. O-O O-O 3. f4 c5 *", day, ("Carlsen, Magnus", "Caruana"))
-    file = "\n".join([first, *others, pgn("r1-5_2", 518, "1. f3 *", day)])
+    first = pgn("r1-1", START, "1. Ne3 Nd6 2. O-O O-O 3. f4 c5 *", day, ("Carlsen, Magnus", "Caruana"), round_="1.1")
+    file = "\n".join([first, *others, pgn("r1-5_2", 518, "1. f3 *", day, round_="1.5")])
     assert await page.run("saved") == ["round.pgn", file, "application/vnd.chess-pgn"], await page.run("saved")
     await client.end("r1-1")
     await client.submit("r1-5_2", "d7d5")
     await until_tiles(page, lambda them: them[0]["state"] == "over" and them[4]["move"] == "1… d5")
     await page.click("#save-round")
-    first = pgn("r1-1", START, "1. Ne3 Nd6 2. O-O O-O 3. f4 c5 {Draw agreed.} 1/2-1/2", day, ("Carlsen, Magnus", "Caruana"), "normal")
-    file = "\n".join([first, *others, pgn("r1-5_2", 518, "1. f3 d5 *", day)])
+    drawn = "1. Ne3 Nd6 2. O-O O-O 3. f4 c5 {Draw agreed.} 1/2-1/2"
+    first = pgn("r1-1", START, drawn, day, ("Carlsen, Magnus", "Caruana"), "normal", round_="1.1")
+    file = "\n".join([first, *others, pgn("r1-5_2", 518, "1. f3 d5 *", day, round_="1.5")])
     assert (await page.run("saved"))[1] == file, await page.run("saved")
+    one = await watch(browser, relay, "r1-4", event="Club%20final", round="3")
+    await until_state(one, "live")
+    await catch_files(one)
+    await one.until('!document.querySelector("#save-pgn").hidden')
+    await one.click("#save-pgn")
+    assert (await one.run("saved"))[1] == pgn("r1-4", 0, "*", day, event="Club final", round_="3"), await one.run("saved")
+    await one.close()
     assert not page.faults, page.faults
     await page.close()
     await client.close()

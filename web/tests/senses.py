@@ -3,7 +3,8 @@ import asyncio
 
 from relay_client.client import Client
 from relay_client.relay import Relay
-from steps import enter, open_table, say_end, text, until_moves, until_state, watch
+from relay_client.wire import Wire
+from steps import GRACE, enter, open_table, say_end, text, until_moves, until_state, watch
 
 # Counts the tones that a page makes, in window.tones.
 COUNT = """window.tones = 0; (() => { const made = AudioContext.prototype.createOscillator;
@@ -54,6 +55,35 @@ async def try_sounds(browser):
     for page in (table, seer, again):
         assert not page.faults, page.faults
         await page.close()
+
+
+async def try_alarm(browser):
+    """A board that lost its connection is marked in the title of its page, and is heard after some seconds where sounds are on; not where
+    it is back by then."""
+    relay = await Relay(grace=GRACE).start()
+    wire = await Wire(relay.port).mend()
+    table = await open_table(browser, relay, "b1", 518, wire.address)
+    await table.run('localStorage.removeItem("sirvandu.settings")')
+    await table.run('document.querySelector("#sounds").checked = false')
+    await table.run(COUNT)
+    assert await table.run("document.title") == "b1 – Operate a board"
+    for is_on, lasts, tones in ((False, 4, 0), (True, 0, 1), (True, 4, 5)):
+        if is_on != await table.run('document.querySelector("#sounds").checked'):
+            await table.click("#sounds")
+            await until_tones(table, 1)
+        await wire.cut()
+        await table.until('document.title === "⚠ b1 – Operate a board"')
+        await asyncio.sleep(lasts)
+        assert await table.run("tones") == tones
+        await wire.mend()
+        await until_state(table, "live")
+        assert await table.run("document.title") == "b1 – Operate a board"
+    await asyncio.sleep(4)
+    assert await table.run("tones") == 5
+    await table.click("#sounds")
+    assert not table.faults, table.faults
+    await table.close()
+    await wire.cut()
 
 
 async def try_motion(browser):

@@ -135,10 +135,10 @@ async def say_end(page, selector):
     await page.click("#sure .main")
 
 
-PGN = """[Event "?"]
+PGN = """[Event "{event}"]
 [Site "?"]
 [Date "{day}"]
-[Round "?"]
+[Round "{round_}"]
 [White "{white}"]
 [Black "{black}"]
 [Result "{score}"]
@@ -152,11 +152,11 @@ PGN = """[Event "?"]
 """
 
 
-def pgn(board, start, words, day, players=("?", "?"), termination="unterminated"):
+def pgn(board, start, words, day, players=("?", "?"), termination="unterminated", event="?", round_="?"):
     """The PGN of a game from a start, whose words end with the score."""
     placement_, turn, _, *others = start_fen(start).split(" ")
-    return PGN.format(day=day, white=players[0], black=players[1], score=words.split()[-1], board=board, termination=termination,
-                      words=words, fen=" ".join([placement_, turn, "KQkq", *others]))
+    return PGN.format(day=day, event=event, round_=round_, white=players[0], black=players[1], score=words.split()[-1], board=board,
+                      termination=termination, words=words, fen=" ".join([placement_, turn, "KQkq", *others]))
 
 
 async def catch_files(page):

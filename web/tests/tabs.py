@@ -102,13 +102,16 @@ async def try_tabs_attention(browser):
             await page.until(frame(0, f'return document_.querySelectorAll(".move[data-place]").length === {place}'))
         await page.until('document.querySelector(".tab").dataset.wants === "near"')
         assert "White to move. This position has occurred twice" in (await page.run(TABS))[0]["stand"]
+        assert await page.run("document.title") == "⚠ a1 – Operate a round"
         await wire.cut()
         await page.until('[...document.querySelectorAll(".tab")].every((it) => it.dataset.wants === "alarm")')
+        assert await page.run("document.title") == "⚠ a1, a2 – Operate a round"
         assert await text(page, "#state") == "2 without connection" and "No connection" in (await page.run(TABS))[1]["stand"]
         await wire.mend()
         await page.until('document.querySelector("#state").textContent === "2 open"')
         await page.go(await page.run("location.href"))
         await until_stand(page, "No board open", "No board open")
+        assert await page.run("document.title") == "Operate a round"
         await asyncio.sleep(0.5)
         assert (await log_of(relay, "a2")) == ([], None)
         # A game that went on under its next name is offered too.
@@ -177,12 +180,15 @@ ROUND = [["Ne3"], ["f3", "e5", "g4", "Qh4#"], ["g3", "g6"]]
 
 
 async def try_tabs_pgn(browser):
-    """All games of the window are saved as one file: a corrected one is in it under its next name alone, and one with a result stays beside
-    the next of its tab."""
+    """All games of the window are saved as one file, with the event and the round: a corrected one is in it under its next name alone, and
+    one with a result stays beside the next of its tab."""
     relay = await Relay(grace=GRACE).start()
+    event = {"event": "Club final", "round_": "3"}
     with site() as address:
         page = await browser.open(f"{address}/tables.html?server={relay.address}")
         assert await page.run('document.querySelector("#save-round").hidden'), "there is nothing to be saved yet"
+        await page.fill("#event", "Club final")
+        await page.fill("#round", "3")
         await page.fill("#lines", LINES)
         await page.click("#source .main")
         await until_stand(page, *3 * ["White to move"])
@@ -193,10 +199,10 @@ async def try_tabs_pgn(browser):
                 await page.until(frame(index, f'return document_.querySelectorAll(".move[data-place]").length === {count}'))
         await until_stand(page, "Black to move", "0–1: Black wins by checkmate.", "White to move")
         day = await today(page)
-        first = pgn("t1", 387, "1. Ne3 *", day, ("Carlsen, Magnus", "Caruana"))
-        mate = pgn("t2", 518, "1. f3 e5 2. g4 Qh4# {Black mates.} 0-1", day, ("So", "Ding"), "normal")
+        first = pgn("t1", 387, "1. Ne3 *", day, ("Carlsen, Magnus", "Caruana"), **event)
+        mate = pgn("t2", 518, "1. f3 e5 2. g4 Qh4# {Black mates.} 0-1", day, ("So", "Ding"), "normal", **event)
         await page.click("#save-round")
-        file = "\n".join([first, mate, pgn("t3", 0, "1. g3 g6 *", day)])
+        file = "\n".join([first, mate, pgn("t3", 0, "1. g3 g6 *", day, **event)])
         assert await page.run("saved") == ["round.pgn", file, "application/vnd.chess-pgn"], await page.run("saved")
         for press in ("#back", "#correct", "#sure-yes"):
             await page.run(frame(2, f'document_.querySelector("{press}").click()'))
@@ -204,12 +210,67 @@ async def try_tabs_pgn(browser):
         await page.run(frame(1, 'document_.querySelector("#opening").requestSubmit()'))
         await until_stand(page, "Black to move", "White to move", "Black to move")
         await page.click("#save-round")
-        file = "\n".join([first, mate, pgn("t2_2", 518, "*", day), pgn("t3_2", 0, "1. g3 *", day)])
+        file = "\n".join([first, mate, pgn("t2_2", 518, "*", day, **event), pgn("t3_2", 0, "1. g3 *", day, **event)])
         assert (await page.run("saved"))[1] == file, await page.run("saved")
+        players = "Carlsen,%20Magnus–Caruana;So–Ding;"
+        link = f"round.html?server={relay.address}&boards=t1,t2,t3&players={players}&event=Club%20final&round=3"
+        assert (await page.run('document.querySelector("#watch").getAttribute("href")')).replace("%E2%80%93", "–") == link
         assert await page.run('[...document.querySelectorAll("iframe")].map((it) => it.title)') == ["t1", "t2_2", "t3_2"]
         assert [it["players"] for it in await page.run(TABS)] == ["Carlsen, Magnus–Caruana", "", ""]
         assert not page.faults, page.faults
         await page.close()
+
+
+async def try_tabs_reloaded(browser):
+    """A page that is loaded again has its results, in its tabs and in its file, also when the relay was restarted; a press opens the next
+    game. A game without an end is offered, and one of another relay or of another day is not shown."""
+    relay = await Relay(grace=GRACE).start()
+    with site() as address:
+        page = await open_round(browser, address, relay)
+        await until_stand(page, *3 * ["White to move"])
+        for count, move in enumerate(ROUND[1], 1):
+            await play(page, 1, move)
+            await page.until(frame(1, f'return document_.querySelectorAll(".move[data-place]").length === {count}'))
+        await play(page, 0, "Ne3")
+        await until_stand(page, "Black to move", "0–1: Black wins by checkmate.", "White to move")
+        for press in ("#ending [data-side=black]", "#sure-yes"):
+            await page.run(frame(0, f'document_.querySelector("{press}").click()'))
+        stands = ["1–0: Black resigned. White wins.", "0–1: Black wins by checkmate.", "No board open"]
+        await until_stand(page, *stands[:2], "White to move")
+        day = await today(page)
+        for restarts in (False, True):
+            if restarts:
+                await relay.kill()
+                await relay.start()
+            await page.go(await page.run("location.href"))
+            await until_stand(page, *stands)
+            had = [await text(page, "#state"), *(it["name"] for it in await page.run(TABS))]
+            assert had == ["2 over", "t1", "t2", "t3"], had
+            await catch_files(page)
+            await page.click("#save-round")
+            first = pgn("t1", 387, "1. Ne3 {Black resigns.} 1-0", day, ("Carlsen, Magnus", "Caruana"), "normal")
+            mate = pgn("t2", 518, "1. f3 e5 2. g4 Qh4# {Black mates.} 0-1", day, ("So", "Ding"), "normal")
+            assert (await page.run("saved"))[1] == f"{first}\n{mate}", await page.run("saved")
+            assert await page.run(frame(2, 'return document_.querySelector("#go-on").textContent')) == "Continue t3"
+        await page.run(frame(1, 'document_.querySelector("#opening").requestSubmit()'))
+        await until_stand(page, stands[0], "White to move", stands[2])
+        assert (await page.run(TABS))[1]["name"] == "t2_2"
+        # In a window of its own nothing but the board's name is known.
+        other = await browser.open(f"{address}/table.html?server={relay.address}&board=t1")
+        await other.until('document.querySelector("#outcome b").textContent === "1–0"')
+        assert await other.run('document.querySelector("#name").value') == "t1_2"
+        for change in ('"server", "ws://127.0.0.1:1"', '"saved", new Date(Date.now() - 13 * 3600000).toISOString()'):
+            await other.run(f"""{{ const games = Kept.all(); const set = (name, value) => games.forEach((it) => {{ it[name] = value; }});
+                set({change}); localStorage.setItem("sirvandu.games", JSON.stringify(games)); sessionStorage.clear(); }}""")
+            await other.go(f"{address}/table.html?server={relay.address}&board=t1")
+            await asyncio.sleep(0.2)
+            assert await text(other, "#outcome b") == "" and await text(other, "#state") == "No board open", change
+            await other.run(f"""{{ const games = Kept.all(); games.forEach((it) => Object.assign(it,
+                {{ server: "{relay.address}", saved: new Date().toISOString() }}));
+                localStorage.setItem("sirvandu.games", JSON.stringify(games)); }}""")
+        for it in page, other:
+            assert not it.faults, it.faults
+            await it.close()
 
 
 async def try_tabs_from_disk(browser):

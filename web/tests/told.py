@@ -4,12 +4,15 @@ import json
 
 import websockets
 
+KNOCK = "a1b8"  # What a page asks for to see how a board stands.
+
 
 class Told:
     """A server that says to the page what a test tells it to, and keeps what the page asks for."""
 
     async def __aenter__(self):
         self.asked = asyncio.Queue()
+        self.wanted, self.opened = None, set()  # The board that the page asked for last, and those that it was given.
         self.socket = None
         self.server = await websockets.serve(self.listen, "127.0.0.1", 0, compression=None, ping_interval=None)
         self.address = f"ws://127.0.0.1:{self.server.sockets[0].getsockname()[1]}"
@@ -19,9 +22,18 @@ class Told:
         self.socket = socket
         try:
             async for text in socket:
-                self.asked.put_nowait(json.loads(text))
+                await self.hear(json.loads(text))
         except websockets.ConnectionClosed:
             pass
+
+    async def hear(self, command):
+        """Keeps what the page asks for, but for its look at a board and its next names before it opens one: none of them is there."""
+        if command["cmd"] == "open":
+            self.wanted = command["board"]
+        if command.get("move") == KNOCK and command["board"] not in self.opened:
+            await self.refuses(1, "NoSuchBoard")
+        else:
+            self.asked.put_nowait(command)
 
     async def hears(self, **command):
         """Waits for the page's next command, which has to be this one."""
@@ -29,6 +41,8 @@ class Told:
         assert heard == command, heard
 
     async def says(self, **text):
+        if text["reply"] == "opened":
+            self.opened.add(self.wanted)
         await self.says_so(json.dumps(text))
 
     async def says_so(self, text):
@@ -43,7 +57,7 @@ class Told:
     async def forgets(self, board):
         """Loses the connection, and no longer has the board when the page comes back."""
         await self.socket.close()
-        await self.hears(cmd="submit", board=board, move="a1b8")
+        await self.hears(cmd="submit", board=board, move=KNOCK)
         await self.refuses(1, "NoSuchBoard")
 
     async def __aexit__(self, *_):
