@@ -3,7 +3,8 @@ use Rattle.std.proofs.Common.{◌≡◌, ℕ, Option, Some, None, cond, refl, sy
 use Rattle.std.specs.Prelude.{◌==◌}
 use Rattle.c960_board.specs.declared.piece.Colour.TheVariants.{White, Black}
 use Rattle.c960_game.specs.declared.outcome.Outcome.{Outcome}
-use Rattle.c960_game.specs.declared.outcome.Outcome.TheVariants.{Checkmate, Stalemate, Resigned, Agreed, Abandoned, Threefold, Fifty, Fivefold, SeventyFive}
+use Rattle.c960_game.specs.declared.outcome.Outcome.TheVariants.{Checkmate, Stalemate, Resigned, Agreed, Abandoned, Threefold, Fifty, Fivefold, SeventyFive, LostOnTime, Decided}
+use Rattle.c960_game.specs.declared.result.Result.TheVariants.{WhiteWins, BlackWins, Draw}
 use Rattle.c960_game.specs.Outcome.{outcome_code}
 
 -- the outcome of a number, tried one after another
@@ -19,7 +20,12 @@ decoded code =
     (cond (code == 8) (Some Threefold)
     (cond (code == 9) (Some Fifty)
     (cond (code == 10) (Some Fivefold)
-    (cond (code == 11) (Some SeventyFive) None))))))))))
+    (cond (code == 11) (Some SeventyFive)
+    (cond (code == 12) (Some (LostOnTime White))
+    (cond (code == 13) (Some (LostOnTime Black))
+    (cond (code == 14) (Some (Decided WhiteWins))
+    (cond (code == 15) (Some (Decided BlackWins))
+    (cond (code == 16) (Some (Decided Draw)) None)))))))))))))))
 
 found : (o : Outcome) → decoded (outcome_code o) ≡ Some o
 found (Checkmate White) = refl
@@ -33,6 +39,11 @@ found Threefold = refl
 found Fifty = refl
 found Fivefold = refl
 found SeventyFive = refl
+found (LostOnTime White) = refl
+found (LostOnTime Black) = refl
+found (Decided WhiteWins) = refl
+found (Decided BlackWins) = refl
+found (Decided Draw) = refl
 
 -- a number belongs to one outcome, or to none
 pub only_outcome : (o : Outcome) (code : ℕ) → outcome_code o ≡ code → decoded code ≡ Some o

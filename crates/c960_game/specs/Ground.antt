@@ -3,7 +3,7 @@
 use Rattle.std.specs.Prelude.{ℕ, ◌≡◌, ◌≤◌, List}
 use Rattle.c960_board.specs.Moves.{Triple}
 use Rattle.c960_game.specs.declared.ending.Ending.{Ending}
-use Rattle.c960_game.specs.declared.ending.Ending.TheVariants.{Resigns, Agreed, Abandoned, ClaimThreefold, ClaimFifty}
+use Rattle.c960_game.specs.declared.ending.Ending.TheVariants.{Resigns, Agreed, Abandoned, ClaimThreefold, ClaimFifty, LosesOnTime, Decided}
 use Rattle.c960_game.specs.Positions.{last_position}
 use Rattle.c960_game.specs.Times.{times}
 
@@ -15,3 +15,5 @@ Ground n l (ClaimFifty c) = ((last_position n l).turn ≡ c) × (100 ≤ (last_p
 Ground n l (Resigns c) = Unit {0}
 Ground n l Agreed = Unit {0}
 Ground n l Abandoned = Unit {0}
+Ground n l (LosesOnTime c) = Unit {0}
+Ground n l (Decided r) = Unit {0}

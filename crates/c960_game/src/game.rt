@@ -300,7 +300,11 @@ impl Game {
             Ending::ClaimFifty(claimant) => {
                 same_colour(position.turn(), *claimant) && position.half_moves() >= 100
             }
-            Ending::Resigns(_) | Ending::Agreed | Ending::Abandoned => true,
+            Ending::Resigns(_)
+            | Ending::Agreed
+            | Ending::Abandoned
+            | Ending::LosesOnTime(_)
+            | Ending::Decided(_) => true,
         }
     }
 

@@ -9,6 +9,7 @@ mod limits;
 mod outcome;
 mod refusal;
 mod replay;
+mod result;
 mod same;
 
 pub use ending::Ending;
@@ -17,3 +18,4 @@ pub use limits::{Limits, MOST_BOARDS, MOST_CAPACITY, MOST_FOLLOWERS, MOST_PLIES}
 pub use outcome::Outcome;
 pub use refusal::Refusal;
 pub use replay::Replaying;
+pub use result::Result;

@@ -1,11 +1,12 @@
 //! How a game has ended.
 
 ghost use Rattle.std.specs.Prelude.{◌≡◌, ◌≤◌, ◌↔◌, Some, IsSome, IfSome};
-ghost use Rattle.c960_game.specs.Outcome.{outcome_code, outcome_text};
+ghost use Rattle.c960_game.specs.Outcome.{outcome_code, outcome_result, outcome_text};
 
+use crate::result::Result;
 use c960_board::Colour;
 
-/// How a game has ended. Each outcome has a number, 1 to 11 (`code`), and a text (`text`).
+/// How a game has ended. Each outcome has a number, 1 to 16 (`code`), a text (`text`), and all but `Abandoned` a result (`result`).
 #[derive(Clone, Copy, PartialEq, Eq, Debug)]
 pub enum Outcome {
     /// This side has mated the other (FIDE Laws, Article 5.1.1).
@@ -26,10 +27,14 @@ pub enum Outcome {
     Fivefold,
     /// Seventy-five moves of each side had no capture and no pawn move (Article 9.6.2).
     SeventyFive,
+    /// This player's time ran out (Article 6.9).
+    LostOnTime(Colour),
+    /// An arbiter decided the game (Articles 6.7, 11.7 and 12.9).
+    Decided(Result),
 }
 
 impl Outcome {
-    /// The number of the outcome, 1 to 11: two each for `Checkmate` and `Resigned`, White's first.
+    /// The number of the outcome, 1 to 16: two each for `Checkmate`, `Resigned` and `LostOnTime`, White's first, and three for `Decided`.
     pub fn code(&self) -> u64
         ensures { result ≡ outcome_code self.now }
     {
@@ -45,13 +50,18 @@ impl Outcome {
             Outcome::Fifty => 9,
             Outcome::Fivefold => 10,
             Outcome::SeventyFive => 11,
+            Outcome::LostOnTime(Colour::White) => 12,
+            Outcome::LostOnTime(Colour::Black) => 13,
+            Outcome::Decided(Result::WhiteWins) => 14,
+            Outcome::Decided(Result::BlackWins) => 15,
+            Outcome::Decided(Result::Draw) => 16,
         }
     }
 
-    /// The outcome with that number, or None exactly for 0 and from 12 on.
+    /// The outcome with that number, or None exactly for 0 and from 17 on.
     #[tactic(auto, using(crate::proofs::OutcomeFacts::only_outcome))]
     pub fn of_code(code: u64) -> Option<Outcome>
-        ensures some { IsSome result ↔ ((1 ≤ code) × (code ≤ 11)) }
+        ensures some { IsSome result ↔ ((1 ≤ code) × (code ≤ 16)) }
         ensures value { IfSome result (λ outcome. outcome_code outcome ≡ code) }
         ensures only { (outcome : Outcome) → outcome_code outcome ≡ code → result ≡ Some outcome }
     {
@@ -67,6 +77,11 @@ impl Outcome {
             9 => Some(Outcome::Fifty),
             10 => Some(Outcome::Fivefold),
             11 => Some(Outcome::SeventyFive),
+            12 => Some(Outcome::LostOnTime(Colour::White)),
+            13 => Some(Outcome::LostOnTime(Colour::Black)),
+            14 => Some(Outcome::Decided(Result::WhiteWins)),
+            15 => Some(Outcome::Decided(Result::BlackWins)),
+            16 => Some(Outcome::Decided(Result::Draw)),
             _ => None,
         }
     }
@@ -87,6 +102,31 @@ impl Outcome {
             Outcome::Fifty => "fifty moves",
             Outcome::Fivefold => "fivefold",
             Outcome::SeventyFive => "seventy-five moves",
+            Outcome::LostOnTime(Colour::White) => "white loses on time",
+            Outcome::LostOnTime(Colour::Black) => "black loses on time",
+            Outcome::Decided(Result::WhiteWins) => "white wins by decision",
+            Outcome::Decided(Result::BlackWins) => "black wins by decision",
+            Outcome::Decided(Result::Draw) => "drawn by decision",
+        }
+    }
+
+    /// The result, or None exactly for a game that was given up.
+    pub fn result(&self) -> Option<Result>
+        ensures { result ≡ outcome_result self.now }
+    {
+        match self {
+            Outcome::Checkmate(winner) => Some(Result::won_by(*winner)),
+            Outcome::Resigned(loser) | Outcome::LostOnTime(loser) => {
+                Some(Result::won_by(loser.other()))
+            }
+            Outcome::Decided(decided) => Some(*decided),
+            Outcome::Abandoned => None,
+            Outcome::Stalemate
+            | Outcome::Agreed
+            | Outcome::Threefold
+            | Outcome::Fifty
+            | Outcome::Fivefold
+            | Outcome::SeventyFive => Some(Result::Draw),
         }
     }
 }

@@ -7,7 +7,8 @@ use Rattle.c960_board.specs.declared.piece.Colour.TheVariants.{White, Black}
 use Rattle.c960_board.specs.Moves.{Triple, IsMove, is_promotion}
 use Rattle.c960_board.specs.MoveTexts.{promotion_code, move_code}
 use Rattle.c960_game.specs.declared.outcome.Outcome.{Outcome}
-use Rattle.c960_game.specs.declared.outcome.Outcome.TheVariants.{Checkmate, Stalemate, Resigned, Agreed, Abandoned, Threefold, Fifty, Fivefold, SeventyFive}
+use Rattle.c960_game.specs.declared.outcome.Outcome.TheVariants.{Checkmate, Stalemate, Resigned, Agreed, Abandoned, Threefold, Fifty, Fivefold, SeventyFive, LostOnTime, Decided}
+use Rattle.c960_game.specs.declared.result.Result.TheVariants.{WhiteWins, BlackWins, Draw}
 use Rattle.c960_game.specs.Game960.{Game960}
 use Rattle.live_board.specs.SharedBoard.{no_move, move_at}
 use Rattle.live_board.specs.Words.{outcome_number, outcome_numbered}
@@ -50,8 +51,13 @@ outcome_back (Some Threefold) = refl
 outcome_back (Some Fifty) = refl
 outcome_back (Some Fivefold) = refl
 outcome_back (Some SeventyFive) = refl
+outcome_back (Some (LostOnTime White)) = refl
+outcome_back (Some (LostOnTime Black)) = refl
+outcome_back (Some (Decided WhiteWins)) = refl
+outcome_back (Some (Decided BlackWins)) = refl
+outcome_back (Some (Decided Draw)) = refl
 
-pub outcome_small : (o : Option Outcome) → outcome_number o < 12
+pub outcome_small : (o : Option Outcome) → outcome_number o < 17
 outcome_small None = omega arith
 outcome_small (Some (Checkmate White)) = omega arith
 outcome_small (Some (Checkmate Black)) = omega arith
@@ -64,6 +70,11 @@ outcome_small (Some Threefold) = omega arith
 outcome_small (Some Fifty) = omega arith
 outcome_small (Some Fivefold) = omega arith
 outcome_small (Some SeventyFive) = omega arith
+outcome_small (Some (LostOnTime White)) = omega arith
+outcome_small (Some (LostOnTime Black)) = omega arith
+outcome_small (Some (Decided WhiteWins)) = omega arith
+outcome_small (Some (Decided BlackWins)) = omega arith
+outcome_small (Some (Decided Draw)) = omega arith
 
 -- each move of a legal game is one
 pub logged_is_move : (n : ℕ) (l : List Triple) → Game960 n l → (k : ℕ) → IsMove (move_at l k)

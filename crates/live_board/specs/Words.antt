@@ -2,7 +2,8 @@
 use Rattle.std.specs.Prelude.{ℕ, ◌+◌, ◌*◌, ◌-◌, ◌/◌, ◌%◌, ◌==◌, nat_lt, if◌then◌else◌, Option, Some, None}
 use Rattle.c960_board.specs.declared.piece.Colour.TheVariants.{White, Black}
 use Rattle.c960_game.specs.declared.outcome.Outcome.{Outcome}
-use Rattle.c960_game.specs.declared.outcome.Outcome.TheVariants.{Checkmate, Stalemate, Resigned, Agreed, Abandoned, Threefold, Fifty, Fivefold, SeventyFive}
+use Rattle.c960_game.specs.declared.outcome.Outcome.TheVariants.{Checkmate, Stalemate, Resigned, Agreed, Abandoned, Threefold, Fifty, Fivefold, SeventyFive, LostOnTime, Decided}
+use Rattle.c960_game.specs.declared.result.Result.TheVariants.{WhiteWins, BlackWins, Draw}
 use Rattle.c960_game.specs.Outcome.{outcome_code}
 use Rattle.live_board.specs.declared.words.TheConstants.{FIELD, MARK}
 use Rattle.live_board.specs.declared.limits.BoardLimits.{BoardLimits}
@@ -69,7 +70,9 @@ outcome_numbered n =
     if n == 1 then Some (Checkmate White) else if n == 2 then Some (Checkmate Black) else if n == 3 then Some Stalemate
     else if n == 4 then Some (Resigned White) else if n == 5 then Some (Resigned Black) else if n == 6 then Some Agreed
     else if n == 7 then Some Abandoned else if n == 8 then Some Threefold else if n == 9 then Some Fifty
-    else if n == 10 then Some Fivefold else if n == 11 then Some SeventyFive else None
+    else if n == 10 then Some Fivefold else if n == 11 then Some SeventyFive else if n == 12 then Some (LostOnTime White)
+    else if n == 13 then Some (LostOnTime Black) else if n == 14 then Some (Decided WhiteWins)
+    else if n == 15 then Some (Decided BlackWins) else if n == 16 then Some (Decided Draw) else None
 
 -- the outcome that a status says
 abbrev pub outcome_in : ℕ → Option Outcome

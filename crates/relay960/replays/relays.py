@@ -1,7 +1,7 @@
 """Relays over scripts: queues that are full, ends of games, seats and places, a case a table."""
 
 from relay_client.texts import (CUT, GAME_OVER, NO_BOARD, NO_FOLLOWER, NOTHING, OPENED, START_518, ended, ends, following, follows, leaves,
-                                left, moved, opens, over, played, refused, submits, takes)
+                                left, moved, opens, over, played, refused, submits, takes, text)
 from runs import Run, lines
 
 START_0 = "bbqnnrkr/pppppppp/8/8/8/8/PPPPPPPP/BBQNNRKR w HFhf - 0 1"
@@ -20,6 +20,11 @@ KNIGHTS_OUT_AND_HOME = "g8f6 g1f3 f6g8 f3g1"
 def plays(board, moves, first):
     """Rows of moves that are played from this place on, of which none ends the game."""
     return [(submits(board, move), played(place)) for place, move in enumerate(moves.split(), first)]
+
+
+def decides(board, result):
+    """Tells of an arbiter's decision."""
+    return text(cmd="end", board=board, how="decided", result=result)
 
 
 def case(rows, boards=16, followers=64, capacity=64, plies=1024):
@@ -158,6 +163,41 @@ A_GAME_ENDS_AS_ITS_PLAYERS_SAY_AND_ONCE = [
     (ends("none", "threefold", "white"), GAME_OVER),
 ]
 
+A_GAME_ENDS_AS_ITS_ARBITER_SAYS_WHOEVER_IS_ON_MOVE_AND_ONCE = [
+    # Before the first move, of the side on move and of the other.
+    (opens("white", 518), OPENED),
+    (ends("white", "time", "white"), ended("white loses on time")),
+    (submits("white", "e2e4"), GAME_OVER),
+    (ends("white", "time", "black"), GAME_OVER),
+    (decides("white", "1-0"), GAME_OVER),
+    (opens("black", 518), OPENED),
+    (ends("black", "time", "black"), ended("black loses on time")),
+    # Behind a move, for both sides and for neither.
+    (opens("1-0", 518), OPENED),
+    (follows("1-0", 1), following(0, START_518)),
+    (submits("1-0", "e2e4"), played(0)),
+    (decides("1-0", "1-0"), ended("white wins by decision")),
+    (takes(1), moved("e2e4", 0)),
+    (takes(1), over("white wins by decision")),
+    (ends("1-0", "resign", "white"), GAME_OVER),
+    (opens("0-1", 518), OPENED),
+    (submits("0-1", "e2e4"), played(0)),
+    (decides("0-1", "0-1"), ended("black wins by decision")),
+    (follows("0-1", 2), following(1, ONE_PLY)),
+    (takes(2), over("black wins by decision")),
+    (opens("drawn", 518), OPENED),
+    (decides("drawn", "1/2-1/2"), ended("drawn by decision")),
+    (decides("drawn", "1/2-1/2"), GAME_OVER),
+    # After a mate, and on a board that was not opened.
+    (opens("mate", 518), OPENED),
+    *plays("mate", "f2f3 e7e5 g2g4", 0),
+    (submits("mate", "d8h4"), played(3, "black mates")),
+    (ends("mate", "time", "black"), GAME_OVER),
+    (decides("mate", "1/2-1/2"), GAME_OVER),
+    (ends("none", "time", "white"), NO_BOARD),
+    (decides("none", "1-0"), NO_BOARD),
+]
+
 A_THIRD_APPEARANCE_IS_GRANTED_TO_THE_SIDE_ON_MOVE = [
     (opens("b1", 518), OPENED),
     (submits("b1", "e2e4"), played(0)),
@@ -292,6 +332,7 @@ RUNS = [
     case(A_MOVE_MAY_STALEMATE),
     case(A_BOARD_THAT_HAS_ENDED_MAY_BE_FOLLOWED),
     case(A_GAME_ENDS_AS_ITS_PLAYERS_SAY_AND_ONCE),
+    case(A_GAME_ENDS_AS_ITS_ARBITER_SAYS_WHOEVER_IS_ON_MOVE_AND_ONCE),
     case(A_THIRD_APPEARANCE_IS_GRANTED_TO_THE_SIDE_ON_MOVE),
     case(TOO_FAR_BACK_COMES_BEFORE_TOO_MANY_FOLLOWERS, followers=1, capacity=2),
     case(A_WHOLE_CAPACITY_BACK_STAYS_OPEN_AFTER_A_TAKE, capacity=2),

@@ -7,6 +7,7 @@ mod Seatings
 mod Facts
 mod Lawful
 mod Queue
+mod Waiting
 mod Submitted
 mod Whole
 mod EndStays

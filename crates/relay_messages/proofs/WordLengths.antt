@@ -2,7 +2,8 @@
 use Rattle.std.proofs.Common.{◌≤◌, length, lit≤}
 use Rattle.c960_board.specs.declared.piece.Colour.TheVariants.{White, Black}
 use Rattle.c960_game.specs.declared.outcome.Outcome.{Outcome}
-use Rattle.c960_game.specs.declared.outcome.Outcome.TheVariants.{Checkmate, Stalemate, Resigned, Agreed, Abandoned, Threefold, Fifty, Fivefold, SeventyFive}
+use Rattle.c960_game.specs.declared.outcome.Outcome.TheVariants.{Checkmate, Stalemate, Resigned, Agreed, Abandoned, Threefold, Fifty, Fivefold, SeventyFive, LostOnTime, Decided}
+use Rattle.c960_game.specs.declared.result.Result.TheVariants.{WhiteWins, BlackWins, Draw}
 use Rattle.c960_game.specs.declared.refusal.Refusal.{Refusal}
 use Rattle.c960_game.specs.declared.refusal.Refusal.TheVariants.{NoSuchBoard, BoardExists, BadStart, TooManyBoards, GameOver, Illegal, LogFull, ClaimRefused, NoSuchFollower, FollowerExists, TooManyFollowers, OutOfMemory, NotYourBoard, WrongMode, TooFarBack, NotYet}
 use Rattle.c960_game.specs.Outcome.{outcome_text}
@@ -11,7 +12,7 @@ use Rattle.relay_messages.specs.declared.fault.MessageFault.{MessageFault}
 use Rattle.relay_messages.specs.declared.fault.MessageFault.TheVariants as faults
 use Rattle.relay_messages.specs.Faults.{message_fault_name}
 
-pub outcome_short : (o : Outcome) → length (outcome_text o) ≤ 20
+pub outcome_short : (o : Outcome) → length (outcome_text o) ≤ 22
 outcome_short (Checkmate White) = lit≤ tt
 outcome_short (Checkmate Black) = lit≤ tt
 outcome_short Stalemate = lit≤ tt
@@ -23,6 +24,11 @@ outcome_short Threefold = lit≤ tt
 outcome_short Fifty = lit≤ tt
 outcome_short Fivefold = lit≤ tt
 outcome_short SeventyFive = lit≤ tt
+outcome_short (LostOnTime White) = lit≤ tt
+outcome_short (LostOnTime Black) = lit≤ tt
+outcome_short (Decided WhiteWins) = lit≤ tt
+outcome_short (Decided BlackWins) = lit≤ tt
+outcome_short (Decided Draw) = lit≤ tt
 
 pub refusal_short : (r : Refusal) → length (refusal_name r) ≤ 20
 refusal_short NoSuchBoard = lit≤ tt

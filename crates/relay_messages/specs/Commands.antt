@@ -6,14 +6,14 @@ use Rattle.std.specs.Str.{bytes_eq}
 use Rattle.serde_json.specs.Data.{Data}
 use Rattle.serde_json.specs.Find.{as_object}
 use Rattle.c960_game.specs.declared.ending.Ending.{Ending}
-use Rattle.c960_game.specs.declared.ending.Ending.TheVariants.{Resigns, Agreed, Abandoned, ClaimThreefold, ClaimFifty}
+use Rattle.c960_game.specs.declared.ending.Ending.TheVariants.{Resigns, Agreed, Abandoned, ClaimThreefold, ClaimFifty, LosesOnTime, Decided}
 use Rattle.relay_core.specs.declared.step.Step.{Step}
 use Rattle.relay_core.specs.declared.step.Step.TheVariants.{Open, Submit, End, Follow, Take, Leave}
 use Rattle.relay_messages.specs.declared.fault.MessageFault.{MessageFault}
 use Rattle.relay_messages.specs.declared.fault.MessageFault.TheVariants.{NotObject, UnknownCommand, BadField}
 use Rattle.relay_messages.specs.declared.watch_command.WatchCommand.{WatchCommand}
 use Rattle.relay_messages.specs.declared.watch_command.WatchCommand.TheVariants as watch
-use Rattle.relay_messages.specs.Fields.{member_count, text_at, board_at, start_at, from_at, has_from, spectator_at, move_at, side_at}
+use Rattle.relay_messages.specs.Fields.{member_count, text_at, board_at, start_at, from_at, has_from, spectator_at, move_at, side_at, result_at}
 
 -- this result, if the object has n members
 abbrev pub with_members : {A : Type 0} → ℕ → Data → Option A → Option A
@@ -27,19 +27,22 @@ open_in d = with_members 3 d (option_and_then (λ board. option_map (λ start. O
 abbrev pub submit_in : Data → Option Step
 submit_in d = with_members 3 d (option_and_then (λ board. option_map (λ m. Submit board m) (move_at d)) (board_at d))
 
--- `resign`, `threefold` and `fifty` name a side; `agreed` and `abandoned` allow none
+-- `resign`, `threefold`, `fifty` and `time` name a side, and `decided` names a result; `agreed` and `abandoned` allow neither
 abbrev pub ending_named : Data → List ℕ → Option Ending
 ending_named d how =
     cond (bytes_eq how (codes "resign")) (with_members 4 d (option_map Resigns (side_at d)))
     (cond (bytes_eq how (codes "threefold")) (with_members 4 d (option_map ClaimThreefold (side_at d)))
     (cond (bytes_eq how (codes "fifty")) (with_members 4 d (option_map ClaimFifty (side_at d)))
+    (cond (bytes_eq how (codes "time")) (with_members 4 d (option_map LosesOnTime (side_at d)))
+    (cond (bytes_eq how (codes "decided")) (with_members 4 d (option_map Decided (result_at d)))
     (cond (bytes_eq how (codes "agreed")) (with_members 3 d (Some Agreed))
-    (cond (bytes_eq how (codes "abandoned")) (with_members 3 d (Some Abandoned)) None))))
+    (cond (bytes_eq how (codes "abandoned")) (with_members 3 d (Some Abandoned)) None))))))
 
 abbrev pub ending_in : Data → Option Ending
 ending_in d = option_and_then (ending_named d) (text_at (codes "how") d)
 
--- {"cmd":"end","board":"b1","how":"agreed"} and {"cmd":"end","board":"b1","how":"resign","side":"white"}
+-- {"cmd":"end","board":"b1","how":"agreed"}, {"cmd":"end","board":"b1","how":"resign","side":"white"}
+-- and {"cmd":"end","board":"b1","how":"decided","result":"1-0"}
 abbrev pub end_in : Data → Option Step
 end_in d = option_and_then (λ board. option_map (λ ending. End board ending) (ending_in d)) (board_at d)
 

@@ -10,6 +10,8 @@ use Rattle.c960_board.specs.declared.piece.Colour.{Colour}
 use Rattle.c960_board.specs.declared.piece.Colour.TheVariants.{White, Black}
 use Rattle.c960_board.specs.MoveReading.{move_read}
 use Rattle.c960_board.specs.Moves.{Triple}
+use Rattle.c960_game.specs.declared.result.Result.{Result}
+use Rattle.c960_game.specs.declared.result.Result.TheVariants.{WhiteWins, BlackWins, Draw}
 use Rattle.relay_core.specs.Name.{is_name}
 
 -- ---- A member of any form.
@@ -64,6 +66,16 @@ move_at d = option_and_then (λ text. result_ok (move_read text)) (text_at (code
 abbrev pub side_in : List ℕ → Option Colour
 side_in text = cond (bytes_eq text (codes "white")) (Some White) (cond (bytes_eq text (codes "black")) (Some Black) None)
 
--- `side`: the player who resigns or claims, `white` or `black`
+-- `side`: the player who resigns, claims or loses on time, `white` or `black`
 abbrev pub side_at : Data → Option Colour
 side_at d = option_and_then side_in (text_at (codes "side") d)
+
+abbrev pub result_in : List ℕ → Option Result
+result_in text =
+    cond (bytes_eq text (codes "1-0")) (Some WhiteWins)
+    (cond (bytes_eq text (codes "0-1")) (Some BlackWins)
+    (cond (bytes_eq text (codes "1/2-1/2")) (Some Draw) None))
+
+-- `result`: what an arbiter decides, in the signs of PGN: `1-0`, `0-1` or `1/2-1/2`
+abbrev pub result_at : Data → Option Result
+result_at d = option_and_then result_in (text_at (codes "result") d)

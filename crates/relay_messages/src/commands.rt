@@ -2,14 +2,15 @@
 
 ghost use Rattle.std.specs.Prelude.{◌≡◌, Some};
 ghost use Rattle.relay_messages.specs.Commands.{end_in, ending_in, ending_named, follow_in, from_in, leave_in, open_in, submit_in, take_in, with_members};
-ghost use Rattle.relay_messages.specs.Fields.{side_at};
+ghost use Rattle.relay_messages.specs.Fields.{result_at, side_at};
 
 use crate::fields::{
-    board_field, from_field, has_from, move_field, side_field, spectator_field, start_field,
+    board_field, from_field, has_from, move_field, result_field, side_field, spectator_field,
+    start_field,
 };
 use crate::object::Object;
 use c960_board::Colour;
-use c960_game::Ending;
+use c960_game::{Ending, Result};
 use relay_core::Step;
 
 /// Opens a board: `board` and `start`.
@@ -46,8 +47,18 @@ fn side_of_ending<O: Object>(object: &O) -> Option<Colour>
     side_field(object)
 }
 
-/// An ending that names no side.
-fn without_side<O: Object>(object: &O, ending: Ending) -> Option<Ending>
+/// The result, in an object with no further key.
+fn result_of_ending<O: Object>(object: &O) -> Option<Result>
+    ensures { result ≡ with_members 4 (O.said object.now) (result_at (O.said object.now)) }
+{
+    if object.count() != 4 {
+        return None;
+    }
+    result_field(object)
+}
+
+/// An ending that names neither a side nor a result.
+fn ending_alone<O: Object>(object: &O, ending: Ending) -> Option<Ending>
     ensures { result ≡ with_members 3 (O.said object.now) (Some ending) }
 {
     if object.count() != 3 {
@@ -56,7 +67,7 @@ fn without_side<O: Object>(object: &O, ending: Ending) -> Option<Ending>
     Some(ending)
 }
 
-/// The ending of this name, with its side if it has one.
+/// The ending of this name, with its side or its result if it has one.
 fn ending_of<O: Object>(object: &O, how: &str) -> Option<Ending>
     ensures { result ≡ ending_named (O.said object.now) how.now }
 {
@@ -64,13 +75,15 @@ fn ending_of<O: Object>(object: &O, how: &str) -> Option<Ending>
         "resign" => Some(Ending::Resigns(side_of_ending(object)?)),
         "threefold" => Some(Ending::ClaimThreefold(side_of_ending(object)?)),
         "fifty" => Some(Ending::ClaimFifty(side_of_ending(object)?)),
-        "agreed" => without_side(object, Ending::Agreed),
-        "abandoned" => without_side(object, Ending::Abandoned),
+        "time" => Some(Ending::LosesOnTime(side_of_ending(object)?)),
+        "decided" => Some(Ending::Decided(result_of_ending(object)?)),
+        "agreed" => ending_alone(object, Ending::Agreed),
+        "abandoned" => ending_alone(object, Ending::Abandoned),
         _ => None,
     }
 }
 
-/// Ends a game: `board`, `how` and for some endings `side`.
+/// Ends a game: `board`, `how` and for some endings `side`, for one `result`.
 pub fn end_of<O: Object>(object: &O) -> Option<Step>
     ensures { result ≡ end_in (O.said object.now) }
 {

@@ -1,10 +1,11 @@
 //! The members of a command's object.
 
 ghost use Rattle.std.specs.Prelude.{◌≡◌};
-ghost use Rattle.relay_messages.specs.Fields.{board_at, from_at, has_from, move_at, side_at, side_in, small_at, spectator_at, start_at};
+ghost use Rattle.relay_messages.specs.Fields.{board_at, from_at, has_from, move_at, result_at, result_in, side_at, side_in, small_at, spectator_at, start_at};
 
 use crate::object::Object;
 use c960_board::{Colour, Move, read_move};
+use c960_game::Result;
 use relay_core::{BoardName, Spectator};
 
 /// The name of a board.
@@ -68,9 +69,28 @@ fn side_of(text: &str) -> Option<Colour>
     }
 }
 
-/// The player who resigns or claims.
+/// The player who resigns, claims or loses on time.
 pub fn side_field<O: Object>(object: &O) -> Option<Colour>
     ensures { result ≡ side_at (O.said object.now) }
 {
     side_of(object.text("side")?)
+}
+
+/// The result that a text names, in the signs of PGN.
+fn result_of(text: &str) -> Option<Result>
+    ensures { result ≡ result_in text.now }
+{
+    match text {
+        "1-0" => Some(Result::WhiteWins),
+        "0-1" => Some(Result::BlackWins),
+        "1/2-1/2" => Some(Result::Draw),
+        _ => None,
+    }
+}
+
+/// The result that an arbiter decides.
+pub fn result_field<O: Object>(object: &O) -> Option<Result>
+    ensures { result ≡ result_at (O.said object.now) }
+{
+    result_of(object.text("result")?)
 }

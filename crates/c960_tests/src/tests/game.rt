@@ -8,4 +8,5 @@ mod opening;
 mod places;
 mod playing;
 mod plies;
+mod results;
 mod unclaimed;

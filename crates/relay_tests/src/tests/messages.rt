@@ -8,6 +8,7 @@ mod compact;
 mod decoders;
 mod faults;
 mod round_trip;
+mod rulings;
 mod usual;
 mod watch_commands;
 mod ways;

@@ -1,10 +1,10 @@
 //! The numbers of outcomes.
 
 use c960_board::Colour;
-use c960_game::Outcome;
+use c960_game::{Outcome, Result};
 
 /// The outcomes by their numbers, from 1 on.
-const OUTCOMES: [Outcome; 11] = [
+const OUTCOMES: [Outcome; 16] = [
     Outcome::Checkmate(Colour::White),
     Outcome::Checkmate(Colour::Black),
     Outcome::Stalemate,
@@ -16,6 +16,11 @@ const OUTCOMES: [Outcome; 11] = [
     Outcome::Fifty,
     Outcome::Fivefold,
     Outcome::SeventyFive,
+    Outcome::LostOnTime(Colour::White),
+    Outcome::LostOnTime(Colour::Black),
+    Outcome::Decided(Result::WhiteWins),
+    Outcome::Decided(Result::BlackWins),
+    Outcome::Decided(Result::Draw),
 ];
 
 /// Whether a number and an outcome correspond.
@@ -24,13 +29,13 @@ fn is_numbered(outcome: Outcome, code: u64) -> bool {
 }
 
 #[test]
-fn each_number_from_1_to_11_is_of_an_outcome(rt: HostRuntime) {
+fn each_number_from_1_to_16_is_of_an_outcome(rt: HostRuntime) {
     let mut code = 1u64;
     for outcome in OUTCOMES {
         assert!(rt; is_numbered(outcome, code), "number {code}");
         code = code.saturating_add(1);
     }
-    for other in [0, 12, 13, 65536, u64::MAX] {
+    for other in [0, 17, 18, 65536, u64::MAX] {
         assert!(rt; Outcome::of_code(other).is_none(), "number {other}");
     }
 }

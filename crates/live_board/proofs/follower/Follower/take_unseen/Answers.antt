@@ -8,8 +8,8 @@ use Rattle.live_board.proofs.Headlines.{took_of_game}
 use Rattle.live_board.proofs.Rules.{found_none}
 use Rattle.live_board.proofs.follower.Follower.take_unseen.Goals as goal
 
-pub returns-in-Some-clause-headline : goal.returns-in-Some-clause-headline
-returns-in-Some-clause-headline c =
+pub returns-in-Some-clause-took : goal.returns-in-Some-clause-took
+returns-in-Some-clause-took c =
     let f = c.args.self.now in
     let g = c.look.new.self in
     let s = c.look.ensures.part in
@@ -19,12 +19,15 @@ returns-in-Some-clause-headline c =
     let rule : without_move g.part.closing (next_of f.part) g.part.seen g.part.outcome ≡ Some c.in-Some.answer =
     (λ i. without_move (sym closing-is i) (sym c.next-place.ensures.value i) (sym seen-is i) (sym outcome-is i))
     ∙ sym c.without_move.ensures ∙ c.in-Some.is in
-    let took = found_none f g c.in-Some.answer rule
+    found_none f g c.in-Some.answer rule
     (λ k e.
     let was : f.part.closing ≡ Some k = sym (ap (λ (p : Part). p.closing) s.1) ∙ e in
     (c.requires.unclosed k was, omega (arith, s.3 k was, ap (λ (p : Part). p.seen) s.1)))
-    (ap (λ (p : Part). p.loads) s.1) (ap (λ (p : Part). p.taken) s.1) (ap next_of s.1) c.look.ensures.sound.within in
-    took_of_game f g c.in-Some.answer (search rules) took c.look.ensures.sound
+    (ap (λ (p : Part). p.loads) s.1) (ap (λ (p : Part). p.taken) s.1) (ap next_of s.1) c.look.ensures.sound.within
+
+pub returns-in-Some-clause-headline : goal.returns-in-Some-clause-headline
+returns-in-Some-clause-headline c =
+    took_of_game c.args.self.now c.look.new.self c.in-Some.answer (search rules) (returns-in-Some-clause-took c) c.look.ensures.sound
 
 pub returns-in-None-clause-headline : goal.returns-in-None-clause-headline
 returns-in-None-clause-headline c =

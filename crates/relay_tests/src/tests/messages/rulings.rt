@@ -1,0 +1,144 @@
+//! How an arbiter ends a game, as texts: a loss on time and a decision, what is no such command, and what is answered.
+
+use crate::tests::claims::claim;
+use crate::tests::values::board_of;
+use c960_board::Colour;
+use c960_game::Result::{BlackWins, Draw, WhiteWins};
+use c960_game::{Ending, Outcome};
+use relay_core::{Reply, Step, Taken};
+use relay_messages::{Answer, MessageFault, decode, encode};
+use std::alloc::AllocError;
+
+/// Texts, and the ending of the board b1 that each gives.
+static RULINGS: [(&str, Ending); 9] = [
+    (
+        r#"{"cmd":"end","board":"b1","how":"time","side":"white"}"#,
+        Ending::LosesOnTime(Colour::White),
+    ),
+    (
+        r#"{"cmd":"end","board":"b1","how":"time","side":"black"}"#,
+        Ending::LosesOnTime(Colour::Black),
+    ),
+    (
+        r#"{"cmd":"end","board":"b1","how":"decided","result":"1-0"}"#,
+        Ending::Decided(WhiteWins),
+    ),
+    (
+        r#"{"cmd":"end","board":"b1","how":"decided","result":"0-1"}"#,
+        Ending::Decided(BlackWins),
+    ),
+    (
+        r#"{"cmd":"end","board":"b1","how":"decided","result":"1/2-1/2"}"#,
+        Ending::Decided(Draw),
+    ),
+    // In other forms than a client writes.
+    (
+        r#"{"result":"1-0","how":"decided","board":"b1","cmd":"end"}"#,
+        Ending::Decided(WhiteWins),
+    ),
+    (
+        r#"{"cmd":"end","board":"b1","how":"decided","result":"1\/2-1\u002f2"}"#,
+        Ending::Decided(Draw),
+    ),
+    (
+        r#"{"cmd":"end","board":"b1","how":"decided","result":"1-0","result":"0-1"}"#,
+        Ending::Decided(BlackWins),
+    ),
+    (
+        r#" { "cmd" : "end", "side" : "black", "how" : "time", "board" : "b1" } "#,
+        Ending::LosesOnTime(Colour::Black),
+    ),
+];
+
+/// The rulings.
+fn rulings() -> &'static [(&'static str, Ending)] {
+    &RULINGS
+}
+
+#[test]
+fn a_loss_on_time_and_a_decision_are_read(rt: HostRuntime) {
+    let board = board_of(&rt, "b1");
+    for (text, ending) in rulings() {
+        let said = decode(rt.alloc(), text.as_bytes());
+        claim(&rt, said == Ok(Step::End(board, *ending)), *text);
+    }
+}
+
+/// Endings that lack a member, have one too many, or one of another form.
+static FAULTY: [&str; 16] = [
+    r#"{"cmd":"end","board":"b1","how":"time"}"#,
+    r#"{"cmd":"end","board":"b1","how":"time","result":"1-0"}"#,
+    r#"{"cmd":"end","board":"b1","how":"time","side":"white","result":"0-1"}"#,
+    r#"{"cmd":"end","board":"b1","how":"time","side":"both"}"#,
+    r#"{"cmd":"end","board":"b1","how":"decided"}"#,
+    r#"{"cmd":"end","board":"b1","how":"decided","side":"white"}"#,
+    r#"{"cmd":"end","board":"b1","how":"decided","side":"white","result":"1-0"}"#,
+    r#"{"cmd":"end","board":"b1","how":"decided","result":"1-0","x":0}"#,
+    r#"{"cmd":"end","board":"b1","how":"decided","result":"1/2"}"#,
+    r#"{"cmd":"end","board":"b1","how":"decided","result":"*"}"#,
+    r#"{"cmd":"end","board":"b1","how":"decided","result":""}"#,
+    r#"{"cmd":"end","board":"b1","how":"decided","result":null}"#,
+    r#"{"cmd":"end","board":"b1","how":"decided","result":1}"#,
+    r#"{"cmd":"end","board":"b1","how":"resign","result":"0-1"}"#,
+    r#"{"cmd":"end","board":"b1","how":"agreed","result":"1/2-1/2"}"#,
+    r#"{"cmd":"end","board":"b1","how":"abandoned","result":"1/2-1/2"}"#,
+];
+
+/// The faulty endings.
+fn faulty() -> &'static [&'static str] {
+    &FAULTY
+}
+
+#[test]
+fn a_result_belongs_to_a_decision_alone_and_a_side_to_no_decision(rt: HostRuntime) {
+    for text in faulty() {
+        let said = decode(rt.alloc(), text.as_bytes());
+        claim(&rt, said == Err(MessageFault::BadField), *text);
+    }
+}
+
+/// What follows from a ruling, and the text of the answer.
+static ANSWERS: [(Reply, &str); 7] = [
+    (
+        Reply::Ended(Outcome::LostOnTime(Colour::White)),
+        r#"{"outcome":"white loses on time","reply":"ended"}"#,
+    ),
+    (
+        Reply::Ended(Outcome::LostOnTime(Colour::Black)),
+        r#"{"outcome":"black loses on time","reply":"ended"}"#,
+    ),
+    (
+        Reply::Ended(Outcome::Decided(WhiteWins)),
+        r#"{"outcome":"white wins by decision","reply":"ended"}"#,
+    ),
+    (
+        Reply::Ended(Outcome::Decided(BlackWins)),
+        r#"{"outcome":"black wins by decision","reply":"ended"}"#,
+    ),
+    (
+        Reply::Ended(Outcome::Decided(Draw)),
+        r#"{"outcome":"drawn by decision","reply":"ended"}"#,
+    ),
+    (
+        Reply::Took(Taken::Over(Outcome::LostOnTime(Colour::Black))),
+        r#"{"outcome":"black loses on time","reply":"over"}"#,
+    ),
+    (
+        Reply::Took(Taken::Over(Outcome::Decided(Draw))),
+        r#"{"outcome":"drawn by decision","reply":"over"}"#,
+    ),
+];
+
+/// The answers.
+fn answers() -> &'static [(Reply, &'static str)] {
+    &ANSWERS
+}
+
+#[test]
+fn a_loss_on_time_and_a_decision_have_their_texts(rt: HostRuntime) -> Result<(), AllocError> {
+    for (reply, text) in answers() {
+        let said = encode(rt.alloc(), &Answer::Reply(*reply))?;
+        claim(&rt, said.as_str() == *text, *text);
+    }
+    Ok(())
+}
