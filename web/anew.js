@@ -58,10 +58,10 @@ const createAnew = ({ at, back, open }) => {
       at("anew-said").textContent = offered.fault;
       return;
     }
-    at("new-name").value = Words.nextName(offered.board);
+    at("new-name").value = Names.next(offered.board);
     at("count").max = offered.moves.length;
     at("count").value = offered.moves.length;
-    const outcome = offered.outcome && offered.outcome !== "abandoned" ? ` It ended: ${Words.outcome(offered.outcome)}` : "";
+    const outcome = offered.outcome && offered.outcome !== "abandoned" ? ` It ended: ${Outcomes.said(offered.outcome)}` : "";
     at("anew-said").textContent = `${offered.board}: start ${offered.start}, ${offered.moves.length} moves.${outcome}`;
   }
 
@@ -70,7 +70,7 @@ const createAnew = ({ at, back, open }) => {
    * where it goes on under a next name.
    */
   function offerLast(board) {
-    const last = Kept.all().find((it) => !it.outcome && (board === "" || it.board === board || Words.isHeir(it.board, board)));
+    const last = Kept.all().find((it) => !it.outcome && (board === "" || Names.isOf(it.board, board)));
     if (last) {
       at("kept").value = last.id;
       offer(last);

@@ -49,7 +49,7 @@ const Claim = (() => {
 
     /** Answers whether this window operates the board now. With `isForced` it takes the board over from another. */
     async function take(server, board, isForced) {
-      const name = prefix(server) + Words.firstName(board);
+      const name = prefix(server) + Names.first(board);
       if (own.name === name || !navigator.locks) {
         return true;
       }

@@ -2,8 +2,8 @@
 /*
  * What follows one board for a page: at a relay, or in a channel that a feed fills from it. After a lost connection it comes back from
  * the place after the last that is shown, so that nothing is missed and nothing shown twice. It compares the position there with the
- * one that is shown, so that never another game is shown as the one before. Where a game that was lost goes on under its next name, it
- * goes there by itself.
+ * one that is shown, so that never another game is shown as the one before. Where the game has a successor (successors.js), it goes there
+ * by itself.
  *
  * `view` is what shows the game:
  *   record()                     the record that it shows
@@ -16,21 +16,23 @@
  *   entered()                    the follower is in another state
  */
 const createFollower = (view) => {
-  const ASK_AGAIN = 2;
-  const ASKS = 5400; // Three hours: a spectator may open the page long before the round.
+  const ASK_AGAIN = 2; // Seconds between two questions for a board,
+  const ASK_LATER = 10; // and for the successor of one that has a result: few have one.
+  const PATIENCE = 10800; // Three hours: a spectator may open the page long before the round.
   const LATER = ["NoSuchBoard", "TooManyFollowers", "OutOfMemory"];
+  const NO_BOARD = { code: 1, name: "NoSuchBoard" };
   const SHORT = { NoSuchBoard: "Not open yet", TooManyFollowers: "No room", OutOfMemory: "No memory", [Link.FELL_BEHIND]: "Fell behind",
     [Link.NO_ROOM]: "No room" };
   const WHY = { [Link.FELL_BEHIND]: "The relay closed this page's connection because it fell behind.",
     [Link.NO_ROOM]: "The relay has no room for another spectator." };
-  const HEIRS = 3; // How many next names a lost game is looked for under.
+  const SUCCESSORS = 3; // How many next names are asked for.
   const SETTLED = 100; // Milliseconds after which no other text follows that a channel kept,
   const PASSED = 500; // and behind the name of the next board.
 
-  /* What is wanted, whether it is had of a watch port, the waits between tries to connect, how often a board was asked for in a row, and
-   * why it was refused or the connection lost, as it was said last. */
+  /* What is wanted, whether it is had of a watch port, the waits between tries to connect, for how many seconds a board was asked for in a
+   * row, and why it was refused or the connection lost, as it was said last. */
   const wish = { server: "", instead: null, board: "", from: "first", kind: "relay", isPatient: false, isAtWatchPort: false,
-    waits: Link.waits(), asks: 0, said: null };
+    waits: Link.waits(), asked: 0, said: null };
 
   /*
    * The states, and what belongs to each. `behind` says that the relay closed the connection because this follower fell behind.
@@ -39,6 +41,7 @@ const createFollower = (view) => {
    *   lost        behind              there is no connection; it is tried again by itself
    * At a relay:
    *   asking      link, behind, names, from   it is asked for the first of these boards, from that place on or from now on (null)
+   *   peeking     link, behind, names, glance  the first of them has fewer moves; another connection looks whether it has a result
    *   waiting     link, timer         it refused for now, and is asked again
    *   live        link                it tells the game
    *   over        link                it told the end
@@ -56,6 +59,7 @@ const createFollower = (view) => {
     connecting: { ...ways, connected },
     lost: { begin, stop, retry },
     asking: { ...ways, following: joined, refused },
+    peeking: { ...ways, peeked },
     waiting: { ...ways, ask },
     live: { ...ways, move: told, over: told, cut: () => {} },
     over: { ...ways, closed: ended },
@@ -106,8 +110,9 @@ const createFollower = (view) => {
     phase.take("stop");
   }
 
-  function closed({ timer }, code) {
+  function closed({ timer, glance }, code) {
     clearTimeout(timer);
+    drop({ glance });
     const behind = code === Link.FELL_BEHIND;
     const why = WHY[code] || "No connection to the server.";
     const seconds = wish.waits.next(() => phase.take("retry"));
@@ -129,13 +134,16 @@ const createFollower = (view) => {
     connect(behind);
   }
 
-  function stop({ link, timer }) {
+  function stop({ link, timer, glance }) {
     clearTimeout(timer);
     wish.waits.stop();
-    if (link) {
-      link.close();
-    }
+    drop({ link, glance });
     phase.go("idle");
+  }
+
+  /** Closes the connections of a state. */
+  function drop({ link, glance }) {
+    [link, glance].filter(Boolean).forEach((it) => it.close());
   }
 
   /* The texts of a game. */
@@ -178,19 +186,25 @@ const createFollower = (view) => {
 
   /** The boards under which the game may be found: its own until that has ended, and the next ones. */
   function names() {
-    const heirs = Words.nextNames(wish.board, HEIRS);
-    return view.record().outcome === null ? [wish.board, ...heirs] : heirs;
+    const successors = Names.nexts(wish.board, SUCCESSORS);
+    return view.record().outcome === null ? [wish.board, ...successors] : successors;
   }
+
+  /** How many moves a successor that has no result has to have. Where the relay no longer has the game, nothing is hidden by it. */
+  const needed = () => (view.record().outcome === null ? 0 : view.record().next);
 
   function ask({ link, behind }) {
     follow({ link, behind, names: names() });
   }
 
-  /** Asks for the first of the names: from its next place on, where it is the board that is shown. */
+  /** Asks for the first of the names: from its next place on, where it is the board that is shown, or from where a successor has to be. */
   function follow(asked) {
-    const shown = view.record().origin !== null && asked.names[0] === wish.board;
     const first = wish.from === "first" ? 0 : null;
-    followFrom(asked, shown ? view.record().next : first);
+    if (view.record().origin !== null && asked.names[0] === wish.board) {
+      followFrom(asked, view.record().next);
+    } else {
+      followFrom(asked, needed() || first);
+    }
   }
 
   function followFrom({ link, behind, names: boards }, from) {
@@ -199,15 +213,26 @@ const createFollower = (view) => {
     link.send(from === null ? command : { ...command, from });
   }
 
+  /** Goes to a successor that has as many moves as it has to have, and asks for it as for a board that was not shown before. */
+  function succeed(link, board) {
+    link.close();
+    rename(board);
+    connect();
+  }
+
   /** The relay tells the position from which its moves come. Where it is none of the game that is shown, the other is, from its start. */
   function joined({ link, names: [board] }, text) {
+    wish.asked = 0;
+    reached();
+    if (board !== wish.board && needed() > 0) {
+      succeed(link, board);
+      return;
+    }
     if (board !== wish.board) {
       rename(board);
     }
     const met = view.record().take(text);
     say(met);
-    wish.asks = 0;
-    reached();
     if (met === "other") {
       link.close();
       wish.from = "first";
@@ -232,16 +257,46 @@ const createFollower = (view) => {
     }
   }
 
-  /** Writes a refusal with its code into the log, once for several in a row. */
+  /** Writes a refusal with its code into the log, once for several in a row. That a game has no successor is nothing to be said. */
   function log(answer) {
     const text = Words.coded(answer);
-    if (wish.said !== text) {
+    if (wish.said !== text && !Outcomes.hasResult(view.record().outcome)) {
       view.notice(text);
     }
     wish.said = text;
   }
 
   function refused(asked, answer) {
+    if (asked.names[0] !== wish.board && needed() > 0) {
+      refusedSuccessor(asked, answer);
+    } else {
+      refusedBoard(asked, answer);
+    }
+  }
+
+  /** A successor that has got further than is kept will do. One that has fewer moves will, too, where it has a result. */
+  function refusedSuccessor(asked, answer) {
+    const [board, ...others] = asked.names;
+    if (answer.name === "TooFarBack") {
+      succeed(asked.link, board);
+    } else if (answer.name === "NotYet") {
+      phase.go("peeking", { ...asked, glance: Glance.end(addresses(), board, (outcome) => phase.take("peeked", outcome)) });
+    } else if (answer.name === "NoSuchBoard" && others.length > 0) {
+      follow({ ...asked, names: others });
+    } else {
+      refusedAll(asked, answer);
+    }
+  }
+
+  function peeked({ glance, ...asked }, outcome) {
+    if (Outcomes.hasResult(outcome)) {
+      succeed(asked.link, asked.names[0]);
+    } else {
+      refusedSuccessor(asked, NO_BOARD);
+    }
+  }
+
+  function refusedBoard(asked, answer) {
     const [board, ...others] = asked.names;
     const shown = view.record().origin !== null && board === wish.board;
     if (answer.name === "TooFarBack" && asked.from !== null) {
@@ -258,25 +313,28 @@ const createFollower = (view) => {
       followFrom(asked, 0);
     } else if (answer.name === "NoSuchBoard" && others.length > 0) {
       follow({ ...asked, names: others });
-    } else if (LATER.includes(answer.name) && (wish.isPatient || wish.asks < ASKS)) {
-      wish.asks += 1;
-      log(answer);
-      pill("refused", `${Words.refusal(answer)} Asking again every ${ASK_AGAIN} s.`, SHORT[answer.name]);
-      phase.go("waiting", { link: asked.link, timer: setTimeout(() => phase.take("ask"), 1000 * ASK_AGAIN) });
     } else {
-      log(answer);
+      refusedAll(asked, answer);
+    }
+  }
+
+  /** None of the boards is to be had. */
+  function refusedAll({ link }, answer) {
+    log(answer);
+    if (LATER.includes(answer.name) && (wish.isPatient || wish.asked < PATIENCE)) {
+      const seconds = Outcomes.hasResult(view.record().outcome) ? ASK_LATER : ASK_AGAIN;
+      wish.asked += seconds;
+      pill("refused", `${Words.refusal(answer)} Asking again every ${seconds} s.`, SHORT[answer.name]);
+      phase.go("waiting", { link, timer: setTimeout(() => phase.take("ask"), 1000 * seconds) });
+    } else {
       pill("refused", Words.refusal(answer), "Refused");
       phase.take("stop");
     }
   }
 
-  /** The relay has closed the connection behind the end. A game that was abandoned may go on under its next name, which is waited for. */
+  /** The relay has closed the connection behind the end. The game may have a successor, which is waited for. */
   function ended() {
-    if (view.record().outcome === "abandoned") {
-      connect();
-    } else {
-      phase.take("stop");
-    }
+    connect();
   }
 
   /* A channel. */
@@ -367,7 +425,7 @@ const createFollower = (view) => {
 
   function begin(_, given) {
     phase.take("stop");
-    Object.assign(wish, { instead: null }, given, { waits: Link.waits(given.isPatient), asks: 0, said: null, isAtWatchPort: false });
+    Object.assign(wish, { instead: null }, given, { waits: Link.waits(given.isPatient), asked: 0, said: null, isAtWatchPort: false });
     forget();
     connect();
   }

@@ -11,6 +11,8 @@
  * `closed()`         the connection was lost
  */
 const Glance = (() => {
+  const ENDED = 1000; // Milliseconds in which a relay tells the end of a board behind its position.
+
   function look(address, { board, next, isOver }, { seen, refused, closed }) {
     let link = null;
 
@@ -57,5 +59,35 @@ const Glance = (() => {
     return { close: () => link.close() };
   }
 
-  return { look };
+  /** Looks whether a board is over, and calls `seen` with its outcome, or with null where it goes on or is not to be seen. */
+  function end(address, board, seen) {
+    let timer = null;
+    const close = () => {
+      clearTimeout(timer);
+      link.close();
+    };
+    const answer = (outcome) => {
+      close();
+      seen(outcome);
+    };
+    const takers = {
+      following: () => { timer = setTimeout(() => answer(null), ENDED); },
+      over: ({ outcome }) => answer(outcome),
+      refused: () => answer(null),
+    };
+    const link = Link.open(address, {
+      opened: () => link.send({ cmd: "follow", board, spectator: 0 }),
+      heard: (text) => {
+        const taker = takers[text.reply];
+        if (taker) {
+          taker(text);
+        }
+        return true;
+      },
+      closed: () => answer(null),
+    });
+    return { close };
+  }
+
+  return { look, end };
 })();

@@ -53,7 +53,7 @@ const Kept = (() => {
     const games = all();
     const own = games.find((it) => it.id === hereId());
     const wanted = own || { board, server };
-    const isOfBoard = (it) => it.board === wanted.board || Words.isHeir(it.board, wanted.board);
+    const isOfBoard = (it) => Names.isOf(it.board, wanted.board);
     const isSame = (it) => wanted.board !== "" && it.server === wanted.server && isFresh(it) && isOfBoard(it);
     const last = games.find((it) => it === own || isSame(it));
     return last && last.outcome ? last : null;
@@ -61,7 +61,7 @@ const Kept = (() => {
 
   /** The game of a board at this relay that has no end, under whatever name it goes on; or null. */
   const going = (board, server) => all()
-    .find((it) => !it.outcome && it.server === server && Words.firstName(it.board) === Words.firstName(board)) || null;
+    .find((it) => !it.outcome && it.server === server && Names.first(it.board) === Names.first(board)) || null;
 
   return { all, keep, here, ended, going };
 })();

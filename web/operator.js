@@ -104,7 +104,7 @@ const createOperator = (view) => {
   /* Opening a board, and coming back to one. */
 
   function begin(wanted, plies) {
-    game = { id: `${Date.now()}-${wanted.board}`, outcome: null, next: Words.nextName(wanted.board), ...wanted };
+    game = { id: `${Date.now()}-${wanted.board}`, outcome: null, next: Names.next(wanted.board), ...wanted };
     view.say("");
     view.begin(game, plies);
   }
@@ -137,7 +137,7 @@ const createOperator = (view) => {
     if (attempt.isBack) {
       knock(link, attempt);
     } else if (attempt.isFirst) {
-      sound(link, attempt, [game.board, ...Words.nextNames(game.board, HEIRS)]);
+      sound(link, attempt, [game.board, ...Names.nexts(game.board, HEIRS)]);
     } else {
       ask(link, attempt);
     }
@@ -282,7 +282,7 @@ const createOperator = (view) => {
     }
     const others = "Another window or program seems to operate this board.";
     const other = game.next;
-    game.next = Words.nextName(other);
+    game.next = Names.next(other);
     goOn(link, []);
     view.say(`${other} is at the relay, and this page did not open it. ${others} Nothing was entered. Correct the game again: it goes on `
       + `as ${game.next}.`);
@@ -332,7 +332,7 @@ const createOperator = (view) => {
     link.close();
     game.outcome = outcome;
     finished(outcome);
-    view.notice(`${game.board}: ${Words.outcome(outcome)}`);
+    view.notice(`${game.board}: ${Outcomes.said(outcome)}`);
   }
 
   function finished(outcome) {
@@ -366,7 +366,7 @@ const createOperator = (view) => {
   /** Gives the game its next name. */
   function rename() {
     game.board = game.next;
-    game.next = Words.nextName(game.board);
+    game.next = Names.next(game.board);
   }
 
   /** The next name, under which this page reopens a game by itself, was given to somebody else's. */

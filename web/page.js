@@ -55,8 +55,8 @@ const createPage = ({ browsed = () => {}, ...hand } = {}) => {
     holder.hidden = text === null;
     if (text !== null) {
       holder.dataset.outcome = text;
-      holder.querySelector("b").textContent = Words.score(text);
-      holder.querySelector("span").textContent = Words.outcome(text);
+      holder.querySelector("b").textContent = Outcomes.score(text);
+      holder.querySelector("span").textContent = Outcomes.said(text);
     }
   }
 
@@ -113,7 +113,7 @@ const createPage = ({ browsed = () => {}, ...hand } = {}) => {
       words.push(`${Words.spoken(ply.deed, ply.check)}.`);
     }
     if (page.record.outcome !== null) {
-      words.push(Words.outcome(page.record.outcome));
+      words.push(Outcomes.said(page.record.outcome));
     }
     if (words.length > 0) {
       at("spoken").textContent = words.join(" ");

@@ -4,21 +4,7 @@
  * stands behind the last gap, from the position there on.
  */
 const Pgn = (() => {
-  /* The score, what a reader is told of the end, and the word of the PGN standard (9.8.1) for it. */
-  const ENDS = {
-    "white mates": ["1-0", "White mates.", "normal"],
-    "black mates": ["0-1", "Black mates.", "normal"],
-    "stalemate": ["1/2-1/2", "Stalemate.", "normal"],
-    "white resigns": ["0-1", "White resigns.", "normal"],
-    "black resigns": ["1-0", "Black resigns.", "normal"],
-    "agreed": ["1/2-1/2", "Draw agreed.", "normal"],
-    "threefold": ["1/2-1/2", "Draw claimed: threefold repetition.", "normal"],
-    "fifty moves": ["1/2-1/2", "Draw claimed: fifty moves.", "normal"],
-    "fivefold": ["1/2-1/2", "Draw by fivefold repetition.", "normal"],
-    "seventy-five moves": ["1/2-1/2", "Draw by seventy-five moves.", "normal"],
-    "abandoned": ["*", "Abandoned: the game ended without a result, or its board lost its connection.", "abandoned"],
-  };
-  const GOING_ON = ["*", "", "unterminated"];
+  const GOING_ON = { result: "*", termination: "unterminated", noted: "" };
   const FIRST = ["Event", "Site", "Date", "Round", "White", "Black", "Result"];
   const WIDTH = 79;
 
@@ -98,7 +84,7 @@ const Pgn = (() => {
 
   /** The round and the table that a board's name says: 3.1 of r3-1, and of the names under which its game goes on; else "". */
   function roundOf(board) {
-    const found = /^r(\d+)-(\d+)$/.exec(Words.firstName(board));
+    const found = /^r(\d+)-(\d+)$/.exec(Names.first(board));
     return found ? `${found[1]}.${found[2]}` : "";
   }
 
@@ -108,11 +94,11 @@ const Pgn = (() => {
    */
   function write(board, record, labels = {}, date = new Date()) {
     const { position, moves } = known(record);
-    const [score, said, termination] = ENDS[record.outcome] || GOING_ON;
-    const words = [...numbered(position, moves), ...(said ? `{${said}}`.split(" ") : []), score];
+    const { result, termination, noted } = record.outcome === null ? GOING_ON : Outcomes.of(record.outcome);
+    const words = [...numbered(position, moves), ...(noted ? `{${noted}}`.split(" ") : []), result];
     const given = Object.fromEntries(Object.entries(labels).filter(([, value]) => value !== ""));
     const head = tags({
-      Date: day(date), Round: roundOf(board), Result: score, BoardName: board, FEN: fen(position), SetUp: "1",
+      Date: day(date), Round: roundOf(board), Result: result, BoardName: board, FEN: fen(position), SetUp: "1",
       Termination: termination, Variant: "Chess960", ...given,
     });
     return `${head}\n${filled(words)}\n`;

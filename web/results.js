@@ -10,7 +10,7 @@ const Results = (() => {
 
   /** Whether the boards that a relay has are of the round of before. */
   const isSameRound = (texts) => texts.size === 0
-    || [...texts.keys()].some((it) => Words.firstName(it) !== it && !texts.has(Words.firstName(it)));
+    || [...texts.keys()].some((it) => Names.first(it) !== it && !texts.has(Names.first(it)));
 
   /** Those boards that had ended and that the relay has no longer. */
   const left = (before, texts) => new Map([...before].filter(([board, { outcome }]) => outcome !== null && !texts.has(board)));

@@ -73,8 +73,8 @@
   function over() {
     const { board, outcome } = operator.game();
     ["white", "black"].forEach((it) => { at(it).value = ""; });
-    at("name").value = proposed = Words.nextName(board); // A name is given once.
-    entitle(`${Words.score(outcome) || "No result"}, ${board}`);
+    at("name").value = proposed = Names.next(board); // A name is given once.
+    entitle(`${Outcomes.short(outcome)}, ${board}`);
   }
 
   /* The games that the browser keeps. */

@@ -26,7 +26,7 @@
 
   function stand({ state, text, near, outcome, turn }) {
     if (outcome !== null) {
-      return `${Words.score(outcome) || "No result"}: ${Words.outcome(outcome)}`;
+      return [...new Set([Outcomes.short(outcome), Outcomes.said(outcome)])].join(": ");
     }
     const whose = turn === null ? "" : `${Words.colour(turn)} to move`;
     return state === "live" ? [whose, near].filter((it) => it !== "").join(". ") : text;
@@ -37,19 +37,20 @@
 
   /* The games, as a file. */
 
-  /** Whether a game takes the place of the one before it in its tab: it is the same, or goes on with one that had no result. */
-  function goesOn(game, before) {
-    const hasNone = before.outcome === null || before.outcome === "abandoned";
-    return game.id === before.id || (hasNone && Words.isHeir(game.board, before.board));
+  function keep(tab, game) {
+    tab.games = [...tab.games.filter((it) => it.id !== game.id), game];
   }
 
-  function keep(tab, game) {
-    const before = tab.games.slice(-1).filter((it) => !goesOn(game, it));
-    tab.games = [...tab.games.slice(0, -1), ...before, game];
+  /** The games of a tab that are shown. One without an end that is not the tab's last was lost. */
+  function gamesOf(tab) {
+    const last = tab.games[tab.games.length - 1];
+    const outcome = (it) => (it === last ? it.outcome : it.outcome || "abandoned");
+    const told = tab.games.map((game) => ({ game, board: game.board, plies: game.moves.length, outcome: outcome(game) }));
+    return Successors.shown(told).map(({ game }) => game);
   }
 
   /** The games that were open since the page was loaded, in the order of their tabs. */
-  const games = () => tabs.flatMap((it) => it.games);
+  const games = () => tabs.flatMap(gamesOf);
 
   function save() {
     const labels = (it) => ({ ...Address.tags(), ...Players.tags(it.players) });
@@ -103,7 +104,7 @@
 
   /** Says which names no board can have, and that another window of the browser operates other boards of the relay. */
   async function warn() {
-    const own = tabs.map((it) => Words.firstName(it.name.textContent));
+    const own = tabs.map((it) => Names.first(it.name.textContent));
     const others = (await Claim.boards(server)).filter((it) => !own.includes(it));
     const words = [
       wrong.length === 0 ? "" : `No board can have this name: ${wrong.join(", ")}.`,

@@ -105,7 +105,7 @@ const createTile = ({ name, players, href, shown }) => {
   function stand() {
     const { outcome } = tile.record;
     if (outcome !== null) {
-      return Words.score(outcome) || "No result";
+      return Outcomes.short(outcome);
     }
     return tile.state === "live" ? "" : tile.short;
   }
@@ -115,7 +115,7 @@ const createTile = ({ name, players, href, shown }) => {
     const { outcome } = tile.record;
     const position = present();
     if (outcome !== null) {
-      return Words.score(outcome).split("–")[colour === Position.WHITE ? 0 : 1] || "";
+      return Outcomes.score(outcome).split("–")[colour === Position.WHITE ? 0 : 1] || "";
     }
     if (position === null || position.turn !== colour) {
       return "";
@@ -140,7 +140,7 @@ const createTile = ({ name, players, href, shown }) => {
     const names = [players.white, players.black].filter((it) => it !== "").join(" – ");
     const move = lastMove();
     const start = startNumber();
-    const outcome = tile.record.outcome === null ? stand() : Words.outcome(tile.record.outcome).replace(/\.$/, "");
+    const outcome = tile.record.outcome === null ? stand() : Outcomes.said(tile.record.outcome).replace(/\.$/, "");
     return [tile.name, names, start === null ? "" : `start ${start}`, move === "" ? "" : `last move ${move}`,
       turn(), outcome, head.fresh.textContent].filter((it) => it !== "").join(", ");
   }
@@ -167,7 +167,7 @@ const createTile = ({ name, players, href, shown }) => {
     drawPlate(Position.WHITE, plates.white);
     drawPlate(Position.BLACK, plates.black);
     element.dataset.state = tile.state;
-    inner.title = record.outcome === null ? tile.text : Words.outcome(record.outcome);
+    inner.title = record.outcome === null ? tile.text : Outcomes.said(record.outcome);
     inner.setAttribute("aria-label", label());
     if (inner.href !== undefined) {
       inner.href = href(tile.name);

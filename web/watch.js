@@ -12,7 +12,7 @@
     if (name === "over" || name === "live") {
       entitle(follower.board());
       at("anew").hidden = page.record().outcome !== "abandoned";
-      at("anew").textContent = `Watch ${Words.nextName(follower.board())}`;
+      at("anew").textContent = `Watch ${Names.next(follower.board())}`;
       at("anew").title = "The name of this game if it was reopened";
     }
   }
@@ -24,7 +24,7 @@
 
   function entitle(board) {
     const { outcome } = page.record();
-    document.title = `${outcome === null ? "" : `${Words.score(outcome) || "No result"}, `}${board} – Watch a board`;
+    document.title = `${outcome === null ? "" : `${Outcomes.short(outcome)}, `}${board} – Watch a board`;
     at("watched").textContent = board;
   }
 
@@ -62,7 +62,7 @@
     }
   });
   at("anew").addEventListener("click", () => {
-    at("name").value = Words.nextName(follower.board());
+    at("name").value = Names.next(follower.board());
     begin(page.players());
   });
   at("kind").addEventListener("change", () => {

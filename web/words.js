@@ -1,20 +1,6 @@
 "use strict";
-/* The texts of the relay in words for people: outcomes, refusals, moves. */
+/* The texts of the relay in words for people: refusals, moves, positions. */
 const Words = (() => {
-  const OUTCOMES = {
-    "white mates": ["1–0", "White wins by checkmate."],
-    "black mates": ["0–1", "Black wins by checkmate."],
-    "stalemate": ["½–½", "Draw by stalemate."],
-    "white resigns": ["0–1", "White resigned. Black wins."],
-    "black resigns": ["1–0", "Black resigned. White wins."],
-    "agreed": ["½–½", "Draw by agreement."],
-    "abandoned": ["", "Ended without a result: the game was abandoned, or its board lost its connection."],
-    "threefold": ["½–½", "Draw by threefold repetition, claimed by a player."],
-    "fifty moves": ["½–½", "Draw by the fifty-move rule, claimed by a player."],
-    "fivefold": ["½–½", "Draw by fivefold repetition."],
-    "seventy-five moves": ["½–½", "Draw by the seventy-five-move rule."],
-  };
-
   const ILLEGAL = "This move is not legal here.";
 
   const REFUSALS = {
@@ -41,8 +27,6 @@ const Words = (() => {
   const KINDS = { k: "king", q: "queen", r: "rook", b: "bishop", n: "knight", p: "pawn" };
   const COLOURS = { w: "White", b: "Black" };
 
-  const outcome = (text) => (OUTCOMES[text] || ["", text])[1];
-  const score = (text) => (OUTCOMES[text] || ["", text])[0];
   const refusal = (answer) => REFUSALS[answer.name] || "The relay refused this.";
   /** A refusal for the log, with its code and name in the protocol. */
   const coded = (answer) => `${refusal(answer)} (${answer.code} ${answer.name})`;
@@ -126,38 +110,5 @@ const Words = (() => {
     return [side("w"), side("b")];
   }
 
-  /**
-   * The name under which a board is reopened: r1-1, r1-1_2, r1-1_3 and so on, at most 32 letters long. It is counted behind "_",
-   * since tables are counted behind "-": the game of r1-1 that is reopened must not have the name of the next table.
-   */
-  function nextName(name) {
-    const found = /^(.+)_(\d{1,3})$/.exec(name);
-    const tail = found ? `_${Number(found[2]) + 1}` : "_2";
-    return (found ? found[1] : name).slice(0, 32 - tail.length) + tail;
-  }
-
-  /** The name of the first game, of one that goes on under this name; else the name itself. */
-  function firstName(name) {
-    const found = /^(.+)_(\d{1,3})$/.exec(name);
-    return found && Number(found[2]) > 1 ? found[1] : name;
-  }
-
-  /** So many next names, in their order. */
-  function nextNames(name, count) {
-    const names = [];
-    while (names.length < count) {
-      names.push(nextName(names.length > 0 ? names[names.length - 1] : name));
-    }
-    return names;
-  }
-
-  const HEIRS = 99;
-
-  /** Whether the game of a board may go on under this name. Most names are told by their first letters, of which next names keep 27. */
-  const isHeir = (name, board) => name.startsWith(board.replace(/_\d{1,3}$/, "").slice(0, 27)) && nextNames(board, HEIRS).includes(name);
-
-  return {
-    ILLEGAL, outcome, score, refusal, coded, kind, colour, piece, sheet, spoken, missed, near, placement, nextName, nextNames, firstName,
-    isHeir,
-  };
+  return { ILLEGAL, refusal, coded, kind, colour, piece, sheet, spoken, missed, near, placement };
 })();

@@ -1,7 +1,8 @@
 """The tests of what the pages know of chess, without a browser; test.sh starts them. rules.js is compared with Stockfish, san.js with
-PyChess."""
+PyChess, outcomes.js with the program's definitions."""
 import collections
 import json
+import pathlib
 import random
 import re
 import shutil
@@ -56,7 +57,8 @@ const next = (fen, move) => Position.write(Position.after(Position.read(fen), mo
 
 def chess():
     """The pages' scripts of chess, in node."""
-    scripts = Scripts("position", "rules", "san", "last", "texts", "words", "record", "draws", "players", "pgn")
+    scripts = Scripts("position", "rules", "san", "last", "texts", "words", "names", "outcomes", "successors", "record", "draws", "players",
+                      "pgn")
     scripts.run(HELPERS)
     return scripts
 
@@ -194,6 +196,91 @@ def try_last():
     assert all(it[0] in "OR" for it in left) and castlings > 30 and sum("x" in it for it in seen) > 300 and len(left) < len(seen) / 500
 
 
+# The program's definitions.
+
+OUTCOME = pathlib.Path(__file__).resolve().parents[2] / "crates/c960_game/specs/Outcome.antt"
+WINS = {"White": "1-0", "Black": "0-1", "WhiteWins": "1-0", "BlackWins": "0-1", "Draw": "1/2-1/2"}
+LOSES = {"White": "0-1", "Black": "1-0"}
+# What the definition says of an outcome, by its side or its result.
+MEANS = {"Some (won_by c)": WINS.get, "Some (won_by (other c))": LOSES.get, "Some r": WINS.get, "Some Draw": lambda _: "1/2-1/2",
+         "None": lambda _: "*"}
+
+
+def defined():
+    """The outcomes of the definitions: the kind and the text of each, and its result in the words of PGN."""
+    text = OUTCOME.read_text()
+    results = dict(re.findall(r"^outcome_result \(?(\w+)(?: \w\))? = (.*)$", text, re.M))
+    for kind, of, words in re.findall(r'^outcome_text \(?(\w+)(?: (\w+)\))? = codes "(.*)"$', text, re.M):
+        yield kind, words, MEANS[results[kind]](of)
+
+
+BY_THEMSELVES = {"Checkmate", "Stalemate", "Fivefold", "SeventyFive"}
+ENTERED = {"Resigned", "Agreed", "LostOnTime", "Decided"}  # Without a claim, which is of a position.
+
+
+def try_outcomes():
+    """Each outcome of the definitions has its result on the pages, and a sentence of its own; those that somebody names are told apart. One
+    that is not known is shown as its text, and its result is open."""
+    outcomes = list(defined())
+    assert len(outcomes) == 16, outcomes
+    with chess() as pages:
+        told = {text: pages.call("Outcomes.of", text) for _, text, _ in outcomes}
+        assert {text: it["result"] for text, it in told.items()} == {text: result for _, text, result in outcomes}, told
+        assert len({it["said"] for it in told.values()}) == 16 and not {it["said"] for it in told.values()} & set(told), told
+        named = [text for text in told if pages.call("Outcomes.isNamed", text)]
+        assert named == [text for kind, text, _ in outcomes if kind not in BY_THEMSELVES], named
+        entered = {it["text"] for it in pages.call("Outcomes.entered")}
+        assert entered == {text for kind, text, _ in outcomes if kind in ENTERED}, entered
+        for text in ("adjourned", "constructor", ""):
+            had = [pages.call(f"Outcomes.{it}", text) for it in ("result", "score", "short", "said", "isNamed")]
+            assert had == ["*", "", text, text, False], had
+
+
+# The games of a relay, as their boards, moves and outcomes, and the boards that are shown of them.
+LIVE = None
+SHOWN = [
+    ([("r1", 30, "agreed"), ("r1_2", 30, "white resigns")], ["r1_2"]),
+    ([("r1", 30, "agreed"), ("r1_2", 0, LIVE)], ["r1"]),
+    ([("r1", 30, "agreed"), ("r1_2", 29, LIVE)], ["r1"]),
+    ([("r1", 30, "agreed"), ("r1_2", 30, LIVE)], ["r1_2"]),
+    ([("r1", 30, "black mates"), ("r1_2", 31, LIVE)], ["r1_2"]),
+    ([("r1", 30, "abandoned"), ("r1_2", 0, LIVE)], ["r1"]),
+    ([("r1", 30, "abandoned"), ("r1_2", 29, LIVE)], ["r1"]),
+    ([("r1", 30, "agreed"), ("r1_2", 29, "white resigns")], ["r1_2"]),
+    ([("r1", 30, "agreed"), ("r1_2", 29, "abandoned")], ["r1"]),
+    ([("r1", 0, "abandoned"), ("r1_2", 0, LIVE)], ["r1_2"]),
+    ([("r1", 30, LIVE), ("r1_2", 40, LIVE)], ["r1", "r1_2"]),
+    ([("r1", 30, "agreed"), ("r1_2", 0, LIVE), ("r1_3", 30, "white resigns")], ["r1_3"]),
+    ([("r1", 30, "agreed"), ("r1_2", 30, LIVE), ("r1_3", 30, "white resigns")], ["r1_2", "r1_3"]),
+    ([("r1", 30, "agreed"), ("r1_2", 30, "abandoned"), ("r1_3", 10, LIVE)], ["r1_2"]),
+    ([("r1", 30, "agreed"), ("r1_2", 10, "white resigns"), ("r1_3", 12, LIVE)], ["r1_3"]),
+    ([("r1", 30, "agreed"), ("r1_3", 30, "white resigns")], ["r1_3"]),
+    ([("r1_2", 30, "agreed"), ("r1_10", 30, "stalemate"), ("r1_9", 30, "white resigns")], ["r1_10"]),
+    ([("r1", 30, "agreed"), ("r1_g2", 40, "white resigns"), ("r1_g2_2", 40, "agreed"), ("r2", 1, LIVE)], ["r1", "r1_g2_2", "r2"]),
+    ([("r2", 2, LIVE), ("r1", 3, "agreed"), ("r10_2", 4, LIVE), ("r1_2", 5, LIVE)], ["r2", "r1_2", "r10_2"]),
+]
+# The names of a board's other games: of a game, that behind it.
+ANOTHER = [("r1-1", "r1-1_g2"), ("r1-1_2", "r1-1_g2"), ("r1-1_g2", "r1-1_g3"), ("r1-1_g2_3", "r1-1_g3"), ("b_g9", "b_g10"),
+           (32 * "n", 29 * "n" + "_g2"), (29 * "n" + "_g9", 28 * "n" + "_g10")]
+
+
+def try_successors():
+    """Of a board's games the last successor is shown that has as many moves as the one before it, or a result; another game of the board
+    succeeds none."""
+    shown = "(games) => Successors.shown(games.map(([board, plies, outcome]) => ({ board, plies, outcome }))).map((it) => it.board)"
+    with chess() as pages:
+        for games, boards in SHOWN:
+            had = pages.call(shown, games)
+            assert had == boards, (games, had)
+        for name, other in ANOTHER:
+            had = pages.call("Names.another", name)
+            assert had == other and not pages.call("Names.isSuccessor", other, name), (name, had)
+            assert pages.call("Names.first", other) == other and pages.call("Names.next", other) == f"{other[:30]}_2", other
+        for name, board, is_of in (("b", "b", True), ("b_2", "b", True), ("b_g2", "b", True), ("b_g3_2", "b", True), ("b2", "b", False),
+                                   ("b_g2", "b_g3", False), ("b_g2_2", "b_g2", True), ("c_g2", "b", False)):
+            assert pages.call("Names.isOf", name, board) == is_of, (name, board)
+
+
 # The built program.
 
 def try_program():
@@ -279,7 +366,12 @@ ROUND = """(games) => Pgn.round(games.map(([board, players, texts]) => {
   texts.forEach(record.take);
   return { board, record, labels: Players.tags(players) };
 }))"""
-SCORES = {"white mates": "1-0", "black mates": "0-1", "white resigns": "0-1", "black resigns": "1-0", "abandoned": "*", None: "*"}
+SCORES = {"white mates": "1-0", "black mates": "0-1", "white resigns": "0-1", "black resigns": "1-0", "white loses on time": "0-1",
+          "black loses on time": "1-0", "white wins by decision": "1-0", "black wins by decision": "0-1", "abandoned": "*",
+          "adjourned {by the {clock}": "*", None: "*"}
+TERMINATIONS = {"white loses on time": "time forfeit", "black loses on time": "time forfeit", "white wins by decision": "adjudication",
+                "black wins by decision": "adjudication", "drawn by decision": "adjudication", "abandoned": "abandoned",
+                "adjourned {by the {clock}": "unterminated", None: "unterminated"}
 
 
 def extracted(file):
@@ -361,10 +453,10 @@ def is_mistaken(fen):
 
 
 def try_pgn():
-    """Others read a round of 200 games by chance: pgn-extract finds their moves and results, Stockfish their last positions, and PyChess
-    those whose FEN it does not mistake."""
+    """Others read a round of 200 games by chance: pgn-extract finds their moves, results and ends, also of one that the pages do not know,
+    Stockfish their last positions, and PyChess those whose FEN it does not mistake."""
     chance = random.Random(SEED + 3)
-    ends = [None, *SCORES, "agreed", "threefold", "fifty moves", "fivefold", "seventy-five moves"]
+    ends = [None, *SCORES, "agreed", "threefold", "fifty moves", "fivefold", "seventy-five moves", "drawn by decision"]
     ends = [it for it in ends if it not in ("white mates", "black mates")]
     with chess() as pages:
         games = [game_told(pages, chance, ends[number % len(ends)]) for number in range(198)]
@@ -376,6 +468,7 @@ def try_pgn():
         for number, ((texts, moves, end, final), text, (tags, words)) in enumerate(found):
             score = SCORES.get(end, "1/2-1/2")
             assert words == [*moves, score] and tags["Result"] == score, (texts, words)
+            assert tags["Termination"] == TERMINATIONS.get(end, "normal"), (end, tags)
             assert (tags["White"], tags["Black"], tags["Variant"], tags["SetUp"]) == ('A \\"B\\"', "?", "Chess960", "1"), tags
             assert tags["BoardName"] == f"b{number}" and tags["FEN"].split(" ")[0] == texts[0]["fen"].split(" ")[0], tags
             assert is_same(stockfish.final(tags["FEN"], words[:-1]), final), (tags, words, final)

@@ -145,7 +145,6 @@ async def try_heir(browser):
     await client.end("r1_4", "agreed")
     for page in (seer, late):
         await until_state(page, "over")
-        await page.until('document.querySelector("#stop").hidden')
         assert not page.faults, page.faults
         await page.close()
 

@@ -209,8 +209,8 @@ async def try_dead_wire(browser):
 
 
 async def try_listed_heirs(browser):
-    """The boards that the address names stand in its order, open or not. One whose game was abandoned gives its place to that under which
-    it goes on, with its players; an ended game keeps its own."""
+    """The boards that the address names stand in its order, open or not. One whose game was abandoned, or has a result, gives its place to
+    its successor, with its players; to one without a move it does not."""
     relay = await Relay(watch=True).start()
     client = await boards_of(relay, ("r1", 518, MATE[:2]), ("r2", 518, MATE), ("r3", 518, []))
     page = await open_round(browser, relay.watch_address, players="r1%20Carlsen–Caruana;r2%20So;r3%20Ding%20-%20Nepo;r4%20Adams–Baker;r5")
@@ -222,20 +222,28 @@ async def try_listed_heirs(browser):
     for old in ("r1", "r1_2"):
         await client.end(old, "abandoned")
         await until_tiles(page, lambda them, name=old: them[0]["name"] == name and them[0]["stand"] == "No result")
-        await client.open(await page.run(f'Words.nextName("{old}")'))
+        successor = await page.run(f'Names.next("{old}")')
+        await client.open(successor)
+        await client.submit(successor, *MATE[:2])
     await client.open("r2_2")
     await client.open("x")
     await client.open("r5", 959)
-    tiles = await until_names(page, "r1_3", "r2", "r2_2", "r3", "r4", "r5", "x")
-    assert [it["sides"] for it in tiles] == [["Caruana", "Carlsen"], ["Black", "So"], ["Black", "So"], ["Nepo", "Ding"], ["Baker", "Adams"],
+    tiles = await until_names(page, "r1_3", "r2", "r3", "r4", "r5", "x")
+    assert [it["sides"] for it in tiles] == [["Caruana", "Carlsen"], ["Black", "So"], ["Nepo", "Ding"], ["Baker", "Adams"],
                                              ["Black", "White"], ["Black", "White"]], tiles
+    assert tiles[1]["stand"] == "0–1", tiles[1]
+    await client.submit("r2_2", *QUIET[:3])
+    assert (await until_names(page, "r1_3", "r2", "r3", "r4", "r5", "x"))[1]["stand"] == "0–1"
+    await client.submit("r2_2", QUIET[3])
+    tiles = await until_names(page, "r1_3", "r2_2", "r3", "r4", "r5", "x")
+    assert tiles[1]["stand"] == "" and tiles[1]["sides"] == ["Black", "So"], tiles[1]
     assert tiles[0]["href"].endswith("&board=r1_3&players=Carlsen–Caruana") or "r1_3" in tiles[0]["href"], tiles[0]
     await relay.kill()
     await relay.start()
-    await boards_of(relay, ("r2_2", 518, []), ("r1_4", 518, []))
-    tiles = await until_names(page, "r1_4", "r2", "r2_2", "r3", "r4", "r5")
-    assert [it["sides"] for it in tiles][:3] == [["Caruana", "Carlsen"], ["Black", "So"], ["Black", "So"]], tiles
-    assert tiles[1]["stand"] == "0–1" and tiles[3]["men"] == "8/8/8/8/8/8/8/8", tiles
+    await boards_of(relay, ("r2_3", 518, []), ("r1_4", 518, MATE[:2]))
+    tiles = await until_names(page, "r1_4", "r2", "r3", "r4", "r5")
+    assert [it["sides"] for it in tiles][:2] == [["Caruana", "Carlsen"], ["Black", "So"]], tiles
+    assert tiles[1]["stand"] == "0–1" and tiles[2]["men"] == "8/8/8/8/8/8/8/8", tiles
     assert not page.faults, page.faults
     await page.close()
 

@@ -188,12 +188,12 @@ async def try_names(browser):
     page = await browser.open(url("watch.html"))
     chain = ["r1-1"]
     while len(chain) < 120:
-        chain.append(await page.run(f"Words.nextName({json.dumps(chain[-1])})"))
+        chain.append(await page.run(f"Names.next({json.dumps(chain[-1])})"))
     assert chain == ["r1-1"] + [f"r1-1_{count}" for count in range(2, 121)], chain
     for name, following in [("b", "b_2"), ("b-9", "b-9_2"), ("b_9", "b_10"), ("b_x", "b_x_2"), ("_2", "_2_2"), ("b_", "b__2"),
                             ("b_999", "b_1000"), (28 * "n", 28 * "n" + "_2"), (32 * "n", 30 * "n" + "_2"),
                             (30 * "n" + "_2", 30 * "n" + "_3"), (30 * "n" + "_9", 29 * "n" + "_10")]:
-        had = await page.run(f"Words.nextName({json.dumps(name)})")
+        had = await page.run(f"Names.next({json.dumps(name)})")
         assert had == following, (name, had)
     assert not page.faults, page.faults
     await page.close()

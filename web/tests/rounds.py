@@ -131,7 +131,7 @@ async def try_round_pgn(browser):
     await until_tiles(page, lambda them: [it["state"] for it in them] == ["refused"] * 5)
     await catch_files(page)
     assert await page.run('document.querySelector("#save-round").hidden'), "there is nothing to be saved yet"
-    client = await boards_of(relay, ("r1-1", START, MOVES), ("r1-2", 518, MATE), ("r1-4", 0, []), ("r1-5", 518, MATE[:2]))
+    client = await boards_of(relay, ("r1-1", START, MOVES), ("r1-2", 518, MATE), ("r1-4", 0, []), ("r1-5", 518, MATE[:1]))
     await client.end("r1-5", "abandoned")
     await client.open("r1-5_2", 518)
     await client.submit("r1-5_2", MATE[0])

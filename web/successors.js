@@ -1,0 +1,35 @@
+"use strict";
+/*
+ * Which of a board's games is shown. A game that was abandoned, lost or corrected has a successor, a game under its board's next name. That
+ * takes its place, however it ended, once it has as many moves or a result: so an empty board that was opened by mistake hides nothing.
+ */
+const Successors = (() => {
+  /** Whether a successor takes the place of a game that is over. */
+  const takesPlace = (successor, game) => successor.plies >= game.plies || Outcomes.hasResult(successor.outcome);
+
+  /** The successors of a game among some, in their order. */
+  const of = (game, games) => games.filter((it) => Names.isSuccessor(it.board, game.board))
+    .sort((one, other) => Names.number(one.board) - Names.number(other.board));
+
+  /** The game that is shown of a board's. Adds to `met` the successors that it met; one that is shown and goes on has none. */
+  function last(game, successors, met) {
+    let shown = game;
+    for (const it of successors) {
+      if (shown.outcome === null) {
+        break;
+      }
+      met.add(it);
+      shown = takesPlace(it, shown) ? it : shown;
+    }
+    return shown;
+  }
+
+  /** Those of some games { board, plies, outcome } that are shown, each in the place of its board's first. */
+  function shown(games) {
+    const later = games.filter((it) => Names.number(it.board) > 1);
+    const met = new Set();
+    return games.flatMap((game) => (met.has(game) ? [] : [last(game, of(game, later).filter((it) => !met.has(it)), met)]));
+  }
+
+  return { shown };
+})();
