@@ -50,15 +50,23 @@ const createQuestions = (at) => {
     fifty: "fifty moves by each side without a capture or a pawn move",
   };
 
-  /** What is asked before an ending is sent, and the side that it needs: who resigns, or who has the move and so may claim. */
-  function words(button, turn) {
-    const { how, side } = button.dataset;
+  /** What an ending says beside its button's own words. */
+  function more({ how, side }) {
+    const other = side === "white" ? "Black" : "White";
+    return how === "time" ? ` ${other} wins. If ${other} cannot mate by any legal moves, enter the decision ½–½ instead.` : "";
+  }
+
+  /** What is asked before an ending is sent, and its command: a claim is that of the side which has the move. */
+  function ending(button, turn) {
+    const { how, side, result } = button.dataset;
+    const command = { cmd: "end", how, ...(side && { side }), ...(result && { result }) };
     if (!GROUNDS[how]) {
-      return { head: "End the game?", text: `${button.textContent}.`, yes: "End the game", side };
+      const text = `${result ? "Arbiter's decision: " : ""}${button.textContent}.${more(command)}`;
+      return { head: "End the game?", text, yes: "End the game", command };
     }
     const claimant = Words.colour(turn);
     const text = `${claimant}, to move, claims a draw: ${GROUNDS[how]}. ${TESTED}`;
-    return { head: "Claim a draw?", text, yes: "Claim", side: claimant.toLowerCase() };
+    return { head: "Claim a draw?", text, yes: "Claim", command: { ...command, side: claimant.toLowerCase() } };
   }
 
   function sure({ head, text, yes }) {
@@ -79,10 +87,30 @@ const createQuestions = (at) => {
     return { head: "Correct the game?", text, yes: "Correct" };
   }
 
-  [at("which"), at("sure")].forEach((box) => {
+  /** A result that a game may be given instead, with its command as the value. */
+  function offered({ text, command }) {
+    const label = document.createElement("label");
+    const input = document.createElement("input");
+    const score = document.createElement("b");
+    Object.assign(input, { type: "radio", name: "result", value: JSON.stringify(command), required: true });
+    score.textContent = Outcomes.score(text);
+    label.className = "check";
+    label.append(input, " ", score, " ", Outcomes.said(text));
+    return label;
+  }
+
+  /** Asks which result a game that is over has instead; answers the command that enters it, or null where the operator goes back. */
+  async function result({ board, next, outcome }) {
+    at("other-text").textContent = `${board} has: ${Outcomes.said(outcome)} It goes on as ${next} with all its moves, and ends there with:`;
+    at("results").replaceChildren(...Outcomes.entered().filter(({ text }) => text !== outcome).map(offered));
+    const value = await ask(at("other"));
+    return value === "yes" ? { cmd: "end", ...JSON.parse(at("results").querySelector(":checked").value) } : null;
+  }
+
+  [at("which"), at("sure"), at("other")].forEach((box) => {
     box.addEventListener("submit", (event) => answer(box, event.submitter.value));
     box.addEventListener("close", () => box.open || answer(box, ""));
   });
 
-  return { which, words, correction, sure };
+  return { which, ending, correction, result, sure };
 };

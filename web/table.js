@@ -73,7 +73,7 @@
   function over() {
     const { board, outcome } = operator.game();
     ["white", "black"].forEach((it) => { at(it).value = ""; });
-    at("name").value = proposed = Names.next(board); // A name is given once.
+    at("name").value = proposed = Names.another(board); // A name is given once, and the next one is that of a successor.
     entitle(`${Outcomes.short(outcome)}, ${board}`);
   }
 
@@ -121,9 +121,8 @@
   }
 
   function end(button) {
-    const { side, ...words } = questions.words(button, page.record().present().turn);
-    const command = { cmd: "end", how: button.dataset.how };
-    confirmed(words, side ? { ...command, side } : command);
+    const { command, ...words } = questions.ending(button, page.record().present().turn);
+    confirmed(words, command);
   }
 
   /** The number of moves up to the position that is shown. */
@@ -135,6 +134,15 @@
     const kept = moves.slice(0, shownMoves());
     const words = questions.correction(operator.game(), kept.length, moves.length - kept.length);
     confirmed(words, { cmd: "end", how: "abandoned" }, kept);
+  }
+
+  /** Plays a game that is over again under its next name, with another result. */
+  async function correctResult() {
+    const before = operator.game();
+    const command = await questions.result(before);
+    if (command !== null && operator.game() === before) {
+      operator.correctResult(command);
+    }
   }
 
   /* Controls. */
@@ -183,6 +191,7 @@
     at("alone-card").hidden = !busy;
     at("give-up").hidden = !busy || isOpen;
     at("ending").hidden = !isOpen;
+    at("correct-result").hidden = !operator.isCorrectable();
     at("ending").querySelectorAll("button").forEach((it) => it.setAttribute("aria-disabled", String(!operator.isReady())));
     at("save").hidden = operator.game() === null;
     at("typed").hidden = !isOpen;
@@ -197,7 +206,7 @@
     event.preventDefault();
     const players = { white: at("white").value.trim(), black: at("black").value.trim() };
     const board = at("name").value.trim();
-    operator.open({ board, start: Number(at("start").value), players, anew: board === proposed }, []);
+    operator.open({ board, start: Number(at("start").value), players, anew: board === proposed, isAnother: board === proposed }, []);
   });
   at("ending").addEventListener("click", (event) => {
     const button = event.target.closest("button");
@@ -212,6 +221,7 @@
   });
   at("anyway").addEventListener("click", operator.anyway);
   at("correct").addEventListener("click", () => operator.isReady() && correct());
+  at("correct-result").addEventListener("click", () => operator.isCorrectable() && correctResult());
   at("save").addEventListener("click", save);
   at("save-pgn").addEventListener("click", () => page.savePgn(operator.game().board));
   window.addEventListener("beforeunload", (event) => {

@@ -39,7 +39,8 @@ from relay_client.frames import REQUEST, frame, read_frame  # noqa: E402
 from relay_client.ports import listened  # noqa: E402
 
 PAGES = (TOP / "web", TOP / "share/relay960/pages")
-FOR_OPERATORS = ("table.html", "table.js", "operator.js", "tables.html", "tables.js", "key.js", "claim.js")
+FOR_OPERATORS = ("table.html", "table.js", "operator.js", "opening.js", "playing.js", "comeback.js", "knock.js", "tables.html", "tables.js",
+                 "key.js", "claim.js")
 FRONT = '<!doctype html><meta charset="utf-8"><meta name="viewport" content="width=device-width"><title>The round</title>' \
         '<meta http-equiv="refresh" content="0; url={0}"><p><a href="{0}">The boards of the round</a>\n'
 

@@ -11,8 +11,9 @@ DESKS = ((1280, 900), (1366, 768))
 MEDIA = ({}, {"prefers_color_scheme": "dark", "prefers_reduced_motion": "reduce"})
 # What an operator needs from move to move.
 NEEDED = ["#move", "#typed button", "#said", "#near", "#correct", *(f"#{it}" for it in ("first", "back", "on", "last", "flip")),
-          *(f"#ending [data-how={how}]" for how in ("agreed", "threefold", "fifty", "abandoned")), "#ending [data-side=white]",
-          "#ending [data-side=black]"]
+          *(f"#ending [data-how={how}]" for how in ("agreed", "threefold", "fifty", "abandoned")),
+          *(f"#ending [data-how={how}][data-side={side}]" for how in ("resign", "time") for side in ("white", "black")),
+          *(f"#ending [data-result='{result}']" for result in ("1-0", "1/2-1/2", "0-1"))]
 
 # Those of some parts that are not wholly in sight in their window, whose lower edge may be higher than the frame's.
 OUTSIDE = """(document, bottom, wanted) => wanted.filter((it) => {
@@ -54,7 +55,7 @@ async def try_desk(browser):
             assert part > 0.7, (size, part)
     groups = await table.run('[...document.querySelectorAll(".endings")]'
                              '.map((it) => [...it.querySelectorAll("button")].map((one) => one.dataset.how))')
-    assert groups == [["resign", "resign", "agreed"], ["threefold", "fifty"], ["abandoned"]], groups
+    assert groups == [["resign", "resign", "agreed", "time", "time"], ["threefold", "fifty"], [*3 * ["decided"], "abandoned"]], groups
     assert not table.faults, table.faults
     await table.close()
 
@@ -154,7 +155,7 @@ async def try_interrupted(browser):
     assert await table.run("document.title") == "½–½, b1 – Operate a board"
     assert not await table.run('document.querySelector("#save-pgn").hidden')
     await table.click("#opening .main")
-    await until_open(table, "b1_2")
+    await until_open(table, "b1_g2")
     assert not table.faults, table.faults
     await table.close()
 

@@ -15,6 +15,7 @@ import broadcast
 import console
 import contrast
 import desk
+import ends
 import gone
 import lists
 import notation
@@ -297,7 +298,7 @@ async def try_refused_claim(browser):
         await say_end(table, f"#ending [data-how={how}]")
         await table.until('document.querySelector("#said").textContent.startsWith("Claim refused")')
         assert await state(table) == "live" and await text(table, "#state") == "Board b1 is open"
-        assert await table.run(ENABLED) == ["false"] * 6 and not await table.run('document.querySelector("#typed").hidden')
+        assert await table.run(ENABLED) == ["false"] * 11 and not await table.run('document.querySelector("#typed").hidden')
         await enter(table, move, "type")
         for page in (table, seer):
             await until_moves(page, count)
@@ -317,21 +318,21 @@ async def try_refused_claim(browser):
 
 
 async def try_next_name(browser):
-    """Behind an end the page proposes the board's next name, and one press opens it; where it is taken, the one behind it. A name that was
-    typed is opened or refused."""
+    """Behind an end the page proposes a name for another game of the board, and one press opens it; where it is taken, the one behind it. A
+    name that was typed is opened or refused."""
     relay = await Relay().start()
     other = await Client.to(relay.address)
     table = await browser.open(url("table.html", server=relay.address, board="b1", start=518, players="Adams–Baker"))
     fields = '["name", "white", "black"].map((it) => document.querySelector(`#${it}`).value)'
-    for name, following in (("b1", "b1_2"), ("b1_2", "b1_3"), ("b1_4", "b1_5")):
+    for name, following in (("b1", "b1_g2"), ("b1_g2", "b1_g3"), ("b1_g4", "b1_g5")):
         await table.click("#opening .main")
         await table.until(f'document.querySelector("#state").textContent === "Board {name} is open"')
         if name == "b1":
-            await other.open("b1_3")
+            await other.open("b1_g3")
         await say_end(table, "#ending [data-how=agreed]")
         await until_state(table, "over")
         assert await table.run(fields) == [following, "", ""], await table.run(fields)
-    await table.fill("#name", "b1_3")
+    await table.fill("#name", "b1_g3")
     await table.click("#opening .main")
     await until_state(table, "refused")
     assert await said(table) == "That name is taken. Choose another."
@@ -1002,7 +1003,7 @@ OTHERS = {"firefox": Firefox, "webkit": WebKit}
 OFTEN = ["games", "castling", "mate", "typed", "goals", "refused_claim", "next_name", "next", "wire", "cut", "on_its_way", "ending_lost",
          "correct", "crash", "interrupted", "freed", "kept_pgn", "records", "list", "newer", "round", "round_pgn", "listed",
          "broadcast", "watch_port", "tabs", "tabs_pgn", "tabs_attention", "tabs_from_disk", "tabs_desk", "tabs_reloaded",
-         "questions", "two_windows", "listed_results"]
+         "questions", "two_windows", "listed_results", "arbiter", "corrected"]
 
 
 async def main():
@@ -1010,7 +1011,7 @@ async def main():
     pictures = words[1] if words[:1] == ["--pictures"] else None
     other = OTHERS.get(words[0]) if words else None
     words = (words[1:] or OFTEN) if other else words
-    modules = (back, beside, broadcast, console, contrast, desk, gone, lists, notation, rounds, senses, tabs, windows)
+    modules = (back, beside, broadcast, console, contrast, desk, ends, gone, lists, notation, rounds, senses, tabs, windows)
     tries = {name[4:]: it for module in (globals(), *map(vars, modules)) for name, it in module.items() if name.startswith("try_")}
     # A test's site makes its own certificate, and has a name of its own.
     hosts = f"--host-resolver-rules=MAP {rounds.OTHER_HOST} 127.0.0.1, MAP * ~NOTFOUND, EXCLUDE 127.0.0.1, EXCLUDE localhost"

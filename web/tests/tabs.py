@@ -176,6 +176,7 @@ async def try_tabs_room(browser):
         await page.close()
 
 
+ABANDONED = "Abandoned: the game ended without a result, or its board lost its connection."
 ROUND = [["Ne3"], ["f3", "e5", "g4", "Qh4#"], ["g3", "g6"]]
 
 
@@ -207,15 +208,20 @@ async def try_tabs_pgn(browser):
         for press in ("#back", "#correct", "#sure-yes"):
             await page.run(frame(2, f'document_.querySelector("{press}").click()'))
         await page.until('document.querySelectorAll(".tab")[2].querySelector("b").textContent === "t3_2"')
-        await page.run(frame(1, 'document_.querySelector("#opening").requestSubmit()'))
-        await until_stand(page, "Black to move", "White to move", "Black to move")
+        await until_stand(page, "Black to move", "0–1: Black wins by checkmate.", "Black to move")
         await page.click("#save-round")
-        file = "\n".join([first, mate, pgn("t2_2", 518, "*", day, **event), pgn("t3_2", 0, "1. g3 *", day, **event)])
+        left = pgn("t3", 0, f"1. g3 g6 {{{ABANDONED}}} *", day, termination="abandoned", **event)
+        assert (await page.run("saved"))[1] == "\n".join([first, mate, left]), "a successor with fewer moves took the place of its game"
+        await play(page, 2, "g5")
+        await page.run(frame(1, 'document_.querySelector("#opening").requestSubmit()'))
+        await until_stand(page, "Black to move", "White to move", "White to move")
+        await page.click("#save-round")
+        file = "\n".join([first, mate, pgn("t2_g2", 518, "*", day, **event), pgn("t3_2", 0, "1. g3 g5 *", day, **event)])
         assert (await page.run("saved"))[1] == file, await page.run("saved")
         players = "Carlsen,%20Magnus–Caruana;So–Ding;"
         link = f"round.html?server={relay.address}&boards=t1,t2,t3&players={players}&event=Club%20final&round=3"
         assert (await page.run('document.querySelector("#watch").getAttribute("href")')).replace("%E2%80%93", "–") == link
-        assert await page.run('[...document.querySelectorAll("iframe")].map((it) => it.title)') == ["t1", "t2_2", "t3_2"]
+        assert await page.run('[...document.querySelectorAll("iframe")].map((it) => it.title)') == ["t1", "t2_g2", "t3_2"]
         assert [it["players"] for it in await page.run(TABS)] == ["Carlsen, Magnus–Caruana", "", ""]
         assert not page.faults, page.faults
         await page.close()
@@ -254,11 +260,11 @@ async def try_tabs_reloaded(browser):
             assert await page.run(frame(2, 'return document_.querySelector("#go-on").textContent')) == "Continue t3"
         await page.run(frame(1, 'document_.querySelector("#opening").requestSubmit()'))
         await until_stand(page, stands[0], "White to move", stands[2])
-        assert (await page.run(TABS))[1]["name"] == "t2_2"
+        assert (await page.run(TABS))[1]["name"] == "t2_g2"
         # In a window of its own nothing but the board's name is known.
         other = await browser.open(f"{address}/table.html?server={relay.address}&board=t1")
         await other.until('document.querySelector("#outcome b").textContent === "1–0"')
-        assert await other.run('document.querySelector("#name").value') == "t1_2"
+        assert await other.run('document.querySelector("#name").value') == "t1_g2"
         for change in ('"server", "ws://127.0.0.1:1"', '"saved", new Date(Date.now() - 13 * 3600000).toISOString()'):
             await other.run(f"""{{ const games = Kept.all(); const set = (name, value) => games.forEach((it) => {{ it[name] = value; }});
                 set({change}); localStorage.setItem("sirvandu.games", JSON.stringify(games)); sessionStorage.clear(); }}""")
