@@ -41,12 +41,11 @@
     tab.games = [...tab.games.filter((it) => it.id !== game.id), game];
   }
 
-  /** The games of a tab that are shown. One without an end that is not the tab's last was lost. */
+  /** The games of a tab that are shown. One without an end that is not the tab's last was abandoned. */
   function gamesOf(tab) {
     const last = tab.games[tab.games.length - 1];
     const outcome = (it) => (it === last ? it.outcome : it.outcome || "abandoned");
-    const told = tab.games.map((game) => ({ game, board: game.board, plies: game.moves.length, outcome: outcome(game) }));
-    return Successors.shown(told).map(({ game }) => game);
+    return Successors.shown(tab.games.map((it) => ({ ...it, plies: it.moves.length, outcome: outcome(it) })));
   }
 
   /** The games that were open since the page was loaded, in the order of their tabs. */

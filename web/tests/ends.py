@@ -213,6 +213,31 @@ async def try_empty_successor(browser):
     await client.close()
 
 
+async def try_shorter_successor(browser):
+    """A successor that has a result takes the place of a game with more moves, on a page that watches it at either port, and in the list."""
+    relay = await Relay(watch=True).start()
+    client = await boards_of(relay, ("b1", 518, MOVES))
+    await client.end("b1")
+    seers = [await watch(browser, relay, "b1", address=it) for it in (relay.address, relay.watch_address)]
+    every = await browser.open(url("round.html", watch=relay.watch_address))
+    for page in seers:
+        await until_result(page, "½–½ Draw by agreement.")
+    await boards_of(relay, ("b1_2", 518, MOVES[:1]))
+    await client.open("b1_3")
+    await client.submit("b1_3", MOVES[0])
+    assert (await client.ask(cmd="end", board="b1_3", how="time", side="black"))["reply"] == "ended"
+    for page in seers:
+        await until_said(page, "b1 goes on as b1_3, which is shown now.")
+        await until_result(page, "1–0 Black's flag fell.")
+        await until_moves(page, 1)
+    await every.front()
+    await until_tiles(every, lambda them: [(it["name"], it["stand"], it["move"]) for it in them] == [("b1_3", "1–0", "1. e4")])
+    for page in (*seers, every):
+        assert not page.faults, page.faults
+        await page.close()
+    await client.close()
+
+
 async def try_tabs_corrected(browser):
     """In a tab, a result is corrected without scrolling; the round's file has the successor alone, and another game of the board beside
     it."""

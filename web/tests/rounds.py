@@ -134,15 +134,15 @@ async def try_round_pgn(browser):
     client = await boards_of(relay, ("r1-1", START, MOVES), ("r1-2", 518, MATE), ("r1-4", 0, []), ("r1-5", 518, MATE[:1]))
     await client.end("r1-5", "abandoned")
     await client.open("r1-5_2", 518)
-    await client.submit("r1-5_2", MATE[0])
-    await until_tiles(page, lambda them: [it["move"] for it in them] == ["3… c5", "2… Qh4#", "", "", "1. f3"]
+    await client.submit("r1-5_2", "d2d4")
+    await until_tiles(page, lambda them: [it["move"] for it in them] == ["3… c5", "2… Qh4#", "", "", "1. d4"]
                       and them[3]["state"] == "live")
     day = await today(page)
     mate = "1. f3 e5 2. g4 Qh4# {Black mates.} 0-1"
     others = [pgn("r1-2", 518, mate, day, ("Ding", "?"), "normal", round_="1.2"), pgn("r1-4", 0, "*", day, round_="1.4")]
     await page.click("#save-round")
     first = pgn("r1-1", START, "1. Ne3 Nd6 2. O-O O-O 3. f4 c5 *", day, ("Carlsen, Magnus", "Caruana"), round_="1.1")
-    file = "\n".join([first, *others, pgn("r1-5_2", 518, "1. f3 *", day, round_="1.5")])
+    file = "\n".join([first, *others, pgn("r1-5_2", 518, "1. d4 *", day, round_="1.5")])
     assert await page.run("saved") == ["round.pgn", file, "application/vnd.chess-pgn"], await page.run("saved")
     await client.end("r1-1")
     await client.submit("r1-5_2", "d7d5")
@@ -150,7 +150,7 @@ async def try_round_pgn(browser):
     await page.click("#save-round")
     drawn = "1. Ne3 Nd6 2. O-O O-O 3. f4 c5 {Draw agreed.} 1/2-1/2"
     first = pgn("r1-1", START, drawn, day, ("Carlsen, Magnus", "Caruana"), "normal", round_="1.1")
-    file = "\n".join([first, *others, pgn("r1-5_2", 518, "1. f3 d5 *", day, round_="1.5")])
+    file = "\n".join([first, *others, pgn("r1-5_2", 518, "1. d4 d5 *", day, round_="1.5")])
     assert (await page.run("saved"))[1] == file, await page.run("saved")
     one = await watch(browser, relay, "r1-4", event="Club%20final", round="3")
     await until_state(one, "live")

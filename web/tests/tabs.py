@@ -4,6 +4,7 @@ import contextlib
 import functools
 import http.server
 import json
+import textwrap
 import threading
 
 from back import log_of
@@ -210,8 +211,8 @@ async def try_tabs_pgn(browser):
         await page.until('document.querySelectorAll(".tab")[2].querySelector("b").textContent === "t3_2"')
         await until_stand(page, "Black to move", "0–1: Black wins by checkmate.", "Black to move")
         await page.click("#save-round")
-        left = pgn("t3", 0, f"1. g3 g6 {{{ABANDONED}}} *", day, termination="abandoned", **event)
-        assert (await page.run("saved"))[1] == "\n".join([first, mate, left]), "a successor with fewer moves took the place of its game"
+        left = pgn("t3", 0, textwrap.fill(f"1. g3 g6 {{{ABANDONED}}} *", 79), day, termination="abandoned", **event)
+        assert (await page.run("saved"))[1] == "\n".join([first, mate, left]), await page.run("saved")
         await play(page, 2, "g5")
         await page.run(frame(1, 'document_.querySelector("#opening").requestSubmit()'))
         await until_stand(page, "Black to move", "White to move", "White to move")
