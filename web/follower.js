@@ -1,9 +1,9 @@
 "use strict";
 /*
- * What follows one board for a page: at a relay, or in a channel that a feed fills from it. After a lost connection it comes back from
- * the place after the last that is shown, so that nothing is missed and nothing shown twice. It compares the position there with the
- * one that is shown, so that never another game is shown as the one before. Where the game has a successor (successors.js), it goes there
- * by itself.
+ * What follows one board for a page: at a relay, or in a channel that a feed fills from it (channel.js). After a lost connection it comes
+ * back from the place after the last that is shown, so that nothing is missed and nothing shown twice. It compares the position there with
+ * the one that is shown, so that never another game is shown as the one before. Where the game has a successor (successors.js), it goes
+ * there by itself.
  *
  * `view` is what shows the game:
  *   record()                     the record that it shows
@@ -26,8 +26,6 @@ const createFollower = (view) => {
   const WHY = { [Link.FELL_BEHIND]: "The relay closed this page's connection because it fell behind.",
     [Link.NO_ROOM]: "The relay has no room for another spectator." };
   const SUCCESSORS = 3; // How many next names are asked for.
-  const SETTLED = 100; // Milliseconds after which no other text follows that a channel kept,
-  const PASSED = 500; // and behind the name of the next board.
 
   /* What is wanted, whether it is had of a watch port, the waits between tries to connect, for how many seconds a board was asked for in a
    * row, and why it was refused or the connection lost, as it was said last. */
@@ -52,9 +50,12 @@ const createFollower = (view) => {
    *   silent      the same                                for 45 s there was none
    *   ended       the same                                it told the end; another game may come, or the name under which this one goes on
    */
+  const states = {};
+  const phase = createPhase(states, view.entered);
+  const { listen, heard, beat, passedOn, settle, goOn, tick } = createChannel({ view, phase, say, finish, live, rename, connect });
   const texts = { following: heard, move: heard, over: heard, beat, next: passedOn, settle, goOn };
   const ways = { begin, stop, closed, broken };
-  const phase = createPhase({
+  Object.assign(states, {
     idle: { begin },
     connecting: { ...ways, connected },
     lost: { begin, stop, retry },
@@ -67,7 +68,7 @@ const createFollower = (view) => {
     hearing: { ...ways, ...texts, tick },
     silent: { ...ways, ...texts },
     ended: { ...ways, ...texts },
-  }, view.entered);
+  });
 
   const isChannel = () => wish.kind === "channel";
   const addresses = () =>
@@ -336,90 +337,6 @@ const createFollower = (view) => {
   function ended() {
     connect();
   }
-
-  /* A channel. */
-
-  /** What a channel shows at present: that it has no game, that it has one and is fed, or that it has one and has shown no sign. */
-  function listen(value) {
-    const { origin, outcome } = view.record();
-    if (outcome !== null) {
-      finish();
-      phase.go("ended", value);
-    } else if (origin !== null && value.sign !== null) {
-      live();
-      phase.go("hearing", value);
-    } else {
-      const [text, short] = origin === null ? ["The channel has no game yet.", "Not open yet"] : ["Waiting for a signal …", "Waiting …"];
-      view.state("connecting", `Connected. ${text}`, short);
-      phase.go("listening", value);
-    }
-  }
-
-  function heard(value, text) {
-    clearTimeout(value.timer);
-    const now = Signal.after(value, text);
-    if (now.kept === null) {
-      say(view.record().take(text));
-      view.refresh();
-      listen(now);
-      return;
-    }
-    now.kept.push(text);
-    phase.go(now.name, { ...now, timer: setTimeout(() => phase.take("settle"), SETTLED) });
-    if (!Signal.isKept(value)) {
-      phase.take("settle");
-    }
-  }
-
-  function beat(value, text) {
-    const now = Signal.after(value, text);
-    if (now.kept === null) {
-      listen(now);
-    } else {
-      phase.go(now.name, now);
-    }
-  }
-
-  /** Shows what the channel kept. It tells the whole game again, so what was shown before is compared with it. */
-  function settle(value) {
-    clearTimeout(value.timer);
-    const before = view.record();
-    const record = createRecord();
-    value.kept.forEach(record.take);
-    if (record.origin === null) {
-      value.kept.forEach((text) => say(before.take(text)));
-      view.refresh();
-    } else if (before.isPartOf(record)) {
-      view.goOn(record);
-    } else {
-      say(before.origin === null ? "joined" : "other", record);
-      view.start(record);
-    }
-    listen({ ...value, kept: null });
-  }
-
-  /** The feed says under which name the game goes on. A channel may have kept that from before another game of its board. */
-  function passedOn(value, { board }) {
-    clearTimeout(value.timer);
-    phase.go("ended", { ...value, timer: setTimeout(() => phase.take("goOn", board), PASSED) });
-  }
-
-  function goOn({ link }, board) {
-    link.close();
-    rename(board);
-    connect();
-  }
-
-  /** Each second: a channel without a sign for too long says so. */
-  function tick(value) {
-    if (view.record().origin !== null && Signal.isSilent(value)) {
-      const text = Signal.words(value);
-      view.state("silent", text, text);
-      phase.go("silent", value);
-    }
-  }
-
-  setInterval(() => phase.take("tick"), 1000);
 
   /* What a page wants. */
 
