@@ -39,7 +39,7 @@ const createFollower = (view) => {
    *   lost        behind              there is no connection; it is tried again by itself
    * At a relay:
    *   asking      link, behind, names, from   it is asked for the first of these boards, from that place on or from now on (null)
-   *   peeking     link, behind, names, glance  the first of them has fewer moves; another connection looks whether it has a result
+   *   peeking     link, behind, names, glance  the first of them has fewer moves; another connection looks how it stands
    *   waiting     link, timer         it refused for now, and is asked again
    *   live        link                it tells the game
    *   over        link                it told the end
@@ -275,13 +275,13 @@ const createFollower = (view) => {
     }
   }
 
-  /** A successor that has got further than is kept will do. One that has fewer moves will, too, where it has a result. */
+  /** A successor that has got further than is kept has as many moves. How one with fewer moves stands has to be seen. */
   function refusedSuccessor(asked, answer) {
     const [board, ...others] = asked.names;
     if (answer.name === "TooFarBack") {
       succeed(asked.link, board);
     } else if (answer.name === "NotYet") {
-      phase.go("peeking", { ...asked, glance: Glance.end(addresses(), board, (outcome) => phase.take("peeked", outcome)) });
+      phase.go("peeking", { ...asked, glance: Glance.stand(addresses(), board, (it) => phase.take("peeked", it)) });
     } else if (answer.name === "NoSuchBoard" && others.length > 0) {
       follow({ ...asked, names: others });
     } else {
@@ -289,8 +289,8 @@ const createFollower = (view) => {
     }
   }
 
-  function peeked({ glance, ...asked }, outcome) {
-    if (Outcomes.hasResult(outcome)) {
+  function peeked({ glance, ...asked }, successor) {
+    if (successor !== null && Successors.takesPlace(successor, { plies: needed() })) {
       succeed(asked.link, asked.names[0]);
     } else {
       refusedSuccessor(asked, NO_BOARD);

@@ -59,20 +59,24 @@ const Glance = (() => {
     return { close: () => link.close() };
   }
 
-  /** Looks whether a board is over, and calls `seen` with its outcome, or with null where it goes on or is not to be seen. */
-  function end(address, board, seen) {
+  /** Looks how a board stands, and calls `seen` with { plies, outcome }, or with null where it is not to be seen. */
+  function stand(address, board, seen) {
     let timer = null;
+    let plies = 0;
     const close = () => {
       clearTimeout(timer);
       link.close();
     };
-    const answer = (outcome) => {
+    const answer = (value) => {
       close();
-      seen(outcome);
+      seen(value);
     };
     const takers = {
-      following: () => { timer = setTimeout(() => answer(null), ENDED); },
-      over: ({ outcome }) => answer(outcome),
+      following: ({ joined }) => {
+        plies = joined;
+        timer = setTimeout(() => answer({ plies, outcome: null }), ENDED);
+      },
+      over: ({ outcome }) => answer({ plies, outcome }),
       refused: () => answer(null),
     };
     const link = Link.open(address, {
@@ -89,5 +93,5 @@ const Glance = (() => {
     return { close };
   }
 
-  return { look, end };
+  return { look, stand };
 })();

@@ -31,5 +31,5 @@ const Successors = (() => {
     return games.flatMap((game) => (met.has(game) ? [] : [last(game, of(game, later).filter((it) => !met.has(it)), met)]));
   }
 
-  return { shown };
+  return { takesPlace, shown };
 })();

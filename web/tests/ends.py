@@ -13,6 +13,7 @@ from rounds import MATE, boards_of, until_tiles
 from steps import (GRACE, catch_files, enter, listed, open_table, pgn, said, say_end, text, today, until_moves, until_state, url, watch)
 from tabs import frame, play, site, until_stand
 from told import Told
+from windows import HAS, until_doubted
 
 MOVES = ["e2e4", "e7e5", "g1f3"]  # Those of back.table_of.
 SAN = "1. e4 e5 2. Nf3"
@@ -137,7 +138,8 @@ async def try_corrected(browser):
 
 
 async def try_corrected_taken(browser):
-    """A next name that somebody else has is passed over when a result is corrected."""
+    """A next name that somebody else has is passed over when a result is corrected. Where another window of the browser has one, nothing is
+    sent until the board is taken over."""
     relay = await Relay(grace=GRACE).start()
     stranger = await Client.to(relay.address)
     table, wire = await ended(browser, relay, "t1", "[data-how=agreed]")
@@ -145,8 +147,18 @@ async def try_corrected_taken(browser):
     await choose(table, "White resigned.")
     await until_result(table, "0–1 White resigned.")
     assert await log_of(relay, "t1_3") == (MOVES, "white resigns") and await log_of(relay, "t1_2") == ([], None)
-    assert await said(table) == "" and not table.faults, table.faults
+    assert await said(table) == ""
+    other = await open_table(browser, relay, "t1_4", 518, address=wire.address)
+    await choose(table, "Draw by agreement.")
+    await until_doubted(table, HAS.format("t1_4"), "Take the board over")
+    await table.click("#anyway")
+    await until_result(table, "½–½ Draw by agreement.")
+    assert await log_of(relay, "t1_5") == (MOVES, "agreed") and await log_of(relay, "t1_4") == ([], None)
+    assert await text(other, "#state") == "Another window of this browser has taken t1_4 over."
+    for page in (table, other):
+        assert not page.faults, page.faults
     await stranger.close()
+    await other.close()
     await close(table, wire)
 
 
@@ -214,7 +226,8 @@ async def try_empty_successor(browser):
 
 
 async def try_shorter_successor(browser):
-    """A successor that has a result takes the place of a game with more moves, on a page that watches it at either port, and in the list."""
+    """A successor that has a result takes the place of a game with more moves: on a page that watches it, at either port, and in the
+    list."""
     relay = await Relay(watch=True).start()
     client = await boards_of(relay, ("b1", 518, MOVES))
     await client.end("b1")
