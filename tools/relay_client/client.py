@@ -35,8 +35,9 @@ class Client:
             answer = await self.ask(cmd="submit", board=board, move=move)
             assert answer["reply"] == "played", (move, answer)
 
-    async def end(self, board, how="agreed"):
-        answer = await self.ask(cmd="end", board=board, how=how)
+    async def end(self, board, how="agreed", **more):
+        """Ends a game; `more` is the side or the result."""
+        answer = await self.ask(cmd="end", board=board, how=how, **more)
         assert answer["reply"] == "ended", answer
 
     async def burst(self, board, moves):

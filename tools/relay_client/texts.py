@@ -18,8 +18,8 @@ def submits(board, move):
     return text(cmd="submit", board=board, move=move)
 
 
-def ends(board, how, side=None):
-    return text(cmd="end", board=board, how=how, **({"side": side} if side else {}))
+def ends(board, how, side=None, result=None):
+    return text(cmd="end", board=board, how=how, **({"side": side} if side else {}), **({"result": result} if result else {}))
 
 
 def follows(board, spectator=1, place=None):

@@ -1,7 +1,7 @@
 """Relays over scripts: queues that are full, ends of games, seats and places, a case a table."""
 
 from relay_client.texts import (CUT, GAME_OVER, NO_BOARD, NO_FOLLOWER, NOTHING, OPENED, START_518, ended, ends, following, follows, leaves,
-                                left, moved, opens, over, played, refused, submits, takes, text)
+                                left, moved, opens, over, played, refused, submits, takes)
 from runs import Run, lines
 
 START_0 = "bbqnnrkr/pppppppp/8/8/8/8/PPPPPPPP/BBQNNRKR w HFhf - 0 1"
@@ -24,7 +24,7 @@ def plays(board, moves, first):
 
 def decides(board, result):
     """Tells of an arbiter's decision."""
-    return text(cmd="end", board=board, how="decided", result=result)
+    return ends(board, "decided", result=result)
 
 
 def case(rows, boards=16, followers=64, capacity=64, plies=1024):
