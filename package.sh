@@ -38,14 +38,15 @@ put 755 /usr/lib/relay960 apps/many_spectators/feed.py apps/recorder/record.py a
     apps/pgn_in/enter.py apps/metrics/metrics.py apps/metrics/healthy apps/deployment/certificate-renewed apps/deployment/until-term
 put 644 /usr/lib/relay960 apps/hall/hall.conf apps/metrics/figures.py
 put 644 /usr/lib/relay960/relay_client tools/relay_client/__init__.py tools/relay_client/frames.py tools/relay_client/line.py \
-    tools/relay_client/keys.py tools/relay_client/men.py tools/relay_client/names.py tools/relay_client/ports.py
+    tools/relay_client/keys.py tools/relay_client/men.py tools/relay_client/names.py tools/relay_client/outcomes.py \
+    tools/relay_client/ports.py tools/relay_client/successors.py
 put 644 /usr/lib/relay960 apps/many_spectators/channel.py apps/many_spectators/every.py \
     apps/many_spectators/follower.py apps/many_spectators/list_channel.py
 put 644 /usr/lib/relay960 apps/recorder/pgn.py apps/recorder/san.py apps/recorder/rules.py apps/recorder/position.py \
     apps/recorder/starts.py
-put 644 /usr/lib/relay960 apps/pgn_in/desk.py apps/pgn_in/entry.py apps/pgn_in/games.py apps/pgn_in/kept.py \
-    apps/pgn_in/link.py apps/pgn_in/naming.py apps/pgn_in/plan.py apps/pgn_in/round.py apps/pgn_in/seat.py \
-    apps/pgn_in/setup.py apps/pgn_in/source.py apps/pgn_in/wanted.py
+put 644 /usr/lib/relay960 apps/pgn_in/desk.py apps/pgn_in/ending.py apps/pgn_in/entry.py apps/pgn_in/games.py \
+    apps/pgn_in/kept.py apps/pgn_in/link.py apps/pgn_in/naming.py apps/pgn_in/plan.py apps/pgn_in/round.py \
+    apps/pgn_in/seat.py apps/pgn_in/setup.py apps/pgn_in/source.py apps/pgn_in/wanted.py
 put 644 /usr/lib/systemd/system apps/deployment/*.service
 put 644 /etc/relay960 apps/deployment/enter apps/deployment/feed apps/many_spectators/redis.conf
 put 644 /etc/relay960/nginx apps/deployment/relay960-*.conf

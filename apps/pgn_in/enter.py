@@ -12,9 +12,9 @@ file. A game begins with its FEN, which must be one of the 960 starts, or with 5
 The relay must give boards a time to wait (--grace): this program comes back by a key, which it keeps in a file (--state). So it may be
 ended and started again, and goes on where it was. Nobody else can play on its boards, and it plays on no other's.
 
-Where the file has other moves than were sent, and has stayed so for three readings, the game is abandoned and goes on under its next name,
-r3-1_2. A game that ends outside the board, by time for example, is abandoned, and the result to note is said. Ctrl-C ends the program and
-no game: the boards wait for it as long as the relay's grace.
+Where the file has other moves or another result than were sent, and has stayed so for three readings, the game goes on under its next name,
+r3-1_2, with all its moves and its end. A result without a Termination is entered as the arbiter's decision, one by time forfeit as a loss
+on time. Ctrl-C ends the program and no game: the boards wait for it as long as the relay's grace.
 """
 import argparse
 import asyncio

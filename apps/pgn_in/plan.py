@@ -2,9 +2,8 @@
 
 import enum
 
-from pgn import ENDS
+from relay_client.outcomes import ABANDONED, outcome_of
 
-ABANDONED = "abandoned"
 BY_ITSELF = ("white mates", "black mates", "stalemate", "fivefold", "seventy-five moves")  # The ends that the relay finds.
 
 
@@ -30,11 +29,10 @@ class Step(enum.Enum):
 
 
 def at_end(want, have):
-    """What is to be done with a game that has ended by the rules, by a claim or by its players."""
+    """What is to be done with a game that has a result. Where that is the file's, it does not matter how either came about."""
     if not have.begins(want):
         return Step.CORRECT
-    score = ENDS[have.outcome][0]
-    if len(have.moves) == len(want.moves) and want.game.result == score:
+    if len(have.moves) == len(want.moves) and want.game.result == outcome_of(have.outcome).result:
         return Step.REST
     return Step.OTHERWISE if have.outcome in BY_ITSELF else Step.CORRECT
 
@@ -44,7 +42,7 @@ def step(want, have):
         return Step.OPEN
     is_all = have.begins(want) and len(have.moves) == len(want.moves)
     if have.outcome == ABANDONED:
-        return Step.REST if is_all and want.is_outside else Step.AGAIN if have.begins(want) else Step.CORRECT
+        return Step.REST if is_all and want.is_given_up else Step.AGAIN if have.begins(want) else Step.CORRECT
     if have.outcome is not None:
         return at_end(want, have)
     if not have.begins(want):

@@ -3,7 +3,6 @@
 from link import Later
 from plan import ABANDONED, Have, Step, step
 from relay_client.names import next_name
-from wanted import RESIGNS
 
 BURST = 32  # Moves that are sent before their answers are read.
 AHEAD = 3  # Next names that are looked for, as the pages do.
@@ -161,24 +160,19 @@ class Seat:
         self.told = len(have.moves)
 
     async def end(self, want):
-        """Ends the game as the file does: a draw by a claim if the side to move has one."""
-        if want.is_outside:
-            return await self.enter_end(want, "abandoned", f": note the result {want.result} ({want.game.tag('Termination')})")
-        if want.result in RESIGNS:
-            return await self.enter_end(want, "resign", side=RESIGNS[want.result])
-        mover = "white" if len(want.moves) % 2 == 0 else "black"
-        for how in "threefold", "fifty":
-            if await self.enter_end(want, how, side=mover):
-                return True
-        return await self.enter_end(want, "agreed")
+        """Ends the game as the file does."""
+        note = f": note the result {want.result} ({want.termination})" if want.is_given_up else ""
+        for ending in want.endings():
+            if await self.enter_end(want, ending, note):
+                return
 
-    async def enter_end(self, want, how, more="", **side):
+    async def enter_end(self, want, ending, note=""):
         """Whether it was accepted."""
         have = self.have
-        answer = await self.link.ask(cmd="end", board=have.name, how=how, **side)
+        answer = await self.link.ask(cmd="end", board=have.name, **ending)
         if answer["reply"] == "ended":
             have.outcome = answer["outcome"]
-            self.say(want, have.name, have.outcome + more, is_needed=bool(more))
+            self.say(want, have.name, have.outcome + note, is_needed=bool(note))
             return True
         if answer["name"] != "ClaimRefused":
             self.is_known = False
@@ -188,7 +182,7 @@ class Seat:
     async def reopen(self, want):
         """Goes on under the next name that is free."""
         if self.have.outcome is None:
-            await self.enter_end(want, "abandoned")
+            await self.enter_end(want, {"how": "abandoned"})
             if self.have.outcome is None:
                 raise Stuck(f"{self.have.name} is not ended")
         name = self.have.name

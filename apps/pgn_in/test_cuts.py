@@ -18,7 +18,7 @@ SENT = """d2d4 c7c5 d4c5 b7b6 c5b6 b8c6 b6a7 a8b8 a7b8n c6b8 b1c3 b8c6 c1f4 c8a6
 c1b1 f8d8 f3g5 h7h6 g5e4 f6e4 c3e4 a5d2 d1d2 d7d5 h1d1 d5e4 d2d8 c6d8""".split()
 HEAD = '[Event "Cut"]\n[Round "3.1"]\n[White "Müller"]\n[FEN "rnbqkbnr/pppppppp/8/8/8/8/PPPPPPPP/RNBQKBNR w KQkq - 0 1"]\n\n'
 ROUND = (HEAD + WORDS + " 1-0\n\n" + game(DUTCH, 2)).encode()
-THERE = {"r3_1": (518, SENT, "black resigns"), "r3_2": (518, DUTCH_SENT, None)}
+THERE = {"r3_1": (518, SENT, "white wins by decision"), "r3_2": (518, DUTCH_SENT, None)}
 WAITS = "the file has another game than was sent: it waits for three readings"
 SETTLES = 0.06  # Seconds: what changes sooner after a reading is read again, and not taken.
 

@@ -31,7 +31,7 @@ HERE = pathlib.Path(__file__).resolve().parent
 RECORD = HERE.parent / "recorder/record.py"
 PATIENCE = 600
 NOTATIONS = ("san", "lalg", "halg", "elalg", "xlalg", "uci")
-OUTCOMES = {"1-0": ("black resigns", "white mates"), "0-1": ("white resigns", "black mates"),
+OUTCOMES = {"1-0": ("white wins by decision", "white mates"), "0-1": ("black wins by decision", "black mates"),
             "1/2-1/2": ("agreed", "threefold", "fifty moves", "stalemate", "fivefold", "seventy-five moves")}
 BESIDE = ("{a comment}", "{[%clk 1:30:00] [%eval 0.17]}", "\n% a line of its own {\n", "$1", "$146 $14", "{(1. a3 [x)}",
           "{" + "long " * 2000 + "}", "{\n[Event \"none\"]\n}", "!", "?!")

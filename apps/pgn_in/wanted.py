@@ -1,13 +1,11 @@
 """A board's game as the file has it: its moves as far as they are legal, and its end."""
 
+import ending
 import entry
 from position import Position
 from setup import fen_of
 
 READINGS = 3  # For so many readings a game must stand as it is before what was sent is corrected by it.
-RESIGNS = {"1-0": "black", "0-1": "white"}
-# Of the tag Termination, which says that a result was not reached on the board.
-OUTSIDE = ("forfeit", "abandoned", "adjudication", "death", "emergency", "infraction", "on time")
 
 
 class Sheet:
@@ -101,9 +99,17 @@ class Want:
         return self.game.result if self.is_whole and self.game.result != "*" else None
 
     @property
-    def is_outside(self):
-        """Whether its result was not reached on the board."""
-        return self.result is not None and any(it in self.game.tag("Termination").lower() for it in OUTSIDE)
+    def termination(self):
+        """How its result came about, as far as the file says that."""
+        return self.game.tag("Termination")
+
+    @property
+    def is_given_up(self):
+        return ending.is_given_up(self.result, self.termination)
+
+    def endings(self):
+        """The ends to ask for, one after another."""
+        return ending.endings(self.result, self.termination, "white" if len(self.moves) % 2 == 0 else "black")
 
     @property
     def players(self):

@@ -42,11 +42,14 @@ class Readings(unittest.TestCase):
             self.assertIs(self.after(*MOVES), Step.END)
 
     def test_an_end_that_agrees_is_rest(self):
-        for result, outcomes in {"1-0": ["black resigns", "white mates"], "0-1": ["white resigns", "black mates"],
-                                 "1/2-1/2": ["agreed", "threefold", "fifty moves", "stalemate", "fivefold"]}.items():
-            self.read(game(f"1. e4 e5 2. Nf3 {result}"))
-            for outcome in outcomes:
-                self.assertIs(self.after(*MOVES, outcome=outcome), Step.REST, outcome)
+        """Whatever the tag Termination says, and whenever it comes."""
+        for result, outcomes in {"1-0": ["black resigns", "white mates", "black loses on time", "white wins by decision"],
+                                 "0-1": ["white resigns", "black mates", "white loses on time", "black wins by decision"],
+                                 "1/2-1/2": ["agreed", "threefold", "fifty moves", "stalemate", "fivefold", "drawn by decision"]}.items():
+            for termination in "", "normal", "time forfeit", "adjudication", "abandoned":
+                self.read(game(f"1. e4 e5 2. Nf3 {result}", Termination=termination))
+                for outcome in outcomes:
+                    self.assertIs(self.after(*MOVES, outcome=outcome), Step.REST, (outcome, termination))
 
     def test_other_moves_are_a_correction_after_three_readings(self):
         for text in "1. e4 e5 *", "1. e4 c5 2. Nf3 *", "1. d4 *", "1. e4 c5 2. Nf3 d6 1-0", "*":
@@ -63,6 +66,15 @@ class Readings(unittest.TestCase):
         self.assertFalse(want.is_settled)
         self.read(game("1. e4 *"), game(text, 2), times=2)
         self.assertTrue(want.is_settled)
+
+    def test_another_result_is_a_correction_after_three_readings(self):
+        ends = {"1-0": ["black resigns", "black loses on time", "white wins by decision"], "1/2-1/2": ["agreed", "drawn by decision"]}
+        for result in "0-1", "*":
+            want = self.read(game(f"1. e4 e5 2. Nf3 {result}"))
+            for outcome in sum(ends.values(), []):
+                self.assertIs(self.after(*MOVES, outcome=outcome), Step.CORRECT, (result, outcome))
+            self.assertFalse(want.is_settled)
+            self.assertTrue(self.read(game(f"1. e4 e5 2. Nf3 {result}"), times=2).is_settled)
 
     def test_a_correction_after_the_end(self):
         for text in "1. e4 e5 2. Nf3 0-1", "1. e4 e5 2. Nf3 *", "1. e4 e5 2. Nf3 Nc6 *", "1. e4 e5 1-0":
@@ -82,16 +94,19 @@ class Readings(unittest.TestCase):
         self.read(game("1. d4 *"))
         self.assertIs(self.after(*MOVES, outcome="abandoned"), Step.CORRECT)
 
-    def test_a_result_outside_the_board_is_an_abandoned_game(self):
-        for termination in "time forfeit", "Time forfeit", "abandoned", "adjudication", "rules infraction", "White wins on time":
-            want = self.read(game("1. e4 e5 2. Nf3 1-0", Termination=termination))
-            self.assertTrue(want.is_outside, termination)
-            self.assertIs(self.after(*MOVES), Step.END)
-            self.assertIs(self.after(*MOVES, outcome="abandoned"), Step.REST)
-            self.assertIs(self.after(*MOVES[:2], outcome="abandoned"), Step.AGAIN)
-        for termination in "normal", "unterminated", "":
-            self.assertFalse(self.read(game("1. e4 e5 2. Nf3 1-0", Termination=termination)).is_outside)
-        self.assertFalse(self.read(game("1. e4 e5 2. Nf3 *", Termination="abandoned")).is_outside)
+    def test_a_result_of_an_abandoned_game_is_an_abandoned_game(self):
+        want = self.read(game("1. e4 e5 2. Nf3 1-0", Termination="Abandoned"))
+        self.assertTrue(want.is_given_up)
+        self.assertIs(self.after(*MOVES), Step.END)
+        self.assertIs(self.after(*MOVES, outcome="abandoned"), Step.REST)
+        self.assertIs(self.after(*MOVES[:2], outcome="abandoned"), Step.AGAIN)
+        self.assertFalse(self.read(game("1. e4 e5 2. Nf3 *", Termination="abandoned")).is_given_up)
+
+    def test_the_ends_to_ask_for_are_those_of_the_side_to_move(self):
+        want = self.read(game("1. e4 e5 2. Nf3 0-1", Termination="time forfeit"))
+        self.assertEqual(want.endings(), [{"how": "time", "side": "white"}])
+        self.assertEqual(self.read(game("1. e4 e5 2. Nf3 1/2-1/2")).endings()[0], {"how": "threefold", "side": "black"})
+        self.assertEqual(self.read(game("1. e4 e5 1/2-1/2")).endings()[0], {"how": "threefold", "side": "white"})
 
     def test_a_start_of_another_number(self):
         fen = "bbqnnrkr/pppppppp/8/8/8/8/PPPPPPPP/BBQNNRKR w KQkq - 0 1"

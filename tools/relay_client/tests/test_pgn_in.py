@@ -14,6 +14,8 @@ from relay_client.tests.entering import (DUTCH, DUTCH_SENT, ITALIAN, ITALIAN_SEN
 from relay_client.texts import OPENED, ended, ends, opens, played, submits
 from relay_client.wire import DOWN, Wire
 
+WHITE_WINS, BLACK_WINS = "white wins by decision", "black wins by decision"
+
 
 class Growing(Entering):
     async def test_a_file_that_grows_by_a_move_at_a_time_in_every_way_is_at_the_relay_move_for_move(self):
@@ -91,16 +93,34 @@ class Growing(Entering):
 
 class Ends(Entering):
     async def test_each_end(self):
-        forfeit = {"Termination": "time forfeit"}
-        self.write(game(DUTCH, 1, "1-0"), game(DUTCH, 2, "0-1"), game(DUTCH, 3, "1/2-1/2"), game("f3 e5 g4 Qh4#".split(), 4, "0-1"),
-                   game(THERE_AND_BACK * 2, 5, "1/2-1/2"), game(DUTCH, 6, "0-1", **forfeit), game(DUTCH, 7), game([], 8, "1/2-1/2"))
+        def ended(board, result, termination=None):
+            return game(DUTCH, board, result, **({"Termination": termination} if termination else {}))
+
+        self.write(ended(1, "1-0"), ended(2, "0-1"), ended(3, "1/2-1/2"), game("f3 e5 g4 Qh4#".split(), 4, "0-1"),
+                   game(THERE_AND_BACK * 2, 5, "1/2-1/2"), ended(6, "0-1", "time forfeit"), ended(7, "*"), game([], 8, "1/2-1/2"),
+                   ended(9, "1-0", "time forfeit"), ended(10, "1-0", "normal"), ended(11, "0-1", "normal"),
+                   ended(12, "1-0", "adjudication"), ended(13, "0-1", "rules infraction"), ended(14, "1/2-1/2", "time forfeit"),
+                   ended(15, "1/2-1/2", "adjudication"), ended(16, "0-1", "abandoned"))
         self.assertEqual(await self.once(), 0)
         drawn, mated = THERE_AND_BACK_SENT * 2, "f2f3 e7e5 g2g4 d8h4".split()
-        await self.has(r3_1=(518, DUTCH_SENT, "black resigns"), r3_2=(518, DUTCH_SENT, "white resigns"), r3_3=(518, DUTCH_SENT, "agreed"),
-                       r3_4=(518, mated, "black mates"), r3_5=(518, drawn, "threefold"), r3_6=(518, DUTCH_SENT, "abandoned"),
-                       r3_7=(518, DUTCH_SENT, None), r3_8=(518, [], "agreed"))
-        self.assertEqual(self.wrong(), "r3-6 abandoned: note the result 0-1 (time forfeit)\n")
+        ends = [WHITE_WINS, BLACK_WINS, "agreed", "black mates", "threefold", "white loses on time", None, "agreed", "black loses on time",
+                "black resigns", "white resigns", WHITE_WINS, BLACK_WINS, "drawn by decision", "drawn by decision", "abandoned"]
+        moves = {4: mated, 5: drawn, 8: []}
+        await self.has(**{f"r3_{board}": (518, moves.get(board, DUTCH_SENT), it) for board, it in enumerate(ends, 1)})
+        self.assertEqual(self.wrong(), "r3-16 abandoned: note the result 0-1 (abandoned)\n")
         self.assertEqual(await self.once(), 0)
+
+    async def test_a_termination_that_comes_later_enters_nothing_anew(self):
+        """Nor does one that goes."""
+        won = {"r3_1": (518, DUTCH_SENT, WHITE_WINS), "r3_2": (518, DUTCH_SENT, "white loses on time")}
+        self.write(game(DUTCH, result="1-0"), game(DUTCH, 2, "0-1", Termination="time forfeit"))
+        await self.start()
+        await self.has(**won)
+        for first, second in ("time forfeit", ""), ("abandoned", "abandoned"), ("normal", "adjudication"):
+            self.write(game(DUTCH, result="1-0", Termination=first), game(DUTCH, 2, "0-1", Termination=second))
+            await asyncio.sleep(1.5)
+            await self.has(**won)
+        self.assertEqual(self.wrong(), "")
 
     async def test_where_the_relay_ends_a_game_and_the_file_goes_on_that_is_said(self):
         """A position that has come five times ends it."""
@@ -115,11 +135,11 @@ class Ends(Entering):
             self.write(game(ITALIAN[:count], Result="1-0"), game(DUTCH, 2, "0-1", Result="0-1"), game(DUTCH, 3, Result="*"))
             if count == 1:
                 await self.start()
-            await self.has(r3_1=(518, ITALIAN_SENT[:count], None), r3_2=(518, DUTCH_SENT, "white resigns"), r3_3=(518, DUTCH_SENT, None))
+            await self.has(r3_1=(518, ITALIAN_SENT[:count], None), r3_2=(518, DUTCH_SENT, BLACK_WINS), r3_3=(518, DUTCH_SENT, None))
         await asyncio.sleep(1)
         self.assertEqual(self.wrong(), "r3-1: its tag Result says 1-0, but * stands behind its moves, and that counts\n")
         self.write(game(ITALIAN[:4], result="1-0", Result="1-0"), game(DUTCH, 2, "0-1"), game(DUTCH, 3))
-        await self.has(r3_1=(518, ITALIAN_SENT[:4], "black resigns"), r3_2=(518, DUTCH_SENT, "white resigns"), r3_3=(518, DUTCH_SENT, None))
+        await self.has(r3_1=(518, ITALIAN_SENT[:4], WHITE_WINS), r3_2=(518, DUTCH_SENT, BLACK_WINS), r3_3=(518, DUTCH_SENT, None))
         self.assertEqual(len(self.wrong().splitlines()), 1)
 
 
@@ -177,9 +197,34 @@ class Corrections(Entering):
         await self.has(r3_1=(518, ITALIAN_SENT, "abandoned"), r3_1__2=(518, corrected, "abandoned"), r3_1__3=(518, DUTCH_SENT, None))
         self.write(game(DUTCH, result="1-0"))
         before = {"r3_1": (518, ITALIAN_SENT, "abandoned"), "r3_1__2": (518, corrected, "abandoned")}
-        await self.has(**before, r3_1__3=(518, DUTCH_SENT, "black resigns"))
+        await self.has(**before, r3_1__3=(518, DUTCH_SENT, WHITE_WINS))
         self.write(game(DUTCH[:3], result="1/2-1/2"))
-        await self.has(**before, r3_1__3=(518, DUTCH_SENT, "black resigns"), r3_1__4=(518, DUTCH_SENT[:3], "agreed"))
+        await self.has(**before, r3_1__3=(518, DUTCH_SENT, WHITE_WINS), r3_1__4=(518, DUTCH_SENT[:3], "agreed"))
+
+    async def test_a_result_that_is_another_now(self):
+        """The moves are played again, and the game ends as the file has it; at last it goes on. After a mate that is said alone."""
+        mated, mate = "f2f3 e7e5 g2g4 d8h4".split(), game("f3 e5 g4 Qh4#".split(), 2, "0-1")
+        self.write(game(ITALIAN, result="0-1"), mate)
+        await self.start()
+        before = {"r3_1": (518, ITALIAN_SENT, BLACK_WINS), "r3_2": (518, mated, "black mates")}
+        await self.has(**before)
+        self.write(game(ITALIAN, result="1-0", Termination="time forfeit"), mate)
+        before["r3_1__2"] = (518, ITALIAN_SENT, "black loses on time")
+        await self.has(**before)
+        self.write(game(ITALIAN, result="1/2-1/2", Termination="adjudication"), mate)
+        before["r3_1__3"] = (518, ITALIAN_SENT, "drawn by decision")
+        await self.has(**before)
+        self.write(game(ITALIAN), game("f3 e5 g4 Qh4#".split(), 2, "1-0"))
+        await self.has(**before, r3_1__4=(518, ITALIAN_SENT, None))
+        await self.until(lambda: "r3-2 has ended: black mates; the file has 4 plies and 1-0\n" in self.wrong())
+        await self.has(**before, r3_1__4=(518, ITALIAN_SENT, None))
+
+    async def test_a_result_that_changed_while_the_program_was_away(self):
+        self.write(game(DUTCH, result="0-1"))
+        self.assertEqual(await self.once(), 0)
+        self.write(game(DUTCH, result="1-0"))
+        await self.start()
+        await self.has(r3_1=(518, DUTCH_SENT, BLACK_WINS), r3_1__2=(518, DUTCH_SENT, WHITE_WINS))
 
     async def test_a_file_that_is_cut_off_for_a_moment_corrects_nothing(self):
         whole = game(ITALIAN) + game(DUTCH, 2)
@@ -229,13 +274,13 @@ class Losses(Entering):
         await loses(b'"opened"', game(DUTCH))
         await self.has(r3_1=(518, ITALIAN_SENT[:6], "abandoned"), r3_1__2=(518, DUTCH_SENT, None))
         await loses(b'"ended"', game(DUTCH, result="1-0"))
-        await self.has(r3_1=(518, ITALIAN_SENT[:6], "abandoned"), r3_1__2=(518, DUTCH_SENT, "black resigns"))
+        await self.has(r3_1=(518, ITALIAN_SENT[:6], "abandoned"), r3_1__2=(518, DUTCH_SENT, WHITE_WINS))
         await wire.cut()
 
     async def test_a_relay_that_was_restarted_gets_the_games_again_under_their_next_names(self):
         self.write(game(ITALIAN[:4]), game(DUTCH, 2, "1-0"))
         await self.start()
-        await self.has(r3_1=(518, ITALIAN_SENT[:4], None), r3_2=(518, DUTCH_SENT, "black resigns"))
+        await self.has(r3_1=(518, ITALIAN_SENT[:4], None), r3_2=(518, DUTCH_SENT, WHITE_WINS))
         await self.relay.kill()
         self.write(game(ITALIAN[:5]), game(DUTCH, 2, "1-0"))
         await self.relay.start()
@@ -333,7 +378,7 @@ class Neighbours(Entering):
         await program.wait()
         self.write(game(ITALIAN[:5]), game(DUTCH, 2, "1-0"))
         program = await self.start("--without", "r3-1")
-        left = {"r3_1": (518, ITALIAN_SENT[:4], "abandoned"), "r3_2": (518, DUTCH_SENT, "black resigns")}
+        left = {"r3_1": (518, ITALIAN_SENT[:4], "abandoned"), "r3_2": (518, DUTCH_SENT, WHITE_WINS)}
         await self.has(**left)
         operator = Connection(self.relay.port, key="an-operator_s-key-1234")
         operator.asks(opens("r3-1_2"), OPENED)
