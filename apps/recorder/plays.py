@@ -27,9 +27,9 @@ class Play:
         self.position = self.position.after(text)
         self.outcome = answer["outcome"]
 
-    async def end(self, how, **side):
-        """Asks for an ending, and answers whether it was accepted."""
-        answer = await self.client.ask(cmd="end", board=self.board, how=how, **side)
+    async def end(self, how, **more):
+        """Asks for an ending, with its side or its result, and answers whether it was accepted."""
+        answer = await self.client.ask(cmd="end", board=self.board, how=how, **more)
         if answer["reply"] == "ended":
             self.outcome = answer["outcome"]
         return answer["reply"] == "ended"
@@ -104,6 +104,19 @@ async def resigned(play):
         await play.end("resign", side=play.chance.choice(("white", "black")))
 
 
+async def flagged(play):
+    """A side's time runs out, whoever has the move."""
+    await play.plies(play.chance.randrange(80))
+    if play.outcome is None:
+        await play.end("time", side=play.chance.choice(("white", "black")))
+
+
+async def decided(play):
+    await play.plies(play.chance.randrange(80))
+    if play.outcome is None:
+        await play.end("decided", result=play.chance.choice(("1-0", "0-1", "1/2-1/2")))
+
+
 async def agreed(play):
     await play.plies(play.chance.randrange(80))
     if play.outcome is None:
@@ -170,7 +183,8 @@ async def seventy_five(play):
     await without_progress(play, False)
 
 
-KINDS = [by_itself, by_itself, by_itself, by_itself, resigned, agreed, abandoned, lost, threefold, fivefold, fifty, seventy_five]
+KINDS = [by_itself, by_itself, by_itself, by_itself, resigned, flagged, decided, agreed, abandoned, lost, threefold, fivefold, fifty,
+         seventy_five]
 
 
 async def play_out(play, kind):

@@ -18,10 +18,14 @@ highest status.
 
 With --all it records each board that is there or is opened, to FOLDER/BOARD.record, until it is stopped. A name that exists already
 gets a number: b1.2.record. So does another game of a board. After --tries in a row that reported no board it ends with status 2.
+
+A game that is over and goes on, or was corrected, under its next name (b1_2) is replaced by that: the PGN has the last one alone, and the
+records have both. With --replaced the PGN has both, too.
 """
 import argparse
 import asyncio
 import contextlib
+import functools
 import json
 import os
 import pathlib
@@ -50,13 +54,14 @@ class Broken(Exception):
 
 
 class Record:
-    """A record's file, and how many of its moves the present connection has sent. `kept` is called with each text that it has kept."""
+    """A record's file, and how many of its moves the present connection has sent. `kept` is called with each text that it has kept, and
+    `lost` where the relay no longer has its game."""
 
-    def __init__(self, path, board, players=None, kept=lambda text: None):
+    def __init__(self, path, board, players=None):
         self.file = open(path, "x", encoding="ascii")
         self.board = board
         self.players = players or {}
-        self.kept = kept
+        self.kept, self.lost = lambda text: None, lambda: None
         self.first = None
         self.moves = []
         self.outcome = None
@@ -211,6 +216,8 @@ class Every:
                 self.records[board] = self.make(board, 1)
             record, number = self.records[board]
             status = await keep(self.given.server, record, self.given.tries, self.given.wait, waits=False)
+            if status in (ANOTHER, GONE):
+                record.lost()
             if status == ANOTHER:
                 self.records[board] = self.make(board, number + 1)
                 self.again.add(board)
@@ -225,6 +232,7 @@ def arguments():
     words.add_argument("--tries", type=int, default=3600, help="tries in a row that bring nothing new (3600)")
     words.add_argument("--wait", type=float, default=1, help="seconds between two tries (1)")
     words.add_argument("--pgn", metavar="FILE", help="a new file for the games of all boards as PGN")
+    words.add_argument("--replaced", action="store_true", help="the PGN has also the games that others of their next names replaced")
     for name in ("event", "site", "round"):
         words.add_argument(f"--{name}", metavar="TEXT", default="?", help=f"the {name} that the PGN tells")
     words.add_argument("--players", nargs=3, action="append", default=[], metavar=("BOARD", "WHITE", "BLACK"),
@@ -263,13 +271,14 @@ class Maker:
 
     def __init__(self, given, closing):
         self.given, self.closing = given, closing
-        self.together = Round(given.pgn) if given.pgn else None
+        self.together = Round(given.pgn, given.replaced) if given.pgn else None
 
     def record(self, board, file):
         players = players_of(self.given, board)
         record = Record(file, board, players)
         if self.together:
-            record.kept = self.together.game(board, labels(self.given, board))
+            game = self.together.begin(board, labels(self.given, board))
+            record.kept, record.lost = functools.partial(self.together.take, game), functools.partial(self.together.lose, game)
         self.closing.callback(record.close)
         return record
 

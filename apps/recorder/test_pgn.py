@@ -24,9 +24,13 @@ from relay_client.relay import Relay
 HERE = pathlib.Path(__file__).resolve().parent
 PATIENCE = 600  # Seconds that a round may take on a busy machine.
 BOARDS = 10  # Of a round.
-SCORES = {"white mates": "1-0", "black mates": "0-1", "white resigns": "0-1", "black resigns": "1-0", "abandoned": "*"}
+SCORES = {"white mates": "1-0", "black mates": "0-1", "white resigns": "0-1", "black resigns": "1-0", "abandoned": "*",
+          "white loses on time": "0-1", "black loses on time": "1-0", "white wins by decision": "1-0", "black wins by decision": "0-1"}
 DRAW = "1/2-1/2"
-ENDS = {*SCORES, "stalemate", "agreed", "threefold", "fifty moves", "fivefold", "seventy-five moves"}
+ENDS = {*SCORES, "stalemate", "agreed", "threefold", "fifty moves", "fivefold", "seventy-five moves", "drawn by decision"}
+# Of the PGN standard, 9.8.1; all others are normal.
+TERMINATIONS = {"abandoned": "abandoned", "white loses on time": "time forfeit", "black loses on time": "time forfeit",
+                **dict.fromkeys(("white wins by decision", "black wins by decision", "drawn by decision"), "adjudication")}
 
 
 def extract(file, *words):
@@ -109,6 +113,7 @@ def compare(file, round_played, stockfish, seen):
         score = SCORES.get(game.outcome, DRAW)
         assert (tags["BoardName"], tags["Variant"], tags["SetUp"], tags["Round"]) == (game.board, "Chess960", "1", "3"), tags
         assert tags["Event"] == 'The \\"Open\\"' and tags["Result"] == moves[-1] == score, (tags, game.outcome)
+        assert tags["Termination"] == TERMINATIONS.get(game.outcome, "normal"), (tags, game.outcome)
         assert (tags["White"], tags["Black"]) == (("Müller, A", "O'Neil") if game.board == "b0" else ("?", "?")), tags
         assert [it.lower() for it in moves[:-1]] == game.moves, (game.start, game.moves, moves)
         head = json.loads((file.parent / f"{game.board}.record").read_text().splitlines()[0])

@@ -1,5 +1,6 @@
 """The tests of the recorder; test.sh starts them. Each is an async function whose name begins with try_."""
 import asyncio
+import contextlib
 import json
 import pathlib
 import sys
@@ -45,6 +46,16 @@ class Recorder:
         assert self.process.returncode == status, (self.process.returncode, said)
         assert had == texts, (had, texts)
         return said.decode()
+
+
+async def until(test):
+    """Waits until a test is true, of which a file may not be there yet."""
+    for _ in range(20 * PATIENCE):
+        with contextlib.suppress(FileNotFoundError):
+            if test():
+                return
+        await asyncio.sleep(0.05)
+    raise AssertionError("it has not become true")
 
 
 async def begun(folder, start, moves, *words, **options):
@@ -247,6 +258,30 @@ async def try_pgn(folder):
     assert {it.name for it in pathlib.Path(folder).iterdir()} == {"b1.record", "b2.record", "round.pgn"}
 
 
+async def try_pgn_ends(folder):
+    """A flag that fell and an arbiter's decisions are in the record as the relay said them, and in the PGN as its standard has them."""
+    relay, file = await Relay().start(), pathlib.Path(folder, "round.pgn")
+    ends = {"b1": ("white loses on time", "0-1", "time forfeit", {"how": "time", "side": "white"}),
+            "b2": ("black loses on time", "1-0", "time forfeit", {"how": "time", "side": "black"}),
+            "b3": ("white wins by decision", "1-0", "adjudication", {"how": "decided", "result": "1-0"}),
+            "b4": ("black wins by decision", "0-1", "adjudication", {"how": "decided", "result": "0-1"}),
+            "b5": ("drawn by decision", "1/2-1/2", "adjudication", {"how": "decided", "result": "1/2-1/2"})}
+    more = [word for board in list(ends)[1:] for word in (board, f"{folder}/{board}.record")]
+    recorder = await Recorder.start(folder, relay.address, *more, "--pgn", str(file))
+    client = await Client.to(relay.address)
+    for board, (_, _, _, ending) in ends.items():
+        await client.open(board)
+        await client.submit(board, *MOVES[:3])
+        await client.end(board, **ending)
+    await recorder.ended(0, 518, MOVES[:3], "white loses on time")
+    for game, (board, (outcome, result, termination, _)) in zip(file.read_text().split("\n\n[Event"), ends.items(), strict=True):
+        last = json.loads(pathlib.Path(folder, f"{board}.record").read_text().splitlines()[-1])
+        assert last == {"outcome": outcome, "reply": "over"}, last
+        for tag in f'[BoardName "{board}"]', f'[Result "{result}"]', f'[Termination "{termination}"]':
+            assert tag in game, (tag, game)
+        assert game.endswith(f"}} {result}") or game.endswith(f"}} {result}\n"), game
+
+
 async def try_pgn_there(folder):
     """A PGN that exists already is left as it is, and no record is begun."""
     file = pathlib.Path(folder, "round.pgn")
@@ -349,7 +384,7 @@ async def try_all(folder):
     await recorder.end()
     lines = (recorder.folder / "all.pgn").read_text().splitlines()
     names, whites = ([line.split('"')[1] for line in lines if line.startswith(f"[{tag} ")] for tag in ("BoardName", "White"))
-    assert names == ["a1", "a2", "a3", "a3_2"] and whites == ["?", "?", "Adams", "Adams"], (names, whites)
+    assert names == ["a1", "a2", "a3_2"] and whites == ["?", "?", "Adams"], (names, whites)
     assert recorder.files() == {"a1.record", "a2.record", "a3.record", "a3_2.record", "all.pgn"}, recorder.files()
     recorder = await All.start(folder, relay)
     await recorder.has("a1.2.record", "a1", 518, MOVES)
@@ -387,6 +422,64 @@ async def try_all_anew(folder):
     await recorder.end()
     wanted = {f"{it}.record" for it in ("same", "ended", "ended.2", "other", "other.2", "gone")}
     assert recorder.files() == wanted, recorder.files()
+
+
+def names_in(file):
+    """The boards of a PGN, in its order."""
+    return [line.split('"')[1] for line in file.read_text().splitlines() if line.startswith("[BoardName ")]
+
+
+async def try_all_replaced(folder):
+    """A game that is over is replaced in the PGN, at its place, by the one of its next name that has as many moves, or a result. The empty
+    board of a next name replaces none, and is left out. With --replaced all are there. The records have all."""
+    both = pathlib.Path(folder, "both")
+    both.mkdir()
+    relay = await Relay(watch=True).start()
+    wrong = await opened(relay, "a1", 518, MOVES[:4])
+    await wrong.end("a1", "resign", side="white")
+    await opened(relay, "a2", 518, MOVES[:4], "agreed")
+    await opened(relay, "a2_2", 518, [], "abandoned")
+    lost = await opened(relay, "a3", 518, MOVES[:4], "abandoned")
+    right = await opened(relay, "a1_2", 518, MOVES[:3])
+    recorder = await All.start(folder, relay, "--pgn", f"{folder}/all.pgn")
+    whole = await All.start(str(both), relay, "--pgn", f"{both}/all.pgn", "--replaced")
+    await recorder.has("a1.record", "a1", 518, MOVES[:4], "white resigns")
+    await recorder.has("a1_2.record", "a1_2", 518, MOVES[:3])
+    await recorder.has("a2_2.record", "a2_2", 518, [], "abandoned")
+    await recorder.has("a3.record", "a3", 518, MOVES[:4], "abandoned")
+    await until(lambda: sorted(names_in(recorder.folder / "all.pgn")) == ["a1", "a2", "a3"])
+    await right.submit("a1_2", MOVES[3])
+    await lost.open("a3_2")
+    await lost.submit("a3_2", *MOVES[:2])
+    await until(lambda: sorted(names_in(recorder.folder / "all.pgn")) == ["a1_2", "a2", "a3"])
+    await right.end("a1_2", "decided", result="1-0")
+    await lost.end("a3_2", "time", side="black")
+    await until(lambda: set(names_in(recorder.folder / "all.pgn")) == {"a1_2", "a2", "a3_2"})
+    await until(lambda: set(names_in(both / "all.pgn")) == {"a1", "a1_2", "a2", "a2_2", "a3", "a3_2"})
+    await until(lambda: 'Termination "time forfeit"' in (both / "all.pgn").read_text())
+    await whole.has("a1.record", "a1", 518, MOVES[:4], "white resigns")
+    await whole.has("a1_2.record", "a1_2", 518, MOVES[:4], "white wins by decision")
+    await recorder.end()
+    await whole.end()
+
+
+async def try_all_replaced_anew(folder):
+    """A game that was lost with the relay stands until all its moves are there again, and is replaced at its place then."""
+    relay = await Relay(watch=True).start()
+    await opened(relay, "a1", 518, MOVES[:2])
+    await opened(relay, "a2", 518, [])
+    recorder = await All.start(folder, relay, "--pgn", f"{folder}/all.pgn")
+    await until(lambda: sorted(names_in(recorder.folder / "all.pgn")) == ["a1", "a2"])
+    before = names_in(recorder.folder / "all.pgn")
+    await relay.kill()
+    await relay.start()
+    again = await opened(relay, "a1_2", 518, MOVES[:1])
+    await recorder.has("a1_2.record", "a1_2", 518, MOVES[:1])
+    await until(lambda: names_in(recorder.folder / "all.pgn") == before)
+    await again.submit("a1_2", *MOVES[1:4])
+    await until(lambda: names_in(recorder.folder / "all.pgn") == [{"a1": "a1_2"}.get(it, it) for it in before])
+    await recorder.has("a1.record", "a1", 518, MOVES[:2])
+    await recorder.end()
 
 
 async def try_all_wire(folder):
