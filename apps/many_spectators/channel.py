@@ -9,9 +9,10 @@ import urllib.parse
 import websockets
 
 from relay_client.men import men_after, men_of
+from relay_client.outcomes import ABANDONED
+from relay_client.successors import takes_place
 
 FAULTS = (OSError, asyncio.TimeoutError, websockets.WebSocketException, http.client.HTTPException)
-ABANDONED = "abandoned"
 
 
 def written(text):
@@ -96,19 +97,27 @@ class Channel:
 
 
 class BoardChannel(Channel):
-    """A board's channel, and the game in its texts. A board may be one of the feed's names and a next name of another, so two may
-    use its channel."""
+    """A board's channel, and the game in its texts: `plies` and `outcome` are also those of a game that is gone. A board may be one of the
+    feed's names and a next name of another, so two may use its channel."""
 
     def forget(self):
         self.origin = None
         self.first = 0
         self.moves = []
+        self.plies = 0
         self.outcome = None
         self.heir = None
 
     @property
+    def board(self):
+        return self.name
+
+    @property
     def next(self):
         return self.first + len(self.moves)
+
+    def had_game(self):
+        return self.origin is not None or self.outcome is not None
 
     def is_going_on(self):
         return self.origin is not None and self.outcome is None
@@ -127,25 +136,27 @@ class BoardChannel(Channel):
         async with self.turn:
             if self.is_going_on():
                 await self.publish(written({"outcome": ABANDONED, "reply": "over"}))
-            outcome, heir = self.outcome, self.heir
+            plies, outcome, heir = self.plies, self.outcome, self.heir
             self.forget()
-            self.outcome, self.heir = outcome, heir
+            self.plies, self.outcome, self.heir = plies, outcome, heir
 
-    async def tell_next(self, board):
-        """Publishes under which name the game goes on, if that was not published and no game goes on here."""
+    async def give_place(self, successor):
+        """Publishes that a game of a next name stands for this board, once it takes the place of the game here, or if there was none. One
+        that stood for it already goes on by itself."""
         async with self.turn:
             await self.read_once()
-            if self.heir is None and not self.is_going_on():
-                await self.publish(written({"board": board, "reply": "next"}))
+            if self.heir is None and not self.is_going_on() and (self.outcome is None or takes_place(successor, self)):
+                await self.publish(written({"board": successor.board, "reply": "next"}))
 
     def note(self, text, _):
         """Takes a text that the channel has."""
         if text["reply"] == "following":
             self.forget()
-            self.origin, self.first = text["fen"], text["joined"]
+            self.origin, self.first, self.plies = text["fen"], text["joined"], text["joined"]
         elif text["reply"] == "move":
             del self.moves[max(0, text["place"] - self.first):]
             self.moves.append(text["move"])
+            self.plies = self.next
             self.outcome = None
         elif text["reply"] == "over":
             self.outcome = text["outcome"]

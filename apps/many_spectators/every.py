@@ -3,11 +3,12 @@ import asyncio
 import sys
 import weakref
 
-from channel import ABANDONED, FAULTS, BoardChannel
-from follower import HEIRS, Follower
+from channel import FAULTS, BoardChannel
+from follower import Follower
 from list_channel import NAME, ListChannel
 from relay_client.line import Line, Refused
-from relay_client.names import first_name, next_names
+from relay_client.names import first_name
+from relay_client.successors import Standing, names_before, standing
 
 
 class Teller:
@@ -36,9 +37,9 @@ class Told(Follower):
         self.again = True  # It was reported on a new connection since the last following began.
         self.teller = Teller(board)
 
-    async def begin(self, channel):
+    async def grown(self, channel):
         self.teller.told = None
-        await self.every.tell_names_before(channel.name)
+        await self.every.tell_names_before(channel)
 
     async def feed(self):
         try:
@@ -75,8 +76,8 @@ class Told(Follower):
             if fault.name != "NoSuchBoard":
                 raise
             return await self.gone(known)
-        if outcome == ABANDONED:
-            await self.every.tell_heir(self.channel)
+        if outcome is not None:
+            await self.every.tell_successor(self.channel)
         return outcome is not None
 
     async def compare_ends(self, known):
@@ -91,12 +92,11 @@ class Told(Follower):
     async def gone(self, known):
         """The relay has not the board: ends its game in its channel and in the list."""
         await self.channel.read()
-        lost = self.channel.is_going_on() or self.channel.outcome == ABANDONED
         await self.channel.gone()
         if not await self.every.list.gone(self.channel.name, known):
             return False
-        if lost:
-            await self.every.tell_heir(self.channel)
+        if self.channel.had_game():
+            await self.every.tell_successor(self.channel)
         return True
 
 
@@ -173,17 +173,21 @@ class Every:
             told = Told(self, board)
             self.fed[board] = told, self.tasks.create_task(told.feed())
 
-    async def tell_names_before(self, board):
-        """The game of a board that is there may be one that was lost or abandoned: publishes this on the channels of the names before."""
+    async def tell_names_before(self, channel):
+        """The game of a channel may stand for boards of names before: publishes this on their channels. One that the relay has and that is
+        not in its channel yet is told so at its end."""
+        if first_name(channel.name) == channel.name:
+            return
         known = {*self.list.told, *self.list.stands}
-        for name in {first_name(board), *(it for it in known if board in next_names(it, HEIRS))} - {board}:
-            channel = self.channel(name)
-            await channel.read()
-            if channel.outcome == ABANDONED or channel.origin is None and name not in known:
-                await channel.tell_next(board)
+        for name in {first_name(channel.name), *names_before(channel.name, known)} - {channel.name}:
+            before = self.channel(name)
+            await before.read()
+            if before.outcome is not None or name not in known:
+                await before.give_place(channel)
 
-    async def tell_heir(self, channel):
-        """The game of a channel was lost or abandoned: publishes there under which name it goes on, if that board exists already."""
-        heir = next((it for it in next_names(channel.name, HEIRS) if it in self.list.told), None)
-        if heir is not None:
-            await channel.tell_next(heir)
+    async def tell_successor(self, channel):
+        """The game of a channel is over or gone: publishes there which board stands for it, if one does already."""
+        games = {board: Standing(board, it["plies"], it["outcome"]) for board, it in self.list.told.items()}
+        successor = standing(channel, games)
+        if successor is not channel:
+            await channel.give_place(successor)

@@ -11,14 +11,15 @@ had and publishes only what is missing there, so it can be killed and restarted 
 
     {"reply":"beat","time":SECONDS}                  the board is followed at this time (since 1970); each --beat seconds with no other text
     {"outcome":"abandoned","reply":"over"}           also if the relay no longer has a board that had a game: it was restarted
-    {"board":"b1_2","reply":"next"}                  the game that was lost or abandoned goes on under this name
+    {"board":"b1_2","reply":"next"}                  the game of this name replaces it: it goes on there, or was corrected
 
-It follows b1_2, b1_3 and so on by itself, if b1 is one of its names and its game was lost or abandoned. It waits for boards that are
-not open yet, without limit, and asks for each again on the same connection, since the relay accepts a limited number (--connections). It
-ends when the games of all its boards have ended other than as abandoned. With --names it does not end: on SIGHUP it reads the file again,
-begins with the names that are new there or whose games have ended, leaves those that are gone, and disturbs no other. A board that the
-relay refuses for good, as for its name, and one for which --tries tries in a row brought nothing, is given up with a line on standard
-error; the others go on, and the status is 1. What a board waits for is reported there too, once and when it changes.
+It follows b1_2, b1_3 and so on by itself, if b1 is one of its names and its game is over or lost. Such a game replaces that of b1 once it
+has as many moves, or has a result. It waits for boards that are not open yet, without limit, and asks for each again on the same
+connection, since the relay accepts a limited number (--connections). It ends when the games of all its boards have a result, and none goes
+on under a next name. With --names it does not end: on SIGHUP it reads the file again, begins with the names that are new there or were
+given up, leaves those that are gone, and disturbs no other. A board that the relay refuses for good, as for its name, and one for which
+--tries tries in a row brought nothing, is given up with a line on standard error; the others go on, and the status is 1. What a board
+waits for is reported there too, once and when it changes.
 
 With --all it asks the relay's watch port, follows each board that this reports, and does not end. It publishes the texts of the list on a
 channel of its own, _boards, where a board that is gone ends as abandoned too. That channel keeps texts only for minutes, so the last text
@@ -33,13 +34,16 @@ import sys
 # When installed, the package is beside it.
 sys.path.append(str(pathlib.Path(__file__).resolve().parent.parent.parent / "tools"))
 
-from channel import ABANDONED, FAULTS, BoardChannel  # noqa: E402
+from channel import FAULTS, BoardChannel  # noqa: E402
 from every import Every  # noqa: E402
-from follower import HEIRS, Follower  # noqa: E402
+from follower import Follower  # noqa: E402
 from relay_client.line import Refused  # noqa: E402
 from relay_client.names import next_name  # noqa: E402
+from relay_client.outcomes import has_result  # noqa: E402
+from relay_client.successors import standing  # noqa: E402
 
-SELDOM = 10  # Once in this many tries it looks for next names, if the name has had no game so far.
+SELDOM = 10  # Once in this many tries it looks for next names, if the name has had no game so far, or has a result.
+HEIRS = 3  # How many names after the last known one a game is looked for under.
 
 
 class Name(Follower):
@@ -54,6 +58,7 @@ class Name(Follower):
         self.over = set()  # The boards whose games have ended, since the relay was reached.
         self.had_game = False
         self.tries = 0
+        self.told = None  # What it waits for, as that was said last.
 
     def boards(self):
         """The boards under which the game may be found: the first, those that had a game or are said to have it, and a few more."""
@@ -108,46 +113,69 @@ class Name(Follower):
             self.over.add(channel.name)
         return outcome
 
-    async def begin(self, channel):
-        """Publishes on the channels of the names before where the game goes on, if it does not go on there."""
+    async def grown(self, channel):
+        """Publishes on the channels of the names before where the game goes on, once it stands for them."""
         self.had_game = True
         for board in self.boards()[:self.boards().index(channel.name)]:
-            await self.channels.setdefault(board, self.channel(board)).tell_next(channel.name)
+            await self.channels.setdefault(board, self.channel(board)).give_place(channel)
         self.channels.setdefault(channel.name, channel)
+
+    def has_result(self):
+        """Whether the game that stands for the name has one, at a relay that is there."""
+        games = {board: self.channels[board] for board in self.boards() if board in self.channels and self.channels[board].had_game()}
+        if not games:
+            return False
+        last = standing(next(iter(games.values())), games)
+        return last.name in self.over and has_result(last.outcome)
 
     def progress(self):
         return [(board, it.next, it.origin) for board, it in self.channels.items()]
 
     async def feed(self):
-        """Follows until the game is over, or is given up, and answers which. A try that brought nothing is followed by a wait."""
-        failed, told, tries = 0, None, self.given.tries
+        """Follows until the game has a result, and no other replaces it, or until it is given up. Answers which. A try that brought nothing
+        is followed by a wait."""
+        failed, tries, is_over = 0, self.given.tries, False
         try:
             while tries is None or failed < tries:
-                had, why = self.progress(), None
+                had = self.progress()
                 try:
-                    outcome = await self.follow()
-                    if outcome not in (None, ABANDONED):
-                        return True
-                    why = "the game was abandoned" if outcome else "the connection ended"
-                    if outcome is None:
-                        self.forget()
+                    is_over, why = await self.follow_once()
                 except Refused as fault:
-                    if not fault.later:
-                        self.say(fault)
-                        return False
-                    why = str(fault)
-                except FAULTS as fault:
-                    why = f"{type(fault).__name__} {fault}"
-                    self.forget()
+                    self.say(fault)
+                    return False
+                if is_over and not self.given.names:
+                    return True
                 failed = failed + 1 if had == self.progress() else 0
-                if why != told:
-                    self.say(why)
-                told = why
-                await asyncio.sleep(self.given.wait)
-            self.say(f"given up after {tries} tries in a row that brought nothing: {told}")
-            return False
+                self.wait_for(why)
+                await asyncio.sleep(self.given.wait * (SELDOM if is_over else 1))
+            if not is_over:
+                self.say(f"given up after {tries} tries in a row that brought nothing: {self.told}")
+            return is_over
         finally:
             await self.line.close()
+
+    async def follow_once(self):
+        """Follows until its connection ends, and answers whether nothing more is to come, and else what is waited for."""
+        try:
+            outcome = await self.follow()
+            if outcome is None:
+                self.forget()
+                return False, "the connection ended"
+            return False, None if self.has_result() else "the game was abandoned"
+        except Refused as fault:
+            if not fault.later:
+                raise
+            is_over = fault.name == "NoSuchBoard" and self.has_result()
+            return is_over, None if is_over else str(fault)
+        except FAULTS as fault:
+            is_over = self.has_result()  # As far as this relay was there.
+            self.forget()
+            return is_over, None if is_over else f"{type(fault).__name__} {fault}"
+
+    def wait_for(self, why):
+        if why is not None and why != self.told:
+            self.say(why)
+        self.told = why
 
     def say(self, words):
         print(f"{self.name}: {words}", file=sys.stderr, flush=True)

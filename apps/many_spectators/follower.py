@@ -4,16 +4,14 @@ import contextlib
 
 from relay_client.line import Line, Refused
 
-HEIRS = 3  # How many names after the last known one a lost game is looked for under.
-
 
 class Follower:
-    """Follows boards on one line, one after another. `begin(channel)` is awaited before the first text of a following is published."""
+    """Follows boards on one line, one after another. `grown(channel)` is awaited when a text of a following is in its channel."""
 
     def __init__(self, relay):
         self.line = Line(relay)
 
-    async def begin(self, channel):
+    async def grown(self, channel):
         pass
 
     async def fill(self, channel):
@@ -21,13 +19,11 @@ class Follower:
         or None."""
         async with contextlib.AsyncExitStack() as stack:
             async def hear(message, text):
+                await channel.hear(message, text)
                 if text["reply"] == "following":
-                    await self.begin(channel)
-                    await channel.hear(message, text)
                     beats = asyncio.create_task(channel.beats())
                     stack.callback(beats.cancel)
-                else:
-                    await channel.hear(message, text)
+                await self.grown(channel)
             if not await self.follow_from_first(channel.name, hear):
                 return None
         print(f"{channel.name}: over, {channel.next} moves", flush=True)

@@ -2,8 +2,10 @@
 import asyncio
 import time
 
-from channel import ABANDONED, FAULTS, Channel, written
+from channel import FAULTS, Channel, written
 from relay_client.names import first_name
+from relay_client.outcomes import ABANDONED, has_result
+from relay_client.successors import Standing, shown
 
 NAME = "_boards"
 KEPT = 6 * 3600  # Seconds that the last known list, and a result, outlast the relay, as the games in their channels do (channels.conf).
@@ -79,17 +81,19 @@ class ListChannel(Channel):
                     pass  # The relay's next text reports it.
 
     def due(self):
-        """The boards whose last text must be published again. One that the relay no longer has may leave the channel, unless it has a
-        result of the round that goes on."""
+        """The boards whose last text must be published again."""
         if not self.is_read or self.lost_at is not None and time.time() > self.lost_at + KEPT:
             return []
-        return [board for board, (seconds, text) in self.stands.items() if time.time() >= seconds + self.repeat
-                and (self.lost_at is not None or board in self.told or self.outlasts(board, text["outcome"]))]
+        games = {board: Standing(board, text["plies"], text["outcome"]) for board, (_, text) in self.stands.items()
+                 if self.outlasts(board, text["outcome"])}
+        return [it.board for it in shown(games) if time.time() >= self.stands[it.board][0] + self.repeat]
 
     def outlasts(self, board, outcome):
-        """Whether a board that the relay no longer has is still shown: it has a result, and the round goes on."""
-        has_result = outcome not in (None, ABANDONED)
-        return has_result and self.is_same_round() and time.time() <= self.gone_at.setdefault(board, time.time()) + KEPT
+        """Whether a board is still shown: the relay has it, or is away, or the board has a result and its round goes on. Any other may
+        leave the channel, and so may one whose place another takes."""
+        if self.lost_at is not None or board in self.told:
+            return True
+        return has_result(outcome) and self.is_same_round() and time.time() <= self.gone_at.setdefault(board, time.time()) + KEPT
 
     def is_same_round(self):
         """Whether the relay, which was restarted, has boards of the round of before: none as yet, or one that goes on under its next name

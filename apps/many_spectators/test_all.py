@@ -205,14 +205,14 @@ async def try_both_anew(relay):
 
 
 async def try_next(relay):
-    """Next names: of a game that was abandoned before the next board was opened or after, that was lost with the relay, or that never was
-    there. One that ended otherwise has none."""
+    """Next names: of a game that was abandoned before the next board was opened or after, that has a result, that was lost with the relay,
+    or that never was there. A shorter game replaces none."""
     client = await game(relay, "all-x1", FIRST)
     later = await game(relay, "all-y1", FIRST)
     await game(relay, "all-y1_2", OTHER)
     agreed = await game(relay, "all-z1", FIRST)
     await agreed.end("all-z1")
-    await game(relay, "all-z1_2", OTHER)
+    shorter = await game(relay, "all-z1_2", OTHER[:1])
     await game(relay, "all-w1_3", OTHER)
     lost = await game(relay, "all-v1", FIRST)
     names = ["all-x1", "all-x1_2", "all-x1_3", "all-y1", "all-y1_2", "all-z1", "all-z1_2", "all-w1", "all-v1", "all-v1_2"]
@@ -233,16 +233,21 @@ async def try_next(relay):
         await third.submit("all-x1_3", "g1f3")
         await readers["all-x1_2"].has(*other, over(), follow_on("all-x1_3"))
         await readers["all-x1_3"].has(*other, *moved([*OTHER, "g1f3"])[2:])
+        await readers["all-z1_2"].has(*other[:2])
+        await readers["all-z1"].has(*before, over("agreed"))
+        await shorter.submit("all-z1_2", OTHER[1])
+        await readers["all-z1"].has(*before, over("agreed"), follow_on("all-z1_2"))
         await lost.submit("all-v1", "c2c4")
         await readers["all-v1"].has(*before, *moved([*FIRST, "c2c4"])[2:])
         await again(relay)
         await readers["all-v1"].has(*before, *moved([*FIRST, "c2c4"])[2:], over())
-        await game(relay, "all-v1_2", FIRST)
-        await readers["all-v1"].has(*before, *moved([*FIRST, "c2c4"])[2:], over(), follow_on("all-v1_2"))
+        resent = await game(relay, "all-v1_2", FIRST)
         await readers["all-v1_2"].has(*before)
+        await readers["all-v1"].has(*before, *moved([*FIRST, "c2c4"])[2:], over())
+        await resent.submit("all-v1_2", "c2c4")
+        await readers["all-v1"].has(*before, *moved([*FIRST, "c2c4"])[2:], over(), follow_on("all-v1_2"))
         await readers["all-x1"].has(*before, over(), follow_on("all-x1_2"))
         await readers["all-y1_2"].has(*other, over())
-        await readers["all-z1"].has(*before, over("agreed"))
         await readers["all-w1"].has(follow_on("all-w1_3"))
         for reader in readers.values():
             await reader.__aexit__()
@@ -278,6 +283,22 @@ async def try_repeats(relay):
         texts = heard.of("all-s1")
         last = texts.index(moved_on)
         assert texts == [first] * last + [moved_on] * (len(texts) - last - 1) + [stand("all-s1", [*FIRST, "c2c4"], "abandoned")], texts
+
+
+async def try_replaced(relay):
+    """The list repeats the successor alone, once it has as many moves."""
+    wrong = await game(relay, "all-o1", FIRST)
+    await wrong.end("all-o1")
+    right = await game(relay, "all-o1_2", FIRST[:1])
+    result, corrected = stand("all-o1", FIRST, "agreed"), stand("all-o1_2", FIRST, "white wins by decision")
+    async with ListReader(["all-o1", "all-o1_2"]) as heard, every(relay, "--repeat", "2"):
+        await until(lambda: heard.of("all-o1").count(result) >= 3)
+        await right.submit("all-o1_2", FIRST[1])
+        await right.end("all-o1_2", "decided", result="1-0")
+        await until(lambda: corrected in heard.texts)
+        had = len(heard.of("all-o1"))
+        await until(lambda: heard.of("all-o1_2").count(corrected) >= 3)
+        assert len(heard.of("all-o1")) == had, heard.of("all-o1")
 
 
 async def try_results(relay):

@@ -50,6 +50,31 @@ async def try_abandoned(relay):
         await third.has(following(), *moved(FIRST), over("agreed"))
 
 
+async def try_corrected(relay):
+    """A game that has a result is replaced by the one of its next name that has as many moves: the channel names that, and the feed does
+    not end before. An empty board of a next name, which a stale window may open, replaces nothing."""
+    wrong = await game(relay, "c1", FIRST)
+    async with Reader("c1") as first, Reader("c1_2") as second, Reader("c1_3") as third:
+        async with feed("c1", *QUICK, relay=relay.address, **QUIET):
+            await first.has(following(), *moved(FIRST))
+            stale = await game(relay, "c1_2")
+            await wrong.end("c1", "resign", side="white")
+            await second.has(following())
+            await stale.end("c1_2", "abandoned")
+            right = await game(relay, "c1_3", FIRST[:1])
+            await third.has(following(), *moved(FIRST[:1]))
+            await first.has(following(), *moved(FIRST), over("white resigns"))
+        async with feed("c1", *QUICK, relay=relay.address, stdout=subprocess.PIPE, stderr=subprocess.DEVNULL) as process:
+            await third.has(following(), *moved(FIRST[:1]))
+            await right.submit("c1_3", FIRST[1])
+            await first.has(following(), *moved(FIRST), over("white resigns"), follow_on("c1_3"))
+            await second.has(following(), over(), follow_on("c1_3"))
+            await right.end("c1_3", "decided", result="1-0")
+            await asyncio.wait_for(process.communicate(), 20)
+            assert process.returncode == 0, process.returncode
+        await third.has(following(), *moved(FIRST), over("white wins by decision"))
+
+
 async def try_late(relay):
     """A name that the relay never had in this run, since its game went on under another: the channel names that one. Before, it had
     nothing."""

@@ -20,7 +20,7 @@ from relay_client.ports import free_port
 from relay_client.program import PATIENCE, TOP
 from relay_client.server import Server
 from relay_client.tests.sessions import owner_of
-from relay_client.texts import following, moved, over, played, submits, text
+from relay_client.texts import ended, ends, following, moved, over, played, submits, text
 
 FEED = TOP / "apps/many_spectators/feed.py"
 ACCEPTS = b"258EAFA5-E914-47DA-95CA-C5AB0DC85B11"  # RFC 6455, section 1.3.
@@ -135,6 +135,14 @@ class Feeds(unittest.TestCase):
         self.addCleanup(feed.kill)
         return feed
 
+    def names(self, words):
+        """A file with these names, until the test ends."""
+        room = tempfile.TemporaryDirectory()
+        self.addCleanup(room.cleanup)
+        names = pathlib.Path(room.name, "names")
+        names.write_text(f"{words}\n")
+        return names
+
     def plays(self, server, board, *moves):
         """An owner that opens a board and plays; what its followers receive."""
         owner = owner_of(server, board)
@@ -165,6 +173,40 @@ class Feeds(unittest.TestCase):
             self.has("b1_3", *third)
             owner.close()
 
+    def test_a_corrected_game_replaces_the_first_once_it_has_as_many_moves(self):
+        """However that ended. An empty board of the next name, which a stale window may open, replaces nothing."""
+        self.feed("--names", self.names("b1"))
+        with self.server() as server:
+            owner, first = self.plays(server, "b1", "e2e4", "e7e5")
+            owner.asks(ends("b1", "resign", "white"), ended("white resigns"))
+            stale, empty = self.plays(server, "b1_2")
+            self.has("b1_2", *empty)
+            stale.asks(ends("b1_2", "abandoned"), ended("abandoned"))
+            self.has("b1_2", *empty, over("abandoned"))
+            right, second = self.plays(server, "b1_3", "e2e4")
+            self.has("b1_3", *second)
+            self.has("b1", *first, over("white resigns"))
+            self.has("b1_2", *empty, over("abandoned"), follow_on("b1_3"))
+            right.asks(submits("b1_3", "e7e5"), played(1))
+            self.has("b1", *first, over("white resigns"), follow_on("b1_3"))
+            right.asks(ends("b1_3", "decided", result="1-0"), ended("white wins by decision"))
+            self.has("b1_3", *second, moved("e7e5", 1), over("white wins by decision"))
+            for it in owner, stale, right:
+                it.close()
+
+    def test_a_feed_that_comes_after_a_correction_tells_of_it_and_ends(self):
+        with self.server() as server:
+            owner, first = self.plays(server, "b1", "e2e4", "e7e5")
+            owner.asks(ends("b1", "decided", result="0-1"), ended("black wins by decision"))
+            right, second = self.plays(server, "b1_2", "e2e4")
+            right.asks(ends("b1_2", "time", "black"), ended("black loses on time"))
+            feed = self.feed("b1")
+            self.assertEqual(feed.wait(PATIENCE), 0)
+            self.has("b1", *first, over("black wins by decision"), follow_on("b1_2"))
+            self.has("b1_2", *second, over("black loses on time"))
+            for it in owner, right:
+                it.close()
+
     def test_another_game_of_the_name_begins_behind_the_end_of_the_first(self):
         """Before, its moves were published after those of the first, as one game."""
         self.feed("b1")
@@ -192,10 +234,9 @@ class Feeds(unittest.TestCase):
 
     def test_names_are_read_again_at_a_hangup(self):
         """One that is new is fed, and one that is gone is left. Before, a feed was restarted for each name."""
-        with tempfile.TemporaryDirectory() as folder, self.server() as server:
-            names = pathlib.Path(folder, "names")
-            names.write_text("b1 b2\n")
-            feed = self.feed("--names", str(names))
+        with self.server() as server:
+            names = self.names("b1 b2")
+            feed = self.feed("--names", names)
             (first, one), (second, two) = self.plays(server, "b1", "e2e4"), self.plays(server, "b2", "e2e4")
             self.has("b1", *one)
             self.has("b2", *two)
