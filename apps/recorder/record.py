@@ -266,6 +266,16 @@ def labels(given, board):
             "Black": players.get("black", "?")}
 
 
+@contextlib.contextmanager
+def undisturbed():
+    """Holds back the signals that end the program: a file that it has begun is one that it will close."""
+    held = signal.pthread_sigmask(signal.SIG_BLOCK, {signal.SIGINT, signal.SIGTERM})
+    try:
+        yield
+    finally:
+        signal.pthread_sigmask(signal.SIG_SETMASK, held)
+
+
 class Maker:
     """Makes records, which are ended with `closing`."""
 
@@ -275,11 +285,12 @@ class Maker:
 
     def record(self, board, file):
         players = players_of(self.given, board)
-        record = Record(file, board, players)
+        with undisturbed():
+            record = Record(file, board, players)
+            self.closing.callback(record.close)
         if self.together:
             game = self.together.begin(board, labels(self.given, board))
             record.kept, record.lost = functools.partial(self.together.take, game), functools.partial(self.together.lose, game)
-        self.closing.callback(record.close)
         return record
 
     def numbered(self, board, number):
