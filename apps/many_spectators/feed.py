@@ -121,9 +121,9 @@ class Name(Follower):
         self.channels.setdefault(channel.name, channel)
 
     def has_result(self):
-        """Whether the game that stands for the name has one, at a relay that is there."""
+        """Whether the game that stands for the name has one, at a relay that is there, and no other is being entered."""
         games = {board: self.channels[board] for board in self.boards() if board in self.channels and self.channels[board].had_game()}
-        if not games:
+        if not games or any(it.is_going_on() for it in games.values()):
             return False
         last = standing(next(iter(games.values())), games)
         return last.name in self.over and has_result(last.outcome)
