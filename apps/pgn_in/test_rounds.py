@@ -33,6 +33,9 @@ PATIENCE = 600
 NOTATIONS = ("san", "lalg", "halg", "elalg", "xlalg", "uci")
 OUTCOMES = {"1-0": ("white wins by decision", "white mates"), "0-1": ("black wins by decision", "black mates"),
             "1/2-1/2": ("agreed", "threefold", "fifty moves", "stalemate", "fivefold", "seventy-five moves")}
+# Of a file that says how its games ended, as PyChess's.
+NORMAL = b'[Termination "normal"]'
+NORMAL_OUTCOMES = {**OUTCOMES, "1-0": ("black resigns", "white mates"), "0-1": ("white resigns", "black mates")}
 BESIDE = ("{a comment}", "{[%clk 1:30:00] [%eval 0.17]}", "\n% a line of its own {\n", "$1", "$146 $14", "{(1. a3 [x)}",
           "{" + "long " * 2000 + "}", "{\n[Event \"none\"]\n}", "!", "?!")
 MORE = (*BESIDE, "; to the end (of the line {\n")  # pgn-extract 19 does not read this.
@@ -153,15 +156,16 @@ async def through(folder, data, games, source=None):
     _, wrong = await asyncio.wait_for(recording.communicate(), PATIENCE)
     assert recording.returncode == 0, wrong.decode()
     await relay.kill()
+    outcomes = NORMAL_OUTCOMES if NORMAL in data else OUTCOMES
     for it in games:
-        compare(it, [json.loads(line) for line in (folder / f"{it.board}.record").read_text().splitlines()])
+        compare(it, [json.loads(line) for line in (folder / f"{it.board}.record").read_text().splitlines()], outcomes)
 
 
-def compare(game, lines):
+def compare(game, lines, outcomes):
     head, _, *moves, over = lines
     assert head["start"] == game.number, (head, game.number)
     assert [it["move"] for it in moves] == game.moves, (game.board, game.moves, moves)
-    assert over["outcome"] in OUTCOMES[game.result], (game.board, over, game.result)
+    assert over["outcome"] in outcomes[game.result], (game.board, over, game.result)
 
 
 async def in_room(data, games):
