@@ -1,9 +1,11 @@
 """The built program as a server on a free port of loopback."""
 
+import errno
 import pathlib
 import re
 import subprocess
 
+from relay_client.faults import port_fault
 from relay_client.ports import free_port
 from relay_client.program import PATIENCE, PROGRAM, SERVE
 from relay_client.waiting import is_readable
@@ -33,17 +35,18 @@ class Server:
         for _ in range(5):
             self.port = port or free_port()
             given = [*before, PROGRAM, *SERVE, "--port", str(self.port), *words]
-            lines = [f"listening {self.port}\n"]
+            addresses, lines = [f"127.0.0.1:{self.port}"], [f"listening {self.port}\n"]
             if watch:
                 self.watch_port = free_port() if watch is True else watch
-                given += ["--watch", f"{watch_at}:{self.watch_port}"]
-                lines.append(f"watching {watch_at}:{self.watch_port}\n")
+                addresses.append(f"{watch_at}:{self.watch_port}")
+                given += ["--watch", addresses[1]]
+                lines.append(f"watching {addresses[1]}\n")
             self.process = subprocess.Popen(given, bufsize=0, stdout=subprocess.PIPE, stderr=subprocess.PIPE, **options)
             if all(first_line(self.process) == line.encode() for line in lines):
                 return
             ended = self.ended()
             # Another program of the machine may take a port that was free.
-            if ended != (b"", b"fault 41 Device\n", 3):
+            if ended not in [(b"", port_fault(address, errno.EADDRINUSE), 3) for address in addresses]:
                 break
         raise NotListening(*ended)
 

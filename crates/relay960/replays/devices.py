@@ -2,6 +2,7 @@
 interrupted, and inputs that are as long as a run reads, a byte longer, or without an end."""
 
 import contextlib
+import errno
 import os
 import resource
 import signal
@@ -14,6 +15,7 @@ import threading
 import time
 
 from games import AFTER_F3
+from relay_client.faults import read_fault, write_fault
 from relay_client.program import PATIENCE, PROGRAM
 from relay_client.texts import BAD_FIELD, NOT_JSON, NOT_OBJECT
 from runs import Run, lines
@@ -23,7 +25,7 @@ from streams import MOST_LINES
 
 PLAY, SCRIPT = ("play", "518"), ("script",)
 GOOD = b""
-READ, WRITE, TOO_LONG = b"fault 31 Read\n", b"fault 32 Write\n", b"fault 33 TooLong\n"
+TOO_LONG = b"fault 33 TooLong\n"
 LENGTH, SQUARE, NO_PROMOTION = b"fault 1 Length\n", b"fault 2 Square\n", b"fault 3 Promotion\n"
 STALEMATE = "7k/5Q2/6K1/8/8/8/8/8 b - - 0 1"
 
@@ -123,10 +125,10 @@ def failing_inputs():
     for words, reads, answers in READERS:
         for good in range(len(reads) + 1):
             wanted = b"".join(answers[:reads[:good].count(b"\n")])
-            compare(f"{words} behind {good} bytes", read_failing(words, reads[:good]), (wanted, READ, 3))
+            compare(f"{words} behind {good} bytes", read_failing(words, reads[:good]), (wanted, read_fault(errno.ECONNRESET), 3))
             count += 1
     # Where the bound comes first, only a byte behind it would be past it.
-    compare("behind the last line", read_failing(SCRIPT, b"\n" * MOST_LINES), (SHORT * MOST_LINES, READ, 3))
+    compare("behind the last line", read_failing(SCRIPT, b"\n" * MOST_LINES), (SHORT * MOST_LINES, read_fault(errno.ECONNRESET), 3))
     return count + 1
 
 
@@ -152,7 +154,7 @@ def full_outputs():
                 # Python ignores the signal of such a limit, and the program is to find it ignored.
                 with room_for(room):
                     found = ran(words, stdin=given, restore_signals=False)
-            wanted = (prints, GOOD, status) if room == len(prints) else (prints[:room], WRITE, 3)
+            wanted = (prints, GOOD, status) if room == len(prints) else (prints[:room], write_fault(errno.EFBIG), 3)
             compare(f"{words} with room for {room} bytes", found, wanted)
             count += 1
     return count
@@ -238,7 +240,7 @@ def broken_outputs():
     ]
     for words, steps in cases:
         for count in range(len(steps)):
-            compare(f"{words} whose output breaks behind {count} writes", broken_at(words, steps, count), (WRITE, 3))
+            compare(f"{words} whose output breaks behind {count} writes", broken_at(words, steps, count), (write_fault(errno.EPIPE), 3))
     return sum(len(steps) for _, steps in cases)
 
 
@@ -259,13 +261,13 @@ def interrupted_calls():
         with in_pieces(words) as (process, given, taken):
             given.send(b"a\na")
             compare(f"{words}, a line", taken.recv(1 << 16), answer)
-            compare(f"{words}, a read that is interrupted", ended_by_interruption(process), (READ, 3))
+            compare(f"{words}, a read that is interrupted", ended_by_interruption(process), (read_fault(errno.EINTR), 3))
             compare(f"{words}, behind it", received(taken), [])
         with in_pieces(words) as (process, given, taken):
             # More answers than the system keeps for one that takes none.
             for _ in range(5):
                 given.send(b"\n" * 4000)
-            compare(f"{words}, a write that is interrupted", ended_by_interruption(process), (WRITE, 3))
+            compare(f"{words}, a write that is interrupted", ended_by_interruption(process), (write_fault(errno.EINTR), 3))
             found = b"".join(received(taken))
             compare(f"{words}, before it", (bool(found), found), (True, (answer * 20_000)[:len(found)]))
     return 4

@@ -1,11 +1,13 @@
 """Services: the port, the count of connections, and how the end of one is told. What is said in sessions stands in sessions.md."""
 
+import errno
 import resource
 import socket
 import subprocess
 import sys
 import time
 
+from relay_client.faults import port_fault, write_fault
 from relay_client.ports import free_port
 from relay_client.program import PATIENCE, PROGRAM
 from relay_client.server import Server, first_line, last_has_come
@@ -22,12 +24,32 @@ def compare(what, found, wanted):
         sys.exit(f"{what}: {found}\nwanted: {wanted}")
 
 
+def without_a_listener(words):
+    """What is left by a service that cannot listen."""
+    ended = subprocess.run([PROGRAM, "serve", *words], capture_output=True, timeout=PATIENCE)
+    return ended.stdout, ended.stderr, ended.returncode
+
+
 def a_taken_port():
-    """Where another program listens, nothing is served."""
+    """Where another program listens, nothing is served, and the address is named."""
     with socket.create_server(("127.0.0.1", 0)) as taken:
+        port = taken.getsockname()[1]
+        for words in ["--port", str(port)], ["--port", str(free_port()), "--watch", f"127.0.0.1:{port}"]:
+            compare(f"on a taken port, {words}", without_a_listener(words), (b"", port_fault(f"127.0.0.1:{port}", errno.EADDRINUSE), 3))
+
+
+def a_refused_listener():
+    """At an address that no machine has (RFC 5737), nothing is served, and the address is named."""
+    words = ["--port", str(free_port()), "--watch", "192.0.2.1:9601"]
+    compare("at another's address", without_a_listener(words), (b"", port_fault("192.0.2.1:9601", errno.EADDRNOTAVAIL), 3))
+
+
+def a_full_complaint():
+    """Where standard error takes nothing, the status alone tells of the fault."""
+    with socket.create_server(("127.0.0.1", 0)) as taken, open("/dev/full", "wb") as full:
         words = [PROGRAM, "serve", "--port", str(taken.getsockname()[1])]
-        ended = subprocess.run(words, capture_output=True, timeout=PATIENCE)
-    compare("on a taken port", (ended.stdout, ended.stderr, ended.returncode), (b"", b"fault 41 Device\n", 3))
+        ended = subprocess.run(words, stdout=subprocess.PIPE, stderr=full, timeout=PATIENCE)
+    compare("with a full standard error", (ended.stdout, ended.returncode), (b"", 3))
 
 
 def a_full_output():
@@ -35,7 +57,7 @@ def a_full_output():
     with open("/dev/full", "wb") as full:
         words = [PROGRAM, "serve", "--port", str(free_port())]
         ended = subprocess.run(words, stdout=full, stderr=subprocess.PIPE, timeout=PATIENCE)
-    compare("on a device without room", (ended.stderr, ended.returncode), (b"fault 32 Write\n", 3))
+    compare("on a device without room", (ended.stderr, ended.returncode), (write_fault(errno.ENOSPC), 3))
 
 
 def connection(server):
@@ -143,6 +165,8 @@ def default_port():
 
 def all_services():
     a_taken_port()
+    a_refused_listener()
+    a_full_complaint()
     a_full_output()
     for count in (1, 3):
         connections(count)
@@ -150,4 +174,4 @@ def all_services():
     a_descriptor_comes_back()
     refused_by_the_system()
     without_an_end()
-    return 8 + default_port()
+    return 10 + default_port()

@@ -1,9 +1,11 @@
 """Devices that fail: an input that cannot be read, an output that takes nothing, and more lines than a run reads."""
 
+import errno
 import os
 import subprocess
 import sys
 
+from relay_client.faults import read_fault, write_fault
 from relay_client.program import PATIENCE, PROGRAM
 from relay_client.texts import NOT_JSON
 from runs import Run, lines
@@ -37,22 +39,22 @@ RUNS = [
 
 
 def closed_outputs():
-    """A device without room as standard output is fault 32."""
+    """A device without room as standard output is fault 32, and the system's reason stands behind it."""
     for words, reads in WRITING:
         with open("/dev/full", "wb") as full:
             ended = subprocess.run([PROGRAM, *words], input=reads, stdout=full, stderr=subprocess.PIPE, timeout=PATIENCE)
-        if (ended.stderr, ended.returncode) != (b"fault 32 Write\n", 3):
+        if (ended.stderr, ended.returncode) != (write_fault(errno.ENOSPC), 3):
             sys.exit(f"on a device without room {ended}")
     return len(WRITING)
 
 
 def unreadable_inputs():
-    """A folder as standard input can be opened and not be read, which is fault 31."""
+    """A folder as standard input can be opened and not be read, which is fault 31, and the system's reason stands behind it."""
     folder = os.open("/", os.O_RDONLY)
     jobs = ((), ("script",), ("play", "518"))
     for words in jobs:
         ended = subprocess.run([PROGRAM, *words], stdin=folder, capture_output=True, timeout=PATIENCE)
-        if (ended.stdout, ended.stderr, ended.returncode) != (b"", b"fault 31 Read\n", 3):
+        if (ended.stdout, ended.stderr, ended.returncode) != (b"", read_fault(errno.EISDIR), 3):
             sys.exit(f"on an input that cannot be read {ended}")
     os.close(folder)
     return len(jobs)

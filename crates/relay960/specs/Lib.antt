@@ -1,3 +1,4 @@
 pub mod Statuses
 pub mod ServeFaults
 pub mod Serving
+pub mod Reports

@@ -6,16 +6,16 @@ use Rattle.relay960_words.specs.declared.status.Status.{Status}
 use Rattle.relay960_words.specs.declared.status.Status.TheVariants as status
 
 abbrev pub serve_fault_code : ServeFault → ℕ
-serve_fault_code Device = 41
-serve_fault_code Write = 32
+serve_fault_code (Device failure) = 41
+serve_fault_code (Write failure) = 32
 serve_fault_code OutOfMemory = 12
 
 abbrev pub serve_fault_name : ServeFault → List ℕ
-serve_fault_name Device = codes "Device"
-serve_fault_name Write = codes "Write"
+serve_fault_name (Device failure) = codes "Device"
+serve_fault_name (Write failure) = codes "Write"
 serve_fault_name OutOfMemory = codes "OutOfMemory"
 
 abbrev pub serve_fault_status : ServeFault → Status
-serve_fault_status Device = status.DeviceFailed
-serve_fault_status Write = status.DeviceFailed
+serve_fault_status (Device failure) = status.DeviceFailed
+serve_fault_status (Write failure) = status.DeviceFailed
 serve_fault_status OutOfMemory = status.OutOfMemory

@@ -1,6 +1,6 @@
 -- What a job has done, and the exit status of the program. The relations go from what the input holds and the output was given before it to
 -- what they are after it.
-use Rattle.std.specs.Prelude.{ℕ, ◌≡◌, ◌⊎◌, nat_lt, cond, codes, Bool, List}
+use Rattle.std.specs.Prelude.{ℕ, ◌≡◌, ◌⊎◌, nat_lt, cond, codes, Bool, List, Result, Ok, Err}
 use Rattle.std.specs.Io.KnownBytes.{Appends, Keeps}
 use Rattle.c960_board.specs.declared.numbering.TheConstants.{STARTS}
 use Rattle.c960_game.specs.Limits.{LimitNumbers}
@@ -25,6 +25,11 @@ fault_status Write = status.DeviceFailed
 fault_status TooLong = status.DeviceFailed
 fault_status OutOfMemory = status.OutOfMemory
 fault_status BadStart = status.Refused
+
+-- of a run that is done with a status, or that a fault ended
+abbrev pub end_status : Result Status RunFault → Status
+end_status (Ok s) = s
+end_status (Err fault) = fault_status fault
 
 -- done with the line of start n, or refused with that of its refusal; or a device failed, with a prefix of the line
 abbrev pub StartEnds : ℕ → Known → Known → Status → Type 0

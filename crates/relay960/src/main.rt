@@ -1,7 +1,10 @@
 //! The program `relay960`: it reads its arguments and does what they ask for.
 #![tactic(auto)]
 
+mod failure;
 mod program;
+mod recorder;
+mod report;
 mod serving;
 
 use program::{Course, course_of};

@@ -1,8 +1,11 @@
 //! What the program does for its arguments, and its exit status.
 
 ghost use Rattle.std.specs.Prelude.{◌≡◌, MatchResult, cond};
-ghost use Rattle.relay960.specs.Statuses.{Ends, EndsSomehow, fault_status};
+ghost use Rattle.relay960.specs.Statuses.{Ends, EndsSomehow, end_status, fault_status};
 
+use crate::failure::{Device, Failure};
+use crate::recorder::ErrorRecorder;
+use crate::report::Report;
 use relay960_engines::{
     RunFault, ScriptLimits, default_limits, moves_run, play_run, script_run, start_run, version_run,
 };
@@ -34,81 +37,113 @@ pub fn course_of<R: Input + Print + Eprint, S: AsStr>(
     }
 }
 
-/// Does the job over the program's own streams, and returns the status. These streams do not show what they hold, so what was read and
-/// written is stated at `status_of_job`.
+/// Does the job over the program's own streams, reports a fault on standard error, and returns the status. These streams do not show what
+/// they hold, so what was read and written is stated at `run_job`.
 fn status_over_streams<R: Input + Print + Eprint>(rt: &R, alloc: Global, job: &Job<'_>) -> Status
     ensures { EndsSomehow job.now result }
 {
-    let mut reader = rt.reader();
-    let mut writer = io::writer(rt);
-    status_of_job(rt, alloc, job, &mut reader, &mut writer)
+    let mut reader = ErrorRecorder::new(rt.reader());
+    let mut writer = ErrorRecorder::new(io::writer(rt));
+    let ran = run_job(alloc, job, &mut reader, &mut writer);
+    status_of_run(rt, ran, failure_of(reader.error(), writer.error()))
 }
 
-/// Does the job over any reader and writer, reports a fault on standard error, and returns the status. The bounds of `play` and
-/// `script` are the greatest ones.
-pub fn status_of_job<E: Eprint, R: Read, W: Write>(
-    err: &E,
+/// What failed, of a reader and a writer with these errors.
+fn failure_of(reading: Option<io::Error>, writing: Option<io::Error>) -> Option<Failure> {
+    let (device, reason) = match (reading, writing) {
+        (Some(reason), _) => (Device::Input, reason),
+        (None, Some(reason)) => (Device::Output, reason),
+        (None, None) => return None,
+    };
+    Some(Failure { device, reason })
+}
+
+/// Does the job over any reader and writer, and returns the status. The bounds of `play` and `script` are the greatest ones.
+///
+/// # Errors
+///
+/// What ended the run early.
+pub fn run_job<R: Read, W: Write>(
     alloc: Global,
     job: &Job<'_>,
     reader: &mut R,
     writer: &mut W,
-) -> Status
+) -> Result<Status, RunFault>
     ensures { Ends job.now (R.remaining reader.old) (R.remaining reader.new) (W.contents writer.old)
-        (W.contents writer.new) result }
+        (W.contents writer.new) (end_status result) }
 {
     match job {
-        Job::Start(number) => status_of_run(err, start_run(*number, writer)),
-        Job::Moves(fen) => status_of_run(err, moves_run(alloc, fen.as_bytes(), writer)),
+        Job::Start(number) => after_answer(start_run(*number, writer)),
+        Job::Moves(fen) => after_answer(moves_run(alloc, fen.as_bytes(), writer)),
         Job::Play(number) => {
             let bounds = ScriptLimits::greatest(default_limits());
-            status_of_lines(err, play_run(alloc, *number, reader, writer, bounds))
+            after_lines(play_run(alloc, *number, reader, writer, bounds))
         }
         Job::Script(limits) => {
             let bounds = ScriptLimits::greatest(*limits);
-            status_of_lines(err, script_run(alloc, reader, writer, bounds))
+            after_lines(script_run(alloc, reader, writer, bounds))
         }
-        Job::Version => status_of_line(err, version_run(VERSION, writer)),
+        Job::Version => after_line(version_run(VERSION, writer)),
     }
 }
 
-/// The status of a run: whether its argument was good, or the fault, which it reports on standard error.
-fn status_of_run<R: Eprint>(rt: &R, ran: Result<bool, RunFault>) -> Status
-    ensures { MatchResult ran (λ good. result ≡ cond good Status.Done Status.Refused) (λ fault. result ≡ fault_status fault) }
+/// The status after a run that answers one argument: whether the argument was good.
+fn after_answer(ran: Result<bool, RunFault>) -> Result<Status, RunFault>
+    ensures { MatchResult ran (λ good. end_status result ≡ cond good Status.Done Status.Refused)
+        (λ fault. end_status result ≡ fault_status fault) }
 {
     match ran {
-        Ok(true) => Status::Done,
-        Ok(false) => Status::Refused,
-        Err(fault) => status_of_fault(rt, fault),
+        Ok(true) => Ok(Status::Done),
+        Ok(false) => Ok(Status::Refused),
+        Err(fault) => Err(fault),
     }
 }
 
-/// The status of a line that cannot be refused: it is done, or a fault ended it, which is reported on standard error.
-fn status_of_line<R: Eprint>(rt: &R, ran: Result<(), RunFault>) -> Status
-    ensures { MatchResult ran (λ _. result ≡ Status.Done) (λ fault. result ≡ fault_status fault) }
+/// The status after a line that cannot be refused.
+fn after_line(ran: Result<(), RunFault>) -> Result<Status, RunFault>
+    ensures { MatchResult ran (λ _. end_status result ≡ Status.Done) (λ fault. end_status result ≡ fault_status fault) }
 {
     match ran {
-        Ok(()) => Status::Done,
-        Err(fault) => status_of_fault(rt, fault),
+        Ok(()) => Ok(Status::Done),
+        Err(fault) => Err(fault),
     }
 }
 
-/// The status of a run over lines, however many there were: it is done, or a fault ended it, which is reported on standard error.
-fn status_of_lines<R: Eprint>(rt: &R, ran: Result<u64, RunFault>) -> Status
-    ensures { MatchResult ran (λ count. result ≡ Status.Done) (λ fault. result ≡ fault_status fault) }
+/// The status after a run over lines, however many there were.
+fn after_lines(ran: Result<u64, RunFault>) -> Result<Status, RunFault>
+    ensures { MatchResult ran (λ count. end_status result ≡ Status.Done) (λ fault. end_status result ≡ fault_status fault) }
 {
     match ran {
-        Ok(_) => Status::Done,
-        Err(fault) => status_of_fault(rt, fault),
+        Ok(_) => Ok(Status::Done),
+        Err(fault) => Err(fault),
     }
 }
 
-/// Reports the fault on standard error and returns the status. If a start was refused, the output has already said so.
-pub fn status_of_fault<R: Eprint>(rt: &R, fault: RunFault) -> Status
+/// The status of a run. If a fault ended it, reports that on standard error, and what failed.
+fn status_of_run<E: Eprint>(
+    err: &E,
+    ran: Result<Status, RunFault>,
+    failure: Option<Failure>,
+) -> Status
+    ensures { result ≡ end_status ran }
+{
+    match ran {
+        Ok(status) => status,
+        Err(fault) => {
+            // If a start was refused, the output has already said so.
+            if fault != RunFault::BadStart {
+                // The status reports the fault even if standard error is closed.
+                let _ = err.eprint(Report { fault, failure });
+            }
+            status_of_fault(fault)
+        }
+    }
+}
+
+/// The status of a run that a fault ended.
+fn status_of_fault(fault: RunFault) -> Status
     ensures { result ≡ fault_status fault }
 {
-    if fault != RunFault::BadStart {
-        let _ = rt.eprintln(fault);
-    }
     match fault {
         RunFault::Read | RunFault::Write | RunFault::TooLong => Status::DeviceFailed,
         RunFault::OutOfMemory => Status::OutOfMemory,

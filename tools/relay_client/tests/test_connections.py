@@ -1,5 +1,6 @@
 """Where the server listens, and what many connections leave behind."""
 
+import errno
 import pathlib
 import re
 import resource
@@ -11,6 +12,7 @@ import time
 import unittest
 
 from relay_client.connection import Connection
+from relay_client.faults import port_fault
 from relay_client.frames import request
 from relay_client.program import BY_LOOP, PATIENCE, PROGRAM
 from relay_client.server import Server, last_has_come
@@ -59,7 +61,8 @@ class Connections(unittest.TestCase):
                 self.assertNotEqual(other.connect_ex(("127.0.0.2", server.port)), 0)
             words = [PROGRAM, "serve", "--port", str(server.port)]
             second = subprocess.run(words, capture_output=True, timeout=PATIENCE)
-            self.assertEqual((second.returncode, second.stdout, second.stderr), (3, b"", b"fault 41 Device\n"))
+            wanted = port_fault(f"127.0.0.1:{server.port}", errno.EADDRINUSE)
+            self.assertEqual((second.returncode, second.stdout, second.stderr), (3, b"", wanted))
             Connection(server.port).close()
             server.has_served(1)
 

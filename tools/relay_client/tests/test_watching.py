@@ -1,6 +1,7 @@
 """The port for those who only watch: the same texts as on the main port, whatever guests come and however they behave."""
 
 import concurrent.futures
+import errno
 import pathlib
 import random
 import resource
@@ -13,6 +14,7 @@ import time
 import unittest
 
 from relay_client.connection import Connection
+from relay_client.faults import port_fault
 from relay_client.frames import MASK, PING, REQUEST, frame, head, request
 from relay_client.ports import free_port
 from relay_client.program import PATIENCE, PROGRAM, fens, game_by_chance, start_fen
@@ -623,10 +625,10 @@ class Ending(unittest.TestCase):
 
     def test_an_address_that_cannot_be_had_is_a_fault_of_the_device_before_anything_is_listened_on(self):
         with Server("--forever", watch=True) as server:
-            for address in (f"127.0.0.1:{server.watch_port}", "192.0.2.1:9601"):
+            for address, number in (f"127.0.0.1:{server.watch_port}", errno.EADDRINUSE), ("192.0.2.1:9601", errno.EADDRNOTAVAIL):
                 words = [PROGRAM, "serve", "--port", str(free_port()), "--watch", address]
                 second = subprocess.run(words, capture_output=True, timeout=PATIENCE)
-                self.assertEqual((second.returncode, second.stdout, second.stderr), (3, b"", b"fault 41 Device\n"))
+                self.assertEqual((second.returncode, second.stdout, second.stderr), (3, b"", port_fault(address, number)))
 
     def test_any_address_of_the_machine_may_be_watched_at(self):
         addresses = ("0.0.0.0", "127.0.0.1"), ("0.0.0.0", "127.0.0.2"), ("127.0.0.2", "127.0.0.2"), ("[::1]", "::1"), ("[::]", "::1")

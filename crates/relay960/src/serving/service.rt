@@ -3,6 +3,7 @@
 ghost use Rattle.std.specs.Prelude.{◌≡◌, ◌≤◌, ◌+◌, IfOk, IfSome, false};
 ghost use Rattle.relay960.specs.Serving.{MeetsWith};
 
+use crate::failure::{Device, Failure};
 use crate::serving::fault::ServeFault;
 use crate::serving::watching::{Loops, Watch};
 use main_port::MainPort;
@@ -42,13 +43,14 @@ where
     let Ok(gate) = Arc::new(alloc, OpenGate) else {
         return Err(ServeFault::OutOfMemory);
     };
-    let Ok(listener) = listen(rt, service.port) else {
-        return Err(ServeFault::Device);
-    };
+    let listener = listen(rt, service.port)?;
     let loops = start_loops(rt, alloc, watch, &registry)?;
-    if announce(rt, service).is_err() {
+    if let Err(reason) = announce(rt, service) {
         end_loops(rt, loops);
-        return Err(ServeFault::Write);
+        return Err(ServeFault::Write(Failure {
+            device: Device::Output,
+            reason,
+        }));
     }
     let most = match service.connections {
         Connections::Count(most) => Some(most),
@@ -213,13 +215,25 @@ fn registry_of(alloc: Global, service: &Service) -> Result<Registry, AllocError>
     }
 }
 
-/// Listens on this port of 127.0.0.1. As many newcomers as the system allows may wait there to be accepted: std's own `bind` allows 128.
+/// Listens on this port of 127.0.0.1.
+///
+/// # Errors
+///
+/// The server cannot listen there.
+fn listen<R: Net>(rt: &R, port: u16) -> Result<TcpListener, ServeFault> {
+    let address = SocketAddr::from((Ipv4Addr::LOCALHOST, port));
+    match bind(rt, address) {
+        Ok(listener) => Ok(listener),
+        Err(reason) => Err(ServeFault::at(address, reason)),
+    }
+}
+
+/// Listens at this address. As many newcomers as the system allows may wait there to be accepted: std's own `bind` allows 128.
 ///
 /// # Errors
 ///
 /// As the system's own calls.
-fn listen<R: Net>(rt: &R, port: u16) -> io::Result<TcpListener> {
-    let address = SocketAddr::from((Ipv4Addr::LOCALHOST, port));
+fn bind<R: Net>(rt: &R, address: SocketAddr) -> io::Result<TcpListener> {
     let listener = TcpListener::from(mio::net::TcpListener::bind(rt, address)?);
     listener.set_nonblocking(false)?;
     Ok(listener)

@@ -3,6 +3,7 @@
 ghost use Rattle.std.specs.Prelude.{◌≡◌, MatchResult};
 ghost use Rattle.relay960.specs.ServeFaults.{serve_fault_status};
 
+use crate::report::Report;
 use crate::serving::fault::ServeFault;
 use relay_server::ServeEnd;
 use relay960_words::Status;
@@ -19,9 +20,12 @@ pub fn status_of_end<E: Eprint>(rt: &E, ended: Result<ServeEnd, ServeFault>) -> 
             Status::Done
         }
         Err(fault) => {
-            let _ = rt.eprintln(fault);
+            let _ = rt.eprint(Report {
+                fault,
+                failure: fault.failure(),
+            });
             match fault {
-                ServeFault::Device | ServeFault::Write => Status::DeviceFailed,
+                ServeFault::Device(_) | ServeFault::Write(_) => Status::DeviceFailed,
                 ServeFault::OutOfMemory => Status::OutOfMemory,
             }
         }

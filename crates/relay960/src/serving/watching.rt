@@ -7,7 +7,7 @@ use relay960_words::WatchPort;
 use std::alloc::Global;
 use std::io;
 use std::io::ErrorKind;
-use std::net::{Net, TcpListener};
+use std::net::{Net, SocketAddr, TcpListener};
 use std::sync::atomic::AtomicU32;
 use std::sync::{Arc, Wait};
 use std::thread::{Builder, JoinHandle, Threads};
@@ -58,19 +58,19 @@ impl Watch {
         asked: &WatchPort,
         most_idle: Option<u64>,
     ) -> Result<Watch, ServeFault> {
-        let Ok(listener) = mio::net::TcpListener::bind(rt, asked.address) else {
-            return Err(ServeFault::Device);
+        let listener = match mio::net::TcpListener::bind(rt, asked.address) {
+            Ok(listener) => TcpListener::from(listener),
+            Err(reason) => return Err(ServeFault::at(asked.address, reason)),
         };
-        let listener = TcpListener::from(listener);
         let mut port = match Port::new(alloc, listener, asked.most, most_idle) {
             Ok(port) => port,
-            Err(error) => return Err(fault_of(&error)),
+            Err(error) => return Err(fault_of(asked.address, error)),
         };
         let mut ready = Vec::new(alloc);
         for _ in 0..asked.threads {
             let (event_loop, waker) = match EventLoop::new(rt, alloc, &mut port) {
                 Ok(made) => made,
-                Err(error) => return Err(fault_of(&error)),
+                Err(error) => return Err(fault_of(asked.address, error)),
             };
             let Ok(lookout) = Arc::new(alloc, Lookout::new(waker)) else {
                 return Err(ServeFault::OutOfMemory);
@@ -146,11 +146,11 @@ impl Watch {
     }
 }
 
-/// Why the port or a loop could not be created.
-fn fault_of(error: &io::Error) -> ServeFault {
+/// Why the port at this address, or a loop of it, could not be created.
+fn fault_of(address: SocketAddr, error: io::Error) -> ServeFault {
     match error.kind() {
         ErrorKind::OutOfMemory => ServeFault::OutOfMemory,
-        _ => ServeFault::Device,
+        _ => ServeFault::at(address, error),
     }
 }
 
