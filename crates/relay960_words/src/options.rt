@@ -1,12 +1,21 @@
 //! The options of `script` and `serve`.
 
-ghost use Rattle.std.specs.Prelude.{◌≡◌, false, IfOk};
+ghost use Rattle.std.specs.Prelude.{◌≡◌, false, IfOk, pos};
 ghost use Rattle.clap.specs.Words.{app_of, rule_of};
+ghost use Rattle.clap.specs.declared.builder.value_parser.ValueParser.TheVariants.{Signed};
 ghost use Rattle.relay960_words.specs.CommandLine as line;
 
 use c960_game::{MOST_BOARDS, MOST_CAPACITY, MOST_FOLLOWERS, MOST_PLIES};
+use clap::builder::ValueParser;
 use clap::{Arg, ArgAction, Command, value_parser};
 use std::alloc::{AllocError, Global};
+
+/// The parser of a number from `least` to `most`.
+fn number_parser<'a>(least: u32, most: u32) -> ValueParser<'a>
+    ensures { result ≡ Signed (pos least) (pos most) }
+{
+    value_parser!(u32).range(i64::from(least)..=i64::from(most))
+}
 
 /// The option `--name NUMBER`, from `least` to `most`.
 fn number_option<'a>(
@@ -24,7 +33,7 @@ fn number_option<'a>(
         .long(name)
         .help(help)
         .action(ArgAction::Set)
-        .value_parser(value_parser!(u32).range(i64::from(least)..=i64::from(most)))
+        .value_parser(number_parser(least, most))
         .default_value(default)
 }
 
