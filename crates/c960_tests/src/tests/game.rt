@@ -9,4 +9,5 @@ mod places;
 mod playing;
 mod plies;
 mod results;
+mod rows;
 mod unclaimed;

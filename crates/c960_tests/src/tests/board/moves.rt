@@ -1,5 +1,6 @@
 //! The worked examples of the moves' codes and texts.
 
+use crate::tests::claims::{claim, claim_at, claim_of};
 use c960_board::{Move, MoveFault, move_bytes, read_move};
 
 /// Whether a move has this text and this code.
@@ -12,8 +13,8 @@ fn is_coded(text: &[u8], code: u64) -> bool {
 
 #[test]
 fn the_codes_and_texts_of_two_moves(rt: HostRuntime) {
-    assert!(rt; is_coded(b"e2e4", 1804));
-    assert!(rt; is_coded(b"a7a8q", 20016));
+    claim(&rt, is_coded(b"e2e4", 1804), "e2e4");
+    claim(&rt, is_coded(b"a7a8q", 20016), "a7a8q");
 }
 
 /// Whether the move of a code is read back from the code and from its text.
@@ -27,18 +28,18 @@ fn comes_back(code: u64) -> bool {
 #[test]
 fn every_move_comes_back_from_its_code_and_its_text(rt: HostRuntime) {
     for code in 0..20480 {
-        assert!(rt; comes_back(code), "code {code}");
+        claim_at(&rt, comes_back(code), "code", code);
     }
 }
 
 #[test]
 fn no_move_has_a_code_from_20480_on(rt: HostRuntime) {
-    assert!(rt; Move::of_code(20480).is_none());
-    assert!(rt; Move::of_code(u64::MAX).is_none());
+    claim(&rt, Move::of_code(20480).is_none(), "20480");
+    claim(&rt, Move::of_code(u64::MAX).is_none(), "the largest number");
 }
 
 /// Texts that are not moves, each with its first fault.
-const REFUSED: [(&str, MoveFault); 11] = [
+static REFUSED: [(&str, MoveFault); 11] = [
     ("", MoveFault::Length),
     ("e2", MoveFault::Length),
     ("e2e4qq", MoveFault::Length),
@@ -52,10 +53,16 @@ const REFUSED: [(&str, MoveFault); 11] = [
     ("e7e8Q", MoveFault::Promotion),
 ];
 
+/// The texts and their faults.
+fn refused() -> &'static [(&'static str, MoveFault)] {
+    &REFUSED
+}
+
 #[test]
 fn the_first_fault_of_each_text(rt: HostRuntime) {
-    for (text, fault) in &REFUSED {
-        assert!(rt; read_move(text.as_bytes()) == Err(*fault), "{text}");
+    for (text, fault) in refused() {
+        let read = read_move(text.as_bytes());
+        claim_of(&rt, read == Err(*fault), "the fault", *text);
     }
 }
 
@@ -66,7 +73,11 @@ fn is_named(fault: MoveFault, code: u64, name: &str) -> bool {
 
 #[test]
 fn the_codes_and_names_of_the_faults(rt: HostRuntime) {
-    assert!(rt; is_named(MoveFault::Length, 1, "Length"));
-    assert!(rt; is_named(MoveFault::Square, 2, "Square"));
-    assert!(rt; is_named(MoveFault::Promotion, 3, "Promotion"));
+    for (fault, code, name) in [
+        (MoveFault::Length, 1, "Length"),
+        (MoveFault::Square, 2, "Square"),
+        (MoveFault::Promotion, 3, "Promotion"),
+    ] {
+        claim(&rt, is_named(fault, code, name), name);
+    }
 }

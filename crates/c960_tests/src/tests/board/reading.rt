@@ -1,9 +1,10 @@
 //! Texts that are read, and texts that are refused.
 
+use crate::tests::claims::{claim, claim_at, claim_of};
 use c960_board::{Colour, Kind, Position, Square, read_fen};
 
 /// Texts of no position, each with the code of its first fault.
-const REFUSED: &str = "\
+static REFUSED: &str = "\
 |1
 rnbqkbnr/pppppppp/8/8/8/8/PPPPPPPP/RNBQKBNR  w HAha - 0 1|1
 rnbqkbnr/pppppppp/8/8/8/8/PPPPPPPP/RNBQKBNR w HAha - 0 1 |1
@@ -29,6 +30,11 @@ rnbqkbnr/pppppppp/8/8/8/8/PPPPPPPP/RNBQKBNR w HAha - 0 65536|6
 4k3/8/8/8/8/8/8/4K3 w - x x x|5
 ";
 
+/// The texts that are refused.
+fn refused() -> &'static str {
+    REFUSED
+}
+
 fn fault_code(text: &str) -> Option<u64> {
     match read_fen(text.as_bytes()) {
         Ok(_) => None,
@@ -49,14 +55,67 @@ fn is_refused(row: &str) -> bool {
 
 #[test]
 fn texts_of_no_position_are_refused(rt: HostRuntime) {
-    assert!(rt; REFUSED.lines().count() == 23);
-    for row in REFUSED.lines() {
-        assert!(rt; is_refused(row), "at {row}");
+    claim(&rt, refused().lines().count() == 23, "23 rows");
+    for row in refused().lines() {
+        claim_of(&rt, is_refused(row), "the refusal", row);
     }
 }
 
-/// Whether a text is read as a position with this side to move, this target, this half-move counter and this move number.
-fn is_read(text: &str, turn: Colour, target: Option<u8>, half_moves: u16, number: u16) -> bool {
+/// A text, the side to move of its position, its target, its half-move counter and its move number.
+type Read = (&'static str, Colour, Option<u8>, u16, u16);
+
+static READ: [Read; 6] = [
+    (
+        "rnbqkbnr/pppppppp/8/8/8/8/PPPPPPPP/RNBQKBNR w HAha - 0 1",
+        Colour::White,
+        None,
+        0,
+        1,
+    ),
+    (
+        "rnbqkbnr/pppppppp/8/8/8/8/PPPPPPPP/RNBQKBNR w haHA - 0 1",
+        Colour::White,
+        None,
+        0,
+        1,
+    ),
+    (
+        "rnbqkbnr/pppppppp/8/8/8/8/PPPPPPPP/RNBQKBNR w HAha - 65535 65535",
+        Colour::White,
+        None,
+        65535,
+        65535,
+    ),
+    (
+        "bbqnnrkr/pppppppp/8/8/8/8/PPPPPPPP/BBQNNRKR w fhFH - 0 1",
+        Colour::White,
+        None,
+        0,
+        1,
+    ),
+    (
+        "4k3/8/8/4p3/8/8/8/4K3 w - e6 0 1",
+        Colour::White,
+        Some(44),
+        0,
+        1,
+    ),
+    (
+        "4k3/8/8/8/4P3/8/8/4K3 b - e3 0 12",
+        Colour::Black,
+        Some(20),
+        0,
+        12,
+    ),
+];
+
+/// The texts that are read.
+fn read() -> &'static [Read] {
+    &READ
+}
+
+/// Whether a text is read as the position of its row.
+fn is_read((text, turn, target, half_moves, number): Read) -> bool {
     let Ok(position) = read_fen(text.as_bytes()) else {
         return false;
     };
@@ -72,32 +131,9 @@ fn is_read(text: &str, turn: Colour, target: Option<u8>, half_moves: u16, number
 
 #[test]
 fn texts_are_read(rt: HostRuntime) {
-    let text = "rnbqkbnr/pppppppp/8/8/8/8/PPPPPPPP/RNBQKBNR w HAha - 0 1";
-    assert!(rt; is_read(text, Colour::White, None, 0, 1));
-    let text = "rnbqkbnr/pppppppp/8/8/8/8/PPPPPPPP/RNBQKBNR w haHA - 0 1";
-    assert!(rt; is_read(text, Colour::White, None, 0, 1));
-    let text = "rnbqkbnr/pppppppp/8/8/8/8/PPPPPPPP/RNBQKBNR w HAha - 65535 65535";
-    assert!(rt; is_read(text, Colour::White, None, 65535, 65535));
-    let text = "bbqnnrkr/pppppppp/8/8/8/8/PPPPPPPP/BBQNNRKR w fhFH - 0 1";
-    assert!(rt; is_read(text, Colour::White, None, 0, 1));
-    assert!(rt;
-        is_read(
-            "4k3/8/8/4p3/8/8/8/4K3 w - e6 0 1",
-            Colour::White,
-            Some(44),
-            0,
-            1
-        )
-    );
-    assert!(rt;
-        is_read(
-            "4k3/8/8/8/4P3/8/8/4K3 b - e3 0 12",
-            Colour::Black,
-            Some(20),
-            0,
-            12
-        )
-    );
+    for row in read() {
+        claim_of(&rt, is_read(*row), "the position", row.0);
+    }
 }
 
 /// The piece on the square with this number.
@@ -115,7 +151,7 @@ fn may_castle(position: &Position, file: u8, expected: bool) -> bool {
 }
 
 /// Squares by their numbers, and their contents.
-const SQUARES: [(u8, Option<(Colour, Kind)>); 9] = [
+static SQUARES: [(u8, Option<(Colour, Kind)>); 9] = [
     (0, Some((Colour::White, Kind::Bishop))),
     (2, Some((Colour::White, Kind::Queen))),
     (3, Some((Colour::White, Kind::Knight))),
@@ -127,19 +163,22 @@ const SQUARES: [(u8, Option<(Colour, Kind)>); 9] = [
     (62, Some((Colour::Black, Kind::King))),
 ];
 
+/// The squares.
+fn squares() -> &'static [(u8, Option<(Colour, Kind)>)] {
+    &SQUARES
+}
+
 #[test]
 fn squares_and_rights_are_read(rt: HostRuntime) {
-    let Ok(position) = read_fen(b"bbqnnrkr/pppppppp/8/8/8/8/PPPPPPPP/BBQNNRKR w fhFH - 0 1") else {
-        panic!(rt; "refused");
-    };
-    for (number, expected) in &SQUARES {
-        assert!(rt; piece_on(&position, *number) == *expected, "at {number}");
+    let position = read_fen(b"bbqnnrkr/pppppppp/8/8/8/8/PPPPPPPP/BBQNNRKR w fhFH - 0 1");
+    let position = position.expect(&rt, "a position");
+    for (number, expected) in squares() {
+        let is_so = piece_on(&position, *number) == *expected;
+        claim_at(&rt, is_so, "square", u64::from(*number));
     }
     for file in 0..8 {
-        assert!(rt;
-            may_castle(&position, file, file == 5 || file == 7),
-            "at {file}"
-        );
+        let is_so = may_castle(&position, file, file == 5 || file == 7);
+        claim_at(&rt, is_so, "file", u64::from(file));
     }
 }
 
@@ -151,16 +190,14 @@ fn are_alike(text: &str, other: &str) -> bool {
 
 #[test]
 fn rights_stand_in_any_order(rt: HostRuntime) {
-    assert!(rt;
-        are_alike(
-            "rnbqkbnr/pppppppp/8/8/8/8/PPPPPPPP/RNBQKBNR w HAha - 0 1",
-            "rnbqkbnr/pppppppp/8/8/8/8/PPPPPPPP/RNBQKBNR w haHA - 0 1"
-        )
+    let standard = are_alike(
+        "rnbqkbnr/pppppppp/8/8/8/8/PPPPPPPP/RNBQKBNR w HAha - 0 1",
+        "rnbqkbnr/pppppppp/8/8/8/8/PPPPPPPP/RNBQKBNR w haHA - 0 1",
     );
-    assert!(rt;
-        are_alike(
-            "bbqnnrkr/pppppppp/8/8/8/8/PPPPPPPP/BBQNNRKR w HFhf - 0 1",
-            "bbqnnrkr/pppppppp/8/8/8/8/PPPPPPPP/BBQNNRKR w fhFH - 0 1"
-        )
+    claim(&rt, standard, "HAha and haHA");
+    let first = are_alike(
+        "bbqnnrkr/pppppppp/8/8/8/8/PPPPPPPP/BBQNNRKR w HFhf - 0 1",
+        "bbqnnrkr/pppppppp/8/8/8/8/PPPPPPPP/BBQNNRKR w fhFH - 0 1",
     );
+    claim(&rt, first, "HFhf and fhFH");
 }

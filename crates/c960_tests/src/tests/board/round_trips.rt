@@ -1,9 +1,10 @@
 //! Texts that are read and written back.
 
+use crate::tests::claims::{claim, claim_at, claim_of};
 use c960_board::{FenFault, Position, read_fen, write_fen};
 
 /// Texts, each with the text that is written for its position.
-const READ_AND_WRITTEN: &str = "\
+static READ_AND_WRITTEN: &str = "\
 rnbqkbnr/pppppppp/8/8/8/8/PPPPPPPP/RNBQKBNR w HAha - 0 1|rnbqkbnr/pppppppp/8/8/8/8/PPPPPPPP/RNBQKBNR w HAha - 0 1
 rnbqkbnr/pppppppp/8/8/8/8/PPPPPPPP/RNBQKBNR w haHA - 0 1|rnbqkbnr/pppppppp/8/8/8/8/PPPPPPPP/RNBQKBNR w HAha - 0 1
 bbqnnrkr/pppppppp/8/8/8/8/PPPPPPPP/BBQNNRKR w fhFH - 0 1|bbqnnrkr/pppppppp/8/8/8/8/PPPPPPPP/BBQNNRKR w HFhf - 0 1
@@ -13,6 +14,11 @@ rnbqkbnr/pppp1ppp/nnnn1nnn/nnnnpnnn/NNNNNNNN/NNNNNNNN/PPPPPPPP/RNBQKBNR w HAha e
 1rqbkrbn/1ppppp1p/1n6/p1N3p1/8/2P4P/PP1PPPP1/1RQBKRBN w FBfb - 0 9|1rqbkrbn/1ppppp1p/1n6/p1N3p1/8/2P4P/PP1PPPP1/1RQBKRBN w FBfb - 0 9
 4r1k1/8/8/8/8/6p1/6P1/5KRB w G - 0 1|4r1k1/8/8/8/8/6p1/6P1/5KRB w G - 0 1
 ";
+
+/// The texts.
+fn read_and_written() -> &'static str {
+    READ_AND_WRITTEN
+}
 
 /// Whether the position of a row's text is written as its other text.
 fn is_written_back(row: &str) -> bool {
@@ -27,9 +33,9 @@ fn is_written_back(row: &str) -> bool {
 
 #[test]
 fn texts_are_written_back(rt: HostRuntime) {
-    assert!(rt; READ_AND_WRITTEN.lines().count() == 8);
-    for row in READ_AND_WRITTEN.lines() {
-        assert!(rt; is_written_back(row), "at {row}");
+    claim(&rt, read_and_written().lines().count() == 8, "8 rows");
+    for row in read_and_written().lines() {
+        claim_of(&rt, is_written_back(row), "the text", row);
     }
 }
 
@@ -44,7 +50,7 @@ fn comes_back(number: u16) -> bool {
 #[test]
 fn every_start_is_read_from_its_text(rt: HostRuntime) {
     for number in 0..960 {
-        assert!(rt; comes_back(number), "at {number}");
+        claim_at(&rt, comes_back(number), "start", u64::from(number));
     }
 }
 
@@ -56,26 +62,33 @@ fn is_start(number: u16, text: &str) -> bool {
     }
 }
 
+/// Starts by their numbers, and their texts.
+static STARTS: [(u16, &str); 3] = [
+    (
+        0,
+        "bbqnnrkr/pppppppp/8/8/8/8/PPPPPPPP/BBQNNRKR w HFhf - 0 1",
+    ),
+    (
+        518,
+        "rnbqkbnr/pppppppp/8/8/8/8/PPPPPPPP/RNBQKBNR w HAha - 0 1",
+    ),
+    (
+        959,
+        "rkrnnqbb/pppppppp/8/8/8/8/PPPPPPPP/RKRNNQBB w CAca - 0 1",
+    ),
+];
+
+/// The starts.
+fn starts() -> &'static [(u16, &'static str)] {
+    &STARTS
+}
+
 #[test]
 fn the_starts_of_three_numbers(rt: HostRuntime) {
-    assert!(rt;
-        is_start(
-            0,
-            "bbqnnrkr/pppppppp/8/8/8/8/PPPPPPPP/BBQNNRKR w HFhf - 0 1"
-        )
-    );
-    assert!(rt;
-        is_start(
-            518,
-            "rnbqkbnr/pppppppp/8/8/8/8/PPPPPPPP/RNBQKBNR w HAha - 0 1"
-        )
-    );
-    assert!(rt;
-        is_start(
-            959,
-            "rkrnnqbb/pppppppp/8/8/8/8/PPPPPPPP/RKRNNQBB w CAca - 0 1"
-        )
-    );
+    for (number, text) in starts() {
+        let is_so = is_start(*number, *text);
+        claim_at(&rt, is_so, "start", u64::from(*number));
+    }
 }
 
 /// Whether a fault has this code and this name.
@@ -83,12 +96,24 @@ fn is_named(fault: FenFault, code: u64, name: &str) -> bool {
     fault.code() == code && fault.name() == name
 }
 
+/// The faults, with their codes and names.
+static FAULTS: [(FenFault, u64, &str); 6] = [
+    (FenFault::Fields, 1, "Fields"),
+    (FenFault::Placement, 2, "Placement"),
+    (FenFault::Turn, 3, "Turn"),
+    (FenFault::Castling, 4, "Castling"),
+    (FenFault::EnPassant, 5, "EnPassant"),
+    (FenFault::Counters, 6, "Counters"),
+];
+
+/// The faults.
+fn faults() -> &'static [(FenFault, u64, &'static str)] {
+    &FAULTS
+}
+
 #[test]
 fn the_codes_and_names_of_the_faults(rt: HostRuntime) {
-    assert!(rt; is_named(FenFault::Fields, 1, "Fields"));
-    assert!(rt; is_named(FenFault::Placement, 2, "Placement"));
-    assert!(rt; is_named(FenFault::Turn, 3, "Turn"));
-    assert!(rt; is_named(FenFault::Castling, 4, "Castling"));
-    assert!(rt; is_named(FenFault::EnPassant, 5, "EnPassant"));
-    assert!(rt; is_named(FenFault::Counters, 6, "Counters"));
+    for (fault, code, name) in faults() {
+        claim(&rt, is_named(*fault, *code, *name), *name);
+    }
 }

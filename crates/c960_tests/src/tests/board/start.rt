@@ -1,5 +1,6 @@
 //! Starts by their number.
 
+use crate::tests::claims::claim;
 use c960_board::{Colour, Kind, Piece, Position};
 
 /// Whether White begins a start, and has its king on the square with this number.
@@ -19,10 +20,10 @@ fn begins(start: u16, king: usize) -> bool {
 
 #[test]
 fn white_begins_number_518_with_the_king_on_e1(rt: HostRuntime) {
-    assert!(rt; begins(518, 4));
+    claim(&rt, begins(518, 4), "White begins, with the king on e1");
 }
 
 #[test]
 fn there_is_no_start_960(rt: HostRuntime) {
-    assert!(rt; Position::start(960).is_none());
+    claim(&rt, Position::start(960).is_none(), "no start");
 }

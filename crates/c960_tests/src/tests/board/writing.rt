@@ -1,5 +1,6 @@
 //! Texts of positions that are built from their parts.
 
+use crate::tests::claims::claim;
 use c960_board::{CastlingRights, Colour, Kind, Parts, Piece, Position, Square, write_fen};
 
 /// The contents of a square of a drawing: a capital is White's, a full stop is an empty square.
@@ -73,7 +74,8 @@ fn text_with_a_right(rt: HostRuntime) {
         half_moves: 0,
         number: 1,
     };
-    assert!(rt; is_written(parts, b"4k3/8/8/8/8/8/8/1RK5 w B - 0 1"));
+    let is_so = is_written(parts, b"4k3/8/8/8/8/8/8/1RK5 w B - 0 1");
+    claim(&rt, is_so, "the text");
 }
 
 #[test]
@@ -97,8 +99,8 @@ fn longest_text(rt: HostRuntime) {
     };
     let whole =
         b"rnbqkbnr/pppp1ppp/nnnn1nnn/nnnnpnnn/NNNNNNNN/NNNNNNNN/PPPPPPPP/RNBQKBNR w HAha e6 65535 65535";
-    assert!(rt; whole.len() == 93);
-    assert!(rt; is_written(parts, whole));
+    claim(&rt, whole.len() == 93, "93 bytes");
+    claim(&rt, is_written(parts, whole), "the text");
 }
 
 #[test]
@@ -120,5 +122,6 @@ fn text_with_no_rights(rt: HostRuntime) {
         half_moves: 0,
         number: 40,
     };
-    assert!(rt; is_written(parts, b"8/2k2p2/8/7q/b3P3/8/8/1R4K1 b - e3 0 40"));
+    let is_so = is_written(parts, b"8/2k2p2/8/7q/b3P3/8/8/1R4K1 b - e3 0 40");
+    claim(&rt, is_so, "the text");
 }

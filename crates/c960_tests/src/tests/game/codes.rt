@@ -1,10 +1,11 @@
 //! The numbers of outcomes.
 
+use crate::tests::claims::claim_at;
 use c960_board::Colour;
 use c960_game::{Outcome, Result};
 
 /// The outcomes by their numbers, from 1 on.
-const OUTCOMES: [Outcome; 16] = [
+static OUTCOMES: [Outcome; 16] = [
     Outcome::Checkmate(Colour::White),
     Outcome::Checkmate(Colour::Black),
     Outcome::Stalemate,
@@ -23,6 +24,11 @@ const OUTCOMES: [Outcome; 16] = [
     Outcome::Decided(Result::Draw),
 ];
 
+/// The outcomes.
+fn outcomes() -> &'static [Outcome] {
+    &OUTCOMES
+}
+
 /// Whether a number and an outcome correspond.
 fn is_numbered(outcome: Outcome, code: u64) -> bool {
     outcome.code() == code && Outcome::of_code(code) == Some(outcome)
@@ -30,12 +36,11 @@ fn is_numbered(outcome: Outcome, code: u64) -> bool {
 
 #[test]
 fn each_number_from_1_to_16_is_of_an_outcome(rt: HostRuntime) {
-    let mut code = 1u64;
-    for outcome in OUTCOMES {
-        assert!(rt; is_numbered(outcome, code), "number {code}");
-        code = code.saturating_add(1);
+    for (outcome, code) in outcomes().iter().zip(1..) {
+        claim_at(&rt, is_numbered(*outcome, code), "number", code);
     }
     for other in [0, 17, 18, 65536, u64::MAX] {
-        assert!(rt; Outcome::of_code(other).is_none(), "number {other}");
+        let is_none = Outcome::of_code(other).is_none();
+        claim_at(&rt, is_none, "no outcome has number", other);
     }
 }

@@ -1,5 +1,6 @@
 //! Games and moves from their texts, and what a refused call must leave as it was.
 
+use crate::tests::claims::claim_of;
 use c960_board::{Position, read_move, write_fen};
 use c960_game::{Ending, Game, Outcome, Refusal};
 use std::alloc::{AllocError, Global};
@@ -10,8 +11,11 @@ pub fn standard(rt: &impl Abort, alloc: Global, plies: u16) -> Result<Game, Allo
     assert!(rt; (1..=16384).contains(&plies));
     match Game::open(alloc, 518, plies) {
         Ok(game) => Ok(game),
-        Err(Refusal::OutOfMemory) => Err(AllocError),
-        Err(refusal) => panic!(rt; "start 518 refused: {}", refusal.name()),
+        Err(refusal) => {
+            let is_memory = refusal == Refusal::OutOfMemory;
+            claim_of(rt, is_memory, "the refusal of start 518", refusal.name());
+            Err(AllocError)
+        }
     }
 }
 
@@ -23,35 +27,16 @@ pub fn goes_on(game: &mut Game, text: &str) -> bool {
     }
 }
 
-/// Makes the moves of a line, which are separated by spaces: each is accepted, and the game goes on.
-pub fn play_on(rt: &impl Abort, game: &mut Game, moves: &str) {
-    for text in moves.split(' ') {
-        assert!(rt; goes_on(game, text), "at {text}");
-    }
-}
-
-/// Makes the moves of several lines.
-pub fn play_lines(rt: &impl Abort, game: &mut Game, lines: &[&str]) {
-    for line in lines {
-        play_on(rt, game, line);
-    }
-}
-
 /// Whether the move of a text ends the game with this outcome.
-fn ends_by(game: &mut Game, text: &str, outcome: Outcome) -> bool {
+pub fn ends_by(game: &mut Game, text: &str, outcome: Outcome) -> bool {
     match read_move(text.as_bytes()) {
         Ok(m) => game.play(m) == Ok(Some(outcome)) && game.outcome() == Some(outcome),
         Err(_) => false,
     }
 }
 
-/// Makes a move that ends the game.
-pub fn play_last(rt: &impl Abort, game: &mut Game, text: &str, outcome: Outcome) {
-    assert!(rt; ends_by(game, text, outcome), "at {text}");
-}
-
 /// Whether an ending is accepted and ends the game with this outcome, and changes nothing else.
-fn is_ended(game: &mut Game, ending: Ending, outcome: Outcome) -> bool {
+pub fn is_ended(game: &mut Game, ending: Ending, outcome: Outcome) -> bool {
     let before = snapshot_of(game);
     let answer = game.end(ending);
     let after = Snapshot {
@@ -59,11 +44,6 @@ fn is_ended(game: &mut Game, ending: Ending, outcome: Outcome) -> bool {
         ..before
     };
     answer == Ok(outcome) && snapshot_of(game) == after
-}
-
-/// Ends the game.
-pub fn end(rt: &impl Abort, game: &mut Game, ending: Ending, outcome: Outcome) {
-    assert!(rt; is_ended(game, ending, outcome));
 }
 
 /// Everything that can be seen of a game.
@@ -85,7 +65,7 @@ fn snapshot_of(game: &Game) -> Snapshot {
 }
 
 /// Whether the move is refused with this refusal and changes nothing.
-fn is_move_refused(game: &mut Game, text: &str, refusal: Refusal) -> bool {
+pub fn is_move_refused(game: &mut Game, text: &str, refusal: Refusal) -> bool {
     let before = snapshot_of(game);
     match read_move(text.as_bytes()) {
         Ok(m) => game.play(m) == Err(refusal) && snapshot_of(game) == before,
@@ -93,30 +73,15 @@ fn is_move_refused(game: &mut Game, text: &str, refusal: Refusal) -> bool {
     }
 }
 
-/// Asserts that the move is refused with this refusal and changes nothing.
-pub fn assert_move_refused(rt: &impl Abort, game: &mut Game, text: &str, refusal: Refusal) {
-    assert!(rt; is_move_refused(game, text, refusal), "at {text}");
-}
-
 /// Whether the ending is refused with this refusal and changes nothing.
-fn is_ending_refused(game: &mut Game, ending: Ending, refusal: Refusal) -> bool {
+pub fn is_ending_refused(game: &mut Game, ending: Ending, refusal: Refusal) -> bool {
     let before = snapshot_of(game);
     game.end(ending) == Err(refusal) && snapshot_of(game) == before
-}
-
-/// Asserts that the ending is refused with this refusal and changes nothing.
-pub fn assert_ending_refused(rt: &impl Abort, game: &mut Game, ending: Ending, refusal: Refusal) {
-    assert!(rt; is_ending_refused(game, ending, refusal));
 }
 
 /// Whether the present position is written as that text.
 pub fn is_written(game: &Game, text: &str) -> bool {
     write_fen(&game.position()).as_slice() == text.as_bytes()
-}
-
-/// Asserts that the present position is written as that text.
-pub fn assert_text(rt: &impl Abort, game: &Game, text: &str) {
-    assert!(rt; is_written(game, text), "not {text}");
 }
 
 /// Whether the move of a text is at a place of the log.
@@ -137,9 +102,4 @@ pub fn has_log(game: &Game, moves: &str) -> bool {
         place = place.saturating_add(1);
     }
     game.len() == place && game.move_at(place).is_none() && game.move_at(65535).is_none()
-}
-
-/// Asserts that the log has the moves of the line, and none beyond.
-pub fn assert_log(rt: &impl Abort, game: &Game, moves: &str) {
-    assert!(rt; has_log(game, moves), "not {moves}");
 }

@@ -1,15 +1,17 @@
 //! Games that an arbiter ends (FIDE Laws, Articles 6.7, 6.9, 11.7 and 12.9), and the result of each outcome.
 
-use crate::tests::game::playing::{
-    assert_ending_refused, assert_move_refused, end, play_last, play_on, standard,
-};
+use crate::tests::claims::claim;
+use crate::tests::game::playing::{is_ending_refused, standard};
+use crate::tests::game::rows::Row::{End, Last, NoEnd, NoMove, Play};
+use crate::tests::game::rows::{Row, assert_game, assert_rows};
 use c960_board::Colour;
 use c960_game::Result::{BlackWins, Draw, WhiteWins};
 use c960_game::{Ending, Outcome, Refusal};
-use std::alloc::AllocError;
+use std::alloc::{AllocError, Global};
+use std::process::Abort;
 
 /// Each outcome, its text, and who has won (Articles 5.1, 5.2, 6.9, 9.2, 9.3 and 9.6).
-const RESULTS: [(Outcome, &str, Option<c960_game::Result>); 16] = [
+static RESULTS: [(Outcome, &str, Option<c960_game::Result>); 16] = [
     (
         Outcome::Checkmate(Colour::White),
         "white mates",
@@ -60,16 +62,21 @@ const RESULTS: [(Outcome, &str, Option<c960_game::Result>); 16] = [
     (Outcome::Decided(Draw), "drawn by decision", Some(Draw)),
 ];
 
+/// The outcomes, their texts and their results.
+fn results() -> &'static [(Outcome, &'static str, Option<c960_game::Result>)] {
+    &RESULTS
+}
+
 #[test]
 fn each_outcome_but_an_abandoned_game_has_a_result(rt: HostRuntime) {
-    for (outcome, text, result) in RESULTS {
-        assert!(rt; outcome.text() == text, "{text}");
-        assert!(rt; outcome.result() == result, "{text}");
+    for (outcome, text, result) in results() {
+        claim(&rt, outcome.text() == *text, *text);
+        claim(&rt, outcome.result() == *result, *text);
     }
 }
 
 /// What an arbiter may say, and the outcome.
-const RULINGS: [(Ending, Outcome); 5] = [
+static RULINGS: [(Ending, Outcome); 5] = [
     (
         Ending::LosesOnTime(Colour::White),
         Outcome::LostOnTime(Colour::White),
@@ -83,37 +90,66 @@ const RULINGS: [(Ending, Outcome); 5] = [
     (Ending::Decided(Draw), Outcome::Decided(Draw)),
 ];
 
+/// The rulings.
+fn rulings() -> &'static [(Ending, Outcome)] {
+    &RULINGS
+}
+
 #[test]
 fn an_arbiter_may_end_a_game_whoever_is_on_move(rt: HostRuntime) -> Result<(), AllocError> {
-    for (ending, outcome) in RULINGS {
-        let mut begun = standard(&rt, rt.alloc(), 1)?;
-        end(&rt, &mut begun, ending, outcome);
-        assert_move_refused(&rt, &mut begun, "e2e4", Refusal::GameOver);
-        assert_ending_refused(&rt, &mut begun, ending, Refusal::GameOver);
-        let mut full = standard(&rt, rt.alloc(), 1)?;
-        play_on(&rt, &mut full, "e2e4");
-        end(&rt, &mut full, ending, outcome);
-        assert_ending_refused(&rt, &mut full, Ending::Agreed, Refusal::GameOver);
+    for (ending, outcome) in rulings() {
+        let ended = End(*ending, *outcome);
+        let begun = [
+            ended,
+            NoMove("e2e4", Refusal::GameOver),
+            NoEnd(*ending, Refusal::GameOver),
+        ];
+        assert_game(&rt, rt.alloc(), 1, &begun)?;
+        let full = [
+            Play("e2e4"),
+            ended,
+            NoEnd(Ending::Agreed, Refusal::GameOver),
+        ];
+        assert_game(&rt, rt.alloc(), 1, &full)?;
+    }
+    Ok(())
+}
+
+/// A game that ends by a mate.
+static MATED: [Row; 2] = [
+    Play("f2f3 e7e5 g2g4"),
+    Last("d8h4", Outcome::Checkmate(Colour::Black)),
+];
+
+/// The rows of this game.
+fn mated() -> &'static [Row] {
+    &MATED
+}
+
+/// A game that a player has resigned.
+static RESIGNED: [Row; 1] = [End(
+    Ending::Resigns(Colour::White),
+    Outcome::Resigned(Colour::White),
+)];
+
+/// The row of this game.
+fn resigned() -> &'static [Row] {
+    &RESIGNED
+}
+
+/// Asserts that no ruling ends a game again that has ended by these rows.
+fn assert_no_ruling(rt: &impl Abort, alloc: Global, rows: &[Row]) -> Result<(), AllocError> {
+    let mut game = standard(rt, alloc, 1024)?;
+    assert_rows(rt, &mut game, rows);
+    for (ending, outcome) in rulings() {
+        let is_refused = is_ending_refused(&mut game, *ending, Refusal::GameOver);
+        claim(rt, is_refused, outcome.text());
     }
     Ok(())
 }
 
 #[test]
 fn an_arbiter_does_not_end_a_game_again(rt: HostRuntime) -> Result<(), AllocError> {
-    let mut mated = standard(&rt, rt.alloc(), 1024)?;
-    play_on(&rt, &mut mated, "f2f3 e7e5 g2g4");
-    play_last(&rt, &mut mated, "d8h4", Outcome::Checkmate(Colour::Black));
-    let mut resigned = standard(&rt, rt.alloc(), 1024)?;
-    let white = Colour::White;
-    end(
-        &rt,
-        &mut resigned,
-        Ending::Resigns(white),
-        Outcome::Resigned(white),
-    );
-    for (ending, _) in RULINGS {
-        assert_ending_refused(&rt, &mut mated, ending, Refusal::GameOver);
-        assert_ending_refused(&rt, &mut resigned, ending, Refusal::GameOver);
-    }
-    Ok(())
+    assert_no_ruling(&rt, rt.alloc(), mated())?;
+    assert_no_ruling(&rt, rt.alloc(), resigned())
 }

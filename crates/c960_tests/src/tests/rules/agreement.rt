@@ -1,5 +1,6 @@
 //! The list of legal moves and the calls that need no list agree with their plain references.
 
+use crate::tests::claims::claim;
 use crate::tests::rules::reading::{played, position_of};
 use crate::tests::rules::reference::{ep_of_list, legal_by, state_of_list};
 use c960_board::Move;
@@ -27,12 +28,11 @@ fn assert_agreement(
     plies: u8,
 ) -> Result<(), AllocError> {
     let moves = legal_moves(alloc, lawful)?;
-    assert!(rt; agree_at(alloc, lawful, moves.as_slice()) == Ok(true));
+    let do_agree = agree_at(alloc, lawful, moves.as_slice()) == Ok(true);
+    claim(rt, do_agree, "all agree");
     if plies > 0 {
         for m in moves.iter() {
-            let Some(next) = played(lawful, *m) else {
-                panic!(rt; "a listed move is not legal");
-            };
+            let next = played(lawful, *m).expect(rt, "a listed move is legal");
             assert_agreement(rt, alloc, &next, plies - 1)?;
         }
     }
@@ -40,7 +40,7 @@ fn assert_agreement(
 }
 
 /// Positions with castling, targets, promotions, pins, checks and ends.
-const POSITIONS: [&str; 15] = [
+static POSITIONS: [&str; 15] = [
     "rnbqkbnr/pppppppp/8/8/8/8/PPPPPPPP/RNBQKBNR w HAha - 0 1",
     "r3k2r/p1ppqpb1/bn2pnp1/3PN3/1p2P3/2N2Q1p/PPPBBPPP/R3K2R w HAha - 0 1",
     "4k3/8/8/8/8/8/8/5KR1 w G - 0 1",
@@ -58,10 +58,15 @@ const POSITIONS: [&str; 15] = [
     "rnbqkbnr/ppp1pppp/8/8/3pP3/8/PPPP1PPP/RNBQKBNR b HAha e3 0 3",
 ];
 
+/// The positions.
+fn positions() -> &'static [&'static str] {
+    &POSITIONS
+}
+
 #[test]
 fn all_agree_within_two_plies(rt: HostRuntime) -> Result<(), AllocError> {
-    for text in POSITIONS {
-        assert_agreement(&rt, rt.alloc(), &position_of(&rt, text), 2)?;
+    for text in positions() {
+        assert_agreement(&rt, rt.alloc(), &position_of(&rt, *text), 2)?;
     }
     Ok(())
 }

@@ -1,12 +1,13 @@
 //! Check and checkmate (FIDE Laws, Articles 3.9 and 5.1.1).
 
+use crate::tests::claims::claim;
 use crate::tests::rules::reading::{after, is_written, standard};
 use c960_board::Colour;
 use c960_rules::{Lawful, State, any_legal, in_check, legal_moves, state};
 use std::alloc::AllocError;
 
 /// The shortest game that ends in checkmate from the standard array: each move with the position after it.
-const FOOLS_MATE: [(&str, &str); 4] = [
+static FOOLS_MATE: [(&str, &str); 4] = [
     (
         "f2f3",
         "rnbqkbnr/pppppppp/8/8/8/5P2/PPPPP1PP/RNBQKBNR b HAha - 0 1",
@@ -25,6 +26,11 @@ const FOOLS_MATE: [(&str, &str); 4] = [
     ),
 ];
 
+/// The moves of this game.
+fn fools_mate() -> &'static [(&'static str, &'static str)] {
+    &FOOLS_MATE
+}
+
 /// The position after a move from one where the game goes on, if the move is legal and that position is written as this text.
 fn going_on(lawful: &Lawful, text: &str, position: &str) -> Option<Lawful> {
     if state(lawful) != State::Going || !any_legal(lawful) {
@@ -41,16 +47,15 @@ fn going_on(lawful: &Lawful, text: &str, position: &str) -> Option<Lawful> {
 #[test]
 fn fools_mate_ends_in_checkmate(rt: HostRuntime) -> Result<(), AllocError> {
     let mut reached = standard(&rt);
-    for (text, position) in FOOLS_MATE {
-        let Some(next) = going_on(&reached, text, position) else {
-            panic!(rt; "at {text}");
-        };
-        reached = next;
+    for (text, position) in fools_mate() {
+        reached = going_on(&reached, *text, *position).expect(&rt, *text);
     }
-    assert!(rt; state(&reached) == State::Checkmate);
-    assert!(rt; in_check(&reached.position(), Colour::White));
-    assert!(rt; !in_check(&reached.position(), Colour::Black));
-    assert!(rt; !any_legal(&reached));
-    assert!(rt; legal_moves(rt.alloc(), &reached)?.is_empty());
+    claim(&rt, state(&reached) == State::Checkmate, "checkmate");
+    let position = reached.position();
+    claim(&rt, in_check(&position, Colour::White), "White is in check");
+    claim(&rt, !in_check(&position, Colour::Black), "Black is not");
+    claim(&rt, !any_legal(&reached), "no move is legal");
+    let is_none = legal_moves(rt.alloc(), &reached)?.is_empty();
+    claim(&rt, is_none, "no move is listed");
     Ok(())
 }

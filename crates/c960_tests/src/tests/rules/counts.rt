@@ -1,6 +1,7 @@
 //! Counts of positions after one ply, two plies and so on, as Stockfish 15.1 gives them with its option UCI_Chess960.
 
 use crate::perft;
+use crate::tests::claims::{claim, claim_of};
 use crate::tests::rules::reading::position_of;
 use c960_rules::Lawful;
 use std::alloc::{AllocError, Global};
@@ -28,10 +29,8 @@ fn are_counts(alloc: Global, lawful: &Lawful, counts: &[u64]) -> Result<bool, Al
 /// Asserts the counts after one ply, two plies and so on.
 fn assert_counts(rt: &impl Abort, alloc: Global, text: &str, counts: &[u64]) {
     let position = position_of(rt, text);
-    assert!(rt;
-        are_counts(alloc, &position, counts) == Ok(true),
-        "from {text}"
-    );
+    let are_so = are_counts(alloc, &position, counts) == Ok(true);
+    claim_of(rt, are_so, "the counts", text);
 }
 
 #[test]
@@ -54,29 +53,45 @@ fn a_position_with_every_kind_of_move(rt: HostRuntime) {
     );
 }
 
+/// Positions with castling, and their counts.
+static WITH_CASTLING: [(&str, [u64; 3]); 7] = [
+    ("4k3/8/8/8/8/8/8/5KR1 w G - 0 1", [13, 58, 1033]),
+    ("4k3/8/8/8/8/8/8/3RK3 w D - 0 1", [15, 52, 866]),
+    ("4k3/8/8/8/8/8/8/RN4K1 w A - 0 1", [15, 70, 1380]),
+    ("1r2k3/8/8/8/8/8/8/R3K3 w A - 0 1", [16, 226, 3602]),
+    ("4k3/8/8/8/8/8/8/5K1R w H - 0 1", [14, 63, 1128]),
+    ("4r1k1/8/8/8/8/6p1/6P1/5KRB w G - 0 1", [1, 15, 169]),
+    ("r3k2r/8/8/8/8/8/8/R3K2R w HAha - 0 1", [26, 568, 13744]),
+];
+
+/// These positions.
+fn with_castling() -> &'static [(&'static str, [u64; 3])] {
+    &WITH_CASTLING
+}
+
 #[test]
 fn positions_with_castling(rt: HostRuntime) {
-    for (text, counts) in [
-        ("4k3/8/8/8/8/8/8/5KR1 w G - 0 1", [13, 58, 1033]),
-        ("4k3/8/8/8/8/8/8/3RK3 w D - 0 1", [15, 52, 866]),
-        ("4k3/8/8/8/8/8/8/RN4K1 w A - 0 1", [15, 70, 1380]),
-        ("1r2k3/8/8/8/8/8/8/R3K3 w A - 0 1", [16, 226, 3602]),
-        ("4k3/8/8/8/8/8/8/5K1R w H - 0 1", [14, 63, 1128]),
-        ("4r1k1/8/8/8/8/6p1/6P1/5KRB w G - 0 1", [1, 15, 169]),
-        ("r3k2r/8/8/8/8/8/8/R3K2R w HAha - 0 1", [26, 568, 13744]),
-    ] {
-        assert_counts(&rt, rt.alloc(), text, &counts);
+    for (text, counts) in with_castling() {
+        assert_counts(&rt, rt.alloc(), *text, counts);
     }
+}
+
+/// Positions with a target, and their counts.
+static WITH_A_TARGET: [(&str, [u64; 3]); 3] = [
+    ("4k3/8/4p3/3pP3/8/1q6/8/K7 w - d6 0 1", [1, 25, 50]),
+    ("4k3/8/8/3pP3/2b5/8/8/5K2 w - d6 0 1", [4, 52, 321]),
+    ("4k3/8/8/P6p/8/8/8/4K3 w - h6 0 1", [6, 36, 269]),
+];
+
+/// These positions.
+fn with_a_target() -> &'static [(&'static str, [u64; 3])] {
+    &WITH_A_TARGET
 }
 
 #[test]
 fn positions_with_a_target(rt: HostRuntime) {
-    for (text, counts) in [
-        ("4k3/8/4p3/3pP3/8/1q6/8/K7 w - d6 0 1", [1, 25, 50]),
-        ("4k3/8/8/3pP3/2b5/8/8/5K2 w - d6 0 1", [4, 52, 321]),
-        ("4k3/8/8/P6p/8/8/8/4K3 w - h6 0 1", [6, 36, 269]),
-    ] {
-        assert_counts(&rt, rt.alloc(), text, &counts);
+    for (text, counts) in with_a_target() {
+        assert_counts(&rt, rt.alloc(), *text, counts);
     }
 }
 
@@ -94,7 +109,8 @@ fn a_position_with_promotions(rt: HostRuntime) {
 fn a_position_with_no_move(rt: HostRuntime) {
     let text = "7k/5Q2/6K1/8/8/8/8/8 b - - 0 1";
     assert_counts(&rt, rt.alloc(), text, &[0, 0, 0, 0]);
-    assert!(rt; count(rt.alloc(), &position_of(&rt, text), 0) == Ok(Some(1)));
+    let itself = count(rt.alloc(), &position_of(&rt, text), 0);
+    claim(&rt, itself == Ok(Some(1)), "itself");
 }
 
 /// Stockfish has room for 256 moves only: this number was counted along the lines of each queen.

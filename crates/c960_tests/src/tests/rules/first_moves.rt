@@ -1,6 +1,7 @@
 //! Counts of the first moves of all 960 starting positions, as Stockfish 15.1 gives them with its option UCI_Chess960:
 //! 18,882 positions after one ply and 371,766 after two, here in four parts.
 
+use crate::tests::claims::claim;
 use crate::tests::rules::counts::count;
 use crate::tests::rules::reading::start;
 use std::alloc::{AllocError, Global};
@@ -19,22 +20,27 @@ fn sums(alloc: Global, first: u16) -> Result<Option<(u64, u64)>, AllocError> {
     Ok(Some((one, two)))
 }
 
+/// Whether these are the sums of the counts of 240 starting positions.
+fn are_sums(alloc: Global, first: u16, one: u64, two: u64) -> bool {
+    sums(alloc, first) == Ok(Some((one, two)))
+}
+
 #[test]
 fn starts_0_to_239(rt: HostRuntime) {
-    assert!(rt; sums(rt.alloc(), 0) == Ok(Some((4708, 92452))));
+    claim(&rt, are_sums(rt.alloc(), 0, 4708, 92452), "the sums");
 }
 
 #[test]
 fn starts_240_to_479(rt: HostRuntime) {
-    assert!(rt; sums(rt.alloc(), 240) == Ok(Some((4712, 92672))));
+    claim(&rt, are_sums(rt.alloc(), 240, 4712, 92672), "the sums");
 }
 
 #[test]
 fn starts_480_to_719(rt: HostRuntime) {
-    assert!(rt; sums(rt.alloc(), 480) == Ok(Some((4763, 94567))));
+    claim(&rt, are_sums(rt.alloc(), 480, 4763, 94567), "the sums");
 }
 
 #[test]
 fn starts_720_to_959(rt: HostRuntime) {
-    assert!(rt; sums(rt.alloc(), 720) == Ok(Some((4699, 92075))));
+    claim(&rt, are_sums(rt.alloc(), 720, 4699, 92075), "the sums");
 }

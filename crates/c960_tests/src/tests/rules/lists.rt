@@ -1,5 +1,6 @@
 //! Lists of legal moves, ordered by the square that is left, then by the goal, then by the promotion.
 
+use crate::tests::claims::claim_of;
 use crate::tests::rules::reading::lawful_of;
 use c960_board::{Move, read_move};
 use c960_rules::legal_moves;
@@ -29,8 +30,6 @@ fn is_listed(alloc: Global, position: &str, moves: &str) -> Result<bool, AllocEr
 
 /// Asserts that the legal moves of the position are those of the line, in the same order, separated by spaces.
 pub fn assert_list(rt: &impl Abort, alloc: Global, position: &str, moves: &str) {
-    assert!(rt;
-        is_listed(alloc, position, moves) == Ok(true),
-        "not {moves}"
-    );
+    let is_so = is_listed(alloc, position, moves) == Ok(true);
+    claim_of(rt, is_so, "the list", moves);
 }

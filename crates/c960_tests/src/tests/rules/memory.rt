@@ -1,6 +1,7 @@
 //! Lack of memory. If one allocation is refused (`rt try --test --fail-alloc N`, for each N in turn), the list of the legal moves says
 //! so and is complete when it is asked for again. A position with more than 64 moves makes it grow while it is being filled.
 
+use crate::tests::claims::claim;
 use crate::tests::rules::reading::position_of;
 use c960_rules::{Lawful, legal_moves};
 use std::alloc::{AllocError, Global};
@@ -18,6 +19,8 @@ fn a_long_list_of_moves_is_whole_or_wants_memory(rt: HostRuntime) {
     let position = position_of(&rt, MOST_MOVES);
     let first = listed(rt.alloc(), &position);
     let again = listed(rt.alloc(), &position);
-    assert!(rt; first == Ok(218) || first == Err(AllocError));
-    assert!(rt; again == Ok(218) || (again == Err(AllocError) && first.is_ok()));
+    let is_whole = first == Ok(218);
+    claim(&rt, is_whole || first == Err(AllocError), "the first list");
+    let is_refused = again == Err(AllocError) && is_whole;
+    claim(&rt, again == Ok(218) || is_refused, "the second list");
 }

@@ -1,5 +1,6 @@
 //! Positions and moves from their texts, and the positions that moves lead to.
 
+use crate::tests::claims::claim_of;
 use c960_board::{Move, Position, read_fen, read_move, write_fen};
 use c960_rules::{Lawful, play};
 use std::process::Abort;
@@ -14,10 +15,7 @@ pub fn lawful_of(text: &str) -> Option<Lawful> {
 
 /// The lawful position of a text.
 pub fn position_of(rt: &impl Abort, text: &str) -> Lawful {
-    let Some(lawful) = lawful_of(text) else {
-        panic!(rt; "no lawful position: {text}");
-    };
-    lawful
+    lawful_of(text).expect(rt, text)
 }
 
 /// The starting position of a number, if there is one.
@@ -85,9 +83,12 @@ fn leads(before: &str, moves: &str, reached: &str) -> bool {
     }
 }
 
-/// Asserts, for rows of a position, a move and the position after it, that the move is legal and leads there.
-pub fn assert_played(rt: &impl Abort, rows: &[(&str, &str, &str)]) {
+/// A position, a move, and the position after it.
+pub type Played = (&'static str, &'static str, &'static str);
+
+/// Asserts that the move of each row is legal and leads to the position after it.
+pub fn assert_played(rt: &impl Abort, rows: &[Played]) {
     for (before, m, reached) in rows {
-        assert!(rt; leads(before, m, reached), "{m} from {before}");
+        claim_of(rt, leads(before, m, reached), *m, *before);
     }
 }

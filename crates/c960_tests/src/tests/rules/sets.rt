@@ -1,5 +1,6 @@
 //! Sets of squares, and the rules built on them, against plain scans of the board.
 
+use crate::tests::claims::{claim, claim_at};
 use crate::tests::rules::plain;
 use crate::tests::rules::reading::{played, position_of, standard, start};
 use crate::tests::rules::reference::legal_by;
@@ -16,9 +17,11 @@ fn the_sets_of_the_standard_start(rt: HostRuntime) {
         kind: Kind::Pawn,
     };
     let f3 = Square::new(21).expect(&rt, "a square");
-    assert!(rt; position.occupied() == 18446462598732906495);
-    assert!(rt; position.pieces(pawn) == 65280);
-    assert!(rt; attackers(&position, Colour::White, f3) == 20544);
+    let occupied = position.occupied();
+    claim(&rt, occupied == 18446462598732906495, "all pieces");
+    claim(&rt, position.pieces(pawn) == 65280, "White's pawns");
+    let found = attackers(&position, Colour::White, f3);
+    claim(&rt, found == 20544, "the attackers of f3");
 }
 
 /// Whether the attackers of a square are those found by a scan.
@@ -161,7 +164,7 @@ fn is_plain_start(alloc: Global, number: u16, seed: u64, plies: u16) -> Result<b
 fn all_starts_agree_with_plain_scans(rt: HostRuntime) {
     for number in 0..960 {
         let is_so = is_plain_start(rt.alloc(), number, u64::from(number) + 1, 3);
-        assert!(rt; is_so == Ok(true), "start {number}");
+        claim_at(&rt, is_so == Ok(true), "start", u64::from(number));
     }
 }
 
@@ -169,7 +172,7 @@ fn all_starts_agree_with_plain_scans(rt: HostRuntime) {
 fn games_by_chance_agree_with_plain_scans(rt: HostRuntime) {
     for number in 0..24 {
         let is_so = is_plain_start(rt.alloc(), 40 * number + 7, 77, 120);
-        assert!(rt; is_so == Ok(true), "game {number}");
+        claim_at(&rt, is_so == Ok(true), "game", u64::from(number));
     }
 }
 
@@ -183,7 +186,7 @@ fn promotions_by_chance_agree_with_plain_scans(rt: HostRuntime) {
     for text in texts {
         for seed in 1..9u64 {
             let is_so = is_plain_walk(rt.alloc(), position_of(&rt, text), seed, 30);
-            assert!(rt; is_so == Ok(true), "{text}");
+            claim_at(&rt, is_so == Ok(true), text, seed);
         }
     }
 }
