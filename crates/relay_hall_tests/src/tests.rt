@@ -10,3 +10,8 @@ use std::process::Abort;
 pub fn holds(rt: &impl Abort, is_so: bool, words: &str) {
     assert!(rt; is_so, "{words}");
 }
+
+/// The same of what is named second.
+pub fn holds_of(rt: &impl Abort, is_so: bool, what: &str, of: &str) {
+    assert!(rt; is_so, "{what}: {of}");
+}

@@ -194,7 +194,7 @@ fn assert_row(rt: &impl Abort, conn: &mut Conn, noting: &mut NotingKeeper, row: 
     let said = said_to(conn, noting, text, wanted);
     let is_asked = noting.steps.len() != asked;
     let is_made = noting.accepted != accepted;
-    claim_of(rt, said != Said::Else, "the answer", text);
+    claim_of(rt, said != Said::Else, wanted, text);
     if said == Said::Wanted {
         let not_asked = matches!(keeping, NotAsked);
         claim_of(rt, is_asked != not_asked, "the step", text);
@@ -350,7 +350,7 @@ fn assert_answer(
     wanted: [&str; 2],
 ) -> bool {
     let said = said_over(keeper, conn, text, [wanted[0], wanted[0]]);
-    claim_of(rt, said != Said::Else, "the answer", text);
+    claim_of(rt, said != Said::Else, wanted[0], text);
     if said == Said::Wanted {
         return false;
     }

@@ -10,7 +10,10 @@ use std::process::Abort;
 
 /// A new board of this start. It is not refused, for lack of memory either (`again::open` asks once more then).
 pub fn opened(rt: &impl Abort, alloc: Global, start: u16, limits: Limits) -> Board {
-    Board::open(alloc, start, limits).expect(rt, "a board is opened")
+    let Ok(board) = Board::open(alloc, start, limits) else {
+        panic!(rt; "no board {start}");
+    };
+    board
 }
 
 /// Whether no board is opened, since there is no such start.

@@ -3,7 +3,7 @@
 
 use crate::list_outlet::ListOutlet;
 use crate::tests::again::again;
-use crate::tests::claims::claim;
+use crate::tests::claims::{claim, claim_at};
 use crate::tests::fakes::{Answers, RelaySource, Ringing, relay};
 use crate::tests::values::{board_of, move_of};
 use c960_game::{Outcome, Refusal};
@@ -86,10 +86,22 @@ fn push_to<R: Wait + Abort, S: Source>(
     }
 }
 
+/// Asserts that pushing ended so, or that there was no memory.
+fn assert_end(rt: &impl Abort, end: PushEnd, wanted: PushEnd) {
+    assert!(rt;
+        end == NO_MEMORY || end == wanted,
+        "pushing ended by {end:?}, not by {wanted:?}"
+    );
+}
+
+/// Asserts that these are the counts of texts, waits and answers that were not taken.
+fn assert_counts(rt: &impl Abort, given: (usize, u64, usize), wanted: (usize, u64, usize)) {
+    assert_eq!(rt; given, wanted);
+}
+
 /// Asserts that pushing ended so, or that there was no memory; and that the device failed once if it ended for that, and else never.
 fn assert_failures(rt: &impl Abort, pushed: &Pushed, wanted: PushEnd) {
-    let has_ended = pushed.end == NO_MEMORY || pushed.end == wanted;
-    claim(rt, has_ended, "how pushing ends");
+    assert_end(rt, pushed.end, wanted);
     let failures = u64::from(pushed.end == NO_DEVICE);
     claim(
         rt,
@@ -126,7 +138,7 @@ pub fn assert_cut<R: Wait + Abort, S: Source>(
         assert_rest(rt, alloc, source, sent);
         return;
     }
-    claim(rt, sent == texts, "as many texts");
+    claim_at(rt, sent == texts, "as many texts as", texts);
 }
 
 #[test]
@@ -168,7 +180,9 @@ fn assert_pushed<R: Wait + Abort>(rt: &R, alloc: Global, answers: &[Taken], row:
     assert_first(rt, &pushed.outlet, &TEXTS_OF_OVER);
     assert_failures(rt, &pushed, wanted);
     let given = (pushed.outlet.texts.len(), pushed.waits, source.rest.len());
-    claim(rt, pushed.end == NO_MEMORY || given == counts, "the counts");
+    if pushed.end != NO_MEMORY {
+        assert_counts(rt, given, counts);
+    }
 }
 
 #[test]

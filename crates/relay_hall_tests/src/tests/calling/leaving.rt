@@ -53,7 +53,7 @@ fn fills(rt: &impl Abort, scene: &mut Scene, ping: &[u8], nth: usize) {
     holds(
         rt,
         !scene.is_full() && scene.is_heard(ping, true),
-        "a ping is heard",
+        "a ping is heard while it fills",
     );
     holds(
         rt,
@@ -67,7 +67,7 @@ fn goes_on(rt: &impl Abort, scene: &mut Scene, ping: &[u8]) {
     holds(
         rt,
         scene.is_full() && scene.is_heard(ping, true),
-        "a ping is heard",
+        "a ping is heard while it is full",
     );
     holds(
         rt,

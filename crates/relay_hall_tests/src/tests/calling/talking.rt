@@ -2,7 +2,7 @@
 
 use crate::tests::calling::frames::{BINARY, CLOSE, PING, PONG, TEXT, asked, tell};
 use crate::tests::calling::requests::{Heard, hall, hears, is_due, is_heard, shaken};
-use crate::tests::holds;
+use crate::tests::holds_of;
 use relay_calling::{Caller, Stage};
 use relay_hall::Hall;
 use std::alloc::Global;
@@ -75,18 +75,12 @@ fn is_all_taken(caller: &mut Caller, n: usize, then: Stage) -> bool {
 fn takes_turn(rt: &impl Abort, alloc: Global, caller: &mut Caller, hall: &mut Hall, turn: Turn) {
     let (_, asks, tells, then) = turn;
     let frame = asked(rt, alloc, asks.0, asks.1.as_bytes());
-    holds(
-        rt,
-        is_answered(caller, hall, frame.as_slice(), then),
-        asks.1,
-    );
+    let is_answered = is_answered(caller, hall, frame.as_slice(), then);
+    holds_of(rt, is_answered, "is answered", asks.1);
     let mut wanted = Vec::new(alloc);
     tell(rt, &mut wanted, tells.0, tells.1.as_bytes());
-    holds(
-        rt,
-        is_taken_in_two(caller, wanted.as_slice(), then),
-        tells.1,
-    );
+    let is_taken = is_taken_in_two(caller, wanted.as_slice(), then);
+    holds_of(rt, is_taken, "is told", tells.1);
 }
 
 /// Two connections over one hall.

@@ -3,8 +3,8 @@
 use crate::tests::hall::answers::{
     BOARD_EXISTS, NO_SUCH_BOARD, NOT_YET, OPENED, TOO_MANY_FOLLOWERS,
 };
-use crate::tests::hall::heard::{hall, is_said, leaves};
-use crate::tests::holds;
+use crate::tests::hall::heard::{assert_said, hall, is_said, leaves};
+use crate::tests::holds_of;
 use relay_hall::{Hall, Owner};
 use relay_pushing::Conn;
 use std::alloc::Global;
@@ -31,7 +31,7 @@ fn is_told(rt: &impl Abort, alloc: Global, hall: &mut Hall, opener: u64, text: &
     let mut conn = Conn::new(alloc);
     let (said, handed) = hall.hear(&mut conn, &owner, text.as_bytes());
     leaves(handed);
-    holds(rt, is_said(said, answer), text);
+    assert_said(rt, is_said(said, answer), text, answer);
 }
 
 /// A row: the number of a connection, what it sends, and what it is told.
@@ -91,8 +91,9 @@ fn turned_away() -> &'static [(Row, bool)] {
 fn is_told_of(rt: &impl Abort, alloc: Global, hall: &mut Hall, row: Row, is_refused: bool) {
     let (opener, text, answer) = row;
     is_told(rt, alloc, hall, opener, text, answer);
-    holds(rt, hall.take_turned_away() == is_refused, text);
-    holds(rt, !hall.take_turned_away(), text);
+    let is_told = hall.take_turned_away() == is_refused;
+    holds_of(rt, is_told, "whether it was refused", text);
+    holds_of(rt, !hall.take_turned_away(), "told once", text);
 }
 
 #[test]

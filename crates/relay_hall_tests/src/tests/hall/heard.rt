@@ -31,6 +31,11 @@ pub fn is_said(said: Result<String, AllocError>, answer: &str) -> bool {
     }
 }
 
+/// Asserts that a text was answered so.
+pub fn assert_said(rt: &impl Abort, is_said: bool, text: &str, answer: &str) {
+    assert!(rt; is_said, "{text}: {answer}");
+}
+
 /// A follower that was handed out leaves its board.
 pub fn leaves(handed: Option<Handed>) {
     if let Some(handed) = handed {

@@ -214,6 +214,7 @@ impl Scene {
             opener: self.numbers,
         };
         person.conn = Conn::new(self.alloc);
+        holds(rt, person.owner.key.is_some() == (key < KEYS), "its key");
         self.is_met(rt, person);
         assert!(rt; self.hall.owns_any(&person.owner) == self.plain.has_any_of(key));
     }

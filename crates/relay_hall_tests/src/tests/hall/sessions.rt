@@ -4,7 +4,7 @@ use crate::tests::hall::answers::{
     AGREED, BAD_FIELD, BOARD_EXISTS, GAME_OVER, ILLEGAL, LOG_FULL, NO_SUCH_BOARD, NOT_JSON,
     NOT_YET, NOT_YOUR_BOARD, OPENED, TOO_FAR_BACK, TOO_MANY_BOARDS, TOO_MANY_FOLLOWERS, WRONG_MODE,
 };
-use crate::tests::hall::heard::{Numbers, hall, is_said};
+use crate::tests::hall::heard::{Numbers, assert_said, hall, is_said};
 use crate::tests::hall::sessions::Deed::{Comes, Due, Ends, Gets, Goes, Overs, Says, Shuts, Time};
 use crate::tests::holds;
 use c960_board::read_move;
@@ -367,7 +367,7 @@ fn comes(rt: &impl Abort, hall: &mut Hall, person: &mut Person, key: &str, waite
 fn says(rt: &impl Abort, hall: &mut Hall, person: &mut Person, text: &str, answer: &str) {
     let (said, handed) = hall.hear(&mut person.conn, &person.owner, text.as_bytes());
     person.keeps(handed);
-    holds(rt, is_said(said, answer), text);
+    assert_said(rt, is_said(said, answer), text, answer);
 }
 
 impl Person {

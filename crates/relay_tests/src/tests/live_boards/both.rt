@@ -1,6 +1,6 @@
 //! A board and the plain one, asked the same questions.
 
-use crate::tests::claims::claim;
+use crate::tests::claims::claim_at;
 use crate::tests::live_boards::plain::Plain;
 use crate::tests::live_boards::stage::{Answer, Ask, Stage};
 use c960_game::{Game, Limits};
@@ -12,6 +12,8 @@ use std::process::Abort;
 pub struct Both {
     pub stage: Stage,
     plain: Plain,
+    /// How often both were asked.
+    turn: usize,
 }
 
 /// New boards of start 518, with room for this many followers.
@@ -24,13 +26,18 @@ pub fn both_of(
     let game = Game::open(alloc, 518, limits.plies()).expect(rt, "a game");
     let plain = Plain::new(alloc, game, limits, room)?;
     let stage = Stage::open(rt, alloc, limits, room)?;
-    Ok(Both { stage, plain })
+    Ok(Both {
+        stage,
+        plain,
+        turn: 0,
+    })
 }
 
 /// Asserts that both answer alike. Returns the answer.
 pub fn ask_both(rt: &impl Abort, both: &mut Both, asked: &Ask) -> Result<Answer, AllocError> {
     let told = both.plain.ask(*asked)?;
     let answer = both.stage.ask(*asked);
-    claim(rt, answer == told, "both answer alike");
+    claim_at(rt, answer == told, "both answer alike at turn", both.turn);
+    both.turn = both.turn.wrapping_add(1);
     Ok(answer)
 }

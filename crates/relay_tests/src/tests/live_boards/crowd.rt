@@ -65,9 +65,9 @@ fn all_leave(rt: &impl Abort, followers: Vec<Follower>) {
 /// A crowd comes before the first move, and leaves behind the second.
 fn first_crowd(rt: &impl Abort, alloc: Global, board: &mut Board) -> Result<(), AllocError> {
     let mut followers = crowd(rt, alloc, board, None)?;
-    claim(rt, plays(rt, board, 0, "e2e4"), "e2e4");
+    claim(rt, plays(rt, board, 0, "e2e4"), "e2e4 is played");
     half_takes(rt, &mut followers);
-    claim(rt, plays(rt, board, 1, "e7e5"), "e7e5");
+    claim(rt, plays(rt, board, 1, "e7e5"), "e7e5 is played");
     all_leave(rt, followers);
     Ok(())
 }

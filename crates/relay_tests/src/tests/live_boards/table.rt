@@ -1,6 +1,5 @@
 //! Cases as tables: what is asked of a live board and its followers, and what they have to answer, one row each.
 
-use crate::tests::claims::claim_at;
 use crate::tests::live_boards::games::limits_of;
 use crate::tests::live_boards::stage::{Answer, Ask, Stage};
 use crate::tests::values::{account, move_of};
@@ -90,6 +89,11 @@ fn line_of(asked: Asked) -> &'static str {
     }
 }
 
+/// Asserts that a text of a row of a case is answered as the row says.
+fn assert_told(rt: &impl Abort, is_told: bool, (name, row): (&str, usize), text: &str) {
+    assert!(rt; is_told, "{name}, row {row}, {text}");
+}
+
 /// Asserts that a board answers as a row says, each move of its line in turn.
 fn assert_row(
     rt: &impl Abort,
@@ -100,7 +104,8 @@ fn assert_row(
     let mut after = 0u16;
     for text in line_of(asked).split(' ') {
         let answer = stage.ask(ask_of(rt, asked, text));
-        claim_at(rt, answer == answer_of(rt, told, after), name, row);
+        let is_told = answer == answer_of(rt, told, after);
+        assert_told(rt, is_told, (name, row), text);
         after = after.saturating_add(1);
     }
 }

@@ -1,7 +1,7 @@
 //! A game that one thread plays while followers come, take in threads of their own, and leave again, many times over.
 
 use crate::tests::chance::Dice;
-use crate::tests::claims::claim;
+use crate::tests::claims::{claim, claim_at};
 use crate::tests::deeds::{agrees, leaves, opened};
 use crate::tests::live_boards::games::{hundred_plies, limits_of};
 use crate::tests::live_boards::threads::{Took, take_all};
@@ -173,6 +173,11 @@ fn what_each_follower_had_is_a_stretch_of_the_game(rt: HostRuntime) -> Result<()
             count = count.wrapping_add(play(&rt, alloc, moves.as_slice(), capacity, &mut dice)?);
         }
     }
-    claim(&rt, count > 100, "more than a hundred visits");
+    claim_at(
+        &rt,
+        count > 100,
+        "visits, more than 100 wanted, were",
+        count as usize,
+    );
     Ok(())
 }

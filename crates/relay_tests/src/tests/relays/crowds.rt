@@ -1,7 +1,6 @@
 //! Crowds of followers, who leave in several orders.
 
-use crate::tests::claims::claim;
-use crate::tests::relays::table::limits_of;
+use crate::tests::relays::table::{assert_step, limits_of};
 use crate::tests::values::{board_of, move_of};
 use c960_game::Limits;
 use relay_core::{BoardName, Relay, Reply, Spectator, Step};
@@ -50,13 +49,14 @@ pub fn both_of(alloc: Global, limits: Limits) -> Result<Both, AllocError> {
 pub fn ask(rt: &impl Abort, both: &mut Both, step: &Step) -> bool {
     let plain = both.plain.step(*step);
     let live = both.live.step(*step);
-    claim(rt, live == plain, "both answer alike");
+    assert_step(rt, live == plain, "both answer alike", step);
     !matches!(plain, Reply::Refused(_))
 }
 
 /// Asserts that both answer a step alike, and accept it.
 pub fn accept(rt: &impl Abort, both: &mut Both, step: &Step) {
-    claim(rt, ask(rt, both, step), "the step is accepted");
+    let is_accepted = ask(rt, both, step);
+    assert_step(rt, is_accepted, "accepted", step);
 }
 
 /// A crowd joins, ten at each place of the log.

@@ -1,9 +1,9 @@
 //! More followers than the sixty-four whose tags are compared at once. A relay is asked what a plain one is asked, which looks at its
 //! followers one by one.
 
-use crate::tests::claims::{claim, claim_at};
+use crate::tests::claims::claim_at;
 use crate::tests::relays::plain::Plain;
-use crate::tests::relays::table::limits_of;
+use crate::tests::relays::table::{assert_step, limits_of};
 use crate::tests::values::{board_of, move_of};
 use relay_core::{BoardName, Relay, Reply, Step};
 use std::alloc::{AllocError, Global};
@@ -60,14 +60,14 @@ fn board(rt: &impl Abort, pair: &Pair, turn: u32) -> BoardName {
 fn ask(rt: &impl Abort, pair: &mut Pair, step: Step) -> Result<bool, AllocError> {
     let plain = pair.plain.step(step)?;
     let reply = pair.relay.step(step);
-    claim(rt, reply == plain, "both answer alike");
+    assert_step(rt, reply == plain, "both answer alike", &step);
     Ok(!matches!(reply, Reply::Refused(_)))
 }
 
 /// Asserts that both answer a step alike, and accept it.
 fn accept(rt: &impl Abort, pair: &mut Pair, step: Step) -> Result<(), AllocError> {
     let is_accepted = ask(rt, pair, step)?;
-    assert!(rt; is_accepted, "{step:?}");
+    assert_step(rt, is_accepted, "accepted", &step);
     Ok(())
 }
 

@@ -112,6 +112,11 @@ pub fn reply_of(rt: &impl Abort, told: Told, after: u16) -> Reply {
     }
 }
 
+/// Asserts that something holds of a step. Where it does not, these words say what it was.
+pub fn assert_step(rt: &impl Abort, holds: bool, what: &str, step: &Step) {
+    assert!(rt; holds, "{what}: {step:?}");
+}
+
 /// The moves of a row, one for a step that has none.
 pub fn line_of(asked: Asked) -> &'static str {
     match asked {
