@@ -6,6 +6,7 @@ use crate::tests::relays::table::{Told, reply_of};
 use crate::tests::values::START_518;
 use arrayvec::ArrayVec;
 use c960_board::Colour;
+use c960_game::Result::{BlackWins, Draw, WhiteWins};
 use c960_game::{Outcome, Refusal};
 use relay_core::{Reply, Taken};
 use relay_messages::{Answer, MessageFault, encode, encode_within};
@@ -77,7 +78,7 @@ fn a_text_needs_room_for_a_line_feed_behind_it(rt: HostRuntime) {
 }
 
 /// A reply of each kind, and its text.
-static REPLIES: [(Told, &str); 11] = [
+static REPLIES: [(Told, &str); 13] = [
     (Told::Opened, r#"{"reply":"opened"}"#),
     (
         Told::Following(0, START_518),
@@ -112,6 +113,14 @@ static REPLIES: [(Told, &str); 11] = [
         Told::Over(Outcome::Agreed),
         r#"{"outcome":"agreed","reply":"over"}"#,
     ),
+    (
+        Told::Over(Outcome::LostOnTime(Colour::Black)),
+        r#"{"outcome":"black loses on time","reply":"over"}"#,
+    ),
+    (
+        Told::Over(Outcome::Decided(Draw)),
+        r#"{"outcome":"drawn by decision","reply":"over"}"#,
+    ),
     (Told::Cut, r#"{"reply":"cut"}"#),
 ];
 
@@ -129,7 +138,7 @@ fn each_reply_has_its_text(rt: HostRuntime) {
 }
 
 /// Each outcome, and the text of an end with it.
-static OUTCOMES: [(Outcome, &str); 11] = [
+static OUTCOMES: [(Outcome, &str); 16] = [
     (
         Outcome::Checkmate(Colour::White),
         r#"{"outcome":"white mates","reply":"ended"}"#,
@@ -170,6 +179,26 @@ static OUTCOMES: [(Outcome, &str); 11] = [
     (
         Outcome::SeventyFive,
         r#"{"outcome":"seventy-five moves","reply":"ended"}"#,
+    ),
+    (
+        Outcome::LostOnTime(Colour::White),
+        r#"{"outcome":"white loses on time","reply":"ended"}"#,
+    ),
+    (
+        Outcome::LostOnTime(Colour::Black),
+        r#"{"outcome":"black loses on time","reply":"ended"}"#,
+    ),
+    (
+        Outcome::Decided(WhiteWins),
+        r#"{"outcome":"white wins by decision","reply":"ended"}"#,
+    ),
+    (
+        Outcome::Decided(BlackWins),
+        r#"{"outcome":"black wins by decision","reply":"ended"}"#,
+    ),
+    (
+        Outcome::Decided(Draw),
+        r#"{"outcome":"drawn by decision","reply":"ended"}"#,
     ),
 ];
 

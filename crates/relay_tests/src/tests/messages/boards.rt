@@ -6,6 +6,7 @@ use crate::tests::messages::round_trip::{Member, assert_members};
 use crate::tests::values::{MATED, ONE_PLY, START_518, board_of, move_of, position_of};
 use c960_board::Colour;
 use c960_game::Outcome;
+use c960_game::Result::{BlackWins, Draw, WhiteWins};
 use relay_messages::{BoardSummary, encode_board};
 use std::alloc::Global;
 use std::process::Abort;
@@ -58,7 +59,8 @@ static ROWS: [Row; 5] = [
         last: None,
         plies: 0,
         outcome: None,
-        text: r#"{"board":"b1","fen":"rnbqkbnr/pppppppp/8/8/8/8/PPPPPPPP/RNBQKBNR w HAha - 0 1","last":null,"outcome":null,"plies":0,"reply":"board","start":518}"#,
+        text: "{\"board\":\"b1\",\"fen\":\"rnbqkbnr/pppppppp/8/8/8/8/PPPPPPPP/RNBQKBNR w HAha - 0 1\",\
+            \"last\":null,\"outcome\":null,\"plies\":0,\"reply\":\"board\",\"start\":518}",
     },
     Row {
         board: "b1",
@@ -67,7 +69,8 @@ static ROWS: [Row; 5] = [
         last: Some("e2e4"),
         plies: 1,
         outcome: None,
-        text: r#"{"board":"b1","fen":"rnbqkbnr/pppppppp/8/8/4P3/8/PPPP1PPP/RNBQKBNR b HAha e3 0 1","last":"e2e4","outcome":null,"plies":1,"reply":"board","start":518}"#,
+        text: "{\"board\":\"b1\",\"fen\":\"rnbqkbnr/pppppppp/8/8/4P3/8/PPPP1PPP/RNBQKBNR b HAha e3 0 1\",\
+            \"last\":\"e2e4\",\"outcome\":null,\"plies\":1,\"reply\":\"board\",\"start\":518}",
     },
     Row {
         board: "b1",
@@ -76,7 +79,8 @@ static ROWS: [Row; 5] = [
         last: Some("d8h4"),
         plies: 4,
         outcome: Some(Outcome::Checkmate(Colour::Black)),
-        text: r#"{"board":"b1","fen":"rnb1kbnr/pppp1ppp/8/4p3/6Pq/5P2/PPPPP2P/RNBQKBNR w HAha - 1 3","last":"d8h4","outcome":"black mates","plies":4,"reply":"board","start":518}"#,
+        text: "{\"board\":\"b1\",\"fen\":\"rnb1kbnr/pppp1ppp/8/4p3/6Pq/5P2/PPPPP2P/RNBQKBNR w HAha - 1 3\",\
+            \"last\":\"d8h4\",\"outcome\":\"black mates\",\"plies\":4,\"reply\":\"board\",\"start\":518}",
     },
     // Over before the first move.
     Row {
@@ -86,7 +90,8 @@ static ROWS: [Row; 5] = [
         last: None,
         plies: 0,
         outcome: Some(Outcome::Agreed),
-        text: r#"{"board":"b1","fen":"rnbqkbnr/pppppppp/8/8/8/8/PPPPPPPP/RNBQKBNR w HAha - 0 1","last":null,"outcome":"agreed","plies":0,"reply":"board","start":518}"#,
+        text: "{\"board\":\"b1\",\"fen\":\"rnbqkbnr/pppppppp/8/8/8/8/PPPPPPPP/RNBQKBNR w HAha - 0 1\",\
+            \"last\":null,\"outcome\":\"agreed\",\"plies\":0,\"reply\":\"board\",\"start\":518}",
     },
     // The longest name, the greatest numbers and a promotion.
     Row {
@@ -96,7 +101,8 @@ static ROWS: [Row; 5] = [
         last: Some("a7a8q"),
         plies: 65535,
         outcome: None,
-        text: r#"{"board":"ABCDEFGHIJKLMNOPQRSTUVWXYZ_-0189","fen":"Q7/8/8/8/8/8/8/4K2k b - - 0 65535","last":"a7a8q","outcome":null,"plies":65535,"reply":"board","start":65535}"#,
+        text: "{\"board\":\"ABCDEFGHIJKLMNOPQRSTUVWXYZ_-0189\",\"fen\":\"Q7/8/8/8/8/8/8/4K2k b - - 0 65535\",\
+            \"last\":\"a7a8q\",\"outcome\":null,\"plies\":65535,\"reply\":\"board\",\"start\":65535}",
     },
 ];
 
@@ -132,7 +138,7 @@ fn each_board_has_its_text(rt: HostRuntime) {
 }
 
 /// Each outcome, and its text.
-static OUTCOMES: [(Outcome, &str); 11] = [
+static OUTCOMES: [(Outcome, &str); 16] = [
     (Outcome::Checkmate(Colour::White), "white mates"),
     (Outcome::Checkmate(Colour::Black), "black mates"),
     (Outcome::Stalemate, "stalemate"),
@@ -144,6 +150,11 @@ static OUTCOMES: [(Outcome, &str); 11] = [
     (Outcome::Fifty, "fifty moves"),
     (Outcome::Fivefold, "fivefold"),
     (Outcome::SeventyFive, "seventy-five moves"),
+    (Outcome::LostOnTime(Colour::White), "white loses on time"),
+    (Outcome::LostOnTime(Colour::Black), "black loses on time"),
+    (Outcome::Decided(WhiteWins), "white wins by decision"),
+    (Outcome::Decided(BlackWins), "black wins by decision"),
+    (Outcome::Decided(Draw), "drawn by decision"),
 ];
 
 /// The outcomes.

@@ -8,10 +8,11 @@ use std::process::Abort;
 use std::test::Fail;
 
 /// Commands, some of them not as a client writes them.
-static TEXTS: [&str; 17] = [
+static TEXTS: [&str; 18] = [
     r#"{"cmd":"submit","board":"b1","move":"e2e4"}"#,
     r#"{"cmd":"follow","board":"b1","spectator":4294967295,"from":65535}"#,
     r#"{"cmd":"end","board":"b1","how":"resign","side":"white"}"#,
+    r#"{"cmd":"end","board":"b1","how":"decided","result":"1/2-1/2"}"#,
     r#"{"board":"b1","start":960,"cmd":"open"}"#,
     r#"{"cmd":"boards"}"#,
     r#"{"cmd":"take","spectator":0,"a":1,"b":2}"#,
@@ -34,7 +35,7 @@ fn texts() -> &'static [&'static str] {
 }
 
 /// Members, some of them none.
-const MEMBERS: [&str; 40] = [
+const MEMBERS: [&str; 42] = [
     r#""cmd":"open""#,
     r#""cmd":"submit""#,
     r#""cmd":"end""#,
@@ -60,7 +61,9 @@ const MEMBERS: [&str; 40] = [
     r#""move":"a7a8q""#,
     r#""how":"agreed""#,
     r#""how":"resign""#,
+    r#""how":"decided""#,
     r#""side":"white""#,
+    r#""result":"1-0""#,
     r#""start":518"#,
     r#""start":00518"#,
     r#""start":65536"#,
@@ -111,7 +114,7 @@ fn text_by_chance(alloc: Global, dice: &mut Dice) -> Result<Vec<u8>, AllocError>
         if place > 0 {
             text.extend_from_slice(BETWEEN[dice.roll() as usize % 8].as_bytes())?;
         }
-        text.extend_from_slice(MEMBERS[dice.roll() as usize % 40].as_bytes())?;
+        text.extend_from_slice(MEMBERS[dice.roll() as usize % 42].as_bytes())?;
     }
     text.extend_from_slice(BEHIND[dice.roll() as usize % 8].as_bytes())?;
     Ok(text)

@@ -1,13 +1,12 @@
-//! How an arbiter ends a game, as texts: a loss on time and a decision, what is no such command, and what is answered.
+//! How an arbiter ends a game, as texts: a loss on time and a decision, and what is no such command.
 
 use crate::tests::claims::claim;
 use crate::tests::values::board_of;
 use c960_board::Colour;
+use c960_game::Ending;
 use c960_game::Result::{BlackWins, Draw, WhiteWins};
-use c960_game::{Ending, Outcome};
-use relay_core::{Reply, Step, Taken};
-use relay_messages::{Answer, MessageFault, decode, encode};
-use std::alloc::AllocError;
+use relay_core::Step;
+use relay_messages::{MessageFault, decode};
 
 /// Texts, and the ending of the board b1 that each gives.
 static RULINGS: [(&str, Ending); 9] = [
@@ -31,7 +30,7 @@ static RULINGS: [(&str, Ending); 9] = [
         r#"{"cmd":"end","board":"b1","how":"decided","result":"1/2-1/2"}"#,
         Ending::Decided(Draw),
     ),
-    // In other forms than a client writes.
+    // In other forms than a client writes. For a repeated key the last value counts.
     (
         r#"{"result":"1-0","how":"decided","board":"b1","cmd":"end"}"#,
         Ending::Decided(WhiteWins),
@@ -95,50 +94,4 @@ fn a_result_belongs_to_a_decision_alone_and_a_side_to_no_decision(rt: HostRuntim
         let said = decode(rt.alloc(), text.as_bytes());
         claim(&rt, said == Err(MessageFault::BadField), *text);
     }
-}
-
-/// What follows from a ruling, and the text of the answer.
-static ANSWERS: [(Reply, &str); 7] = [
-    (
-        Reply::Ended(Outcome::LostOnTime(Colour::White)),
-        r#"{"outcome":"white loses on time","reply":"ended"}"#,
-    ),
-    (
-        Reply::Ended(Outcome::LostOnTime(Colour::Black)),
-        r#"{"outcome":"black loses on time","reply":"ended"}"#,
-    ),
-    (
-        Reply::Ended(Outcome::Decided(WhiteWins)),
-        r#"{"outcome":"white wins by decision","reply":"ended"}"#,
-    ),
-    (
-        Reply::Ended(Outcome::Decided(BlackWins)),
-        r#"{"outcome":"black wins by decision","reply":"ended"}"#,
-    ),
-    (
-        Reply::Ended(Outcome::Decided(Draw)),
-        r#"{"outcome":"drawn by decision","reply":"ended"}"#,
-    ),
-    (
-        Reply::Took(Taken::Over(Outcome::LostOnTime(Colour::Black))),
-        r#"{"outcome":"black loses on time","reply":"over"}"#,
-    ),
-    (
-        Reply::Took(Taken::Over(Outcome::Decided(Draw))),
-        r#"{"outcome":"drawn by decision","reply":"over"}"#,
-    ),
-];
-
-/// The answers.
-fn answers() -> &'static [(Reply, &'static str)] {
-    &ANSWERS
-}
-
-#[test]
-fn a_loss_on_time_and_a_decision_have_their_texts(rt: HostRuntime) -> Result<(), AllocError> {
-    for (reply, text) in answers() {
-        let said = encode(rt.alloc(), &Answer::Reply(*reply))?;
-        claim(&rt, said.as_str() == *text, *text);
-    }
-    Ok(())
 }
