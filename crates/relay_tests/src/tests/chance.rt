@@ -2,6 +2,7 @@
 
 use c960_board::Colour;
 use c960_game::Ending;
+use c960_game::Result::{BlackWins, Draw, WhiteWins};
 
 /// Random numbers, the same in each run.
 #[derive(Drop)]
@@ -21,7 +22,7 @@ pub const MOVES: [&str; 8] = [
     "f2f3", "e7e5", "g2g4", "d8h4", "g1f3", "g8f6", "f3g1", "f6g8",
 ];
 
-pub const ENDINGS: [Ending; 8] = [
+pub const ENDINGS: [Ending; 13] = [
     Ending::Resigns(Colour::White),
     Ending::Resigns(Colour::Black),
     Ending::Agreed,
@@ -30,4 +31,9 @@ pub const ENDINGS: [Ending; 8] = [
     Ending::ClaimThreefold(Colour::Black),
     Ending::ClaimFifty(Colour::White),
     Ending::ClaimFifty(Colour::Black),
+    Ending::LosesOnTime(Colour::White),
+    Ending::LosesOnTime(Colour::Black),
+    Ending::Decided(WhiteWins),
+    Ending::Decided(BlackWins),
+    Ending::Decided(Draw),
 ];

@@ -6,6 +6,16 @@ pub const AGREED: &str = "{\"outcome\":\"agreed\",\"reply\":\"ended\"}";
 
 pub const BLACK_RESIGNS: &str = "{\"outcome\":\"black resigns\",\"reply\":\"ended\"}";
 
+pub const WHITE_LOSES_ON_TIME: &str = "{\"outcome\":\"white loses on time\",\"reply\":\"ended\"}";
+
+pub const BLACK_LOSES_ON_TIME: &str = "{\"outcome\":\"black loses on time\",\"reply\":\"ended\"}";
+
+pub const WHITE_WINS: &str = "{\"outcome\":\"white wins by decision\",\"reply\":\"ended\"}";
+
+pub const BLACK_WINS: &str = "{\"outcome\":\"black wins by decision\",\"reply\":\"ended\"}";
+
+pub const DRAWN: &str = "{\"outcome\":\"drawn by decision\",\"reply\":\"ended\"}";
+
 pub const THREEFOLD: &str = "{\"outcome\":\"threefold\",\"reply\":\"ended\"}";
 
 pub const NO_SUCH_BOARD: &str = "{\"code\":1,\"name\":\"NoSuchBoard\",\"reply\":\"refused\"}";

@@ -1,28 +1,42 @@
 //! The commands of the random events, and their texts.
 
-use crate::tests::hall::answers::{AGREED, BLACK_RESIGNS, THREEFOLD};
+use crate::tests::hall::answers::{
+    AGREED, BLACK_LOSES_ON_TIME, BLACK_RESIGNS, BLACK_WINS, DRAWN, THREEFOLD, WHITE_LOSES_ON_TIME,
+    WHITE_WINS,
+};
 use crate::tests::hall::chance::Dice;
 use crate::tests::hall::plain::{Plain, Speaker};
 use crate::tests::hall::room::TWICE;
 use c960_board::Colour;
 use c960_game::Outcome;
+use c960_game::Result::{BlackWins, Draw, WhiteWins};
 use std::alloc::{AllocError, Global};
 use std::process::Abort;
 
 /// How many names of boards occur: more than there may be boards.
 pub const NAMES: u32 = 20;
 
-/// Endings: how each is asked for.
-static HOW: [&str; 3] = [
+/// Endings: how each is asked for. The claim comes last, since it is drawn most often.
+static HOW: [&str; 8] = [
     "\"how\":\"agreed\"",
     "\"how\":\"resign\",\"side\":\"black\"",
+    "\"how\":\"time\",\"side\":\"white\"",
+    "\"how\":\"time\",\"side\":\"black\"",
+    "\"how\":\"decided\",\"result\":\"1-0\"",
+    "\"how\":\"decided\",\"result\":\"0-1\"",
+    "\"how\":\"decided\",\"result\":\"1/2-1/2\"",
     "\"how\":\"threefold\",\"side\":\"white\"",
 ];
 
 /// Their outcomes, and the answers if they are accepted.
-static ENDINGS: [(Outcome, &str); 3] = [
+static ENDINGS: [(Outcome, &str); 8] = [
     (Outcome::Agreed, AGREED),
     (Outcome::Resigned(Colour::Black), BLACK_RESIGNS),
+    (Outcome::LostOnTime(Colour::White), WHITE_LOSES_ON_TIME),
+    (Outcome::LostOnTime(Colour::Black), BLACK_LOSES_ON_TIME),
+    (Outcome::Decided(WhiteWins), WHITE_WINS),
+    (Outcome::Decided(BlackWins), BLACK_WINS),
+    (Outcome::Decided(Draw), DRAWN),
     (Outcome::Threefold, THREEFOLD),
 ];
 
@@ -103,7 +117,7 @@ fn any_move(dice: &mut Dice, place: u16) -> u16 {
 fn of_kind(dice: &mut Dice, board: u32, plies: u16, kind: u32, name: u32) -> Command {
     match kind {
         0..=13 => Command::Submit(board, any_move(dice, plies)),
-        14 => Command::End(board, (dice.below(8) as usize).min(2)),
+        14 => Command::End(board, (dice.below(28) as usize).min(7)),
         15..=17 => Command::Follow(board),
         18..=25 => {
             let back = dice.few(6);

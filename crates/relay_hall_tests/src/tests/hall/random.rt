@@ -1,9 +1,9 @@
 //! Random events: sixty connections, six keys, three graces. After each event the hall shows what the plain model has.
 
 use crate::tests::hall::answers::{
-    AGREED, BAD_START, BLACK_RESIGNS, BOARD_EXISTS, CLAIM_REFUSED, GAME_OVER, ILLEGAL, LOG_FULL,
-    NO_SUCH_BOARD, NOT_YET, NOT_YOUR_BOARD, OPENED, THREEFOLD, TOO_FAR_BACK, TOO_MANY_BOARDS,
-    TOO_MANY_FOLLOWERS, WRONG_MODE,
+    AGREED, BAD_START, BLACK_LOSES_ON_TIME, BLACK_RESIGNS, BLACK_WINS, BOARD_EXISTS, CLAIM_REFUSED,
+    DRAWN, GAME_OVER, ILLEGAL, LOG_FULL, NO_SUCH_BOARD, NOT_YET, NOT_YOUR_BOARD, OPENED, THREEFOLD,
+    TOO_FAR_BACK, TOO_MANY_BOARDS, TOO_MANY_FOLLOWERS, WHITE_LOSES_ON_TIME, WHITE_WINS, WRONG_MODE,
 };
 use crate::tests::hall::scene::{Scene, people};
 use crate::tests::hall::seen::Seen;
@@ -16,7 +16,7 @@ const HALLS: u32 = 46;
 const EVENTS: u32 = 900;
 
 /// What occurs with any grace.
-static WORDS: [&str; 22] = [
+static WORDS: [&str; 27] = [
     "played",
     "following",
     "nothing yet",
@@ -25,6 +25,11 @@ static WORDS: [&str; 22] = [
     OPENED,
     AGREED,
     BLACK_RESIGNS,
+    WHITE_LOSES_ON_TIME,
+    BLACK_LOSES_ON_TIME,
+    WHITE_WINS,
+    BLACK_WINS,
+    DRAWN,
     THREEFOLD,
     NO_SUCH_BOARD,
     BOARD_EXISTS,

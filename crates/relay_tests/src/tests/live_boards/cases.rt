@@ -10,6 +10,7 @@ use crate::tests::live_boards::table::Told::{
 use crate::tests::live_boards::table::assert_case;
 use crate::tests::values::BLACK_MATES;
 use c960_board::Colour;
+use c960_game::Result::Draw;
 use c960_game::{Ending, Outcome, Refusal};
 use std::test::Fail;
 
@@ -278,10 +279,25 @@ const WORD_OF_A_DRAW: [(Asked, Told); 2] = [
     (Look(1), Word(393216)),
 ];
 
+/// The status after a loss on time, which is the outcome 12 for White.
+const WORD_OF_A_LOSS_ON_TIME: [(Asked, Told); 2] = [
+    (
+        End(Ending::LosesOnTime(Colour::White)),
+        Ended(Outcome::LostOnTime(Colour::White)),
+    ),
+    (Look(1), Word(786432)),
+];
+
+/// The status after an arbiter's draw, the last of the outcomes, 16.
+const WORD_OF_A_DECISION: [(Asked, Told); 2] = [
+    (End(Ending::Decided(Draw)), Ended(Outcome::Decided(Draw))),
+    (Look(1), Word(1048576)),
+];
+
 /// A case: its name, its board's followers, capacity and plies, and its rows.
 type Case = (&'static str, (u16, u16, u16), &'static [(Asked, Told)]);
 
-static CASES: [Case; 18] = [
+static CASES: [Case; 20] = [
     ("mate", (64, 4, 1024), &MATE),
     ("mate", (64, 64, 1024), &MATE),
     ("mate", (64, 1024, 1024), &MATE),
@@ -300,6 +316,8 @@ static CASES: [Case; 18] = [
     ("words", (1, 2, 16), &WORDS),
     ("mate's word", (1, 2, 16), &WORD_OF_A_MATE),
     ("draw's word", (1, 2, 16), &WORD_OF_A_DRAW),
+    ("flag's word", (1, 2, 16), &WORD_OF_A_LOSS_ON_TIME),
+    ("decision's word", (1, 2, 16), &WORD_OF_A_DECISION),
 ];
 
 /// The cases.

@@ -17,7 +17,7 @@ fn any_ask(rt: &impl Abort, dice: &mut Dice) -> Ask {
     let which = dice.roll();
     match dice.roll() % 128 {
         0..=55 => Ask::Submit(move_of(rt, MOVES[(which % 8) as usize])),
-        56 => Ask::End(ENDINGS[(which % 8) as usize]),
+        56 => Ask::End(ENDINGS[(which % 13) as usize]),
         57..=64 => Ask::Follow(who, None),
         65..=72 => Ask::Follow(who, Some((which % 12) as u16)),
         73..=116 => Ask::Take(who),
@@ -26,12 +26,12 @@ fn any_ask(rt: &impl Abort, dice: &mut Dice) -> Ask {
     }
 }
 
-/// A word for the kind of an answer; a refusal's is its name.
+/// A word for the kind of an answer; a refusal's is its name, and an ending's the text of its outcome.
 fn kind_of(answer: &Answer) -> &'static str {
     match answer {
         Answer::Played(_, None) => "played",
         Answer::Played(..) => "played last",
-        Answer::Ended(_) => "ended",
+        Answer::Ended(outcome) => outcome.text(),
         Answer::Following(..) => "following",
         Answer::Took(Taken::Move(..)) => "move",
         Answer::Took(Taken::Nothing) => "nothing",
@@ -55,11 +55,19 @@ fn has_kind(answers: &[Answer], kind: &str) -> bool {
     false
 }
 
-/// Every answer that there is, except for lack of memory and a bad start.
-static KINDS: [&str; 19] = [
+/// Every answer that there is, except for lack of memory, a bad start and claims that are granted.
+static KINDS: [&str; 27] = [
     "played",
     "played last",
-    "ended",
+    "white resigns",
+    "black resigns",
+    "agreed",
+    "abandoned",
+    "white loses on time",
+    "black loses on time",
+    "white wins by decision",
+    "black wins by decision",
+    "drawn by decision",
     "following",
     "move",
     "nothing",

@@ -21,7 +21,7 @@ fn any_step(rt: &impl Abort, dice: &mut Dice) -> Step {
     match dice.roll() % 64 {
         0..=3 => Step::Open(board, STARTS[(which % 4) as usize]),
         4..=27 => Step::Submit(board, move_of(rt, MOVES[(which % 8) as usize])),
-        28..=29 => Step::End(board, ENDINGS[(which % 8) as usize]),
+        28..=29 => Step::End(board, ENDINGS[(which % 13) as usize]),
         30..=33 => Step::Follow(who, board, None),
         34..=37 => Step::Follow(who, board, Some((which % 6) as u16)),
         38..=57 => Step::Take(who),
