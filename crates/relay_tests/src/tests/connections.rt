@@ -301,18 +301,21 @@ fn are_ended(rt: &impl Abort, noting: &NotingKeeper, asked: usize) -> bool {
 
 /// How the game of a board ended, as a spectator that comes now is told. If there was no memory to follow, it is asked once more.
 fn outcome_of(keeper: &mut RelayKeeper, board: BoardName) -> Option<Outcome> {
-    if matches!(
-        keeper.step(Step::Follow(99, board, None)),
-        Reply::Refused(_)
-    ) {
-        let _ = keeper.step(Step::Follow(99, board, None));
+    let follow = Step::Follow(99, board, None);
+    if matches!(reply_of(keeper, &follow), Reply::Refused(_)) {
+        let _ = reply_of(keeper, &follow);
     }
-    let taken = keeper.step(Step::Take(99));
-    let _ = keeper.step(Step::Leave(99));
+    let taken = reply_of(keeper, &Step::Take(99));
+    let _ = reply_of(keeper, &Step::Leave(99));
     match taken {
         Reply::Took(Taken::Over(outcome)) => Some(outcome),
         _ => None,
     }
+}
+
+/// The reply to a step. Whoever calls this carries no clauses of a keeper along.
+fn reply_of(keeper: &mut RelayKeeper, step: &Step) -> Reply {
+    keeper.step(*step)
 }
 
 /// What a relay answers to an owner and to a stranger, and what it answers if the step was already made. The owner opens `b1` and `a`.

@@ -33,9 +33,12 @@ pub struct NotingKeeper {
 
 impl NotingKeeper {
     pub fn new(alloc: Global) -> Result<NotingKeeper, AllocError> {
+        // The list comes first: what is let go where the keeper is refused is then little.
+        let steps = Vec::with_capacity(alloc, NOTED)?;
+        let keeper = RelayKeeper::new(alloc, default_limits())?;
         Ok(NotingKeeper {
-            keeper: RelayKeeper::new(alloc, default_limits())?,
-            steps: Vec::with_capacity(alloc, NOTED)?,
+            keeper,
+            steps,
             accepted: 0,
         })
     }

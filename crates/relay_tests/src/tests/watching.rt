@@ -1,8 +1,6 @@
 //! What spectators of a tape are sent, byte for byte. The frames are written out by RFC 6455, section 5.2: a whole text is `\x81`, a close
 //! `\x88`, followed by the payload's length, from 126 on as `\x7e` and two bytes.
 
-ghost use Rattle.std.specs.Prelude.{◌≡◌, ◌+◌, ◌<◌, length, None, OnOk};
-
 use crate::tests::claims::{claim, claim_at};
 use crate::tests::values::move_of;
 use c960_board::{Colour, Position, read_fen};
@@ -60,69 +58,109 @@ fn write_all(rt: &impl Abort, got: &mut Vec<u8>, watcher: &mut Watcher, tape: &T
     }
 }
 
+/// A board's game, its tape, and what two spectators were sent.
+#[derive(Drop)]
+struct Broadcast {
+    game: Game,
+    tape: Tape,
+    first: Vec<u8>,
+    second: Vec<u8>,
+}
+
+/// A board without moves.
+fn begun(rt: &impl Abort, alloc: Global) -> Broadcast {
+    Broadcast {
+        game: Game::open(alloc, 518, 100).expect(rt, "a game"),
+        tape: Tape::new(alloc),
+        first: Vec::new(alloc),
+        second: Vec::new(alloc),
+    }
+}
+
 /// A move is made on the board and put on its tape.
-fn make(rt: &impl Abort, game: &mut Game, tape: &mut Tape, text: &str) -> Result<(), Fail>
-    requires going { tape.old.outcome ≡ None }
-    requires numbered { length tape.old.moves < 65535 }
-    ensures going { OnOk result (tape.new.outcome ≡ None) }
-    ensures numbered { OnOk result (length tape.new.moves ≡ length tape.old.moves + 1) }
-{
+fn make(rt: &impl Abort, broadcast: &mut Broadcast, text: &str) {
     let m = move_of(rt, text);
-    game.play(m).expect(rt, "legal");
-    tape.push(m)?;
-    Ok(())
+    broadcast.game.play(m).expect(rt, "legal");
+    // What is put on a tape rests on it, so it is asserted here.
+    assert!(rt; !broadcast.tape.is_over() && broadcast.tape.len() < 65535);
+    broadcast.tape.push(m).expect(rt, "memory");
+}
+
+/// A spectator joins at a place.
+fn join(rt: &impl Abort, broadcast: &Broadcast, place: u16) -> Watcher {
+    let position = broadcast.game.position_at(place).expect(rt, "a place");
+    assert!(rt; usize::from(place) <= broadcast.tape.len());
+    broadcast.tape.join(place, &position).expect(rt, "memory")
+}
+
+/// The game ends by the last move.
+fn finish(rt: &impl Abort, broadcast: &mut Broadcast) {
+    assert!(rt; !broadcast.tape.is_over());
+    let end = broadcast.tape.finish(Outcome::Checkmate(Colour::Black));
+    end.expect(rt, "memory");
 }
 
 /// What was sent to a spectator that joined at the start before the first move, and to one that joined at place 1 after the second, through
 /// four moves to a mate, in pieces of at most `most` bytes.
-fn sent_in_pieces(rt: &impl Abort, alloc: Global, most: usize) -> Result<(Vec<u8>, Vec<u8>), Fail> {
-    let mut tape = Tape::new(alloc);
-    let mut game = Game::open(alloc, 518, 100).expect(rt, "a game");
-    let mut first_got = Vec::new(alloc);
-    let mut second_got = Vec::new(alloc);
-    let start = game.position_at(0).expect(rt, "the start");
-    let mut first = tape.join(0, &start).expect(rt, "memory");
-    write_all(rt, &mut first_got, &mut first, &tape, most);
-    make(rt, &mut game, &mut tape, "f2f3")?;
-    make(rt, &mut game, &mut tape, "e7e5")?;
-    let later = game.position_at(1).expect(rt, "one move was made");
-    let mut second = tape.join(1, &later).expect(rt, "memory");
-    write_all(rt, &mut first_got, &mut first, &tape, most);
-    make(rt, &mut game, &mut tape, "g2g4")?;
-    write_all(rt, &mut second_got, &mut second, &tape, most);
-    make(rt, &mut game, &mut tape, "d8h4")?;
-    write_all(rt, &mut second_got, &mut second, &tape, most);
-    claim(rt, !second.is_done(&tape), "it goes on");
-    let end = tape.finish(Outcome::Checkmate(Colour::Black));
-    end.expect(rt, "memory");
-    write_all(rt, &mut first_got, &mut first, &tape, most);
-    write_all(rt, &mut second_got, &mut second, &tape, most);
-    claim(rt, first.is_done(&tape), "the first has all");
-    claim(rt, second.is_done(&tape), "the second has all");
-    Ok((first_got, second_got))
+fn sent_in_pieces(rt: &impl Abort, alloc: Global, most: usize) -> (Vec<u8>, Vec<u8>) {
+    let mut broadcast = begun(rt, alloc);
+    let mut first = join(rt, &broadcast, 0);
+    write_all(rt, &mut broadcast.first, &mut first, &broadcast.tape, most);
+    make(rt, &mut broadcast, "f2f3");
+    make(rt, &mut broadcast, "e7e5");
+    let mut second = join(rt, &broadcast, 1);
+    write_all(rt, &mut broadcast.first, &mut first, &broadcast.tape, most);
+    make(rt, &mut broadcast, "g2g4");
+    write_all(
+        rt,
+        &mut broadcast.second,
+        &mut second,
+        &broadcast.tape,
+        most,
+    );
+    make(rt, &mut broadcast, "d8h4");
+    write_all(
+        rt,
+        &mut broadcast.second,
+        &mut second,
+        &broadcast.tape,
+        most,
+    );
+    claim(rt, !second.is_done(&broadcast.tape), "it goes on");
+    finish(rt, &mut broadcast);
+    write_all(rt, &mut broadcast.first, &mut first, &broadcast.tape, most);
+    write_all(
+        rt,
+        &mut broadcast.second,
+        &mut second,
+        &broadcast.tape,
+        most,
+    );
+    claim(rt, first.is_done(&broadcast.tape), "the first has all");
+    claim(rt, second.is_done(&broadcast.tape), "the second has all");
+    (broadcast.first, broadcast.second)
 }
 
 /// These pieces one after another.
-fn joined(alloc: Global, pieces: &[&[u8]]) -> Result<Vec<u8>, Fail> {
+fn joined(rt: &impl Abort, alloc: Global, pieces: &[&[u8]]) -> Vec<u8> {
     let mut all = Vec::new(alloc);
     for piece in pieces {
-        all.extend_from_slice(piece)?;
+        all.extend_from_slice(piece).expect(rt, "memory");
     }
-    Ok(all)
+    all
 }
 
 #[test]
-fn each_is_sent_the_frames_from_its_place_on(rt: HostRuntime) -> Result<(), Fail> {
+fn each_is_sent_the_frames_from_its_place_on(rt: HostRuntime) {
     let alloc = rt.alloc();
     let all = [at_the_start(), from_place_0(), from_place_1(), the_end()];
-    let from_the_start = joined(alloc, &all)?;
-    let later = joined(alloc, &[at_place_1(), from_place_1(), the_end()])?;
+    let from_the_start = joined(&rt, alloc, &all);
+    let later = joined(&rt, alloc, &[at_place_1(), from_place_1(), the_end()]);
     for most in [1, 2, 41, 42, 43, 1000] {
-        let (first, second) = sent_in_pieces(&rt, alloc, most)?;
-        claim(&rt, first == from_the_start, "from the start");
-        claim(&rt, second == later, "from place 1");
+        let (first, second) = sent_in_pieces(&rt, alloc, most);
+        claim_at(&rt, first == from_the_start, "from the start, by", most);
+        claim_at(&rt, second == later, "from place 1, by", most);
     }
-    Ok(())
 }
 
 /// Another frame may be written after the greeting and after each move, and nowhere else.

@@ -12,7 +12,6 @@ use crate::tests::values::BLACK_MATES;
 use c960_board::Colour;
 use c960_game::Result::Draw;
 use c960_game::{Ending, Outcome, Refusal};
-use std::test::Fail;
 
 const WHITE_RESIGNED: Outcome = Outcome::Resigned(Colour::White);
 
@@ -326,9 +325,8 @@ fn cases() -> &'static [Case] {
 }
 
 #[test]
-fn the_worked_cases_are_answered_as_their_tables_say(rt: HostRuntime) -> Result<(), Fail> {
+fn the_worked_cases_are_answered_as_their_tables_say(rt: HostRuntime) {
     for (name, limits, rows) in cases() {
-        assert_case(&rt, rt.alloc(), *name, *limits, *rows)?;
+        assert_case(&rt, rt.alloc(), *name, *limits, *rows);
     }
-    Ok(())
 }

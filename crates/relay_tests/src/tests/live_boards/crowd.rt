@@ -7,25 +7,20 @@ use crate::tests::values::account;
 use c960_game::Refusal;
 use live_board::{Board, Follower};
 use relay_core::Taken;
-use std::alloc::{AllocError, Global};
+use std::alloc::Global;
 use std::process::Abort;
-use std::test::Fail;
 
 const MOST: u32 = 1024;
 
 /// This many followers from a place, after which no more are let in.
-fn crowd(
-    rt: &impl Abort,
-    alloc: Global,
-    board: &mut Board,
-    from: Option<u16>,
-) -> Result<Vec<Follower>, AllocError> {
+fn crowd(rt: &impl Abort, alloc: Global, board: &mut Board, from: Option<u16>) -> Vec<Follower> {
     let mut followers = Vec::new(alloc);
     for _ in 0..MOST {
-        followers.push(followed(rt, board, from))?;
+        let follower = followed(rt, board, from);
+        followers.push(follower).expect(rt, "memory");
     }
     claim(rt, is_full_from(board, from), "no room for one more");
-    Ok(followers)
+    followers
 }
 
 /// Whether a board has no vacant slot for one that joins at this place.
@@ -63,30 +58,27 @@ fn all_leave(rt: &impl Abort, followers: Vec<Follower>) {
 }
 
 /// A crowd comes before the first move, and leaves behind the second.
-fn first_crowd(rt: &impl Abort, alloc: Global, board: &mut Board) -> Result<(), AllocError> {
-    let mut followers = crowd(rt, alloc, board, None)?;
+fn first_crowd(rt: &impl Abort, alloc: Global, board: &mut Board) {
+    let mut followers = crowd(rt, alloc, board, None);
     claim(rt, plays(rt, board, 0, "e2e4"), "e2e4 is played");
     half_takes(rt, &mut followers);
     claim(rt, plays(rt, board, 1, "e7e5"), "e7e5 is played");
     all_leave(rt, followers);
-    Ok(())
 }
 
 /// A crowd comes behind the second move, and takes it.
-fn second_crowd(rt: &impl Abort, alloc: Global, board: &mut Board) -> Result<(), AllocError> {
-    let mut followers = crowd(rt, alloc, board, Some(1))?;
+fn second_crowd(rt: &impl Abort, alloc: Global, board: &mut Board) {
+    let mut followers = crowd(rt, alloc, board, Some(1));
     for follower in followers.iter_mut() {
         claim(rt, gets(rt, follower, 1, "e7e5"), "the second move");
         claim(rt, takes(follower) == Taken::Nothing, "nothing behind it");
     }
-    Ok(())
 }
 
 #[test]
-fn a_board_has_a_thousand_and_twenty_four_followers(rt: HostRuntime) -> Result<(), Fail> {
+fn a_board_has_a_thousand_and_twenty_four_followers(rt: HostRuntime) {
     let alloc = rt.alloc();
     let mut board = opened(&rt, alloc, 518, limits_of(&rt, 1024, 1, 1024));
-    first_crowd(&rt, alloc, &mut board)?;
-    second_crowd(&rt, alloc, &mut board)?;
-    Ok(())
+    first_crowd(&rt, alloc, &mut board);
+    second_crowd(&rt, alloc, &mut board);
 }

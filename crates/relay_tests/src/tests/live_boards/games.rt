@@ -3,7 +3,7 @@
 use crate::tests::values::{NINETY_EIGHT, move_of};
 use c960_board::Move;
 use c960_game::Limits;
-use std::alloc::{AllocError, Global};
+use std::alloc::Global;
 use std::process::Abort;
 
 /// The limits of one board: followers, capacity, plies.
@@ -12,17 +12,18 @@ pub fn limits_of(rt: &impl Abort, followers: u16, capacity: u16, plies: u16) -> 
 }
 
 /// The moves of a line.
-pub fn line_of(rt: &impl Abort, alloc: Global, line: &str) -> Result<Vec<Move>, AllocError> {
+pub fn line_of(rt: &impl Abort, alloc: Global, line: &str) -> Vec<Move> {
     let mut moves = Vec::new(alloc);
     for text in line.split_whitespace() {
-        moves.push(move_of(rt, text))?;
+        moves.push(move_of(rt, text)).expect(rt, "memory");
     }
-    Ok(moves)
+    moves
 }
 
 /// A game of a hundred plies from start 518 without a pawn's move or a capture, so that White may claim a draw after it.
-pub fn hundred_plies(rt: &impl Abort, alloc: Global) -> Result<Vec<Move>, AllocError> {
-    let mut moves = line_of(rt, alloc, NINETY_EIGHT)?;
-    moves.append(&mut line_of(rt, alloc, "g1f3 g8f6")?)?;
-    Ok(moves)
+pub fn hundred_plies(rt: &impl Abort, alloc: Global) -> Vec<Move> {
+    let mut moves = line_of(rt, alloc, NINETY_EIGHT);
+    let mut last = line_of(rt, alloc, "g1f3 g8f6");
+    moves.append(&mut last).expect(rt, "memory");
+    moves
 }

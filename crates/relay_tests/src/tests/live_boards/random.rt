@@ -7,9 +7,8 @@ use crate::tests::live_boards::games::limits_of;
 use crate::tests::live_boards::stage::{Answer, Ask};
 use crate::tests::values::move_of;
 use relay_core::Taken;
-use std::alloc::{AllocError, Global};
+use std::alloc::Global;
 use std::process::Abort;
-use std::test::Fail;
 
 /// A question: of 128, 56 submit, 1 ends, 8 follow from the present and 8 from an early place, 44 take, 10 leave, 1 goes.
 fn any_ask(rt: &impl Abort, dice: &mut Dice) -> Ask {
@@ -115,28 +114,27 @@ fn assert_same(
     dice: &mut Dice,
     limits: (u16, u16, u16),
     seen: &mut Vec<Answer>,
-) -> Result<(), AllocError> {
+) {
     let (followers, capacity, plies) = limits;
     let limits = limits_of(rt, followers, capacity, plies);
-    let mut both = both_of(rt, alloc, limits, 4)?;
+    let mut both = both_of(rt, alloc, limits, 4);
     for _ in 0..160 {
-        seen.push(ask_both(rt, &mut both, &any_ask(rt, dice))?)?;
+        let answer = ask_both(rt, &mut both, &any_ask(rt, dice));
+        seen.push(answer).expect(rt, "memory");
     }
-    Ok(())
 }
 
 #[test]
-fn questions_by_chance_are_answered_as_by_the_plain_board(rt: HostRuntime) -> Result<(), Fail> {
+fn questions_by_chance_are_answered_as_by_the_plain_board(rt: HostRuntime) {
     let alloc = rt.alloc();
     let mut dice = Dice { seed: 960 };
     let mut seen = Vec::new(alloc);
     for limits in limits_in_turn() {
         for _ in 0..100 {
-            assert_same(&rt, alloc, &mut dice, *limits, &mut seen)?;
+            assert_same(&rt, alloc, &mut dice, *limits, &mut seen);
         }
     }
     for kind in kinds() {
         claim(&rt, has_kind(seen.as_slice(), *kind), *kind);
     }
-    Ok(())
 }

@@ -57,15 +57,11 @@ pub struct Stage {
 
 impl Stage {
     /// A new board of start 518, with room for this many followers on the stage.
-    pub fn open(
-        rt: &impl Abort,
-        alloc: Global,
-        limits: Limits,
-        room: usize,
-    ) -> Result<Stage, AllocError> {
-        let followers = vacant(alloc, room)?;
-        let board = opened(rt, alloc, 518, limits);
-        Ok(Stage { board, followers })
+    pub fn open(rt: &impl Abort, alloc: Global, limits: Limits, room: usize) -> Stage {
+        Stage {
+            board: opened(rt, alloc, 518, limits),
+            followers: vacant(alloc, room).expect(rt, "memory"),
+        }
     }
 
     /// Asks, and returns the answer.

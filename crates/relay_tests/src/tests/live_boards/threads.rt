@@ -9,7 +9,6 @@ use live_board::{Board, Follower};
 use relay_core::{Account, Taken};
 use std::alloc::{AllocError, Global};
 use std::process::Abort;
-use std::test::Fail;
 use std::thread::{self, JoinHandle, Threads};
 
 /// How often a thread takes before it gives up.
@@ -59,14 +58,13 @@ pub fn play_all(board: &mut Board, moves: &[Move]) -> bool {
     fine && board.end(Ending::Agreed) == Ok(Outcome::Agreed)
 }
 
-/// What a follower had in all, once it has taken what was left.
-fn with_the_rest(alloc: Global, follower: &mut Follower, early: Took) -> Result<Took, AllocError> {
-    let mut had = early;
-    let late = take_all(alloc, follower, 200)?;
-    had.moves.extend_from_slice(late.moves.as_slice())?;
+/// A follower takes what is left, which is added to what it had.
+fn take_the_rest(rt: &impl Abort, alloc: Global, follower: &mut Follower, had: &mut Took) {
+    let late = take_all(alloc, follower, 200).expect(rt, "memory");
+    let added = had.moves.extend_from_slice(late.moves.as_slice());
+    added.expect(rt, "memory");
     had.in_order = had.in_order && late.in_order;
     had.last = late.last;
-    Ok(had)
 }
 
 /// Whether the last answer is that the follower was closed, or all of the game was had and it is over.
@@ -98,28 +96,28 @@ fn assert_had(rt: &impl Abort, moves: &[Move], had: &Took, account: Account) -> 
 /// A follower, and what it has taken, or that there was no memory for it.
 type Taking = (Follower, Result<Took, AllocError>);
 
+/// A follower whose thread has ended, and what it had in all.
+type Ended = (Follower, Took);
+
 /// A thread in which a follower takes.
 fn started<R: Threads + Abort>(
     rt: &R,
     alloc: Global,
     mut follower: Follower,
-) -> Result<JoinHandle<Taking>, Fail> {
+) -> JoinHandle<Taking> {
     let handle = thread::spawn(rt, move || {
         let took = take_all(alloc, &mut follower, MOST_TAKES);
         (follower, took)
-    })?;
-    Ok(handle)
+    });
+    handle.expect(rt, "a thread")
 }
 
 /// The follower of a thread that has ended, and what it had in all.
-fn joined<R: Threads + Abort>(
-    rt: &R,
-    alloc: Global,
-    handle: JoinHandle<Taking>,
-) -> Result<(Follower, Took), AllocError> {
+fn joined<R: Threads + Abort>(rt: &R, alloc: Global, handle: JoinHandle<Taking>) -> Ended {
     let (mut follower, early) = handle.join(rt);
-    let had = with_the_rest(alloc, &mut follower, early?)?;
-    Ok((follower, had))
+    let mut had = early.expect(rt, "memory");
+    take_the_rest(rt, alloc, &mut follower, &mut had);
+    (follower, had)
 }
 
 /// Plays the board while two others take the moves, in threads of their own. Returns them with what each had.
@@ -128,26 +126,17 @@ fn play_with_two<R: Threads + Abort>(
     alloc: Global,
     board: &mut Board,
     moves: &[Move],
-) -> Result<Vec<(Follower, Took)>, Fail> {
-    let mut running = Vec::new(alloc);
-    for _ in 0..2 {
-        running.push(started(rt, alloc, followed(rt, board, None))?)?;
-    }
+) -> (Ended, Ended) {
+    let first = started(rt, alloc, followed(rt, board, None));
+    let second = started(rt, alloc, followed(rt, board, None));
     claim(rt, play_all(board, moves), "each move is made at its place");
-    let mut ended = Vec::new(alloc);
-    for handle in running {
-        ended.push(joined(rt, alloc, handle)?)?;
-    }
-    Ok(ended)
+    (joined(rt, alloc, first), joined(rt, alloc, second))
 }
 
-/// Asserts what each had, and that its account says so. Returns whether one of them was closed.
-fn all_had(rt: &impl Abort, moves: &[Move], ended: Vec<(Follower, Took)>) -> bool {
-    let mut is_closed = false;
-    for (follower, had) in ended {
-        is_closed = assert_had(rt, moves, &had, leaves(follower)) || is_closed;
-    }
-    is_closed
+/// Asserts what a follower had, and that its account says so. It leaves. Returns whether it was closed.
+fn was_closed(rt: &impl Abort, moves: &[Move], ended: Ended) -> bool {
+    let (follower, had) = ended;
+    assert_had(rt, moves, &had, leaves(follower))
 }
 
 /// Whether two more may follow a board.
@@ -161,26 +150,26 @@ fn play_before_two<R: Threads + Abort>(
     alloc: Global,
     moves: &[Move],
     capacity: u16,
-) -> Result<bool, Fail> {
+) -> bool {
     let mut board = opened(rt, alloc, 518, limits_of(rt, 2, capacity, 1024));
-    let ended = play_with_two(rt, alloc, &mut board, moves)?;
+    let (first, second) = play_with_two(rt, alloc, &mut board, moves);
     claim(rt, is_full(&mut board), "both slots are taken");
-    let is_closed = all_had(rt, moves, ended);
+    let is_first_closed = was_closed(rt, moves, first);
+    let is_second_closed = was_closed(rt, moves, second);
     claim(rt, has_room_for_two(&mut board), "both slots are vacant");
-    Ok(is_closed)
+    is_first_closed || is_second_closed
 }
 
 #[test]
-fn two_threads_take_in_a_game(rt: HostRuntime) -> Result<(), Fail> {
+fn two_threads_take_in_a_game(rt: HostRuntime) {
     let alloc = rt.alloc();
-    let moves = hundred_plies(&rt, alloc)?;
+    let moves = hundred_plies(&rt, alloc);
     // No follower is closed whose queue holds the whole game.
     for capacity in [128, 1024] {
-        let is_closed = play_before_two(&rt, alloc, moves.as_slice(), capacity)?;
+        let is_closed = play_before_two(&rt, alloc, moves.as_slice(), capacity);
         claim(&rt, !is_closed, "room for the whole game");
     }
     for _ in 0..50 {
-        play_before_two(&rt, alloc, moves.as_slice(), 4)?;
+        play_before_two(&rt, alloc, moves.as_slice(), 4);
     }
-    Ok(())
 }

@@ -11,7 +11,6 @@ use live_board::{Board, Follower};
 use relay_core::{Account, Taken};
 use std::alloc::{AllocError, Global};
 use std::process::Abort;
-use std::test::Fail;
 use std::thread;
 use std::thread::{JoinHandle, Threads};
 
@@ -41,9 +40,9 @@ fn is_last(last: Taken, account: &Account, to: usize, plies: usize) -> bool {
 }
 
 /// Asserts that the follower's moves are the stretch of the game from its joining place, and that its account says so.
-fn assert_stretch(rt: &impl Abort, moves: &[Move], visit: Visit) -> Result<(), AllocError> {
+fn assert_stretch(rt: &impl Abort, moves: &[Move], visit: Visit) {
     let (joined, took, account) = visit;
-    let took = took?;
+    let took = took.expect(rt, "memory");
     claim(rt, took.in_order, "each place follows the one before");
     claim(rt, account.joined == joined, "where it joined");
     let count = usize::from(account.taken);
@@ -60,7 +59,6 @@ fn assert_stretch(rt: &impl Abort, moves: &[Move], visit: Visit) -> Result<(), A
         is_last(took.last, &account, to, moves.len()),
         "the last answer",
     );
-    Ok(())
 }
 
 /// A follower from the present or a place back; none if the board is full.
@@ -85,13 +83,11 @@ fn come<R: Threads + Abort>(
     alloc: Global,
     board: &mut Board,
     dice: &mut Dice,
-) -> Result<Option<JoinHandle<Visit>>, Fail> {
-    let Some(follower) = follower_or_full(rt, board, dice.roll() % 3) else {
-        return Ok(None);
-    };
+) -> Option<JoinHandle<Visit>> {
+    let follower = follower_or_full(rt, board, dice.roll() % 3)?;
     let most = dice.roll() % 2000;
-    let handle = thread::spawn(rt, move || visit(alloc, follower, most))?;
-    Ok(Some(handle))
+    let handle = thread::spawn(rt, move || visit(alloc, follower, most));
+    Some(handle.expect(rt, "a thread"))
 }
 
 /// Asserts that each had a stretch of the game. Returns how many came.
@@ -99,13 +95,13 @@ fn all_had_stretches<R: Threads + Abort>(
     rt: &R,
     moves: &[Move],
     visits: Vec<JoinHandle<Visit>>,
-) -> Result<u32, AllocError> {
+) -> u32 {
     let mut count = 0u32;
     for handle in visits {
-        assert_stretch(rt, moves, handle.join(rt))?;
+        assert_stretch(rt, moves, handle.join(rt));
         count = count.wrapping_add(1);
     }
-    Ok(count)
+    count
 }
 
 /// Whether another one finds a slot behind the last move, and leaves.
@@ -123,16 +119,16 @@ fn play<R: Threads + Abort>(
     moves: &[Move],
     capacity: u16,
     dice: &mut Dice,
-) -> Result<u32, Fail> {
+) -> u32 {
     let mut board = opened(rt, alloc, 518, limits_of(rt, 3, capacity, 1024));
-    let visits = visits_of(rt, alloc, &mut board, moves, dice)?;
+    let visits = visits_of(rt, alloc, &mut board, moves, dice);
     claim(rt, agrees(&mut board), "a draw is agreed");
-    let count = all_had_stretches(rt, moves, visits)?;
+    let count = all_had_stretches(rt, moves, visits);
     // All have left, so that there is as much room as ever.
     for _ in 0..3 {
         claim(rt, has_room(alloc, &mut board), "a vacant slot");
     }
-    Ok(count)
+    count
 }
 
 /// Makes the moves, and has followers come meanwhile.
@@ -142,19 +138,19 @@ fn visits_of<R: Threads + Abort>(
     board: &mut Board,
     moves: &[Move],
     dice: &mut Dice,
-) -> Result<Vec<JoinHandle<Visit>>, Fail> {
+) -> Vec<JoinHandle<Visit>> {
     let mut visits = Vec::new(alloc);
     let mut place = 0u16;
     for m in moves {
         if dice.roll() % 4 == 0 {
-            if let Some(handle) = come(rt, alloc, board, dice)? {
-                visits.push(handle)?;
+            if let Some(handle) = come(rt, alloc, board, dice) {
+                visits.push(handle).expect(rt, "memory");
             }
         }
         claim(rt, is_taken(board, *m, place), "the next move");
         place = place.saturating_add(1);
     }
-    Ok(visits)
+    visits
 }
 
 /// Whether a board takes a move at this place, and its game goes on.
@@ -163,14 +159,14 @@ fn is_taken(board: &mut Board, m: Move, place: u16) -> bool {
 }
 
 #[test]
-fn what_each_follower_had_is_a_stretch_of_the_game(rt: HostRuntime) -> Result<(), Fail> {
+fn what_each_follower_had_is_a_stretch_of_the_game(rt: HostRuntime) {
     let alloc = rt.alloc();
-    let moves = hundred_plies(&rt, alloc)?;
+    let moves = hundred_plies(&rt, alloc);
     let mut dice = Dice { seed: 518 };
     let mut count = 0u32;
     for capacity in [1, 1, 2, 3, 5, 8, 64, 128] {
         for _ in 0..10 {
-            count = count.wrapping_add(play(&rt, alloc, moves.as_slice(), capacity, &mut dice)?);
+            count = count.wrapping_add(play(&rt, alloc, moves.as_slice(), capacity, &mut dice));
         }
     }
     claim_at(
@@ -179,5 +175,4 @@ fn what_each_follower_had_is_a_stretch_of_the_game(rt: HostRuntime) -> Result<()
         "visits, more than 100 wanted, were",
         count as usize,
     );
-    Ok(())
 }

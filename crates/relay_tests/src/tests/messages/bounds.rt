@@ -1,8 +1,7 @@
 //! Numbers up to their bounds.
 
-use crate::tests::claims::claim;
+use crate::tests::messages::commands::assert_read;
 use crate::tests::relays::table::{Asked, line_of, step_of};
-use relay_messages::decode;
 
 /// Numbers at their bounds, in the commands that have them.
 static BOUNDS: [(&str, Asked); 9] = [
@@ -47,7 +46,6 @@ fn bounds() -> &'static [(&'static str, Asked)] {
 fn numbers_up_to_their_bounds_are_read(rt: HostRuntime) {
     for (text, asked) in bounds() {
         let step = step_of(&rt, *asked, line_of(*asked));
-        let said = decode(rt.alloc(), text.as_bytes());
-        claim(&rt, said == Ok(step), *text);
+        assert_read(&rt, rt.alloc(), *text, &Ok(step));
     }
 }

@@ -4,7 +4,21 @@ use crate::tests::claims::claim;
 use crate::tests::relays::table::{Asked, line_of, step_of};
 use c960_board::Colour;
 use c960_game::Ending;
-use relay_messages::decode;
+use relay_core::Step;
+use relay_messages::{MessageFault, decode};
+use std::alloc::Global;
+use std::process::Abort;
+
+/// Asserts that a text by itself gives this command, or has this fault.
+pub fn assert_read(
+    rt: &impl Abort,
+    alloc: Global,
+    text: &str,
+    wanted: &Result<Step, MessageFault>,
+) {
+    let said = decode(alloc, text.as_bytes());
+    claim(rt, said == *wanted, text);
+}
 
 /// Texts, and the command that each gives.
 static COMMANDS: [(&str, Asked); 16] = [
@@ -77,8 +91,7 @@ fn commands() -> &'static [(&'static str, Asked)] {
 fn each_command_is_read(rt: HostRuntime) {
     for (text, asked) in commands() {
         let step = step_of(&rt, *asked, line_of(*asked));
-        let said = decode(rt.alloc(), text.as_bytes());
-        claim(&rt, said == Ok(step), *text);
+        assert_read(&rt, rt.alloc(), *text, &Ok(step));
     }
 }
 
@@ -132,7 +145,6 @@ fn free_forms() -> &'static [(&'static str, Asked)] {
 fn white_space_escapes_and_the_order_and_number_of_keys_are_free(rt: HostRuntime) {
     for (text, asked) in free_forms() {
         let step = step_of(&rt, *asked, line_of(*asked));
-        let said = decode(rt.alloc(), text.as_bytes());
-        claim(&rt, said == Ok(step), *text);
+        assert_read(&rt, rt.alloc(), *text, &Ok(step));
     }
 }

@@ -1,6 +1,7 @@
 //! Texts that are not commands.
 
 use crate::tests::claims::claim;
+use crate::tests::messages::commands::assert_read;
 use relay_core::Step;
 use relay_messages::{MessageFault, decode};
 
@@ -34,11 +35,10 @@ fn faults() -> &'static [(&'static str, MessageFault)] {
 #[test]
 fn script_faults(rt: HostRuntime) {
     for (text, fault) in faults() {
-        let said = decode(rt.alloc(), text.as_bytes());
-        claim(&rt, said == Err(*fault), *text);
+        assert_read(&rt, rt.alloc(), *text, &Err(*fault));
     }
     let said = answer_to_1025(&rt, b' ');
     claim(&rt, said == Err(MessageFault::BadField), "1,025 bytes");
-    let said = decode(rt.alloc(), br#"{"cmd":"take","spectator":7}"#);
-    claim(&rt, said == Ok(Step::Take(7)), "a command");
+    let take = r#"{"cmd":"take","spectator":7}"#;
+    assert_read(&rt, rt.alloc(), take, &Ok(Step::Take(7)));
 }

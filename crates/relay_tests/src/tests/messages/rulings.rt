@@ -1,12 +1,12 @@
 //! How an arbiter ends a game, as texts: a loss on time and a decision, and what is no such command.
 
-use crate::tests::claims::claim;
+use crate::tests::messages::commands::assert_read;
 use crate::tests::values::board_of;
 use c960_board::Colour;
 use c960_game::Ending;
 use c960_game::Result::{BlackWins, Draw, WhiteWins};
 use relay_core::Step;
-use relay_messages::{MessageFault, decode};
+use relay_messages::MessageFault;
 
 /// Texts, and the ending of the board b1 that each gives.
 static RULINGS: [(&str, Ending); 9] = [
@@ -58,8 +58,7 @@ fn rulings() -> &'static [(&'static str, Ending)] {
 fn a_loss_on_time_and_a_decision_are_read(rt: HostRuntime) {
     let board = board_of(&rt, "b1");
     for (text, ending) in rulings() {
-        let said = decode(rt.alloc(), text.as_bytes());
-        claim(&rt, said == Ok(Step::End(board, *ending)), *text);
+        assert_read(&rt, rt.alloc(), *text, &Ok(Step::End(board, *ending)));
     }
 }
 
@@ -91,7 +90,6 @@ fn faulty() -> &'static [&'static str] {
 #[test]
 fn a_result_belongs_to_a_decision_alone_and_a_side_to_no_decision(rt: HostRuntime) {
     for text in faulty() {
-        let said = decode(rt.alloc(), text.as_bytes());
-        claim(&rt, said == Err(MessageFault::BadField), *text);
+        assert_read(&rt, rt.alloc(), *text, &Err(MessageFault::BadField));
     }
 }

@@ -1,10 +1,11 @@
 //! Texts on the watch port, and the same texts on the main port.
 
 use crate::tests::claims::{claim, claim_of};
+use crate::tests::messages::commands::assert_read;
 use crate::tests::relays::table::{Asked, line_of, step_of};
 use c960_game::Ending;
 use relay_core::Step;
-use relay_messages::{Decoder, MessageFault, WatchCommand, decode};
+use relay_messages::{Decoder, MessageFault, WatchCommand};
 use std::process::Abort;
 
 /// Asserts what a text asks for on the watch port.
@@ -169,8 +170,7 @@ fn the_six_commands_are_the_same_on_both_ports(rt: HostRuntime) {
     for (text, asked) in commands() {
         let step = &step_of(&rt, *asked, line_of(*asked));
         assert_watch(&rt, &mut decoder, *text, &Ok(WatchCommand::Step(*step)));
-        let said = decode(rt.alloc(), text.as_bytes());
-        claim(&rt, said == Ok(*step), *text);
+        assert_read(&rt, rt.alloc(), *text, &Ok(*step));
     }
 }
 

@@ -1,11 +1,12 @@
 //! Crowds of followers, who leave in several orders.
 
+use crate::tests::relays::kinds::reply_to;
 use crate::tests::relays::table::{assert_step, limits_of};
 use crate::tests::values::{board_of, move_of};
 use c960_game::Limits;
 use relay_core::{BoardName, Relay, Reply, Spectator, Step};
 use relay_live::LiveRelay;
-use std::alloc::{AllocError, Global};
+use std::alloc::Global;
 use std::process::Abort;
 
 /// How many follow at a time.
@@ -39,16 +40,17 @@ pub struct Both {
 }
 
 /// Relays without boards.
-pub fn both_of(alloc: Global, limits: Limits) -> Result<Both, AllocError> {
-    let plain = Relay::new(alloc, limits)?;
-    let live = LiveRelay::new(alloc, limits)?;
-    Ok(Both { plain, live })
+pub fn both_of(rt: &impl Abort, alloc: Global, limits: Limits) -> Both {
+    Both {
+        plain: Relay::new(alloc, limits).expect(rt, "memory"),
+        live: LiveRelay::new(alloc, limits).expect(rt, "memory"),
+    }
 }
 
 /// Asserts that both answer a step alike. Returns whether they accept it.
 pub fn ask(rt: &impl Abort, both: &mut Both, step: &Step) -> bool {
-    let plain = both.plain.step(*step);
-    let live = both.live.step(*step);
+    let plain = reply_to(&mut both.plain, step);
+    let live = reply_to(&mut both.live, step);
     assert_step(rt, live == plain, "both answer alike", step);
     !matches!(plain, Reply::Refused(_))
 }
@@ -103,9 +105,7 @@ fn come_and_go(rt: &impl Abort, both: &mut Both, board: BoardName, order: Order)
 }
 
 #[test]
-fn a_crowd_that_leaves_in_any_order_is_answered_as_by_the_plain_relay(
-    rt: HostRuntime,
-) -> Result<(), AllocError> {
+fn a_crowd_that_leaves_in_any_order_is_answered_as_by_the_plain_relay(rt: HostRuntime) {
     let alloc = rt.alloc();
     let limits = limits_of(&rt, (1, 40, 64, 64));
     let board = board_of(&rt, "crowded");
@@ -114,8 +114,7 @@ fn a_crowd_that_leaves_in_any_order_is_answered_as_by_the_plain_relay(
         Order::LastComeFirst,
         Order::Scattered,
     ] {
-        let mut both = both_of(alloc, limits)?;
+        let mut both = both_of(&rt, alloc, limits);
         come_and_go(&rt, &mut both, board, order);
     }
-    Ok(())
 }

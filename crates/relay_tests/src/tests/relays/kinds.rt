@@ -12,6 +12,11 @@ pub trait Kind: Stepper + Drop {
     fn ran(&mut self, steps: &[Step]) -> Result<Vec<Reply>, AllocError>;
 }
 
+/// The reply to a step. Whoever calls this carries no clauses of a relay along.
+pub fn reply_to(relay: &mut impl Stepper, step: &Step) -> Reply {
+    relay.step(*step)
+}
+
 impl Kind for Relay {
     fn made(alloc: Global, limits: Limits) -> Result<Relay, AllocError> {
         Relay::new(alloc, limits)

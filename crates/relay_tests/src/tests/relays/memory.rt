@@ -3,7 +3,7 @@
 
 use crate::tests::claims::claim;
 use crate::tests::relays::endings::mate;
-use crate::tests::relays::kinds::Kind;
+use crate::tests::relays::kinds::{Kind, reply_to};
 use crate::tests::relays::table::Asked::{End, Follow, FollowFrom, Leave, Open, Submit, Take};
 use crate::tests::relays::table::Told::{
     Cut, Ended, Following, Left, Nothing, Opened, Over, Played, Took,
@@ -64,13 +64,13 @@ fn assert_answer(
     reply: &Reply,
     refused: &mut Refused,
 ) {
-    let first = relay.step(*step);
+    let first = reply_to(relay, step);
     let vain = in_vain(step);
     match vain {
         Some((asked, told)) if first == WANT => {
             refused.note();
-            let after = relay.step(asked);
-            let again = relay.step(*step);
+            let after = reply_to(relay, &asked);
+            let again = reply_to(relay, step);
             claim(rt, after == told, "after a refusal");
             claim(rt, again == *reply, "made again");
         }

@@ -1,11 +1,12 @@
 //! Lists of steps drawn at random, whose replies are those of the plain relay.
 
 use crate::tests::chance::{Dice, ENDINGS, MOVES};
+use crate::tests::claims::claim;
 use crate::tests::relays::plain::Plain;
 use crate::tests::relays::table::{assert_replies, limits_of};
 use crate::tests::values::{board_of, move_of};
 use relay_core::{Reply, Step, Taken};
-use std::alloc::AllocError;
+use std::alloc::{AllocError, Global};
 use std::process::Abort;
 use std::test::Fail;
 
@@ -123,22 +124,35 @@ fn limits_in_turn() -> &'static [(u16, u16, u16, u16)] {
     &LIMITS
 }
 
+/// Asks new relays and the plain one the same, and returns the replies.
+fn assert_same(
+    rt: &impl Abort,
+    alloc: Global,
+    dice: &mut Dice,
+    numbers: (u16, u16, u16, u16),
+) -> Result<Vec<Reply>, Fail> {
+    let limits = limits_of(rt, numbers);
+    let mut plain = Plain::new(alloc, limits);
+    let mut steps = Vec::new(alloc);
+    let mut replies = Vec::new(alloc);
+    let drawn = draw(rt, dice, &mut plain, &mut steps, &mut replies);
+    drawn.expect(rt, "memory");
+    assert_replies(rt, alloc, limits, steps.as_slice(), replies.as_slice())?;
+    Ok(replies)
+}
+
 #[test]
 fn steps_by_chance_are_answered_as_by_the_plain_relay(rt: HostRuntime) -> Result<(), Fail> {
     let alloc = rt.alloc();
     let mut dice = Dice { seed: 960 };
     let mut seen = Vec::new(alloc);
     for numbers in limits_in_turn() {
-        let limits = limits_of(&rt, *numbers);
-        let mut plain = Plain::new(alloc, limits);
-        let mut steps = Vec::new(alloc);
-        let mut replies = Vec::new(alloc);
-        draw(&rt, &mut dice, &mut plain, &mut steps, &mut replies)?;
-        assert_replies(&rt, alloc, limits, steps.as_slice(), replies.as_slice())?;
-        seen.extend_from_slice(replies.as_slice())?;
+        let replies = assert_same(&rt, alloc, &mut dice, *numbers)?;
+        seen.extend_from_slice(replies.as_slice())
+            .expect(&rt, "memory");
     }
     for kind in kinds() {
-        assert!(rt; has_kind(seen.as_slice(), *kind), "no {kind}");
+        claim(&rt, has_kind(seen.as_slice(), *kind), *kind);
     }
     Ok(())
 }

@@ -6,9 +6,8 @@ use crate::tests::relays::table::limits_of;
 use crate::tests::values::board_of;
 use relay_core::{BoardName, Spectator, Step};
 use relay_live::Board;
-use std::alloc::{AllocError, Global};
+use std::alloc::Global;
 use std::process::Abort;
-use std::test::Fail;
 
 /// How many may follow.
 const MOST: u32 = 6;
@@ -68,29 +67,22 @@ fn assert_vacant(rt: &impl Abort, board: &Board, vacant: u32) {
 }
 
 /// Asserts that of two slots that were left a newcomer has the lower one, also after both were left and taken several times.
-fn assert_lower(
-    rt: &impl Abort,
-    alloc: Global,
-    first: Spectator,
-    second: Spectator,
-) -> Result<(), AllocError> {
+fn assert_lower(rt: &impl Abort, alloc: Global, first: Spectator, second: Spectator) {
     let limits = limits_of(rt, (1, MOST as u16, 64, 64));
     let board = board_of(rt, "crowded");
-    let mut both = both_of(alloc, limits)?;
+    let mut both = both_of(rt, alloc, limits);
     come_and_go(rt, &mut both, board, first, second);
     let board = handed_out(rt, both, &board);
     assert_vacant(rt, &board, first.max(second));
-    Ok(())
 }
 
 #[test]
-fn the_lowest_slot_that_was_left_is_given_out_first(rt: HostRuntime) -> Result<(), Fail> {
+fn the_lowest_slot_that_was_left_is_given_out_first(rt: HostRuntime) {
     for first in 0..MOST {
         for second in 0..MOST {
             if first != second {
-                assert_lower(&rt, rt.alloc(), first, second)?;
+                assert_lower(&rt, rt.alloc(), first, second);
             }
         }
     }
-    Ok(())
 }

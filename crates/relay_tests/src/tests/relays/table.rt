@@ -1,7 +1,7 @@
 //! Cases as tables: what is asked of a relay, and what it has to answer, one row each.
 
 use crate::tests::claims::{claim_at, claim_of};
-use crate::tests::relays::kinds::Kind;
+use crate::tests::relays::kinds::{Kind, reply_to};
 use crate::tests::values::{account, board_of, move_of, position_of};
 use c960_game::{Ending, Limits, Outcome, Refusal};
 use relay_core::{Relay, Reply, Spectator, Step, Taken};
@@ -160,7 +160,8 @@ fn assert_steps<K: Kind>(
 ) -> Result<(), Fail> {
     let mut relay = K::made(alloc, limits)?;
     for i in 0..steps.len().min(replies.len()) {
-        claim_at(rt, relay.step(steps[i]) == replies[i], name, i);
+        let is_told = reply_to(&mut relay, &steps[i]) == replies[i];
+        claim_at(rt, is_told, name, i);
     }
     Ok(())
 }
