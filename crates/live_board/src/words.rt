@@ -1,7 +1,7 @@
 //! The words of a live board: where each stands in its table, how it is made, and what can be read from it.
 
 ghost use Rattle.std.specs.Prelude.{◌≡◌, ◌<◌, ◌/◌, ◌==◌, Some, None};
-ghost use Rattle.live_board.specs.Words.{closing_in, cursor_at, cursor_of, header_word, length_in, move_word_at, outcome_in, place_in, status_word, word_count};
+ghost use Rattle.live_board.specs.Words.{closing_in, cursor_at, cursor_of, header_word, length_in, move_word_at, outcome_in, outcome_numbered, place_in, status_word, word_count};
 
 use crate::BoardLimits;
 use c960_game::Outcome;
@@ -90,12 +90,25 @@ pub fn length_in(status: u64) -> u64
     status % FIELD
 }
 
-/// The outcome according to a status.
+/// The outcome with this number.
+#[cold]
+#[inline(never)]
+fn outcome_numbered(code: u64) -> Option<Outcome>
+    ensures { result ≡ outcome_numbered code }
+{
+    Outcome::of_code(code)
+}
+
+/// The outcome according to a status. Nearly every look meets a game that goes on, so that case is all that a taker's loop has.
 #[inline(always)]
 pub fn outcome_in(status: u64) -> Option<Outcome>
     ensures { result ≡ outcome_in status }
 {
-    Outcome::of_code(status / FIELD)
+    let code = status / FIELD;
+    if code == 0 {
+        return None;
+    }
+    outcome_numbered(code)
 }
 
 /// The place of the move that is taken next, according to a cursor.
