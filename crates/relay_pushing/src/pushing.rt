@@ -35,7 +35,9 @@ pub enum Turn {
     Ended(PushEnd),
 }
 
-/// Sends the text of a take's answer.
+/// Sends the text of a take's answer. For each of a board's followers it mostly is to compare the answer with the last one and to send: a
+/// call would take as long.
+#[inline(always)]
 fn send_taken<O: Outlet>(last: &mut LastText, outlet: &mut O, taken: Taken) -> Result<(), SendFault>
     ensures ok { OnOk result (Gains (O.sent outlet.old) (O.sent outlet.new) (text_of taken)) }
     ensures err { OnErr result (O.sent outlet.new ≡ O.sent outlet.old) }
