@@ -3,7 +3,7 @@
 
 use crate::tests::values::move_of;
 use c960_game::{Ending, Limits, Outcome, Refusal};
-use live_board::{Board, Follower, meet};
+use live_board::{Board, Follower};
 use relay_core::{Account, Taken};
 use std::alloc::Global;
 use std::process::Abort;
@@ -49,11 +49,6 @@ pub fn takes(follower: &mut Follower) -> Taken {
 /// Whether a follower takes the move at this place.
 pub fn gets(rt: &impl Abort, follower: &mut Follower, place: u16, text: &str) -> bool {
     follower.take() == Taken::Move(place, move_of(rt, text))
-}
-
-/// What a follower knows once it has met its board.
-pub fn meets(board: &mut Board, follower: &mut Follower) -> Account {
-    meet(board, follower)
 }
 
 /// The account of a follower that leaves.
