@@ -94,6 +94,7 @@ async def watch(server, figures, again):
             words = "the connection ended"
         except Refused as fault:
             if not fault.later:
+                await line.close()  # Else the program waits for the relay's close frame before it ends.
                 raise Unusable(f"{server} is not a watch port: {fault}") from None
             words = str(fault)
         except FAULTS as fault:
