@@ -2,13 +2,15 @@
 """Shows the boards of a round to the phones and screens of a hall, beside a relay on the same machine.
 
     relay960 serve --forever --boards 64 --capacity 1024 --grace 120 --watch 127.0.0.1:9601
-    hall.py [ROUND]                                                  (Debian: apt-get install nginx-light qrencode)
+    hall.py [LIST]                                                   (Debian: apt-get install nginx-light qrencode)
 
-All boards of the relay are shown as they are opened. ROUND is a file that names the players, one board per line, as the forms of the pages
+All boards of the relay are shown as they are opened. LIST is a file that names the players, one board per line, as the forms of the pages
 take them: its name, perhaps its start number, and its players. A board that it names is shown before it is open, too:
 
     r3-1 518 Carlsen – Caruana
     r3-2 518 Nakamura – So
+
+--event and --round are for the PGN that a page saves.
 
 It serves the pages for watching at an address of this machine in the hall's network, and passes /watch there on to the relay's watch port,
 on which nothing can be changed. It prints that address and its QR code. Boards are opened and played on this machine alone, at the
@@ -95,11 +97,12 @@ def read_round(file):
     return boards
 
 
-def page_of(boards, host):
-    """The address of the round's page, after its host."""
+def page_of(boards, host, event):
+    """The address of the round's page, after its host. `event` has its event and round, where they are given."""
     said = {"watch": f"ws://{host}/watch"}
     if boards:
         said["players"] = ";".join(f"{name} {players}".strip() for name, players in boards)
+    said |= {key: value for key, value in event.items() if value}
     return "/pages/round.html?" + urllib.parse.urlencode(said, quote_via=urllib.parse.quote, safe=",:/;")
 
 
@@ -128,7 +131,7 @@ def hall_address():
     if len(found) == 1:
         return found[0]
     if not found:
-        raise Wrong("this machine is in no network: connect it to the hall's")
+        raise Wrong("this machine is in no network: connect it to the hall's, or give its --address there")
     way = outward()
     if way in found:
         return way
@@ -208,7 +211,8 @@ class Serving:
         for file in sorted(first_there(PAGES).iterdir()):
             if file.suffix in (".html", ".js", ".css") and file.name not in FOR_OPERATORS:
                 shutil.copyfile(file, pages / file.name)
-        front, page = self.folder / "front", page_of(self.boards, self.host)
+        event = {"event": self.given.event, "round": self.given.round}
+        front, page = self.folder / "front", page_of(self.boards, self.host, event)
         front.mkdir()
         (front / "round.html").write_text(FRONT.format(html.escape(page)), encoding="utf-8")
         (front / "screen.html").write_text(FRONT.format(html.escape(page + "&hall")), encoding="utf-8")
@@ -279,7 +283,9 @@ def read_words():
     words.add_argument("--address", help="this machine's address in the hall's network (found by itself where there is but one)")
     words.add_argument("--port", type=int, default=8960, help="the port for the hall (8960)")
     words.add_argument("--watch", type=read_watch, default="127.0.0.1:9601", help="the relay's watch port (127.0.0.1:9601)")
-    words.add_argument("round", nargs="?", help="a file with one board a line: its name, perhaps a start number, perhaps its players")
+    words.add_argument("--event", help="the event, for the PGN that a page saves")
+    words.add_argument("--round", help="the event's round, for the same")
+    words.add_argument("list", nargs="?", help="a file with one board a line: its name, perhaps a start number, perhaps its players")
     return words.parse_args()
 
 
@@ -291,7 +297,7 @@ def main():
         lacks = missing()
         if lacks:
             raise Wrong(f"missing of Debian: apt-get install {' '.join(lacks)}")
-        boards = read_round(given.round) if given.round else []
+        boards = read_round(given.list) if given.list else []
         given.address = given.address or hall_address()
         try_port(given.address, given.port)
         with Serving(given, boards) as serving:

@@ -67,7 +67,7 @@ class Hall:
 
     def __init__(self, phone, relay, folder):
         self.words = [PYTHON, HERE / "hall.py", "--watch", f"127.0.0.1:{relay.watch_port}",
-                      *([] if phone.keeper else ["--address", phone.laptop])]
+                      "--event", "Club final", "--round", "3", *([] if phone.keeper else ["--address", phone.laptop])]
         self.folder = folder
         self.process = None
         self.printed = []
@@ -108,6 +108,13 @@ def line_of(address):
 def try_printed(hall, address):
     assert hall.printed[0] == line_of(address), hall.printed[0]
     assert scanned(hall.printed[1:-1]) == f"{address}/"
+
+
+def try_event(address):
+    """The page that the phones are led to knows the event and its round."""
+    for path in "/", "/screen":
+        with urllib.request.urlopen(address + path, timeout=30) as answer:
+            assert b"&amp;event=Club%20final&amp;round=3" in answer.read()
 
 
 async def try_without_qrencode(hall, address):
@@ -189,7 +196,8 @@ async def main():
             await hall.start()
             address = f"http://{phone.laptop}:8960"
             try_printed(hall, address)
-            print("ok      address and QR code", flush=True)
+            try_event(address)
+            print("ok      address, its QR code, and the event", flush=True)
             ports = listened() - others - {8960}
             assert relay.port in ports and len(ports) >= 2, ports
             await phone.does("reaches", address, *map(str, ports))
