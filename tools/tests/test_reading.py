@@ -25,7 +25,7 @@ class Reading(unittest.TestCase):
 
     def test_it_is_short(self):
         lines, own = (int(it.replace(",", "")) for it in reading.table()[-1].split("|")[2:4])
-        self.assertLessEqual(lines, 1200)
+        self.assertLessEqual(lines, 1250)
         self.assertLessEqual(own, 650)
 
 
