@@ -15,7 +15,7 @@ const Words = (() => {
     TooManyFollowers: "The board has no room for another spectator.",
     OutOfMemory: "The relay is out of memory. Try again.",
     NotYourBoard: "This board belongs to another operator.",
-    WrongMode: "The relay does not accept this command here.",
+    WrongMode: "The relay does not accept this command at this address: is it the watch port, which only shows games?",
     TooFarBack: "The relay no longer has moves from that far back.",
     NotYet: "The game has not got that far yet.",
     NotJson: "The relay could not read the command.",

@@ -160,7 +160,8 @@ def arguments():
                        help="leave this board to another operator: its game here is abandoned, and the operator's page reopens it")
     words.add_argument("--state", metavar="FILE",
                        help="where the key is kept (a file of ~/.local/state/relay960 for each relay and source)")
-    words.add_argument("--once", action="store_true", help="read once; the status is 0 if all games are at the relay, else 1")
+    words.add_argument("--once", action="store_true",
+                       help="read once; the status is 0 if all games are at the relay, 2 if nothing can be entered there, else 1")
     words.add_argument("--quiet", action="store_true", help="say only what is wrong, and results to note")
     return words.parse_args()
 
