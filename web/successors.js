@@ -1,11 +1,12 @@
 "use strict";
 /*
  * Which of a board's games is shown. A game that was abandoned, lost or corrected has a successor, a game under its board's next name. That
- * takes its place, however it ended, once it has as many moves or a result: so an empty board that was opened by mistake hides nothing.
+ * takes its place, however it ended, once it has as many moves, or some and a result: an empty board, opened by mistake, hides no moves.
  */
 const Successors = (() => {
   /** Whether a successor takes the place of a game that is over. */
-  const takesPlace = (successor, game) => successor.plies >= game.plies || Outcomes.hasResult(successor.outcome);
+  const takesPlace = (successor, game) =>
+    successor.plies >= game.plies || (successor.plies > 0 && Outcomes.hasResult(successor.outcome));
 
   /** The successors of a game among some, in their order. */
   const of = (game, games) => games.filter((it) => Names.isSuccessor(it.board, game.board))

@@ -18,9 +18,10 @@ class Standing(NamedTuple):
 
 
 def takes_place(successor, game):
-    """Whether a successor takes the place of a game. That one is over, however it ended. The other has as many moves, or has a result: an
-    empty board that somebody opened by mistake takes no place."""
-    return game.outcome is not None and (successor.plies >= game.plies or has_result(successor.outcome))
+    """Whether a successor takes the place of a game. That one is over, however it ended. The other has as many moves, or some and a
+    result: an empty board that somebody opened by mistake takes the place of no moves."""
+    has_ended = successor.plies > 0 and has_result(successor.outcome)
+    return game.outcome is not None and (successor.plies >= game.plies or has_ended)
 
 
 @functools.cache

@@ -33,6 +33,10 @@ class Place(unittest.TestCase):
                 for of_successor in None, "abandoned":
                     self.assertFalse(takes(plies, of_successor, 40, outcome), (outcome, plies))
 
+    def test_an_empty_board_takes_none_whatever_its_result(self):
+        for outcome in ENDED:
+            self.assertFalse(takes(0, "white wins by decision", 1, outcome), outcome)
+
     def test_a_corrected_game_that_is_shorter_takes_it_once_it_has_a_result(self):
         """It has none of the moves that were recorded behind the end by mistake."""
         for outcome in ENDED:

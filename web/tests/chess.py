@@ -255,6 +255,7 @@ SHOWN = [
     ([("r1", 30, "agreed"), ("r1_2", 30, "abandoned"), ("r1_3", 10, LIVE)], ["r1_2"]),
     ([("r1", 30, "agreed"), ("r1_2", 10, "white resigns"), ("r1_3", 12, LIVE)], ["r1_3"]),
     ([("r1", 30, "agreed"), ("r1_3", 30, "white resigns")], ["r1_3"]),
+    ([("r1", 1, "agreed"), ("r1_2", 0, "white wins by decision")], ["r1"]),
     ([("r1_2", 30, "agreed"), ("r1_10", 30, "stalemate"), ("r1_9", 30, "white resigns")], ["r1_10"]),
     ([("r1", 30, "agreed"), ("r1_g2", 40, "white resigns"), ("r1_g2_2", 40, "agreed"), ("r2", 1, LIVE)], ["r1", "r1_g2_2", "r2"]),
     ([("r2", 2, LIVE), ("r1", 3, "agreed"), ("r10_2", 4, LIVE), ("r1_2", 5, LIVE)], ["r2", "r1_2", "r10_2"]),
@@ -265,8 +266,8 @@ ANOTHER = [("r1-1", "r1-1_g2"), ("r1-1_2", "r1-1_g2"), ("r1-1_g2", "r1-1_g3"), (
 
 
 def try_successors():
-    """Of a board's games the last successor is shown that has as many moves as the one before it, or a result; another game of the board
-    succeeds none."""
+    """Of a board's games the last successor is shown that has as many moves as the one before it, or some and a result; another game of the
+    board succeeds none."""
     shown = "(games) => Successors.shown(games.map(([board, plies, outcome]) => ({ board, plies, outcome }))).map((it) => it.board)"
     with chess() as pages:
         for games, boards in SHOWN:
