@@ -17,7 +17,7 @@
  */
 const createFollower = (view) => {
   const ASK_AGAIN = 2; // Seconds between two questions for a board,
-  const ASK_LATER = 10; // and for the successor of one that has a result: few have one.
+  const ASK_LATER = 10; // and for the successor of one that has a result: few have one. So often it is seen how a shorter one stands.
   const PATIENCE = 10800; // Three hours: a spectator may open the page long before the round.
   const LATER = ["NoSuchBoard", "TooManyFollowers", "OutOfMemory"];
   const NO_BOARD = { code: 1, name: "NoSuchBoard" };
@@ -28,9 +28,9 @@ const createFollower = (view) => {
   const SUCCESSORS = 3; // How many next names are asked for.
 
   /* What is wanted, whether it is had of a watch port, the waits between tries to connect, for how many seconds a board was asked for in a
-   * row, and why it was refused or the connection lost, as it was said last. */
+   * row, when other connections looked how successors stand, and why a board was refused or the connection lost, as it was said last. */
   const wish = { server: "", instead: null, board: "", from: "first", kind: "relay", isPatient: false, isAtWatchPort: false,
-    waits: Link.waits(), asked: 0, said: null };
+    waits: Link.waits(), asked: 0, looks: new Map(), said: null };
 
   /*
    * The states, and what belongs to each. `behind` says that the relay closed the connection because this follower fell behind.
@@ -281,11 +281,22 @@ const createFollower = (view) => {
     if (answer.name === "TooFarBack") {
       succeed(asked.link, board);
     } else if (answer.name === "NotYet") {
-      phase.go("peeking", { ...asked, glance: Glance.stand(addresses(), board, (it) => phase.take("peeked", it)) });
+      peek(asked);
     } else if (answer.name === "NoSuchBoard" && others.length > 0) {
       follow({ ...asked, names: others });
     } else {
       refusedAll(asked, answer);
+    }
+  }
+
+  /** Looks how the first of the names stands, unless that was done just now: each look takes a connection, of every spectator. */
+  function peek(asked) {
+    const [board] = asked.names;
+    if (Date.now() < (wish.looks.get(board) || 0) + 1000 * ASK_LATER) {
+      refusedSuccessor(asked, NO_BOARD);
+    } else {
+      wish.looks.set(board, Date.now());
+      phase.go("peeking", { ...asked, glance: Glance.stand(addresses(), board, (it) => phase.take("peeked", it)) });
     }
   }
 
@@ -342,7 +353,8 @@ const createFollower = (view) => {
 
   function begin(_, given) {
     phase.take("stop");
-    Object.assign(wish, { instead: null }, given, { waits: Link.waits(given.isPatient), asked: 0, said: null, isAtWatchPort: false });
+    const fresh = { waits: Link.waits(given.isPatient), asked: 0, looks: new Map(), said: null, isAtWatchPort: false };
+    Object.assign(wish, { instead: null }, given, fresh);
     forget();
     connect();
   }

@@ -8,13 +8,22 @@ const Lines = (() => {
 
   const read = (text) => text.split("\n").map((it) => it.trim()).filter((it) => it !== "").map(readLine);
 
-  /** Why these can be no boards of a round, or "". */
-  function fault(boards) {
-    const names = boards.map((it) => it.name);
+  /** Why these can be no names of a round's boards, or "". */
+  function faultOfNames(names) {
     const wrong = names.find((it, index) => !Address.isName(it) || names.indexOf(it) !== index);
     if (wrong !== undefined) {
       const isTwice = Address.isName(wrong);
       return isTwice ? `${wrong} stands here twice.` : `${wrong} is no board's name: it has 1 to 32 of A–Z, a–z, 0–9, _ and -.`;
+    }
+    const next = names.find((it) => names.some((other) => Names.isSuccessor(it, other)));
+    return next ? `${next} is the next name of another board here, and would take its place: end no name in _ and a number.` : "";
+  }
+
+  /** Why these can be no boards of a round, or "". */
+  function fault(boards) {
+    const ofNames = faultOfNames(boards.map((it) => it.name));
+    if (ofNames !== "") {
+      return ofNames;
     }
     const far = boards.find((it) => it.start !== null && !Position.isStart(it.start));
     return far ? `${far.name}: the start number is from 0 to 959.` : "";

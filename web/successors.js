@@ -25,11 +25,12 @@ const Successors = (() => {
     return shown;
   }
 
-  /** Those of some games { board, plies, outcome } that are shown, each in the place of its board's first. */
+  /** Those of some games { board, plies, outcome } that are shown, each in the place of its board's first, in whatever order they come. */
   function shown(games) {
     const later = games.filter((it) => Names.number(it.board) > 1);
     const met = new Set();
-    return games.flatMap((game) => (met.has(game) ? [] : [last(game, of(game, later).filter((it) => !met.has(it)), met)]));
+    const standing = new Map(games.map((game) => [game, last(game, of(game, later), met)]));
+    return [...new Set(games.filter((it) => !met.has(it)).map((it) => standing.get(it)))];
   }
 
   return { takesPlace, shown };

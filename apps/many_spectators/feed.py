@@ -58,6 +58,7 @@ class Name(Follower):
         self.over = set()  # The boards whose games have ended, since the relay was reached.
         self.had_game = False
         self.tries = 0
+        self.left = 0  # How often a board whose game goes on was left for others.
         self.told = None  # What it waits for, as that was said last.
 
     def boards(self):
@@ -85,7 +86,8 @@ class Name(Follower):
             channel.is_read = False
 
     async def follow(self):
-        """Follows the first of the boards that the relay has, until its connection ends. Answers its outcome, or None."""
+        """Follows the first of the boards that the relay has, until its connection ends. Answers its outcome, or None. One that stands for
+        nothing yet is left again and again for those behind it: it may be an empty board that a stale window keeps open."""
         await self.read()
         refused = None
         asked = self.boards() if self.had_game or self.tries % SELDOM == 0 else [self.name]
@@ -95,7 +97,14 @@ class Name(Follower):
                 continue
             channel = self.channels.get(board) or self.channel(board)
             try:
-                return await self.follow_board(channel)
+                async with asyncio.timeout(None if self.stands(channel) else SELDOM * self.given.wait) as limit:
+                    return await self.follow_board(channel)
+            except TimeoutError:
+                if not limit.expired():
+                    raise
+                channel.is_read = False  # A text may have been on its way there.
+                self.left += 1
+                refused = refused or Refused(1, "NoSuchBoard")
             except Refused as fault:
                 if fault.name != "NoSuchBoard":
                     raise
@@ -120,6 +129,11 @@ class Name(Follower):
             await self.channels.setdefault(board, self.channel(board)).give_place(channel)
         self.channels.setdefault(channel.name, channel)
 
+    def stands(self, channel):
+        """Whether the game of a channel, as far as it is known, stands for the name, or no other does."""
+        games = {board: self.channels[board] for board in self.boards() if board in self.channels and self.channels[board].had_game()}
+        return not games or standing(next(iter(games.values())), {**games, channel.name: channel}) is channel
+
     def has_result(self):
         """Whether the game that stands for the name has one, at a relay that is there, and no other is being entered."""
         games = {board: self.channels[board] for board in self.boards() if board in self.channels and self.channels[board].had_game()}
@@ -129,7 +143,7 @@ class Name(Follower):
         return last.name in self.over and has_result(last.outcome)
 
     def progress(self):
-        return [(board, it.next, it.origin) for board, it in self.channels.items()]
+        return self.left, [(board, it.next, it.origin) for board, it in self.channels.items()]
 
     async def feed(self):
         """Follows until the game has a result, and no other replaces it, or until it is given up. Answers which. A try that brought nothing

@@ -13,8 +13,8 @@ The relay must give boards a time to wait (--grace): this program comes back by 
 ended and started again, and goes on where it was. Nobody else can play on its boards, and it plays on no other's.
 
 Where the file has other moves or another result than were sent, and has stayed so for three readings, the game goes on under its next name,
-r3-1_2, with all its moves and its end. A result without a Termination is entered as the arbiter's decision, one by time forfeit as a loss
-on time. Ctrl-C ends the program and no game: the boards wait for it as long as the relay's grace.
+r3-1_2, with all its moves and its end. A win without a Termination is entered as the arbiter's decision, one by time forfeit as a loss on
+time. Ctrl-C ends the program and no game: the boards wait for it as long as the relay's grace.
 """
 import argparse
 import asyncio

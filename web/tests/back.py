@@ -372,7 +372,7 @@ async def try_correct(browser):
     assert await text(table, "#sure-head") == "Correct the game?"
     assert await text(table, "#sure-text") == (
         "b1 ends as abandoned and goes on as b1_2, with the first 2 moves. The last move will be lost. "
-        "The spectators' pages follow automatically.")
+        "Spectators see b1_2 once it has 3 moves, or a result.")
     await table.press("Enter")
     await table.until('!document.querySelector("#sure").open')
     assert await log_of(relay, "b1") == (MOVES, None), "the button that has the focus goes back"

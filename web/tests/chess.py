@@ -15,6 +15,7 @@ from pychess.Utils.lutils import lmove
 from pychess.Utils.lutils.LBoard import LBoard
 from pychess.Utils.lutils.lmovegen import genAllMoves
 
+from relay_client import successors
 from relay_client.program import PROGRAM, Player, start_fen
 from relay_client.readers import Stockfish, games_in, is_same, read_by_pychess
 from scripts import Scripts
@@ -259,7 +260,15 @@ SHOWN = [
     ([("r1_2", 30, "agreed"), ("r1_10", 30, "stalemate"), ("r1_9", 30, "white resigns")], ["r1_10"]),
     ([("r1", 30, "agreed"), ("r1_g2", 40, "white resigns"), ("r1_g2_2", 40, "agreed"), ("r2", 1, LIVE)], ["r1", "r1_g2_2", "r2"]),
     ([("r2", 2, LIVE), ("r1", 3, "agreed"), ("r10_2", 4, LIVE), ("r1_2", 5, LIVE)], ["r2", "r1_2", "r10_2"]),
+    # A channel tells its boards in any order.
+    ([("r1_2", 30, LIVE), ("r2", 2, LIVE), ("r1", 30, "agreed")], ["r2", "r1_2"]),
+    ([("r1_2", 3, LIVE), ("r1", 30, "agreed")], ["r1"]),
+    # Two games had the name: the first was lost with its relay.
+    ([("r1", 30, "abandoned"), ("r1", 30, "agreed"), ("r1_2", 30, LIVE)], ["r1_2"]),
 ]
+# What a relay may have of boards by chance.
+BOARDS = ("r1", "r1_2", "r1_3", "r1_4", "r2", "r2_2", "r2_g2", "r2_g2_2")
+STANDS = (LIVE, LIVE, "abandoned", "agreed", "white wins by decision")
 # The names of a board's other games: of a game, that behind it.
 ANOTHER = [("r1-1", "r1-1_g2"), ("r1-1_2", "r1-1_g2"), ("r1-1_g2", "r1-1_g3"), ("r1-1_g2_3", "r1-1_g3"), ("b_g9", "b_g10"),
            (32 * "n", 29 * "n" + "_g2"), (29 * "n" + "_g9", 28 * "n" + "_g10")]
@@ -267,12 +276,18 @@ ANOTHER = [("r1-1", "r1-1_g2"), ("r1-1_2", "r1-1_g2"), ("r1-1_g2", "r1-1_g3"), (
 
 def try_successors():
     """Of a board's games the last successor is shown that has as many moves as the one before it, or some and a result; another game of the
-    board succeeds none."""
+    board succeeds none. The Python programs show the same of games by chance."""
     shown = "(games) => Successors.shown(games.map(([board, plies, outcome]) => ({ board, plies, outcome }))).map((it) => it.board)"
     with chess() as pages:
         for games, boards in SHOWN:
             had = pages.call(shown, games)
             assert had == boards, (games, had)
+        chance = random.Random(SEED + 2)
+        for _ in range(2000):
+            games = [(board, chance.randrange(4), chance.choice(STANDS)) for board in chance.sample(BOARDS, chance.randrange(1, 8))]
+            boards = [it.board for it in successors.shown({board: successors.Standing(board, *it) for board, *it in games})]
+            had = pages.call(shown, games)
+            assert had == boards, (games, had, boards)
         for name, other in ANOTHER:
             had = pages.call("Names.another", name)
             assert had == other and not pages.call("Names.isSuccessor", other, name), (name, had)

@@ -251,6 +251,31 @@ async def try_shorter_successor(browser):
     await client.close()
 
 
+# Counts the connections that a page makes from now on.
+COUNTED = """window.made = 0; const Plain = WebSocket; window.WebSocket = class extends Plain {
+    constructor(...given) { super(...given); window.made += 1; } };"""
+
+
+async def try_successor_looked_at(browser):
+    """A game that was taken back goes on under its next name, which a spectator gets once it has as many moves. Until then the page asks
+    on its one connection, and makes another only now and then, to see how that stands."""
+    relay = await Relay().start()
+    client = await boards_of(relay, ("b1", 518, MOVES), ("b1_2", 518, MOVES[:2]))
+    seer = await watch(browser, relay, "b1")
+    await until_moves(seer, 3)
+    await client.end("b1", "abandoned")
+    await until_state(seer, "over")
+    await seer.run(COUNTED)
+    await asyncio.sleep(9)
+    assert await seer.run("window.made") <= 2, await seer.run("window.made")
+    await client.submit("b1_2", MOVES[2])
+    await until_said(seer, "b1 goes on as b1_2, which is shown now.")
+    await until_moves(seer, 3)
+    assert not seer.faults, seer.faults
+    await seer.close()
+    await client.close()
+
+
 async def try_tabs_corrected(browser):
     """In a tab, a result is corrected without scrolling; the round's file has the successor alone, and another game of the board beside
     it."""

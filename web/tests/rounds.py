@@ -317,7 +317,8 @@ async def try_form(browser):
     assert await page.run('["server", "kind"].map((it) => document.querySelector(`#${it}`).value)') == ["ws://127.0.0.1:9601", "watch"]
     await page.fill("#server", relay.address)
     await page.choose("#kind", "relay")
-    for lines, words in (("f1\nf/2", "f/2 is no board's name"), ("f1\nf2\nf1", "f1 stands here twice")):
+    for lines, words in (("f1\nf/2", "f/2 is no board's name"), ("f1\nf2\nf1", "f1 stands here twice"),
+                         ("f_1\nf_2", "f_2 is the next name of another board here")):
         await page.fill("#lines", lines)
         await page.click("#source .main")
         assert words in await page.run('document.querySelector("#lines").validationMessage')

@@ -194,6 +194,23 @@ class Feeds(unittest.TestCase):
             for it in owner, stale, right:
                 it.close()
 
+    def test_an_empty_board_that_a_stale_window_keeps_open_hides_no_corrected_game(self):
+        """A correction passes its name over, and stands under the one behind it. Moves of the board in between are told all the same."""
+        self.feed("--names", self.names("b1"))
+        with self.server() as server:
+            owner, first = self.plays(server, "b1", "e2e4", "e7e5")
+            stale, empty = self.plays(server, "b1_2")
+            owner.asks(ends("b1", "resign", "white"), ended("white resigns"))
+            self.has("b1_2", *empty)
+            right, second = self.plays(server, "b1_3", "e2e4", "e7e5")
+            right.asks(ends("b1_3", "decided", result="1-0"), ended("white wins by decision"))
+            self.has("b1", *first, over("white resigns"), follow_on("b1_3"))
+            self.has("b1_3", *second, over("white wins by decision"))
+            stale.asks(submits("b1_2", "d2d4"), played(0))
+            self.has("b1_2", *empty, moved("d2d4", 0))
+            for it in owner, stale, right:
+                it.close()
+
     def test_a_feed_that_comes_after_a_correction_tells_of_it_and_ends(self):
         with self.server() as server:
             owner, first = self.plays(server, "b1", "e2e4", "e7e5")
