@@ -17,7 +17,7 @@
  */
 const createFollower = (view) => {
   const ASK_AGAIN = 2; // Seconds between two questions for a board,
-  const ASK_LATER = 10; // and for the successor of one that has a result: few have one. So often it is seen how a shorter one stands.
+  const ASK_LATER = 10; // and for the successor of one that has a result: few have one, and each look at a shorter one takes a connection.
   const PATIENCE = 10800; // Three hours: a spectator may open the page long before the round.
   const LATER = ["NoSuchBoard", "TooManyFollowers", "OutOfMemory"];
   const NO_BOARD = { code: 1, name: "NoSuchBoard" };
@@ -28,9 +28,9 @@ const createFollower = (view) => {
   const SUCCESSORS = 3; // How many next names are asked for.
 
   /* What is wanted, whether it is had of a watch port, the waits between tries to connect, for how many seconds a board was asked for in a
-   * row, when other connections looked how successors stand, and why a board was refused or the connection lost, as it was said last. */
+   * row, and why a board was refused or the connection lost, as it was said last. */
   const wish = { server: "", instead: null, board: "", from: "first", kind: "relay", isPatient: false, isAtWatchPort: false,
-    waits: Link.waits(), asked: 0, looks: new Map(), said: null };
+    waits: Link.waits(), asked: 0, said: null };
 
   /*
    * The states, and what belongs to each. `behind` says that the relay closed the connection because this follower fell behind.
@@ -39,7 +39,7 @@ const createFollower = (view) => {
    *   lost        behind              there is no connection; it is tried again by itself
    * At a relay:
    *   asking      link, behind, names, from   it is asked for the first of these boards, from that place on or from now on (null)
-   *   peeking     link, behind, names, glance  the first of them has fewer moves; another connection looks how it stands
+   *   peeking     link, behind, names, glance  the first of them has too few moves; another connection looks how it stands
    *   waiting     link, timer         it refused for now, and is asked again
    *   live        link                it tells the game
    *   over        link                it told the end
@@ -191,8 +191,11 @@ const createFollower = (view) => {
     return view.record().outcome === null ? [wish.board, ...successors] : successors;
   }
 
+  /** The game that is shown, as its successors are compared with it. */
+  const game = () => ({ plies: view.record().next, outcome: view.record().outcome });
+
   /** How many moves a successor that has no result has to have. Where the relay no longer has the game, nothing is hidden by it. */
-  const needed = () => (view.record().outcome === null ? 0 : view.record().next);
+  const needed = () => (view.record().outcome === null ? 0 : Successors.needed(game()));
 
   function ask({ link, behind }) {
     follow({ link, behind, names: names() });
@@ -275,7 +278,7 @@ const createFollower = (view) => {
     }
   }
 
-  /** A successor that has got further than is kept has as many moves. How one with fewer moves stands has to be seen. */
+  /** A successor that has got further than is kept has as many moves as it needs. How one with fewer stands has to be seen. */
   function refusedSuccessor(asked, answer) {
     const [board, ...others] = asked.names;
     if (answer.name === "TooFarBack") {
@@ -289,19 +292,17 @@ const createFollower = (view) => {
     }
   }
 
-  /** Looks how the first of the names stands, unless that was done just now: each look takes a connection, of every spectator. */
+  /** Looks how the first of the names stands, unless it lacks the only move that it needs: then it has none. */
   function peek(asked) {
-    const [board] = asked.names;
-    if (Date.now() < (wish.looks.get(board) || 0) + 1000 * ASK_LATER) {
+    if (needed() === 1) {
       refusedSuccessor(asked, NO_BOARD);
     } else {
-      wish.looks.set(board, Date.now());
-      phase.go("peeking", { ...asked, glance: Glance.stand(addresses(), board, (it) => phase.take("peeked", it)) });
+      phase.go("peeking", { ...asked, glance: Glance.stand(addresses(), asked.names[0], (it) => phase.take("peeked", it)) });
     }
   }
 
   function peeked({ glance, ...asked }, successor) {
-    if (successor !== null && Successors.takesPlace(successor, { plies: needed() })) {
+    if (successor !== null && Successors.takesPlace(successor, game())) {
       succeed(asked.link, asked.names[0]);
     } else {
       refusedSuccessor(asked, NO_BOARD);
@@ -353,7 +354,7 @@ const createFollower = (view) => {
 
   function begin(_, given) {
     phase.take("stop");
-    const fresh = { waits: Link.waits(given.isPatient), asked: 0, looks: new Map(), said: null, isAtWatchPort: false };
+    const fresh = { waits: Link.waits(given.isPatient), asked: 0, said: null, isAtWatchPort: false };
     Object.assign(wish, { instead: null }, given, fresh);
     forget();
     connect();

@@ -82,9 +82,8 @@ const createQuestions = (at) => {
   /** What is asked before a game is corrected: how many of its moves it keeps, and how many are taken back. */
   function correction({ board, next }, kept, dropped) {
     const some = (which, number) => (number === 1 ? `${which} move` : `${which} ${number} moves`);
-    const all = kept + dropped === 1 ? "1 move" : `${kept + dropped} moves`;
     const text = `${board} ends as abandoned and goes on as ${next}, with ${kept === 0 ? "no move" : some("the first", kept)}. `
-      + `${some("The last", dropped)} will be lost. Spectators see ${next} once it has ${all}, or a result.`;
+      + `${some("The last", dropped)} will be lost. Spectators ${kept === 0 ? `see ${next} once it has a move` : `go to ${next} at once`}.`;
     return { head: "Correct the game?", text, yes: "Correct" };
   }
 

@@ -1,12 +1,16 @@
 "use strict";
 /*
  * Which of a board's games is shown. A game that was abandoned, lost or corrected has a successor, a game under its board's next name. That
- * takes its place, however it ended, once it has as many moves, or some and a result: an empty board, opened by mistake, hides no moves.
+ * takes the place of one without a result with its first move, and of one with a result once it has as many moves, or some and a result.
+ * So an empty board that was opened by mistake hides no moves.
  */
 const Successors = (() => {
+  /** How many moves a successor needs that has no result, to take the place of a game that is over. */
+  const needed = ({ plies, outcome }) => (Outcomes.hasResult(outcome) ? plies : Math.min(plies, 1));
+
   /** Whether a successor takes the place of a game that is over. */
   const takesPlace = (successor, game) =>
-    successor.plies >= game.plies || (successor.plies > 0 && Outcomes.hasResult(successor.outcome));
+    successor.plies >= needed(game) || (successor.plies > 0 && Outcomes.hasResult(successor.outcome));
 
   /** The successors of a game among some, in their order. */
   const of = (game, games) => games.filter((it) => Names.isSuccessor(it.board, game.board))
@@ -33,5 +37,5 @@ const Successors = (() => {
     return [...new Set(games.filter((it) => !met.has(it)).map((it) => standing.get(it)))];
   }
 
-  return { takesPlace, shown };
+  return { needed, takesPlace, shown };
 })();

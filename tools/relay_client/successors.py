@@ -18,10 +18,11 @@ class Standing(NamedTuple):
 
 
 def takes_place(successor, game):
-    """Whether a successor takes the place of a game. That one is over, however it ended. The other has as many moves, or some and a
-    result: an empty board that somebody opened by mistake takes the place of no moves."""
+    """Whether a successor takes the place of a game. That one is over. If it has no result, the other has a move; else as many moves, or
+    some and a result. An empty board that somebody opened by mistake takes the place of no moves."""
+    needed = game.plies if has_result(game.outcome) else min(game.plies, 1)
     has_ended = successor.plies > 0 and has_result(successor.outcome)
-    return game.outcome is not None and (successor.plies >= game.plies or has_ended)
+    return game.outcome is not None and (successor.plies >= needed or has_ended)
 
 
 @functools.cache

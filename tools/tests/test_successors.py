@@ -7,7 +7,8 @@ sys.path.insert(0, str(pathlib.Path(__file__).resolve().parents[2] / "tools"))
 
 from relay_client.successors import Standing, names_before, shown, standing, takes_place  # noqa: E402
 
-ENDED = ("abandoned", "black resigns", "white wins by decision", "white loses on time", "agreed", "white mates", "drawn by decision")
+RESULTS = ("black resigns", "white wins by decision", "white loses on time", "agreed", "white mates", "drawn by decision")
+ENDED = ("abandoned", *RESULTS)
 
 
 def takes(plies, outcome, plies_before, outcome_before):
@@ -21,21 +22,25 @@ class Place(unittest.TestCase):
             for outcome in None, "agreed", "abandoned":
                 self.assertFalse(takes(plies, outcome, 40, None))
 
-    def test_a_game_that_is_over_gives_it_however_it_ended_to_one_of_as_many_moves(self):
-        for outcome in ENDED:
+    def test_one_that_has_a_result_gives_it_to_one_of_as_many_moves(self):
+        for outcome in RESULTS:
             for plies in 40, 41:
                 for of_successor in None, "abandoned", "black mates":
                     self.assertTrue(takes(plies, of_successor, 40, outcome), (outcome, plies))
-
-    def test_an_empty_board_or_one_of_fewer_moves_takes_none(self):
-        for outcome in ENDED:
             for plies in 0, 1, 39:
                 for of_successor in None, "abandoned":
                     self.assertFalse(takes(plies, of_successor, 40, outcome), (outcome, plies))
 
+    def test_one_without_a_result_gives_it_to_the_first_move(self):
+        """A game that was taken back goes on with fewer moves, and those who watch go along at once."""
+        for plies in 1, 39, 40, 41:
+            for of_successor in None, "abandoned", "black mates":
+                self.assertTrue(takes(plies, of_successor, 40, "abandoned"), plies)
+
     def test_an_empty_board_takes_none_whatever_its_result(self):
         for outcome in ENDED:
-            self.assertFalse(takes(0, "white wins by decision", 1, outcome), outcome)
+            for of_successor in None, "abandoned", "white wins by decision":
+                self.assertFalse(takes(0, of_successor, 1, outcome), (outcome, of_successor))
 
     def test_a_corrected_game_that_is_shorter_takes_it_once_it_has_a_result(self):
         """It has none of the moves that were recorded behind the end by mistake."""
@@ -43,7 +48,8 @@ class Place(unittest.TestCase):
             self.assertTrue(takes(38, "white resigns", 40, outcome))
 
     def test_without_a_move_on_either_board(self):
-        self.assertTrue(takes(0, None, 0, "agreed"))
+        for outcome in ENDED:
+            self.assertTrue(takes(0, None, 0, outcome), outcome)
 
 
 class Shown(unittest.TestCase):
@@ -64,6 +70,8 @@ class Shown(unittest.TestCase):
         self.has("b1", b1=self.OVER, b1_2=(0, None))
         self.has("b1", b1=self.OVER, b1_2=(3, "abandoned"))
         self.has("b1_3", b1=self.OVER, b1_2=(0, None), b1_3=(4, None))
+        self.has("b1_3", b1=(4, "abandoned"), b1_2=(0, "agreed"), b1_3=(1, None))
+        self.has("b1_2", b1=(4, "abandoned"), b1_2=(1, "abandoned"), b1_3=(0, None))
         self.has("b1_2", b1=self.OVER, b1_2=self.CORRECTED, b1_3=(1, None))
 
     def test_beside_a_game_that_goes_on_a_next_name_is_another_game(self):

@@ -362,7 +362,7 @@ async def correct(table, place):
 
 async def try_correct(browser):
     """A game is corrected in one act with one question: it goes on under the next name from the position that is shown, and spectators with
-    it."""
+    it at once, or at its first move where none was kept."""
     relay = await Relay().start()
     table, wire = await table_of(browser, relay)
     seer = await watch(browser, relay, "b1")
@@ -372,7 +372,7 @@ async def try_correct(browser):
     assert await text(table, "#sure-head") == "Correct the game?"
     assert await text(table, "#sure-text") == (
         "b1 ends as abandoned and goes on as b1_2, with the first 2 moves. The last move will be lost. "
-        "Spectators see b1_2 once it has 3 moves, or a result.")
+        "Spectators go to b1_2 at once.")
     await table.press("Enter")
     await table.until('!document.querySelector("#sure").open')
     assert await log_of(relay, "b1") == (MOVES, None), "the button that has the focus goes back"
@@ -380,14 +380,19 @@ async def try_correct(browser):
     await table.until('document.querySelector("#sure").open')
     await table.click("#sure .main")
     await until_open(table, "b1_2")
+    await seer.until('document.querySelector("#notices").textContent.includes("b1 goes on as b1_2, which is shown now.")')
+    await until_moves(seer, 2)
     await goes_on(table, relay, "b1_2", MOVES[:2])
     assert await log_of(relay, "b1") == (MOVES, "abandoned")
-    await seer.until('document.querySelector("#notices").textContent.includes("b1 goes on as b1_2, which is shown now.")')
     await until_moves(seer, 3)
     await correct(table, 0)
-    assert "with no move. The last 3 moves" in await text(table, "#sure-text")
+    asked = await text(table, "#sure-text")
+    assert asked.endswith("with no move. The last 3 moves will be lost. Spectators see b1_3 once it has a move."), asked
     await table.click("#sure .main")
+    await until_state(seer, "over")
     await goes_on(table, relay, "b1_3", [])
+    await seer.until('document.querySelector("#notices").textContent.includes("b1_2 goes on as b1_3, which is shown now.")')
+    await until_moves(seer, 1)
     assert not seer.faults, seer.faults
     await seer.close()
     await close(table, wire)

@@ -246,14 +246,17 @@ SHOWN = [
     ([("r1", 30, "agreed"), ("r1_2", 30, LIVE)], ["r1_2"]),
     ([("r1", 30, "black mates"), ("r1_2", 31, LIVE)], ["r1_2"]),
     ([("r1", 30, "abandoned"), ("r1_2", 0, LIVE)], ["r1"]),
-    ([("r1", 30, "abandoned"), ("r1_2", 29, LIVE)], ["r1"]),
+    ([("r1", 30, "abandoned"), ("r1_2", 0, "white resigns")], ["r1"]),
+    ([("r1", 30, "abandoned"), ("r1_2", 1, LIVE)], ["r1_2"]),
+    ([("r1", 30, "abandoned"), ("r1_2", 1, "abandoned"), ("r1_3", 0, LIVE)], ["r1_2"]),
     ([("r1", 30, "agreed"), ("r1_2", 29, "white resigns")], ["r1_2"]),
     ([("r1", 30, "agreed"), ("r1_2", 29, "abandoned")], ["r1"]),
     ([("r1", 0, "abandoned"), ("r1_2", 0, LIVE)], ["r1_2"]),
     ([("r1", 30, LIVE), ("r1_2", 40, LIVE)], ["r1", "r1_2"]),
     ([("r1", 30, "agreed"), ("r1_2", 0, LIVE), ("r1_3", 30, "white resigns")], ["r1_3"]),
     ([("r1", 30, "agreed"), ("r1_2", 30, LIVE), ("r1_3", 30, "white resigns")], ["r1_2", "r1_3"]),
-    ([("r1", 30, "agreed"), ("r1_2", 30, "abandoned"), ("r1_3", 10, LIVE)], ["r1_2"]),
+    ([("r1", 30, "agreed"), ("r1_2", 30, "abandoned"), ("r1_3", 10, LIVE)], ["r1_3"]),
+    ([("r1", 30, "agreed"), ("r1_2", 10, "abandoned"), ("r1_3", 20, LIVE)], ["r1"]),
     ([("r1", 30, "agreed"), ("r1_2", 10, "white resigns"), ("r1_3", 12, LIVE)], ["r1_3"]),
     ([("r1", 30, "agreed"), ("r1_3", 30, "white resigns")], ["r1_3"]),
     ([("r1", 1, "agreed"), ("r1_2", 0, "white wins by decision")], ["r1"]),
@@ -275,8 +278,8 @@ ANOTHER = [("r1-1", "r1-1_g2"), ("r1-1_2", "r1-1_g2"), ("r1-1_g2", "r1-1_g3"), (
 
 
 def try_successors():
-    """Of a board's games the last successor is shown that has as many moves as the one before it, or some and a result; another game of the
-    board succeeds none. The Python programs show the same of games by chance."""
+    """Of a board's games the last successor is shown that takes the place of the one before it; another game of the board succeeds none.
+    The Python programs show the same of games by chance."""
     shown = "(games) => Successors.shown(games.map(([board, plies, outcome]) => ({ board, plies, outcome }))).map((it) => it.board)"
     with chess() as pages:
         for games, boards in SHOWN:

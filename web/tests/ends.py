@@ -257,22 +257,23 @@ COUNTED = """window.made = 0; const Plain = WebSocket; window.WebSocket = class 
 
 
 async def try_successor_looked_at(browser):
-    """A game that was taken back goes on under its next name, which a spectator gets once it has as many moves. Until then the page asks
-    on its one connection, and makes another only now and then, to see how that stands."""
+    """A spectator's page asks for a successor on its one connection. It makes another only where a shorter one might have a result that
+    replaces the game's, and seldom. Of an abandoned game the successor needs one move, so nothing more is to be seen of it."""
     relay = await Relay().start()
-    client = await boards_of(relay, ("b1", 518, MOVES), ("b1_2", 518, MOVES[:2]))
-    seer = await watch(browser, relay, "b1")
-    await until_moves(seer, 3)
-    await client.end("b1", "abandoned")
-    await until_state(seer, "over")
-    await seer.run(COUNTED)
-    await asyncio.sleep(9)
-    assert await seer.run("window.made") <= 2, await seer.run("window.made")
-    await client.submit("b1_2", MOVES[2])
-    await until_said(seer, "b1 goes on as b1_2, which is shown now.")
-    await until_moves(seer, 3)
-    assert not seer.faults, seer.faults
-    await seer.close()
+    client = await boards_of(relay, ("b1", 518, MOVES), ("b1_2", 518, []), ("c1", 518, MOVES), ("c1_2", 518, MOVES[:2]))
+    for board, how, made, missing in (("b1", "abandoned", 1, MOVES[:1]), ("c1", "agreed", 2, MOVES[2:])):
+        seer = await watch(browser, relay, board)
+        await until_moves(seer, 3)
+        await seer.run(COUNTED)
+        await client.end(board, how)
+        await until_state(seer, "over")
+        await asyncio.sleep(9)
+        assert await seer.run("window.made") == made, (board, await seer.run("window.made"))
+        await client.submit(f"{board}_2", *missing)
+        await until_said(seer, f"{board} goes on as {board}_2, which is shown now.")
+        await until_moves(seer, len((await log_of(relay, f"{board}_2"))[0]))
+        assert not seer.faults, seer.faults
+        await seer.close()
     await client.close()
 
 

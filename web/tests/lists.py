@@ -209,8 +209,8 @@ async def try_dead_wire(browser):
 
 
 async def try_listed_heirs(browser):
-    """The boards that the address names stand in its order, open or not. One whose game was abandoned, or has a result, gives its place to
-    its successor, with its players; to one without a move it does not."""
+    """The boards that the address names stand in its order, open or not. One whose game was abandoned gives its place to its successor,
+    with its players, at the first move; one that has a result, once that has as many moves; none to one without a move."""
     relay = await Relay(watch=True).start()
     client = await boards_of(relay, ("r1", 518, MATE[:2]), ("r2", 518, MATE), ("r3", 518, []))
     page = await open_round(browser, relay.watch_address, players="r1%20Carlsen–Caruana;r2%20So;r3%20Ding%20-%20Nepo;r4%20Adams–Baker;r5")
@@ -224,7 +224,7 @@ async def try_listed_heirs(browser):
         await until_tiles(page, lambda them, name=old: them[0]["name"] == name and them[0]["stand"] == "No result")
         successor = await page.run(f'Names.next("{old}")')
         await client.open(successor)
-        await client.submit(successor, *MATE[:2])
+        await client.submit(successor, MATE[0])
     await client.open("r2_2")
     await client.open("x")
     await client.open("r5", 959)

@@ -182,8 +182,8 @@ ROUND = [["Ne3"], ["f3", "e5", "g4", "Qh4#"], ["g3", "g6"]]
 
 
 async def try_tabs_pgn(browser):
-    """All games of the window are saved as one file, with the event and the round: a corrected one is in it under its next name alone, and
-    one with a result stays beside the next of its tab."""
+    """All games of the window are saved as one file, with the event and the round: a corrected one is in it under its next name alone, from
+    the first move there on, and one with a result stays beside the next of its tab."""
     relay = await Relay(grace=GRACE).start()
     event = {"event": "Club final", "round_": "3"}
     with site() as address:
@@ -206,18 +206,18 @@ async def try_tabs_pgn(browser):
         await page.click("#save-round")
         file = "\n".join([first, mate, pgn("t3", 0, "1. g3 g6 *", day, **event)])
         assert await page.run("saved") == ["round.pgn", file, "application/vnd.chess-pgn"], await page.run("saved")
-        for press in ("#back", "#correct", "#sure-yes"):
+        for press in ("#first", "#correct", "#sure-yes"):
             await page.run(frame(2, f'document_.querySelector("{press}").click()'))
         await page.until('document.querySelectorAll(".tab")[2].querySelector("b").textContent === "t3_2"')
-        await until_stand(page, "Black to move", "0–1: Black wins by checkmate.", "Black to move")
+        await until_stand(page, "Black to move", "0–1: Black wins by checkmate.", "White to move")
         await page.click("#save-round")
         left = pgn("t3", 0, textwrap.fill(f"1. g3 g6 {{{ABANDONED}}} *", 79), day, termination="abandoned", **event)
         assert (await page.run("saved"))[1] == "\n".join([first, mate, left]), await page.run("saved")
-        await play(page, 2, "g5")
+        await play(page, 2, "b3")
         await page.run(frame(1, 'document_.querySelector("#opening").requestSubmit()'))
-        await until_stand(page, "Black to move", "White to move", "White to move")
+        await until_stand(page, "Black to move", "White to move", "Black to move")
         await page.click("#save-round")
-        file = "\n".join([first, mate, pgn("t2_g2", 518, "*", day, **event), pgn("t3_2", 0, "1. g3 g5 *", day, **event)])
+        file = "\n".join([first, mate, pgn("t2_g2", 518, "*", day, **event), pgn("t3_2", 0, "1. b3 *", day, **event)])
         assert (await page.run("saved"))[1] == file, await page.run("saved")
         players = "Carlsen,%20Magnus–Caruana;So–Ding;"
         link = f"round.html?server={relay.address}&boards=t1,t2,t3&players={players}&event=Club%20final&round=3"

@@ -156,7 +156,7 @@ class Feeds(unittest.TestCase):
         self.assertEqual(self.channels.told(name), list(texts))
 
     def test_the_channel_of_a_board_that_is_gone_tells_its_end_and_where_the_game_goes_on(self):
-        """The next name is fed too, unasked. Before, nothing more came, and readers had a game that was gone."""
+        """The next name is fed too, unasked, and replaces the first with its first move."""
         self.feed("b1")
         with self.server() as server:
             owner, first = self.plays(server, "b1", "e2e4", "e7e5")
@@ -164,7 +164,11 @@ class Feeds(unittest.TestCase):
         owner.close()
         with self.server() as server:
             self.has("b1", *first, over("abandoned"))
-            owner, second = self.plays(server, "b1_2", "e2e4", "e7e5", "g1f3")
+            owner, second = self.plays(server, "b1_2")
+            self.has("b1_2", *second)
+            self.has("b1", *first, over("abandoned"))
+            owner.asks(submits("b1_2", "e2e4"), played(0))
+            second.append(moved("e2e4", 0))
             self.has("b1", *first, over("abandoned"), follow_on("b1_2"))
             self.has("b1_2", *second)
             owner.close()
