@@ -13,13 +13,13 @@ had and publishes only what is missing there, so it can be killed and restarted 
     {"outcome":"abandoned","reply":"over"}           also if the relay no longer has a board that had a game: it was restarted
     {"board":"b1_2","reply":"next"}                  the game of this name replaces it: it goes on there, or was corrected
 
-It follows b1_2, b1_3 and so on by itself, if b1 is one of its names and its game is over or lost. Such a game replaces that of b1 once it
-has as many moves, or some and a result. It waits for boards that are not open yet, without limit, and asks for each again on the same
-connection, since the relay accepts a limited number (--connections). It ends when the games of all its boards have a result, and none goes
-on under a next name. With --names it does not end: on SIGHUP it reads the file again, begins with the names that are new there or were
-given up, leaves those that are gone, and disturbs no other. A board that the relay refuses for good, as for its name, and one for which
---tries tries in a row brought nothing, is given up with a line on standard error; the others go on, and the status is 1. What a board
-waits for is reported there too, once and when it changes.
+It follows b1_2, b1_3 and so on by itself, if b1 is one of its names and its game is over or lost. relay_client/successors.py says when such
+a game replaces that of b1. It waits for boards that are not open yet, without limit, and asks for each again on the same connection, since
+the relay accepts a limited number (--connections). It ends when the games of all its boards have a result, and none goes on under a next
+name. With --names it does not end: on SIGHUP it reads the file again, begins with the names that are new there or were given up, leaves
+those that are gone, and disturbs no other. A board that the relay refuses for good, as for its name, and one for which --tries tries in a
+row brought nothing, is given up with a line on standard error; the others go on, and the status is 1. What a board waits for is reported
+there too, once and when it changes.
 
 With --all it asks the relay's watch port, follows each board that this reports, and does not end. It publishes the texts of the list on a
 channel of its own, _boards, where a board that is gone ends as abandoned too. That channel keeps texts only for minutes, so the last text

@@ -206,7 +206,7 @@ async def try_both_anew(relay):
 
 async def try_next(relay):
     """Next names: of a game that was abandoned before the next board was opened or after, that has a result, that was lost with the relay,
-    or that never was there. A shorter game replaces none."""
+    or that never was there. A shorter game replaces none that has a result, and an empty one none."""
     client = await game(relay, "all-x1", FIRST)
     later = await game(relay, "all-y1", FIRST)
     await game(relay, "all-y1_2", OTHER)
@@ -241,10 +241,10 @@ async def try_next(relay):
         await readers["all-v1"].has(*before, *moved([*FIRST, "c2c4"])[2:])
         await again(relay)
         await readers["all-v1"].has(*before, *moved([*FIRST, "c2c4"])[2:], over())
-        resent = await game(relay, "all-v1_2", FIRST)
-        await readers["all-v1_2"].has(*before)
+        resent = await game(relay, "all-v1_2")
+        await readers["all-v1_2"].has(following())
         await readers["all-v1"].has(*before, *moved([*FIRST, "c2c4"])[2:], over())
-        await resent.submit("all-v1_2", "c2c4")
+        await resent.submit("all-v1_2", FIRST[0])
         await readers["all-v1"].has(*before, *moved([*FIRST, "c2c4"])[2:], over(), follow_on("all-v1_2"))
         await readers["all-x1"].has(*before, over(), follow_on("all-x1_2"))
         await readers["all-y1_2"].has(*other, over())
@@ -286,7 +286,7 @@ async def try_repeats(relay):
 
 
 async def try_replaced(relay):
-    """The list repeats the successor alone, once it has as many moves."""
+    """The list repeats the successor alone, once it has taken the place of the first."""
     wrong = await game(relay, "all-o1", FIRST)
     await wrong.end("all-o1")
     right = await game(relay, "all-o1_2", FIRST[:1])

@@ -430,8 +430,9 @@ def names_in(file):
 
 
 async def try_all_replaced(folder):
-    """A game that is over is replaced in the PGN, at its place, by the one of its next name that has as many moves, or a result. The empty
-    board of a next name replaces none, and is left out. With --replaced all are there. The records have all."""
+    """A game that has a result is replaced in the PGN, at its place, by the one of its next name that has as many moves, an abandoned one
+    by the first move. The empty board of a next name replaces none, and is left out. With --replaced all are there. The records have all.
+    """
     both = pathlib.Path(folder, "both")
     both.mkdir()
     relay = await Relay(watch=True).start()
@@ -450,11 +451,12 @@ async def try_all_replaced(folder):
     await until(lambda: sorted(names_in(recorder.folder / "all.pgn")) == ["a1", "a2", "a3"])
     await right.submit("a1_2", MOVES[3])
     await lost.open("a3_2")
-    await lost.submit("a3_2", *MOVES[:2])
+    await recorder.has("a3_2.record", "a3_2", 518, [])
     await until(lambda: sorted(names_in(recorder.folder / "all.pgn")) == ["a1_2", "a2", "a3"])
+    await lost.submit("a3_2", MOVES[0])
+    await until(lambda: sorted(names_in(recorder.folder / "all.pgn")) == ["a1_2", "a2", "a3_2"])
     await right.end("a1_2", "decided", result="1-0")
     await lost.end("a3_2", "time", side="black")
-    await until(lambda: set(names_in(recorder.folder / "all.pgn")) == {"a1_2", "a2", "a3_2"})
     await until(lambda: set(names_in(both / "all.pgn")) == {"a1", "a1_2", "a2", "a2_2", "a3", "a3_2"})
     await until(lambda: 'Termination "time forfeit"' in (both / "all.pgn").read_text())
     await whole.has("a1.record", "a1", 518, MOVES[:4], "white resigns")
@@ -464,7 +466,7 @@ async def try_all_replaced(folder):
 
 
 async def try_all_replaced_anew(folder):
-    """A game that was lost with the relay stands until all its moves are there again, and is replaced at its place then."""
+    """A game that was lost with the relay stands until its successor has a move, and is replaced at its place then."""
     relay = await Relay(watch=True).start()
     await opened(relay, "a1", 518, MOVES[:2])
     await opened(relay, "a2", 518, [])
@@ -473,10 +475,10 @@ async def try_all_replaced_anew(folder):
     before = names_in(recorder.folder / "all.pgn")
     await relay.kill()
     await relay.start()
-    again = await opened(relay, "a1_2", 518, MOVES[:1])
-    await recorder.has("a1_2.record", "a1_2", 518, MOVES[:1])
+    again = await opened(relay, "a1_2", 518, [])
+    await recorder.has("a1_2.record", "a1_2", 518, [])
     await until(lambda: names_in(recorder.folder / "all.pgn") == before)
-    await again.submit("a1_2", *MOVES[1:4])
+    await again.submit("a1_2", MOVES[0])
     await until(lambda: names_in(recorder.folder / "all.pgn") == [{"a1": "a1_2"}.get(it, it) for it in before])
     await recorder.has("a1.record", "a1", 518, MOVES[:2])
     await recorder.end()
