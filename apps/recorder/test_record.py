@@ -364,9 +364,9 @@ async def try_all(folder):
             break
         await asyncio.sleep(0.05)
     await third.end("a3")
-    heir = await opened(relay, "a3_2", 518, [], "agreed")
+    heir = await opened(relay, "a3_2", 518, MOVES[:1], "agreed")
     for _ in range(20 * PATIENCE):
-        if len(recorder.had("a3_2.record")) == 3:
+        if len(recorder.had("a3_2.record")) == 4:
             break
         await asyncio.sleep(0.05)
     had = recorder.had("a3_2.record")
