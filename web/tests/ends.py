@@ -10,7 +10,8 @@ from relay_client.client import Client
 from relay_client.relay import Relay
 from relay_client.wire import DOWN, UP
 from rounds import MATE, boards_of, until_tiles
-from steps import (GRACE, catch_files, enter, listed, open_table, pgn, said, say_end, text, today, until_moves, until_state, url, watch)
+from steps import (GRACE, catch_files, enter, listed, open_table, pgn, said, say_end, state, text, today, until_moves, until_state, url,
+                   watch)
 from tabs import frame, play, site, until_stand
 from told import Told
 from windows import HAS, until_doubted
@@ -269,6 +270,7 @@ async def try_successor_looked_at(browser):
         await until_state(seer, "over")
         await asyncio.sleep(9)
         assert await seer.run("window.made") == made, (board, await seer.run("window.made"))
+        assert await state(seer) == "over", f"{board} has given its place"
         await client.submit(f"{board}_2", *missing)
         await until_said(seer, f"{board} goes on as {board}_2, which is shown now.")
         await until_moves(seer, len((await log_of(relay, f"{board}_2"))[0]))
