@@ -85,7 +85,7 @@ async def try_beside_failed_board(browser):
         await enter(page, "Bc4", "type")
         await has(relay, "r3-1_2", ITALIAN_SENT[:5])
         file.write_text(game(ITALIAN) + game(DUTCH, 2, "1-0"))
-        await has(relay, "r3-2", DUTCH_SENT, "black resigns")
+        await has(relay, "r3-2", DUTCH_SENT, "white wins by decision")
         assert await log_of(relay, "r3-1_2") == (ITALIAN_SENT[:5], None)
         for it in program, recorder:
             await stop(it)
