@@ -1,0 +1,323 @@
+-- What is kept true of a service by each call.
+use Rattle.std.proofs.Common.{◌≡◌, ◌+◌, ◌<◌, ℕ, List, [], ◌∷◌, ◌++◌, Bool, true, false, true≢false, cond, is_some, take, Option, Some, None, Result, Ok, Err, IfOk, OnErr, inl, inr, refl, sym, ap, ◌∙◌, subst, append-nil, arith}
+use Rattle.std.specs.Prelude.{MatchOption, option_map}
+use Rattle.std.proofs.lemmas.Option.{none-some, same_Some}
+use Rattle.std.specs.declared.alloc.AllocError.{AllocError}
+use Rattle.c960_game.specs.Limits.{LimitNumbers}
+use Rattle.relay_hall.specs.declared.handed.Handed.{Handed}
+use Rattle.relay_hall.specs.declared.owner.Owner.{Owner}
+use Rattle.relay_hall.specs.Record.{HallRecord}
+use Rattle.relay_hall.specs.Runs.{HallEvent, HallStep, Comes, Goes, Silent, IsOneStep, SaysWhileThere, count_after, goes_now, says_now}
+use Rattle.relay_calling.specs.Calling.{CallerRecord, after_write, asks}
+use Rattle.relay_calling.specs.Crowd.{LeadsHall, Turn, happens, passes}
+use Rattle.relay_calling.specs.Running.{Deed, IsDone, Moment, came, failed, heeded, wrote}
+use Rattle.relay_service.specs.declared.connection.Connection.{Connection}
+use Rattle.relay_service.specs.declared.connection.Connection.TheVariants.{Operator, HandedOver}
+use Rattle.relay_service.specs.declared.service.Service.TheInside.{Inside}
+use Rattle.relay_service.specs.declared.turn.Moments.{Moments}
+use Rattle.relay_service.specs.declared.turn.NewDeed.{NewDeed}
+use Rattle.relay_service.specs.declared.turn.NewDeed.TheVariants.{Answered, Failed}
+use Rattle.relay_service.specs.Calls.{AnswersAt, AnswersTo, FailsAt, FailsTo, Arrives, Departs, Does, DoesAny, DoesIfPresent, DoesTo, Enters, FeedsTo, IfOperator, IfPresent, LeavesAt, Loses, Passes, Receives, Replaces, arrival, arrivals, following_at, following_in, has_handed, moment}
+use Rattle.relay_service.specs.Inner.{IsCallerOf, IsLedTo, IsOrdered, IsService, NamesNoneYet, service_of}
+use Rattle.relay_service.specs.Noting.{deed_of, moment_of}
+use Rattle.relay_service.specs.Record.{ServiceRecord, begun, caller_at, caller_in, connection_at, due_in, opened, operator_at, operator_in, owner_at, owner_in}
+use Rattle.relay_service.specs.Runs.{MadeBy, OneOrNoneOf}
+use Rattle.relay_service.proofs.Doing.{IsFed, IsNoted, answering_does, at_present, fed_by, match_at, match_some, present_there}
+use Rattle.relay_service.proofs.Led.{led_at_first, led_by_pass, led_on, led_passed, led_to_next, led_with, led_without}
+use Rattle.relay_service.proofs.Ordering.{ordered_at_first, ordered_by_arrival, ordered_by_departing, ordered_by_newcomer, ordered_by_pass, ordered_lost, ordered_says, ordered_still, ordered_with, ordered_without, owner_before}
+use Rattle.relay_service.proofs.Owners.{IsNoIntake, no_arrival}
+
+-- both, of what is shown
+pub record IsKept (s : ServiceRecord) : Type 0 where
+  pub led : IsLedTo s
+  pub ordered : IsOrdered s
+
+pub kept : (a : Inside) → IsService a → IsKept (service_of a)
+kept a k = record { led = k.led; ordered = k.ordered }
+
+pub keeps : (a : Inside) → IsKept (service_of a) → IsService a
+keeps a k = record { led = k.led; ordered = k.ordered }
+
+-- what shows the same is kept
+pub keeps_as : (a : Inside) (s : ServiceRecord) → IsKept s → service_of a ≡ s → IsService a
+keeps_as a s k is = keeps a (subst IsKept (sym is) k)
+
+-- ---- Which connections there are.
+
+pub kept_at_first : (limits : LimitNumbers) (grace : ℕ) (takes_keys : Bool) → IsKept (begun limits grace takes_keys)
+kept_at_first limits grace takes_keys = record { led = led_at_first limits grace takes_keys; ordered = ordered_at_first limits grace takes_keys }
+
+pub kept_by_newcomer : (s : ServiceRecord) (connections : List (ℕ × Connection)) → IsKept s → Replaces s.next (Some (opened s.next s.takes_keys)) s.connections connections
+    → IsKept (record s { connections = connections; next = s.next + 1 })
+kept_by_newcomer s connections k new = record {
+  led = led_with (record s { next = s.next + 1 }) s.next (Some (opened s.next s.takes_keys)) connections (led_to_next s k.led) new
+      (λ d is. (omega arith, subst (IsCallerOf (k.led.callers s.next)) (same_Some _ _ is) (k.led.yet s.next (omega arith))));
+  ordered = ordered_by_newcomer s connections k.ordered new;
+}
+
+pub kept_without : (s : ServiceRecord) (number : ℕ) (connections : List (ℕ × Connection)) → IsKept s → Replaces number None s.connections connections → IsKept (record s { connections = connections })
+kept_without s number connections k gone = record { led = led_without s number connections k.led gone; ordered = ordered_without s number connections k.ordered gone }
+
+-- it is handed over, as who it is
+kept_handing : (s : ServiceRecord) (number : ℕ) (c : CallerRecord) (connections : List (ℕ × Connection)) → IsKept s → connection_at s number ≡ Some (Operator c true)
+    → Replaces number (Some (HandedOver c.who)) s.connections connections → IsKept (record s { connections = connections })
+kept_handing s number c connections k there over = record {
+  led = led_with s number (Some (HandedOver c.who)) connections k.led over
+      (λ d is. (k.led.known number (Operator c true) there, subst (IsCallerOf (k.led.callers number)) (same_Some _ _ is) (ap (λ (e : CallerRecord). e.who) (k.led.there number (Operator c true) there))));
+  ordered = ordered_with s number (Some (HandedOver c.who)) connections k.ordered over (λ who is. ap owner_in there ∙ is) (λ d is. subst NamesNoneYet (same_Some _ _ is) tt);
+}
+
+handed_in : (o : Option Connection) (who : Owner) → option_map (λ (c : CallerRecord). c.who) (following_in (caller_in o)) ≡ Some who → (c : CallerRecord) × (o ≡ Some (Operator c true)) × (c.who ≡ who)
+handed_in None who is = absurd (none-some who is)
+handed_in (Some (HandedOver w)) who is = absurd (none-some who is)
+handed_in (Some (Operator c false)) who is = absurd (none-some who is)
+handed_in (Some (Operator c true)) who is = (c, refl, by (has_handed c.stage) is)
+  where
+    by : (b : Bool) → option_map (λ (d : CallerRecord). d.who) (cond b (Some c) None) ≡ Some who → c.who ≡ who
+    by true at = same_Some _ _ at
+    by false at = absurd (none-some who at)
+
+pub handed_at : (s : ServiceRecord) (number : ℕ) (who : Owner) (connections : List (ℕ × Connection)) → IsKept s → option_map (λ (c : CallerRecord). c.who) (following_at s number) ≡ Some who
+    → Replaces number (Some (HandedOver who)) s.connections connections → IsKept (record s { connections = connections })
+handed_at s number who connections k follows over =
+    let h = handed_in (connection_at s number) who follows in
+    kept_handing s number h.0 connections k h.1 (subst (λ (w : Owner). Replaces number (Some (HandedOver w)) s.connections connections) (sym h.2) over)
+
+-- ---- Who goes, and what passes.
+
+departs_led : (s : ServiceRecord) (number : ℕ) (who : Owner) (c : Option Connection) (t : ServiceRecord) (l : IsLedTo s) → Departs s number who c t
+    → ((d : Connection) → c ≡ Some d → (number < s.next) × IsCallerOf (l.callers number) d) → IsLedTo t
+departs_led s number who c t l d new =
+    let m : ServiceRecord = record s { hall = t.hall; turns = s.turns ++ passes (Goes who) Silent ∷ [] } in
+    subst IsLedTo (sym d.rest) (led_with m number c t.connections (led_passed s (Goes who) t.hall l d.step) d.connections new)
+
+kept_by_disconnecting : (s : ServiceRecord) (number : ℕ) (who : Owner) (c : Connection) (t : ServiceRecord) → IsKept s → connection_at s number ≡ Some c → Departs s number who None t → IsKept t
+kept_by_disconnecting s number who c t k there d = record {
+  led = departs_led s number who None t k.led d (λ e is. absurd (none-some e is));
+  ordered = ordered_by_departing s number who None t k.ordered (k.led.known number c there) d refl (λ e is. absurd (none-some e is));
+}
+
+-- it is still sent what is due
+kept_by_leaving : (s : ServiceRecord) (number : ℕ) (c : CallerRecord) (t : ServiceRecord) → IsKept s → connection_at s number ≡ Some (Operator c true)
+    → Departs s number c.who (Some (Operator c false)) t → IsKept t
+kept_by_leaving s number c t k there d = record {
+  led = departs_led s number c.who (Some (Operator c false)) t k.led d
+      (λ e is. (k.led.known number (Operator c true) there, subst (IsCallerOf (k.led.callers number)) (same_Some _ _ is) (k.led.there number (Operator c true) there)));
+  ordered = ordered_by_departing s number c.who (Some (Operator c false)) t k.ordered (k.led.known number (Operator c true) there) d refl
+      (λ e is. subst NamesNoneYet (same_Some _ _ is) (k.ordered.coming number (Operator c true) there));
+}
+
+pub left_at : (s : ServiceRecord) (number : ℕ) (before after : Connection) (who : Owner) (t : ServiceRecord) → IsKept s → connection_at s number ≡ Some before → is_some (caller_at s number) ≡ true
+    → owner_at s number ≡ Some who → IfPresent before (λ c. after ≡ Operator c false) → HallStep s.hall (Goes who) Silent t.hall → Replaces number (Some after) s.connections t.connections
+    → t ≡ record s { hall = t.hall; connections = t.connections; turns = s.turns ++ passes (Goes who) Silent ∷ [] } → IsKept t × LeavesAt s number t
+left_at s number before after who t k there present is leaves step replaced rest =
+    let p = at_present before (λ c. after ≡ Operator c false) (present_there s number before there present) leaves in
+    let here : connection_at s number ≡ Some (Operator p.0 true) = there ∙ ap Some p.1 in
+    let same : p.0.who ≡ who = same_Some _ _ (sym (ap owner_in here) ∙ is) in
+    let departs : Departs s number p.0.who (Some (Operator p.0 false)) t =
+    record {
+      there = ap owner_in here;
+      step = subst (λ (w : Owner). HallStep s.hall (Goes w) Silent t.hall) (sym same) step;
+      connections = subst (λ (d : Connection). Replaces number (Some d) s.connections t.connections) p.2 replaced;
+      rest = rest ∙ ap (λ (w : Owner). record s { hall = t.hall; connections = t.connections; turns = s.turns ++ passes (Goes w) Silent ∷ [] }) (sym same);
+    } in
+    (kept_by_leaving s number p.0 t k here departs, match_at (caller_at s number) p.0 _ (λ c. Departs s number c.who (Some (Operator c false)) t) (ap caller_in here) departs)
+
+owner_there : (o : Option Connection) (who : Owner) → owner_in o ≡ Some who → (c : Connection) × (o ≡ Some c)
+owner_there None who is = absurd (none-some who is)
+owner_there (Some c) who is = (c, refl)
+
+pub disconnected_at : (s : ServiceRecord) (number : ℕ) (who : Owner) (t : ServiceRecord) → IsKept s → Departs s number who None t → IsKept t
+disconnected_at s number who t k d =
+    let c = owner_there (connection_at s number) who d.there in
+    kept_by_disconnecting s number who c.0 t k c.1 d
+
+pub kept_by_pass : (s : ServiceRecord) (e : HallEvent) (t : ServiceRecord) → IsKept s → Passes s e t → ((w : ℕ) → says_now w e ≡ false) → ((w : ℕ) → goes_now w e ≡ false)
+    → ((count : List ℕ → ℕ) (q : List ℕ) → count_after count e q ≡ count q) → ((count : List ℕ → ℕ) → SaysWhileThere count e) → IsKept t
+kept_by_pass s e t k p says goes counts there = record { led = led_by_pass s e t k.led p; ordered = ordered_by_pass s e t k.ordered p says goes counts there }
+
+-- ---- What is done to a connection.
+
+-- nobody comes to the hall by it, and nothing is said there
+kept_still : (s : ServiceRecord) (number : ℕ) (x : Deed) (t : ServiceRecord) → IsKept s → (d : Does s number x t) → arrival d.does.caller d.does.then ≡ None
+    → MadeBy (happens number x) [] [] → t.hall ≡ s.hall → IsKept t
+kept_still s number x t k d none made same = record { led = led_on s number x t k.led d; ordered = ordered_still s number x t k.ordered d none made same }
+
+pub kept_quietly : (s : ServiceRecord) (number : ℕ) (x : Deed) (t : ServiceRecord) → IsKept s → Does s number x t → IsNoIntake x → MadeBy (happens number x) [] [] → t.hall ≡ s.hall → IsKept t
+kept_quietly s number x t k d quiet made same = kept_still s number x t k d (no_arrival d.does.caller x d.does.then quiet d.does.done) made same
+
+-- what is answered is one step or none
+kept_answering : (s : ServiceRecord) (number : ℕ) (x : Deed) (t : ServiceRecord) (handed : Option Handed) → IsKept s → (d : Does s number x t) → d.does.is_present ≡ true → IsNoIntake x
+    → IsOneStep s.hall d.does.caller.who handed t.hall → ((events rest : List HallEvent) → OneOrNoneOf number events rest → MadeBy (happens number x) events rest) → IsKept t
+kept_answering s number x t handed k d present quiet once makes = by once
+  where
+    none : arrival d.does.caller d.does.then ≡ None
+    none = no_arrival d.does.caller x d.does.then quiet d.does.done
+
+    numbered : d.does.caller.who.opener ≡ number
+    numbered = (k.ordered.seated number d.does.caller.who (owner_before s number x t d present)).numbered
+
+    by : IsOneStep s.hall d.does.caller.who handed t.hall → IsKept t
+    by (inl (step, reply, made)) = record {
+      led = led_on s number x t k.led d;
+      ordered = ordered_says s number x t k.ordered d present none step reply handed made (makes _ _ (inl (d.does.caller.who, step, numbered, refl)));
+    }
+    by (inr (same, nothing)) = kept_still s number x t k d none (makes _ _ (inr refl)) same
+
+answered_at : (s : ServiceRecord) (number : ℕ) (before after : Connection) (n : Moment) (x : Deed) (t : ServiceRecord) → IsKept s → connection_at s number ≡ Some before
+    → IsNoted number before n after x → n.before ≡ s.hall → n.after ≡ t.hall → Replaces number (Some after) s.connections t.connections
+    → t ≡ record s { hall = t.hall; connections = t.connections; turns = s.turns ++ happens number x ∷ [] } → IsKept t × Does s number x t
+answered_at s number before after n x t k there m first last replaced rest =
+    let does : Does s number x t =
+    record {
+      before = before;
+      after = after;
+      there = there;
+      does = m.does;
+      hall = subst (λ (h : HallRecord). LeadsHall h x t.hall) first (subst (LeadsHall n.before x) last m.hall);
+      connections = replaced;
+      rest = rest;
+    } in
+    let once : IsOneStep s.hall m.does.caller.who n.handed t.hall =
+    subst (λ (h : HallRecord). IsOneStep h m.does.caller.who n.handed t.hall) first (subst (IsOneStep n.before m.does.caller.who n.handed) last m.once) in
+    (kept_answering s number x t n.handed k does m.present m.quiet once m.makes, does)
+
+answers_ok : (answered : Result Bool AllocError) (r : NewDeed) (m : Moments) (s : ServiceRecord) (number : ℕ) (handed : Option Handed) (t : ServiceRecord) → moment_of m ≡ moment s handed t
+    → IfOk answered (λ some. r ≡ Answered some m) → is_some (caller_at s number) ≡ true → Does s number (deed_of r) t → IfOk answered (λ some. AnswersAt s number some handed t)
+answers_ok (Ok some) r m s number handed t is noted present does =
+    match_some (caller_at s number) _ _ present (subst (λ (x : Deed). Does s number x t) (ap deed_of noted ∙ ap (heeded some) is) does)
+answers_ok (Err e) r m s number handed t is noted present does = tt
+
+fails_err : (answered : Result Bool AllocError) (r : NewDeed) (m : Moments) (s : ServiceRecord) (number : ℕ) (handed : Option Handed) (t : ServiceRecord) → moment_of m ≡ moment s handed t
+    → OnErr answered (r ≡ Failed m) → is_some (caller_at s number) ≡ true → Does s number (deed_of r) t → OnErr answered (FailsAt s number handed t)
+fails_err (Ok some) r m s number handed t is noted present does = tt
+fails_err (Err e) r m s number handed t is noted present does =
+    match_some (caller_at s number) _ _ present (subst (λ (x : Deed). Does s number x t) (ap deed_of noted ∙ ap failed is) does)
+
+pub answered_by : (s : ServiceRecord) (number : ℕ) (before after : Connection) (answered : Result Bool AllocError) (r : NewDeed) (m : Moments) (handed : Option Handed) (t : ServiceRecord) → IsKept s
+    → connection_at s number ≡ Some before → is_some (caller_at s number) ≡ true → moment_of m ≡ moment s handed t
+    → IfOk answered (λ some. IfPresent before (λ c. AnswersTo c some s.hall handed t.hall after)) → OnErr answered (IfPresent before (λ c. FailsTo c s.hall handed t.hall after))
+    → IfOk answered (λ some. r ≡ Answered some m) → OnErr answered (r ≡ Failed m) → Replaces number (Some after) s.connections t.connections
+    → t ≡ record s { hall = t.hall; connections = t.connections; turns = s.turns ++ happens number (deed_of r) ∷ [] }
+    → IsKept t × IfOk answered (λ some. AnswersAt s number some handed t) × OnErr answered (FailsAt s number handed t)
+answered_by s number before after answered r m handed t k there present is ok err noted not replaced rest =
+    let n : Moment = moment s handed t in
+    let v : IsNoted number before n after (deed_of r) = answering_does number answered r m before after n is (present_there s number before there present) ok err noted not in
+    let a = answered_at s number before after n (deed_of r) t k there v refl refl replaced rest in
+    (a.0, answers_ok answered r m s number handed t is noted present a.1, fails_err answered r m s number handed t is not present a.1)
+
+-- ---- What is received.
+
+-- bytes came, and it comes to the hall if they end its request
+kept_receiving : (s : ServiceRecord) (number : ℕ) (bytes : List ℕ) (mid t : ServiceRecord) → IsKept s → (d : Does s number (came bytes) mid) → d.does.is_present ≡ true
+    → Arrives (arrival d.does.caller d.does.then) mid t → IsKept t
+kept_receiving s number bytes mid t k d present arrives = by (arrival d.does.caller d.does.then) refl arrives
+  where
+    by : (key : Option (List ℕ)) → arrival d.does.caller d.does.then ≡ key → Arrives key mid t → IsKept t
+    by None is same = subst IsKept (sym same) (kept_still s number (came bytes) mid k d is refl d.hall)
+    by (Some key) is p = record {
+      led = led_by_pass mid (Comes key) t (led_on s number (came bytes) mid k.led d) p;
+      ordered = ordered_by_arrival s number bytes mid key t k.ordered d present is p;
+    }
+
+enters_arrives : (key : Option (List ℕ)) (mid t : ServiceRecord) → Enters mid.hall key t.hall → t ≡ record mid { hall = t.hall; turns = mid.turns ++ arrivals key } → Arrives key mid t
+enters_arrives None mid t same is =
+    is ∙ (ap (λ (k : HallRecord). record mid { hall = k; turns = mid.turns ++ [] }) same ∙ ap (λ (xs : List Turn). record mid { turns = xs }) (append-nil mid.turns))
+enters_arrives (Some key) mid t step is = record { step = step; rest = is }
+
+abbrev received_as : (s : ServiceRecord) → HallRecord → List (ℕ × Connection) → List Turn → ServiceRecord
+received_as s hall connections turns = record s { hall = hall; connections = connections; turns = turns }
+
+abbrev noted : ServiceRecord → ℕ → List ℕ → List Turn
+noted s number bytes = s.turns ++ happens number (came bytes) ∷ []
+
+-- what came was fed, and this is noted
+abbrev fed_to : (s : ServiceRecord) (number : ℕ) (bytes : List ℕ) (before after : Connection) (connections : List (ℕ × Connection)) → connection_at s number ≡ Some before
+    → DoesTo before (came bytes) after → Replaces number (Some after) s.connections connections → Does s number (came bytes) (record s { connections = connections; turns = noted s number bytes })
+fed_to s number bytes before after connections there does replaced = record { before = before; after = after; there = there; does = does; hall = refl; connections = replaced; rest = refl }
+
+pub received : (s : ServiceRecord) (number : ℕ) (bytes : List ℕ) (before after : Connection) (key : Option (List ℕ)) (connections : List (ℕ × Connection)) (hall : HallRecord) (first turns : List Turn) → IsKept s
+    → connection_at s number ≡ Some before → is_some (caller_at s number) ≡ true → IfPresent before (λ c. FeedsTo c bytes key after) → Replaces number (Some after) s.connections connections
+    → Enters s.hall key hall → first ≡ noted s number bytes → turns ≡ first ++ arrivals key
+    → IsKept (received_as s hall connections turns) × MatchOption (caller_at s number) (received_as s hall connections turns ≡ s) (λ c. Receives s number bytes (received_as s hall connections turns))
+received s number bytes before after key connections hall first turns k there present feeds replaced enters begun ends =
+    let f : IsFed before bytes key after = fed_by before after bytes key (present_there s number before there present) feeds in
+    let mid : ServiceRecord = record s { connections = connections; turns = noted s number bytes } in
+    let t : ServiceRecord = received_as s hall connections turns in
+    let does : Does s number (came bytes) mid = fed_to s number bytes before after connections there f.does replaced in
+    let all : turns ≡ noted s number bytes ++ arrivals key = ends ∙ ap (λ (xs : List Turn). xs ++ arrivals key) begun in
+    let arrives : Arrives (arrival f.does.caller f.does.then) mid t =
+    subst (λ (a : Option (List ℕ)). Arrives a mid t) f.names (enters_arrives key mid t enters (ap (λ (xs : List Turn). received_as s hall connections xs) all)) in
+    (kept_receiving s number bytes mid t k does f.present arrives, match_some (caller_at s number) _ _ present (record { mid = mid; fed = does; arrives = arrives }))
+
+pub lost : (s : ServiceRecord) (number : ℕ) (bytes : List ℕ) (before after : Connection) (key : Option (List ℕ)) (connections left : List (ℕ × Connection)) (turns : List Turn) → IsKept s
+    → connection_at s number ≡ Some before → is_some (caller_at s number) ≡ true → IfPresent before (λ c. FeedsTo c bytes key after) → Replaces number (Some after) s.connections connections
+    → Replaces number None connections left → turns ≡ noted s number bytes → is_some key ≡ true
+    → IsKept (record s { connections = left; turns = turns }) × Loses s number bytes (record s { connections = left; turns = turns })
+lost s number bytes before after key connections left turns k there present feeds replaced gone is keyed =
+    let f : IsFed before bytes key after = fed_by before after bytes key (present_there s number before there present) feeds in
+    let mid : ServiceRecord = record s { connections = connections; turns = noted s number bytes } in
+    let does : Does s number (came bytes) mid = fed_to s number bytes before after connections there f.does replaced in
+    subst (λ (xs : List Turn). IsKept (record s { connections = left; turns = xs }) × Loses s number bytes (record s { connections = left; turns = xs })) (sym is) (
+      record {
+        led = led_without mid number left (led_on s number (came bytes) mid k.led does) gone;
+        ordered = ordered_lost s number bytes after connections left k.ordered replaced gone;
+      },
+      record { mid = mid; fed = does; keyed = sym (ap is_some f.names) ∙ keyed; gone = (gone, refl) },
+    )
+
+-- ---- What is put unasked, and sent.
+
+-- a frame is put if it asks
+pub put_at : (x : Bool → Deed) (f : CallerRecord → CallerRecord) → ((c : CallerRecord) (some : Bool) → asks c.stage ≡ some → IsDone c (x some) (f c)) → ((some : Bool) → IsNoIntake (x some))
+    → ((k : HallRecord) (some : Bool) → LeadsHall k (x some) k) → ((number : ℕ) (some : Bool) → MadeBy (happens number (x some)) [] [])
+    → (s : ServiceRecord) (number : ℕ) (before after : Connection) (some : Bool) (t : ServiceRecord) → IsKept s → connection_at s number ≡ Some before → is_some (caller_at s number) ≡ true
+    → IfPresent before (λ c. (asks c.stage ≡ some) × (after ≡ Operator (f c) true)) → Replaces number (Some after) s.connections t.connections
+    → t ≡ record s { connections = t.connections; turns = s.turns ++ happens number (x some) ∷ [] }
+    → IsKept t × DoesIfPresent s number (λ c. x (asks c.stage)) t
+put_at x f done quiet leads made s number before after some t k there present puts replaced rest =
+    let p = at_present before (λ c. (asks c.stage ≡ some) × (after ≡ Operator (f c) true)) (present_there s number before there present) puts in
+    let same : t.hall ≡ s.hall = ap (λ (r : ServiceRecord). r.hall) rest in
+    let does : Does s number (x some) t =
+    record {
+      before = before;
+      after = after;
+      there = there;
+      does = record { caller = p.0; then = f p.0; is_present = true; was = p.1; done = done p.0 some p.2.0; is = p.2.1 };
+      hall = subst (LeadsHall s.hall (x some)) (sym same) (leads s.hall some);
+      connections = replaced;
+      rest = rest ∙ ap (λ (h : HallRecord). record s { hall = h; connections = t.connections; turns = s.turns ++ happens number (x some) ∷ [] }) (sym same);
+    } in (
+      kept_quietly s number (x some) t k does (quiet some) (made number some) same,
+      match_at (caller_at s number) p.0 _ (λ c. Does s number (x (asks c.stage)) t) (ap caller_in there ∙ ap (λ (d : Connection). caller_in (Some d)) p.1)
+          (subst (λ (b : Bool). Does s number (x b) t) (sym p.2.0) does),
+    )
+
+pub sent_at : (s : ServiceRecord) (number n : ℕ) (before after : Connection) (bytes : List ℕ) (t : ServiceRecord) → IsKept s → connection_at s number ≡ Some before → is_some (operator_at s number) ≡ true
+    → IfOperator before (λ c here. (bytes ≡ take n c.due) × (after ≡ Operator (after_write c n) here)) → Replaces number (Some after) s.connections t.connections
+    → t ≡ record s { connections = t.connections; turns = s.turns ++ happens number (wrote bytes) ∷ [] }
+    → IsKept t × DoesAny s number (wrote (take n (due_in (operator_at s number)))) t
+sent_at s number n before after bytes t k there some sends replaced rest = by before there (sym (ap (λ (o : Option Connection). is_some (operator_in o)) there) ∙ some) sends
+  where
+    same : t.hall ≡ s.hall
+    same = ap (λ (r : ServiceRecord). r.hall) rest
+
+    by : (b : Connection) → connection_at s number ≡ Some b → is_some (operator_in (Some b)) ≡ true → IfOperator b (λ c here. (bytes ≡ take n c.due) × (after ≡ Operator (after_write c n) here))
+        → IsKept t × DoesAny s number (wrote (take n (due_in (operator_at s number)))) t
+    by (HandedOver who) at is sends = absurd (true≢false (sym is))
+    by (Operator c here) at is (first, then_is) =
+        let at_number : operator_at s number ≡ Some c = ap operator_in at in
+        let does : Does s number (wrote bytes) t =
+        record {
+          before = Operator c here;
+          after = after;
+          there = at;
+          does = record { caller = c; then = after_write c n; is_present = here; was = refl; done = (n, first, refl); is = then_is };
+          hall = same;
+          connections = replaced;
+          rest = rest ∙ ap (λ (h : HallRecord). record s { hall = h; connections = t.connections; turns = s.turns ++ happens number (wrote bytes) ∷ [] }) (sym same);
+        } in (
+          kept_quietly s number (wrote bytes) t k does tt refl same,
+          match_at (operator_at s number) c _ (λ d. Does s number (wrote (take n (due_in (operator_at s number)))) t) at_number
+              (subst (λ (bs : List ℕ). Does s number (wrote bs) t) (first ∙ ap (λ (o : Option CallerRecord). take n (due_in o)) (sym at_number)) does),
+        )

@@ -1,0 +1,5 @@
+pub mod Calls
+pub mod Inner
+pub mod Noting
+pub mod Record
+pub mod Runs

@@ -1,0 +1,180 @@
+//! A hall and all connections of operators, as one value.
+
+ghost use Rattle.std.specs.Prelude.{◌≡◌, ◌+◌, ℕ, List, [], Some, None, IfOk, OnErr, OnOk, false, is_some, option_map};
+ghost use Rattle.std.specs.Map.{lookup};
+ghost use Rattle.c960_game.specs.Game960.{Game960};
+ghost use Rattle.relay_core.specs.Name.{same_name};
+ghost use Rattle.relay_hall.specs.Holders.{presence_of};
+ghost use Rattle.relay_hall.specs.Record.{HallBoard};
+ghost use Rattle.relay_hall.specs.Runs.{IsInTime};
+ghost use Rattle.relay_calling.specs.Crowd.{deeds_of};
+ghost use Rattle.relay_service.specs.Calls.{Replaces};
+ghost use Rattle.relay_service.specs.Record.{begun, caller_at, opened, operator_at, owner_at};
+ghost use Rattle.relay_service.specs.Runs.{IsOrderlyService, has_left};
+
+mod answering;
+mod leaving;
+mod passing;
+mod receiving;
+mod sending;
+
+use crate::connection::Connection;
+use crate::turns::Turns;
+use c960_game::Limits;
+use indexmap::IndexMap;
+use relay_calling::Caller;
+use relay_hall::laws::whatever_happens;
+use relay_hall::{Hall, Owner};
+use std::alloc::{AllocError, Global};
+use std::marker::Model;
+use std::snapshot::Snapshot;
+
+/// All boards and all connections. Contracts see a `ServiceRecord`, which has all turns so far: each call says which turn it adds.
+#[derive(Drop)]
+pub struct Service {
+    alloc: Global,
+    hall: Hall,
+    connections: IndexMap<u64, Connection>,
+    /// The number of the next connection.
+    next: u64,
+    /// Whether requests may name keys.
+    takes_keys: bool,
+    limits: Snapshot<Limits>,
+    grace: Snapshot<u64>,
+    turns: Turns,
+}
+
+impl Model for Service {
+    ghost use Rattle.relay_service.specs.Record.{ServiceRecord};
+
+    ghost Value = { ServiceRecord };
+
+    ghost use Rattle.relay_service.specs.Inner.{IsService, service_of};
+
+    ghost view = { service_of };
+
+    ghost invariant = { IsService };
+}
+
+impl Service {
+    /// A service without boards and connections. Boards of a key wait `grace` milliseconds for a connection with it.
+    ///
+    /// # Errors
+    ///
+    /// There was no memory.
+    pub fn new(
+        alloc: Global,
+        limits: Limits,
+        grace: u64,
+        takes_keys: bool,
+    ) -> Result<Service, AllocError>
+        ensures { IfOk result (λ s. s ≡ begun limits grace takes_keys) }
+    {
+        Ok(Service {
+            alloc,
+            hall: Hall::new(alloc, limits, grace)?,
+            connections: IndexMap::new(alloc),
+            next: 0,
+            takes_keys,
+            limits: Snapshot::of(&limits),
+            grace: Snapshot::of(&grace),
+            turns: Turns::new(),
+        })
+    }
+
+    /// A connection has come, of which nothing was read yet. Returns its number, which was never used before.
+    ///
+    /// # Errors
+    ///
+    /// There was no memory, or no number is left. Nothing has changed.
+    pub fn connect(&mut self) -> Result<u64, AllocError>
+        ensures number { IfOk result (λ number. number ≡ self.old.next) }
+        ensures fresh { IfOk result (λ number. deeds_of number self.old.turns ≡ []) }
+        ensures there { IfOk result (λ number. Replaces number (Some (opened number self.old.takes_keys)) self.old.connections self.new.connections) }
+        ensures rest { OnOk result (self.new ≡ record self.old { connections = self.new.connections; next = self.old.next + 1 }) }
+        ensures unchanged { OnErr result (self.new ≡ self.old) }
+    {
+        let number = self.next;
+        let Some(next) = number.checked_add(1) else {
+            return Err(AllocError);
+        };
+        let connection = Connection::new(self.alloc, number, self.takes_keys);
+        if self.connections.insert(number, connection).is_err() {
+            return Err(AllocError);
+        }
+        self.next = next;
+        Ok(number)
+    }
+
+    /// The caller of the operator's connection of this number, to be looked at: how far it has come, and who it is.
+    pub fn caller(&self, number: u64) -> Option<&Caller>
+        ensures { option_map (λ c. c.now) result ≡ operator_at self.now number }
+    {
+        self.connections.get(&number)?.caller()
+    }
+
+    /// Whether the connection of this number is an operator's.
+    fn is_operator(&self, number: u64) -> bool
+        ensures { result ≡ is_some (operator_at self.now number) }
+    {
+        matches!(
+            self.connections.get(&number),
+            Some(Connection::Operator { .. })
+        )
+    }
+
+    /// Whether the connection of this number is an operator's that is present in the hall.
+    fn is_present(&self, number: u64) -> bool
+        ensures { result ≡ is_some (caller_at self.now number) }
+    {
+        match self.connections.get(&number) {
+            Some(connection) => connection.is_present(),
+            None => false,
+        }
+    }
+
+    /// Who the connection of this number is in the hall, if it is present there.
+    pub fn owner(&self, number: u64) -> Option<Owner>
+        ensures { result ≡ owner_at self.now number }
+    {
+        self.connections.get(&number)?.owner()
+    }
+
+    /// Whether the connection of this number has said a whole message since the last such call. It is no part of what contracts see.
+    #[tactic(auto, using(std::proofs::lemmas::Map::Steps::set_value_same))]
+    pub fn take_said(&mut self, number: u64) -> bool
+        ensures { self.new ≡ self.old }
+    {
+        let Some(connection) = self.connections.get_mut(&number) else {
+            return false;
+        };
+        connection.take_said()
+    }
+
+    /// Whether something has come whole of the connection of this number since the last such call: a message, or what is not between the
+    /// parts of one. It is no part of what contracts see.
+    #[tactic(auto, using(std::proofs::lemmas::Map::Steps::set_value_same))]
+    pub fn take_whole(&mut self, number: u64) -> bool
+        ensures { self.new ≡ self.old }
+    {
+        let Some(connection) = self.connections.get_mut(&number) else {
+            return false;
+        };
+        connection.take_whole()
+    }
+
+    /// The hall, to be looked at. It is what the turns so far make of an empty hall, in an orderly run: so each of its games is legal, and
+    /// one that goes on has somebody.
+    pub fn hall(&self) -> &Hall
+        ensures hall { result.now ≡ self.now.hall }
+        ensures run { IsOrderlyService self.now }
+        ensures games { (name : List ℕ) (b : HallBoard) → lookup (same_name name) self.now.hall.floor.boards ≡ Some b → Game960 b.game.start b.game.log }
+        ensures there { (name : List ℕ) (b : HallBoard) → lookup (same_name name) self.now.hall.floor.boards ≡ Some b
+            → b.owner.key ≡ None → b.game.outcome ≡ None → has_left b.owner.opener self.now.turns ≡ false }
+        ensures held { (name : List ℕ) (b : HallBoard) → lookup (same_name name) self.now.hall.floor.boards ≡ Some b → (key : List ℕ) → b.owner.key ≡ Some key
+            → b.game.outcome ≡ None → IsInTime self.now.hall.time self.now.hall.shut (presence_of key self.now.hall.keys) }
+    {
+        whatever_happens();
+        &self.hall
+    }
+}

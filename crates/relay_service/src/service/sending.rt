@@ -1,0 +1,85 @@
+//! What connections are sent.
+
+ghost use Rattle.std.specs.Prelude.{◌≡◌, OnErr, OnOk, take};
+ghost use Rattle.relay_calling.specs.Calling.{asks};
+ghost use Rattle.relay_calling.specs.Running.{was_pinged, was_sent_away, wrote};
+ghost use Rattle.relay_service.specs.Calls.{DoesAny, DoesIfPresent, IsServedAt};
+ghost use Rattle.relay_service.specs.Record.{due_in, operator_at};
+
+use crate::connection::Connection;
+use crate::service::Service;
+use crate::turn::{NewDeed, NewTurn};
+use relay_calling::laws::however_many_there_are;
+use relay_frames::Code;
+use std::alloc::AllocError;
+
+impl Service {
+    /// Offers the bytes that are due to the connection of this number. With what was sent to it before, they are what its deeds among all
+    /// turns so far require.
+    pub fn output(&self, number: u64) -> &[u8]
+        ensures due { result.now ≡ due_in (operator_at self.now number) }
+        ensures served { IsServedAt self.now number }
+    {
+        however_many_there_are();
+        match self.connections.get(&number) {
+            Some(Connection::Operator { caller, .. }) => caller.due(),
+            _ => &[],
+        }
+    }
+
+    /// The first `n` of the bytes due to the connection of this number were sent, or all if they are fewer.
+    pub fn sent(&mut self, number: u64, n: usize)
+        ensures { DoesAny self.old number (wrote (take n (due_in (operator_at self.old number)))) self.new }
+    {
+        if !self.is_operator(number) {
+            return;
+        }
+        let Some(connection) = self.connections.get_mut(&number) else {
+            return;
+        };
+        let deed = NewDeed::Wrote(connection.sent(n));
+        self.turns = self.turns.and(&NewTurn::Happens(number, deed));
+    }
+
+    /// Puts a ping behind what is due to the connection of this number, if it asks.
+    ///
+    /// # Errors
+    ///
+    /// There was no memory. Nothing has changed.
+    #[tactic(auto, using(std::proofs::lemmas::Map::Steps::set_value_same))]
+    pub fn ping(&mut self, number: u64) -> Result<(), AllocError>
+        ensures ok { OnOk result (DoesIfPresent self.old number (λ c. was_pinged (asks c.stage)) self.new) }
+        ensures err { OnErr result (self.new ≡ self.old) }
+    {
+        if !self.is_present(number) {
+            return Ok(());
+        }
+        let Some(connection) = self.connections.get_mut(&number) else {
+            return Ok(());
+        };
+        let deed = NewDeed::WasPinged(connection.ping()?);
+        self.turns = self.turns.and(&NewTurn::Happens(number, deed));
+        Ok(())
+    }
+
+    /// Puts a close with this code behind what is due to the connection of this number, if it asks. Then it says no more.
+    ///
+    /// # Errors
+    ///
+    /// There was no memory. Nothing has changed.
+    #[tactic(auto, using(std::proofs::lemmas::Map::Steps::set_value_same))]
+    pub fn close(&mut self, number: u64, code: Code) -> Result<(), AllocError>
+        ensures ok { OnOk result (DoesIfPresent self.old number (λ c. was_sent_away (asks c.stage) code.number) self.new) }
+        ensures err { OnErr result (self.new ≡ self.old) }
+    {
+        if !self.is_present(number) {
+            return Ok(());
+        }
+        let Some(connection) = self.connections.get_mut(&number) else {
+            return Ok(());
+        };
+        let deed = NewDeed::WasClosed(connection.close(code)?, code.number);
+        self.turns = self.turns.and(&NewTurn::Happens(number, deed));
+        Ok(())
+    }
+}
