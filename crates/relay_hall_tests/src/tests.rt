@@ -1,8 +1,10 @@
-//! The tests, a module for each crate that is tested: `hall` of `relay_hall`, `registry` of `relay_registry`, `calling` of `relay_calling`.
+//! The tests, a module for each crate that is tested: `hall` of `relay_hall`, `registry` of `relay_registry`, `calling` of `relay_calling`,
+//! `service` of `relay_service`.
 
 mod calling;
 mod hall;
 mod registry;
+mod service;
 
 use std::process::Abort;
 

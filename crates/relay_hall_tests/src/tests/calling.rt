@@ -3,9 +3,9 @@
 //! unasked.
 
 mod coming;
-mod frames;
+pub mod frames;
 mod leaving;
-mod requests;
+pub mod requests;
 mod scene;
 mod talking;
 mod unasked;

@@ -1,20 +1,20 @@
 //! `sessions` has tables of what happens and what is answered; `random` and `memory` have the events drawn by `chance`, which happen in a
 //! `scene`, beside the model of `plain`.
 
-mod answers;
-mod chance;
-mod command;
-mod comparing;
+pub mod answers;
+pub mod chance;
+pub mod command;
+pub mod comparing;
 mod full;
 mod heard;
 mod keys;
 mod memory;
-mod plain;
+pub mod plain;
 mod random;
-mod room;
+pub mod room;
 mod scene;
-mod seen;
+pub mod seen;
 mod sessions;
 mod speaking;
 mod threads;
-mod values;
+pub mod values;

@@ -56,7 +56,7 @@ pub fn shows(hall: &Hall, plain: &Plain, values: &Values) -> bool {
 }
 
 /// Whether a board of the model has changed since that was last told. It is told by this.
-fn was_rung_for(plain: &mut Plain, at: usize) -> bool {
+pub fn was_rung_for(plain: &mut Plain, at: usize) -> bool {
     match plain.rows.get_mut(at) {
         Some(row) => {
             let has_rung = row.has_rung;
@@ -68,7 +68,7 @@ fn was_rung_for(plain: &mut Plain, at: usize) -> bool {
 }
 
 /// Whether no board of the model has changed since that was last told.
-fn is_quiet(plain: &Plain) -> bool {
+pub fn is_quiet(plain: &Plain) -> bool {
     for row in plain.rows.iter() {
         if row.has_rung {
             return false;

@@ -99,9 +99,14 @@ fn behind() -> &'static [&'static str] {
     &BEHIND
 }
 
+/// The text of the key of this number, or none.
+pub fn key_text(number: usize) -> &'static str {
+    text_at(keys(), number)
+}
+
 /// The key of this number, if there is one.
 pub fn key(number: usize) -> Option<Key> {
-    Key::parse(text_at(keys(), number).as_bytes())
+    Key::parse(key_text(number).as_bytes())
 }
 
 /// The name of this number.

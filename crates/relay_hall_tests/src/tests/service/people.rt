@@ -1,0 +1,89 @@
+//! A connection of a service, from its other end.
+
+use crate::tests::hall::command::Command;
+use crate::tests::hall::plain::{KEYS, Speaker};
+use crate::tests::hall::room::room;
+use live_board::Follower;
+use std::alloc::Global;
+use std::process::Abort;
+
+pub const PEOPLE: u32 = 60;
+
+/// What a connection does.
+#[derive(Clone, Copy, PartialEq)]
+pub enum Course {
+    /// There is none.
+    Away,
+    /// It sends its request.
+    Comes,
+    /// It sends commands.
+    Asks,
+    /// It was closed, and has not gone from the hall.
+    Closed,
+    /// It has gone from the hall.
+    Left,
+    /// It follows, and was handed over.
+    Follows,
+}
+
+/// A connection.
+#[derive(Drop)]
+pub struct Person {
+    pub course: Course,
+    pub number: u64,
+    /// Who speaks for the model. Its key is that of its request.
+    pub speaker: Speaker,
+    /// What it has yet to send of its request or of a command.
+    pub unsent: Vec<u8>,
+    pub command: Option<Command>,
+    /// What is due to it.
+    pub due: Vec<u8>,
+    pub follower: Option<Follower>,
+    /// The index of the board that it follows.
+    pub board: usize,
+}
+
+/// The connections of a scene. Nobody is there yet.
+pub fn people(rt: &impl Abort, alloc: Global) -> Vec<Person> {
+    let mut all = room(rt, alloc, PEOPLE as usize);
+    for _ in 0..PEOPLE {
+        let person = Person {
+            course: Course::Away,
+            number: 0,
+            speaker: Speaker {
+                number: 0,
+                key: KEYS,
+            },
+            unsent: Vec::new(alloc),
+            command: None,
+            due: Vec::new(alloc),
+            follower: None,
+            board: 0,
+        };
+        all.push(person).expect(rt, "there is room");
+    }
+    all
+}
+
+/// Removes the first `n` bytes, or all.
+pub fn remove_first(bytes: &mut Vec<u8>, n: usize) {
+    let n = n.min(bytes.len());
+    bytes.drain(..n);
+}
+
+impl Person {
+    /// It begins anew, with this number and this key.
+    pub fn begins(&mut self, number: u64, key: usize) {
+        self.course = Course::Comes;
+        self.number = number;
+        self.speaker = Speaker { number, key };
+        self.unsent.clear();
+        self.command = None;
+        self.due.clear();
+    }
+
+    /// Whether it has shaken hands and not gone from the hall.
+    pub fn is_in_the_hall(&self) -> bool {
+        matches!(self.course, Course::Asks | Course::Closed | Course::Follows)
+    }
+}

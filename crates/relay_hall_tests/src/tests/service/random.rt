@@ -1,0 +1,85 @@
+//! Random events: sixty connections, six keys, two graces, and bytes in pieces of any size. After each event the service shows what the
+//! plain model has, and to each connection is due what the model answered it.
+
+use crate::tests::hall::answers::{
+    AGREED, BAD_START, BOARD_EXISTS, CLAIM_REFUSED, GAME_OVER, ILLEGAL, LOG_FULL, NOT_YET,
+    NOT_YOUR_BOARD, OPENED, TOO_FAR_BACK, TOO_MANY_BOARDS, TOO_MANY_FOLLOWERS, WRONG_MODE,
+};
+use crate::tests::hall::seen::Seen;
+use crate::tests::service::people::people;
+use crate::tests::service::scene::Scene;
+use std::alloc::Global;
+use std::process::Abort;
+
+/// How many services there are for each grace, and how many events in each.
+const SERVICES: u32 = 12;
+
+const EVENTS: u32 = 6000;
+
+/// What occurs with any grace.
+static WORDS: [&str; 16] = [
+    "played",
+    "following",
+    OPENED,
+    AGREED,
+    BOARD_EXISTS,
+    BAD_START,
+    TOO_MANY_BOARDS,
+    GAME_OVER,
+    ILLEGAL,
+    LOG_FULL,
+    CLAIM_REFUSED,
+    TOO_MANY_FOLLOWERS,
+    NOT_YOUR_BOARD,
+    WRONG_MODE,
+    TOO_FAR_BACK,
+    NOT_YET,
+];
+
+/// What occurs if there is a grace.
+static WAITING: [&str; 3] = ["waits", "came back", "ran out"];
+
+fn words() -> &'static [&'static str] {
+    &WORDS
+}
+
+fn waiting() -> &'static [&'static str] {
+    &WAITING
+}
+
+/// A service with this grace in milliseconds. Notes what has occurred.
+fn run_one(rt: &impl Abort, alloc: Global, grace: u64, seed: u32, seen: &mut Seen) {
+    let mut people = people(rt, alloc);
+    let mut scene = Scene::new(rt, alloc, grace, seed);
+    for _ in 0..EVENTS {
+        scene.happens(rt, people.as_mut_slice());
+    }
+    seen.note_all(&scene.plain.seen);
+}
+
+/// All of these words have occurred, or none.
+fn assert_seen(rt: &impl Abort, seen: &Seen, words: &'static [&'static str], all: bool) {
+    for word in words {
+        assert!(rt; seen.has(*word) == all, "{word}");
+    }
+}
+
+/// Services with this grace in milliseconds. All that occurs with any grace has occurred, and what occurs if there is one exactly then.
+fn run(rt: &impl Abort, alloc: Global, grace: u64) {
+    let mut seen = Seen::new(rt, alloc);
+    for seed in 0..SERVICES {
+        run_one(rt, alloc, grace, seed, &mut seen);
+    }
+    assert_seen(rt, &seen, words(), true);
+    assert_seen(rt, &seen, waiting(), grace > 0);
+}
+
+#[test]
+fn a_service_without_a_grace_is_the_plain_one(rt: HostRuntime) {
+    run(&rt, rt.alloc(), 0);
+}
+
+#[test]
+fn a_service_with_a_grace_is_the_plain_one(rt: HostRuntime) {
+    run(&rt, rt.alloc(), 150);
+}
