@@ -66,6 +66,14 @@ fn is_answer(bytes: &[u8], due: usize, answer: Answer) -> bool {
     head == [TEXT, (text.len() % 126) as u8].as_slice() && is_text_of(text, answer)
 }
 
+/// Whether a connection is handed over, with these bytes due to it.
+pub fn hands_over(service: &mut Service, number: u64, wanted: &[u8]) -> bool {
+    match service.hand_over(number) {
+        Some((_, due)) => due.as_slice() == wanted,
+        None => false,
+    }
+}
+
 impl Scene {
     pub fn new(rt: &impl Abort, alloc: Global, grace: u64, seed: u32) -> Scene {
         Scene {
@@ -258,10 +266,7 @@ impl Scene {
 
     /// A connection that follows is handed over with what is due to it.
     fn is_handed_over(&mut self, rt: &impl Abort, person: &mut Person) {
-        let is_over = match self.service.hand_over(person.number) {
-            Some((_, due)) => due.as_slice() == person.due.as_slice(),
-            None => false,
-        };
+        let is_over = hands_over(&mut self.service, person.number, person.due.as_slice());
         holds(rt, is_over, "handed over");
         person.due.clear();
         person.course = Course::Follows;

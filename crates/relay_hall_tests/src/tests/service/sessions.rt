@@ -4,6 +4,7 @@ use crate::tests::calling::frames::{TEXT, add, asked, tell};
 use crate::tests::calling::requests::{ACCEPTED, BEHIND_TARGET};
 use crate::tests::hall::answers::{GAME_OVER, NOT_YOUR_BOARD, OPENED};
 use crate::tests::holds;
+use crate::tests::service::scene::hands_over;
 use crate::tests::service::sessions::Deed::{
     Closes, Comes, Drops, Due, Ends, Follows, Goes, IsAbandoned, Leaves, Pings, Says, Shuts, Time,
 };
@@ -235,10 +236,7 @@ fn says(
 
 /// Whether a connection is handed over with these bytes, and nothing more is due to it.
 fn is_handed_over(service: &mut Service, number: u64, wanted: &[u8]) -> bool {
-    match service.hand_over(number) {
-        Some((_, due)) => due.as_slice() == wanted && service.output(number).is_empty(),
-        None => false,
-    }
+    hands_over(service, number, wanted) && service.output(number).is_empty()
 }
 
 /// Whether a text is dropped.
