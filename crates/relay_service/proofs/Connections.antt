@@ -1,5 +1,5 @@
 -- What is true of each connection once one of them has changed.
-use Rattle.std.proofs.Common.{◌≡◌, ◌<◌, ℕ, nat_eq, List, Bool, true, false, true≢false, cond, Option, Some, None, refl, sym, ap, ◌∙◌, subst, arith}
+use Rattle.std.proofs.Common.{◌≡◌, ◌<◌, ℕ, nat_eq, List, Bool, true, false, true≢false, cond, Option, Some, refl, sym, ap, ◌∙◌, subst, arith}
 use Rattle.std.proofs.lemmas.Bool.{eqb-true}
 use Rattle.relay_hall.specs.declared.owner.Owner.{Owner}
 use Rattle.relay_service.specs.declared.connection.Connection.{Connection}

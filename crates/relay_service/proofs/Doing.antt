@@ -1,8 +1,7 @@
 -- What a call did to a connection, from what is told of it.
-use Rattle.std.proofs.Common.{◌≡◌, ℕ, List, Bool, true, false, true≢false, cond, is_some, Option, Some, None, Result, Ok, Err, IfOk, OnErr, refl, sym, ap, ◌∙◌, subst}
+use Rattle.std.proofs.Common.{◌≡◌, ℕ, List, Bool, true, false, true≢false, is_some, Option, Some, None, Result, Ok, Err, IfOk, OnErr, refl, sym, ap, ◌∙◌, subst}
 use Rattle.std.specs.Prelude.{MatchOption}
 use Rattle.std.specs.declared.alloc.AllocError.{AllocError}
-use Rattle.std.proofs.lemmas.Option.{none-some}
 use Rattle.relay_hall.specs.declared.handed.Handed.{Handed}
 use Rattle.relay_hall.specs.Record.{HallRecord}
 use Rattle.relay_hall.specs.Runs.{HallEvent, IsOneStep}

@@ -11,7 +11,7 @@ use Rattle.relay_service.specs.declared.connection.Connection.{Connection}
 use Rattle.relay_service.specs.declared.connection.Connection.TheVariants.{Operator, HandedOver}
 use Rattle.relay_service.specs.Calls.{Does, IsServedAt, IsServedIn, Passes, Replaces}
 use Rattle.relay_service.specs.Inner.{IsCallerOf, IsLedTo, beginning}
-use Rattle.relay_service.specs.Record.{ServiceRecord, begun, connection_at, operator_at, operator_in}
+use Rattle.relay_service.specs.Record.{ServiceRecord, begun, connection_at, operator_in}
 use Rattle.relay_service.proofs.Connections.{each_after, same_number, unlike}
 
 -- ---- One turn more.

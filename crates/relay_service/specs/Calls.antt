@@ -1,5 +1,5 @@
 -- What each call does to a service: its turns grow by what was done, and nothing else has changed.
-use Rattle.std.specs.Prelude.{◌≡◌, ◌⊎◌, ◌&&◌, ℕ, nat_eq, Bool, cond, is_some, true, false, List, [], ◌∷◌, ◌++◌, Option, None, Some, MatchOption}
+use Rattle.std.specs.Prelude.{◌≡◌, ◌&&◌, ℕ, nat_eq, Bool, cond, is_some, true, false, List, [], ◌∷◌, ◌++◌, Option, None, Some, MatchOption}
 use Rattle.relay_hall.specs.declared.handed.Handed.{Handed}
 use Rattle.relay_hall.specs.declared.owner.Owner.{Owner}
 use Rattle.relay_hall.specs.Record.{HallRecord}
@@ -52,7 +52,8 @@ pub record Passes (s : ServiceRecord) (e : HallEvent) (t : ServiceRecord) : Type
 
 -- ---- What comes.
 
--- The key with which a connection comes to the hall that was at this stage before: the key that its request named, if that was accepted now.
+-- The key with which a connection comes to the hall that was at this stage before: the key that its request named, if that is accepted
+-- now.
 abbrev pub arrival_at : Stage → CallerRecord → Option (List ℕ)
 arrival_at was d = cond (comes was && asks d.stage) d.who.key None
 

@@ -9,8 +9,8 @@ use Rattle.relay_calling.specs.Crowd.{Turn}
 use Rattle.relay_service.specs.declared.connection.Connection.{Connection}
 use Rattle.relay_service.specs.declared.connection.Connection.TheVariants.{Operator, HandedOver}
 
--- the hall; the connections that are there, by their numbers; the number of the next one; whether requests may name keys; the limits and the
--- grace with which the hall began; and all turns so far, the first one first
+-- the hall; the connections that are there, by their numbers; the number of the next one; whether requests may name keys; the limits and
+-- the grace with which the hall began; and all turns so far, the first one first
 pub record ServiceRecord : Type 0 where
   pub hall : HallRecord
   pub connections : List (ℕ × Connection)

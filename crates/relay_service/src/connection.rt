@@ -21,7 +21,8 @@ pub enum Connection {
     HandedOver(Owner),
 }
 
-/// The key with which a connection comes to the hall that was at this stage before: the key that its request named, if that was accepted now.
+/// The key with which a connection comes to the hall that was at this stage before: the one that its request named, if that was accepted
+/// now.
 fn arrival(was: Stage, caller: &Caller) -> Option<Key>
     ensures { result ≡ arrival_at was caller.now }
 {

@@ -7,8 +7,8 @@ use crate::turn::NewTurn;
 use std::snapshot::Snapshot;
 
 impl Service {
-    /// The operator's connection of this number says no more and goes from the hall: its boards are ended, or wait. It is still sent what is
-    /// due.
+    /// The operator's connection of this number says no more and goes from the hall: its boards are ended, or wait. It is still sent what
+    /// is due.
     pub fn leave(&mut self, number: u64)
         ensures { LeavesAt self.old number self.new }
     {

@@ -1,4 +1,4 @@
-use Rattle.std.proofs.Common.{rules, refl, sym}
+use Rattle.std.proofs.Common.{rules, refl}
 use Rattle.std.proofs.lemmas.Map.Steps.{set_value_same}
 use Rattle.relay_calling.specs.Calling.{sent_away}
 use Rattle.relay_calling.specs.Running.{was_sent_away}
