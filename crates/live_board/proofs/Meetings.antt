@@ -1,6 +1,6 @@
 -- What a board and a follower know after the follower's part was taken in, the status and its cursor loaded, and the part handed out.
 use Rattle.std.proofs.Common.{◌≡◌, ℕ, ◌+◌, ◌-◌, ◌/◌, ◌%◌, ◌<◌, ◌≤◌, [], ◌∷◌, length, Option, Some, None, true, sym, refl, ap, ◌∙◌, subst, arith, cond, eqb, lt-ltb}
-use Rattle.std.proofs.lemmas.Option.{none-some}
+use Rattle.std.proofs.lemmas.Option.{none-some, same_Some}
 use mathlib.Core.Logic.{dite}
 use mathlib.Core.Option.{some}
 use native.Mathlib.Decide.{ℕ_discrete}
@@ -90,12 +90,18 @@ module _ (v : View) (z : BoardSetup) (p : Part) (k r n : ℕ) where
         noted = at-slot;
         there = λ e. subst (λ (m : Note). Agrees w m q) e agreed;
         closing = known old.0 (let c = b.limits.some_capacity in c) note refl agreed;
+        closed = λ d e. closed_by note agreed d (sym (known old.0 (let c = b.limits.some_capacity in c) note refl agreed) ∙ e);
       }
     where
       next_within : (m : Note) → Agrees (checked_in v z p r k n) m (learns n (sees r p)) → next_of p ≤ length v.log
       next_within Vacant a = absurd a
       next_within (Open j l) a = a.3
       next_within (Closed c) a = let x = a.0 in let y = a.1 in omega (arith, x, y)
+
+      closed_by : (m : Note) → Agrees (checked_in v z p r k n) m (learns n (sees r p)) → (d : ℕ) → closing_noted m ≡ Some d → d ≤ length v.log
+      closed_by Vacant a d e = absurd a
+      closed_by (Open j l) a d e = absurd (none-some d e)
+      closed_by (Closed c) a d e = subst (λ (x : ℕ). x ≤ length v.log) (same_Some _ _ e) a.1
 
       known : (x : Note) → 1 ≤ v.setup.limits.capacity → (m : Note) → note_after x n ≡ m → Agrees (checked_in v z p r k n) m (learns n (sees r p)) → closing_in n ≡ closing_noted m
       known x some-capacity Vacant is a = absurd a

@@ -19,7 +19,7 @@ closing_noted Vacant = None
 -- The follower had loaded the status and learned what its cursor said; it has taken nothing, and has seen no less than before. Start, log,
 -- outcome and closings of the board's view are unchanged.
 -- Its list is the stretch of the board's log from where it joined, it has seen the board's length and outcome, and it knows the closing
--- that the board notes of it, if there is one.
+-- that the board notes of it, if there is one: a length of the log.
 pub record Met (v : View) (p : Part) (w : View) (q : Part) : Type 0 where
   pub setup : w.setup ≡ v.setup
   pub log : w.log ≡ v.log
@@ -35,3 +35,4 @@ pub record Met (v : View) (p : Part) (w : View) (q : Part) : Type 0 where
   pub noted : get_elem? w.notes q.slot ≡ some note
   pub there : note ≢ Vacant
   pub closing : q.closing ≡ closing_noted note
+  pub closed : (c : ℕ) → q.closing ≡ Some c → c ≤ length v.log

@@ -2,7 +2,7 @@
 use Rattle.std.proofs.Common.{◌≡◌, ◌+◌, ◌<◌, ◌≤◌, ℕ, false, is_some, List, [], ◌∷◌, ◌++◌, length, cond, Option, None, Some, Result, Ok, Err, OnErr, OnOk, option_map, inl, inr, refl, sym, ap, ◌∙◌, subst, arith, length-append}
 use Rattle.std.proofs.lemmas.List.{length-map}
 use Rattle.std.proofs.lemmas.Option.{same_Some, slice_get-map}
-use Rattle.std.specs.Prelude.{MatchOption, slice_get}
+use Rattle.std.specs.Prelude.{IfSome, MatchOption, slice_get}
 use Rattle.std.specs.Map.{keys_of, lookup, values_of}
 use Rattle.c960_board.specs.declared.parts.Parts.{Parts}
 use Rattle.c960_board.specs.Moves.{Triple}
@@ -304,3 +304,22 @@ module _ (key : Option (List ℕ)) (name : List ℕ) (entries : Entries) where
 
   pub owned_none : lookup (same_name name) entries ≡ None → false ≡ is_owned key (lookup (same_name name) (rows entries))
   owned_none at = sym (ap (is_owned key) (lookup-map (same_name name) shown_board entries ∙ ap (option_map shown_board) at))
+
+-- ---- A meeting.
+
+module _ (name : List ℕ) (es : Entries) where
+  -- what is asked of the board that is shown is asked of the board
+  pub meeting_asked : (P : HallBoard → Type 0) → IfSome (lookup (same_name name) (rows es)) P → IfSome (lookup (same_name name) es) (λ h. P (shown_board h))
+  meeting_asked P asked = by (lookup (same_name name) es) (subst (λ (o : Option HallBoard). IfSome o P) (lookup-map (same_name name) shown_board es) asked)
+    where
+      by : (o : Option Hosted) → IfSome (option_map shown_board o) P → IfSome o (λ h. P (shown_board h))
+      by None p = tt
+      by (Some h) p = p
+
+  -- and what is told of the board is told of what is shown
+  pub meeting_told : (none : Type 0) (P : HallBoard → Type 0) → MatchOption (lookup (same_name name) es) none (λ h. P (shown_board h)) → MatchOption (lookup (same_name name) (rows es)) none P
+  meeting_told none P told = subst (λ (o : Option HallBoard). MatchOption o none P) (sym (lookup-map (same_name name) shown_board es)) (by (lookup (same_name name) es) told)
+    where
+      by : (o : Option Hosted) → MatchOption o none (λ h. P (shown_board h)) → MatchOption (option_map shown_board o) none P
+      by None p = p
+      by (Some h) p = p

@@ -1,4 +1,5 @@
 pub mod Sweeping
+pub mod Staying
 pub mod Runs
 pub mod Leaving
 pub mod Holding

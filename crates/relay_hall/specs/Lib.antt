@@ -4,6 +4,7 @@ pub mod Holders
 pub mod Owning
 pub mod Record
 pub mod Steps
+pub mod Meeting
 pub mod Times
 pub mod Hosting
 pub mod Talk

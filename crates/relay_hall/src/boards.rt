@@ -1,6 +1,6 @@
 //! What a step does to the map of boards.
 
-ghost use Rattle.std.specs.Prelude.{◌≡◌, option_map, map, MatchOption, OnErr, OnOk, Err};
+ghost use Rattle.std.specs.Prelude.{◌≡◌, option_map, map, IfSome, MatchOption, None, OnErr, OnOk, Err, Some};
 ghost use Rattle.std.specs.List.{list_any};
 ghost use Rattle.std.specs.Map.{lookup};
 ghost use Rattle.std.specs.HashMap.{spare};
@@ -9,8 +9,10 @@ ghost use Rattle.c960_game.specs.Record.{with_move};
 ghost use Rattle.relay_core.specs.BoardAnswers.{end_answer_at, ended_by, play_answer_at};
 ghost use Rattle.relay_core.specs.Held.Stands.{IsKept};
 ghost use Rattle.relay_core.specs.Name.{same_name};
+ghost use Rattle.live_board.specs.Accounts.{account_of};
+ghost use Rattle.relay_hall.specs.Meeting.{Meets};
 ghost use Rattle.relay_hall.specs.Keys.{is_owner};
-ghost use Rattle.relay_hall.specs.Hosting.{HandsAt, Swapped, Turned, abandoned_by, game_in, held_by};
+ghost use Rattle.relay_hall.specs.Hosting.{HandsAt, Swapped, Turned, abandoned_by, game_in, held_by, shown_board};
 
 use crate::hosted::Hosted;
 use crate::leaver::Leaver;
@@ -20,7 +22,7 @@ use c960_board::Move;
 use c960_game::{Ending, Outcome, Refusal, Replaying};
 use indexmap::IndexMap;
 use live_board::Follower;
-use relay_core::BoardKey;
+use relay_core::{Account, BoardKey};
 
 /// Makes a move on a board. Returns its place and the outcome that it brings about, if any.
 #[tactic(auto, using(std::proofs::lemmas::Map::Steps::set_value_same))]
@@ -73,6 +75,23 @@ pub(crate) fn hand_out(
         return Err(Refusal::NoSuchBoard);
     };
     hosted.follow(from)
+}
+
+/// A board and a follower at its table compare what they know. None if there is no such board.
+pub(crate) fn meet_at(
+    boards: &mut IndexMap<BoardKey, Hosted>,
+    board: BoardKey,
+    follower: &mut Follower,
+) -> Option<(Account, Option<Outcome>)>
+    requires { IfSome (lookup (same_name board) boards.old.entries) (λ h. follower.old.table ≡ h.board.table) }
+    ensures met { MatchOption (lookup (same_name board) boards.old.entries) ((result ≡ None) × (follower.new ≡ follower.old))
+        (λ h. (result ≡ Some (account_of follower.new.part, (game_in h).outcome)) × Meets (shown_board h) follower.old follower.new) }
+    ensures turned { MatchOption (lookup (same_name board) boards.old.entries) (boards.new.entries ≡ boards.old.entries)
+        (λ _. Swapped (Turned (λ g. g)) board boards.old.entries boards.new.entries) }
+    ensures room { spare boards.new ≡ spare boards.old }
+{
+    let hosted = boards.get_mut(&board)?;
+    Some(hosted.meet(follower))
 }
 
 /// The refusal of a follow of a board that, if there is one of this name, has no vacant slot. None is looked for.

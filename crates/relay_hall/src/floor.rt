@@ -1,19 +1,21 @@
 //! The boards of a hall, and what the steps of connections make of them.
 
-ghost use Rattle.std.specs.Prelude.{◌≡◌, ℕ, [], None, true, is_some, length, option_map, slice_get, IfOk, IfSome, OnErr, string_bytes};
+ghost use Rattle.std.specs.Prelude.{◌≡◌, ℕ, [], None, Some, true, is_some, length, option_map, slice_get, IfOk, IfSome, MatchOption, OnErr, string_bytes};
 ghost use Rattle.std.specs.List.{list_any};
 ghost use Rattle.std.specs.Map.{lookup};
 ghost use Rattle.relay_core.specs.Name.{same_name};
 ghost use Rattle.relay_core.specs.declared.step.Step.TheVariants.{Open, Submit, End, Follow};
 ghost use Rattle.relay_messages.specs.Answers.{answer_text};
 ghost use Rattle.relay_messages.specs.declared.answer.Answer.TheVariants.{Fault};
+ghost use Rattle.live_board.specs.Accounts.{account_of};
 ghost use Rattle.relay_hall.specs.Keys.{is_owner};
+ghost use Rattle.relay_hall.specs.Meeting.{Meets};
 ghost use Rattle.relay_hall.specs.Reading.{place_of, shown_at};
 ghost use Rattle.relay_hall.specs.Steps.{StateMakes, in_full, reply_to_end, reply_to_play};
 ghost use Rattle.relay_hall.specs.Talk.{IsAnsweredBy, IsRepliedBy, IsUnansweredBy, IsUnmade};
 ghost use Rattle.relay_hall.specs.Times.{swept_floor};
 
-use crate::boards::{end, end_where, hand_out, owns_any, play, ring_for, turn_away};
+use crate::boards::{end, end_where, hand_out, meet_at, owns_any, play, ring_for, turn_away};
 use crate::full::Full;
 use crate::handed::Handed;
 use crate::hosted::Hosted;
@@ -25,8 +27,8 @@ use crate::shown::Shown;
 use c960_board::Move;
 use c960_game::{Ending, Limits, Outcome, Refusal};
 use indexmap::IndexMap;
-use live_board::Board;
-use relay_core::{BoardKey, BoardName, Reply, Step, may_open};
+use live_board::{Board, Follower};
+use relay_core::{Account, BoardKey, BoardName, Reply, Step, may_open};
 use relay_messages::{Answer, Decoder, MessageFault, encode};
 use relay_pushing::{Conn, Keeper};
 use std::alloc::{AllocError, Global};
@@ -256,6 +258,20 @@ impl Floor {
             None if is_full => Ok(self.turns_away(board, from)),
             None => Ok(self.joins(board, from)),
         }
+    }
+
+    /// The board of this name and a follower at its table compare what they know. None if there is no such board.
+    pub(crate) fn meet_at(
+        &mut self,
+        board: &BoardName,
+        follower: &mut Follower,
+    ) -> Option<(Account, Option<Outcome>)>
+        requires { IfSome (lookup (same_name board.now) self.old.floor.boards) (λ b. follower.old.table ≡ b.table) }
+        ensures met { MatchOption (lookup (same_name board.now) self.old.floor.boards) ((result ≡ None) × (follower.new ≡ follower.old))
+            (λ b. (result ≡ Some (account_of follower.new.part, b.game.outcome)) × Meets b follower.old follower.new) }
+        ensures unchanged { self.new ≡ self.old }
+    {
+        meet_at(&mut self.boards, BoardKey::of(*board), follower)
     }
 
     /// Takes what was handed out last, if it was not taken yet.

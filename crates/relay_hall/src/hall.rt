@@ -1,12 +1,14 @@
 //! A hall: its boards, the keys of those who are there, and time.
 
-ghost use Rattle.std.specs.Prelude.{◌≡◌, ◌&&◌, true, not, nat_lt, cond, is_some, length, option_map, slice_get, Some, None, IfOk, IfSome, OnErr, OnOk, string_bytes};
+ghost use Rattle.std.specs.Prelude.{◌≡◌, ◌&&◌, true, not, nat_lt, cond, is_some, length, option_map, slice_get, Some, None, IfOk, IfSome, MatchOption, OnErr, OnOk, string_bytes};
 ghost use Rattle.std.specs.Map.{lookup};
 ghost use Rattle.relay_core.specs.Name.{same_name};
 ghost use Rattle.relay_messages.specs.Answers.{answer_text};
 ghost use Rattle.relay_messages.specs.declared.answer.Answer.TheVariants.{Fault};
 ghost use Rattle.relay_messages.specs.declared.fault.MessageFault.TheVariants.{BadField, NotJson};
 ghost use Rattle.relay_pushing.specs.Connections.{OwnsAny};
+ghost use Rattle.live_board.specs.Accounts.{account_of};
+ghost use Rattle.relay_hall.specs.Meeting.{Meets};
 ghost use Rattle.relay_hall.specs.Holders.{AllRunOut, IsNextDue, is_waiting, presence_of};
 ghost use Rattle.relay_hall.specs.Reading.{place_of, shown_at};
 ghost use Rattle.relay_hall.specs.Record.{nobody_yet};
@@ -23,8 +25,9 @@ use crate::leaver::{Everybody, KeyOwner, Keyless, RunOut};
 use crate::owner::Owner;
 use crate::reply::HallReply;
 use crate::shown::Shown;
-use c960_game::Limits;
-use relay_core::{BoardName, Step};
+use c960_game::{Limits, Outcome};
+use live_board::Follower;
+use relay_core::{Account, BoardName, Step};
 use relay_messages::{Decoder, MessageFault};
 use relay_pushing::Conn;
 use std::alloc::{AllocError, Global};
@@ -154,6 +157,22 @@ impl Hall {
     {
         let replied = self.floor.reply(conn, who, step, is_full);
         (replied, self.floor.take_handed())
+    }
+
+    /// The board of this name and a follower that was handed out of it compare what they know. The follower sees the board's length and
+    /// outcome, and its closing if it was closed. Returns the account that it would get if it left now, and the outcome; or None if there is
+    /// no such board. Nothing of what a hall shows changes.
+    pub fn meet_at(
+        &mut self,
+        board: &BoardName,
+        follower: &mut Follower,
+    ) -> Option<(Account, Option<Outcome>)>
+        requires { IfSome (lookup (same_name board.now) self.old.floor.boards) (λ b. follower.old.table ≡ b.table) }
+        ensures met { MatchOption (lookup (same_name board.now) self.old.floor.boards) ((result ≡ None) × (follower.new ≡ follower.old))
+            (λ b. (result ≡ Some (account_of follower.new.part, b.game.outcome)) × Meets b follower.old follower.new) }
+        ensures unchanged { self.new ≡ self.old }
+    {
+        self.floor.meet_at(board, follower)
     }
 
     /// The text of the answer to a message that is no text, by which nothing changes: `NotJson`.

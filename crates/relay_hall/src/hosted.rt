@@ -3,7 +3,9 @@
 ghost use Rattle.std.specs.Prelude.{◌≡◌, length, OnErr, OnOk, Err};
 ghost use Rattle.c960_game.specs.Record.{end_answer, play_answer, with_move};
 ghost use Rattle.relay_core.specs.BoardAnswers.{ended_by, with_place};
+ghost use Rattle.live_board.specs.Accounts.{account_of};
 ghost use Rattle.live_board.specs.Desk.{LoadedBelow, NoneVacant};
+ghost use Rattle.relay_hall.specs.Meeting.{Meets};
 ghost use Rattle.relay_hall.specs.Steps.{Hands};
 ghost use Rattle.relay_hall.specs.Hosting.{Turned, abandoned_by, game_in, limits_in, shown_board};
 
@@ -11,8 +13,8 @@ use crate::leaver::Leaver;
 use crate::owner::Owner;
 use c960_board::Move;
 use c960_game::{Ending, Outcome, Refusal, Replaying};
-use live_board::{Board, Follower};
-use relay_core::may_join_at;
+use live_board::{Board, Follower, meet};
+use relay_core::{Account, may_join_at};
 
 /// A board and who opened it.
 #[derive(Drop)]
@@ -52,6 +54,17 @@ impl Hosted {
             unreachable!();
         };
         Ok((follower, replaying))
+    }
+
+    /// The board and one of its followers compare what they know. Returns the outcome of the game besides, once it is over.
+    pub(crate) fn meet(&mut self, follower: &mut Follower) -> (Account, Option<Outcome>)
+        requires { follower.old.table ≡ self.old.board.table }
+        ensures met { Meets (shown_board self.old) follower.old follower.new }
+        ensures account { result ≡ (account_of follower.new.part, (game_in self.old).outcome) }
+        ensures turned { Turned (λ g. g) self.old self.new }
+    {
+        let account = meet(&mut self.board, follower);
+        (account, self.board.outcome())
     }
 
     /// The refusal of a follow of a board without a vacant slot. None is looked for.

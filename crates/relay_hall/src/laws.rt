@@ -11,6 +11,7 @@ ghost use Rattle.relay_core.specs.Stands.{Stands};
 ghost use Rattle.relay_hall.specs.declared.handed.Handed.{Handed};
 ghost use Rattle.relay_hall.specs.declared.owner.Owner.{Owner};
 ghost use Rattle.relay_hall.specs.Holders.{presence_of};
+ghost use Rattle.relay_hall.specs.Meeting.{BoardsStay};
 ghost use Rattle.relay_hall.specs.Record.{HallBoard, HallRecord, nobody_yet, plain_of};
 ghost use Rattle.relay_hall.specs.Talk.{IsAnsweredBy, IsRepliedBy, IsUnansweredBy};
 ghost use Rattle.relay_hall.specs.Runs.{AllSayWhileThere, HallEvent, HallTold, HallRuns, HallStep, IsForsaken, IsHandedOf, IsInTime, IsOneStep, IsOrderly, Replied, Says, Silent, has_gone};
@@ -61,4 +62,11 @@ pub fn one_step_at_most()
         → IsAnsweredBy k.floor speaker opened text bytes handed l.floor now → l ≡ record k { floor = l.floor } → IsOneStep k speaker handed l }
     ensures unanswered { (k l : HallRecord) (speaker : Owner) (opened : List (List ℕ)) (text : List ℕ) (handed : Option Handed) (now : List (List ℕ))
         → IsUnansweredBy k.floor speaker opened text handed l.floor now → l ≡ record k { floor = l.floor } → IsOneStep k speaker handed l }
+{}
+
+/// Whatever happens, each board stays under its name, at its table and with its start; moves are only added to its log, and a game that is
+/// over stays as it is.
+pub fn boards_stay()
+    ensures step { (k : HallRecord) (e : HallEvent) (t : HallTold) (l : HallRecord) → HallStep k e t l → BoardsStay k.floor l.floor }
+    ensures once { (k l : HallRecord) (speaker : Owner) (handed : Option Handed) → IsOneStep k speaker handed l → BoardsStay k.floor l.floor }
 {}
