@@ -296,6 +296,34 @@ async def try_successor_looked_at(browser):
     await client.close()
 
 
+# Makes the pauses of a page that asks for a board a thousandth as long, and keeps how long each was to be, in seconds.
+PAUSES = """window.pauses = []; const plain = setTimeout; window.setTimeout = (act, pause, ...more) => {
+    const isAsked = new Error().stack.includes("refusedAll");
+    if (isAsked) { window.pauses.push(pause / 1000); }
+    return plain(act, isAsked ? pause / 1000 : pause, ...more); };"""
+
+
+async def try_successor_asked_rarely(browser):
+    """After a result a spectator's page asks for a successor every ten seconds, and every minute once the result has stood for ten minutes.
+    It goes to one that comes as late as that."""
+    relay = await Relay(watch=True).start()
+    client = await boards_of(relay, ("b1", 518, MOVES))
+    seer = await watch(browser, relay, "b1", address=relay.watch_address)
+    await until_moves(seer, 3)
+    await seer.run(PAUSES)
+    await client.end("b1")
+    await seer.until("window.pauses.length > 65", 60)
+    pauses = await seer.run("window.pauses")
+    assert pauses == [10] * 60 + [60] * (len(pauses) - 60), pauses
+    assert await state(seer) == "over"
+    await client.open("b1_2")
+    await client.submit("b1_2", *MOVES)
+    await until_said(seer, "b1 goes on as b1_2, which is shown now.")
+    assert not seer.faults, seer.faults
+    await seer.close()
+    await client.close()
+
+
 async def try_tabs_corrected(browser):
     """In a tab, a result is corrected without scrolling; the round's file has the successor alone, and another game of the board beside
     it."""
