@@ -224,27 +224,32 @@ class Map(unittest.TestCase):
 
 class Terms(unittest.TestCase):
     def test_each_term_stands_once(self):
-        terms = [term.strip() for row in self.rows() for term in row[0].split(",")]
+        terms = [term for terms, _ in self.items() for term in terms]
         self.assertEqual(sorted(terms), sorted(set(terms)))
 
     def test_what_the_documents_speak_of_is_explained(self):
-        terms = {term.strip() for row in self.rows() for term in row[0].split(",")}
         wanted = ("place, ply, capacity, closing, seat, view, note, bell, tape, visitor, crowd, lookout, watch port, main port, spectator, "
                   "follower, owner, operator, limit, queue, cut, channel, feed, beat, key, grace, kit, crate, clause, headline, gate")
-        self.assertLessEqual(set(wanted.split(", ")), terms)
+        self.assertLessEqual(set(wanted.split(", ")), {term for terms, _ in self.items() for term in terms})
 
     def test_each_place_is_there(self):
         """A place is a crate and what is in it: a file of its src/, or a name that its specs/ or src/ define or have as a file."""
-        for row in self.rows():
-            for part in row[2].split(";"):
+        count = 0
+        for terms, places in self.items():
+            for part in places.split(";"):
                 head, _, names = part.partition(":")
                 crate = next((it for it in code(head) if it in CRATES), None)
                 for name in code(names) if crate else []:
-                    self.assertTrue(self.is_in(CRATES[crate], name), f"{row[0]}: {name} in {crate}")
+                    self.assertTrue(self.is_in(CRATES[crate], name), f"{terms}: {name} in {crate}")
+                    count += 1
+        self.assertGreater(count, 25)
 
-    def rows(self):
-        text = DOCUMENTS["docs/TERMS.md"]
-        return [row for part in text.split("\n## ")[1:] for row in rows(part)]
+    def items(self):
+        """Of each item the terms, which are in bold, and the places, which are in brackets at its end."""
+        items = re.findall(r"^- (.*(?:\n  .*)*)", DOCUMENTS["docs/TERMS.md"], re.M)
+        for text in (" ".join(it.split()) for it in items):
+            bold = ", ".join(re.findall(r"\*\*([^*]+)\*\*", text))
+            yield bold.split(", "), (re.search(r" \((`.*)\)$", text) or ["", ""])[1]
 
     def is_in(self, crate, name):
         if name.endswith(".rt"):
