@@ -115,6 +115,11 @@ class Crate:
     def sources(self, file):
         return [it.read_text() for it in (self.folder / "src").rglob(file)]
 
+    def words(self):
+        """All words of its code and its definitions, with the names of their files."""
+        files = [*(self.folder / "src").rglob("*.rt"), *(self.folder / "specs").rglob("*.antt")]
+        return {word for it in files for word in re.findall(r"\w+", f"{it.relative_to(self.folder)} {it.read_text()}")}
+
     def defines(self, name, file="*"):
         """Whether a file of specs/ defines the name."""
         specs = (self.folder / "specs").rglob(f"{file}.antt")
@@ -220,6 +225,26 @@ class Map(unittest.TestCase):
         for row in rows(section(self.TEXT, "Where the tests of a crate stand")):
             for name in code(row[0]) + [it for it in code(row[1]) if it.endswith(TESTS)]:
                 self.assertIn(name, CRATES)
+
+
+class Proved(unittest.TestCase):
+    """What docs/PROVED.md says of each crate."""
+
+    PARTS = dict(re.findall(r"^## `(\w+)`\n(.*?)(?=^## |\Z)", DOCUMENTS["docs/PROVED.md"], re.S | re.M))
+
+    def test_each_crate_that_is_no_test_and_no_benchmark_has_its_part(self):
+        self.assertEqual(set(self.PARTS), {it for it in CRATES if not it.endswith(TESTS) and not it.startswith("bench")})
+
+    def test_each_name_is_in_the_crate_or_in_one_that_its_part_names(self):
+        count = 0
+        for crate, part in self.PARTS.items():
+            there = set().union(*(CRATES[it].words() for it in {crate, *code(part)} if it in CRATES))
+            for name in code(part):
+                if re.fullmatch(r"[A-Za-z_][\w:]*(\{[\w, ]+\})?", name) and name not in CRATES:
+                    for word in re.findall(r"\w+", name):
+                        self.assertIn(word, there, f"{crate}: {name}")
+                        count += 1
+        self.assertGreater(count, 500)
 
 
 class Terms(unittest.TestCase):
