@@ -1,8 +1,8 @@
 //! Serving on a port of the local machine, over the program's runtime.
 
 mod fault;
+mod hall_boards;
 mod service;
-mod showcase;
 mod status;
 mod watching;
 
