@@ -1,7 +1,6 @@
 //! Serving on a port of the local machine, over the program's runtime.
 
 mod fault;
-mod hall_boards;
 mod service;
 mod status;
 mod watching;

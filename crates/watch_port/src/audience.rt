@@ -1,6 +1,6 @@
 //! The spectators of one board, and the tape that they are sent.
 
-use crate::board_table::{Progress, ShownBoard};
+use crate::board_table::{BoardCopy, Progress};
 use crate::ready_list::ReadyList;
 use c960_board::Position;
 use relay_watching::{Tape, Watcher};
@@ -44,7 +44,7 @@ impl Audience {
     /// # Errors
     ///
     /// There was no memory. The next call puts there what is missing.
-    pub(crate) fn refresh(&mut self, board: &ShownBoard) -> Result<bool, AllocError> {
+    pub(crate) fn refresh(&mut self, board: &BoardCopy) -> Result<bool, AllocError> {
         let progress = board.progress();
         if self.taped == Some(progress) {
             return Ok(false);
@@ -61,7 +61,7 @@ impl Audience {
     /// There was no memory.
     pub(crate) fn join(
         &mut self,
-        board: &ShownBoard,
+        board: &BoardCopy,
         place: u16,
     ) -> Result<Option<Watcher>, AllocError> {
         let Some(position) = self.position_at(board, place) else {
@@ -74,7 +74,7 @@ impl Audience {
     }
 
     /// The position at a place. When many spectators arrive at once, they join at the same one.
-    fn position_at(&mut self, board: &ShownBoard, place: u16) -> Option<Position> {
+    fn position_at(&mut self, board: &BoardCopy, place: u16) -> Option<Position> {
         if let Some((at, position)) = self.last {
             if at == place {
                 return Some(position);
@@ -110,7 +110,7 @@ pub(crate) fn drop_empty(audiences: &mut Slab<Audience>, now: u64) {
 /// # Errors
 ///
 /// There was no memory. Some of it may be there.
-fn put_on(tape: &mut Tape, board: &ShownBoard) -> Result<(), AllocError> {
+fn put_on(tape: &mut Tape, board: &BoardCopy) -> Result<(), AllocError> {
     put_moves_on(tape, board)?;
     match board.outcome {
         Some(outcome) if !tape.is_over() => tape.finish(outcome),
@@ -123,7 +123,7 @@ fn put_on(tape: &mut Tape, board: &ShownBoard) -> Result<(), AllocError> {
 /// # Errors
 ///
 /// There was no memory. Some of them may be there.
-fn put_moves_on(tape: &mut Tape, board: &ShownBoard) -> Result<(), AllocError> {
+fn put_moves_on(tape: &mut Tape, board: &BoardCopy) -> Result<(), AllocError> {
     let Ok(from) = u16::try_from(tape.len()) else {
         return Ok(());
     };

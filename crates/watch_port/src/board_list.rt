@@ -1,6 +1,6 @@
 //! All boards of a relay, for connections that watch them all: the text of each, and when it last changed.
 
-use crate::board_table::{BoardTable, Progress, ShownBoard};
+use crate::board_table::{BoardCopy, BoardTable, Progress};
 use relay_frames::outgoing;
 use relay_messages::encode_board;
 use std::alloc::{AllocError, Global};
@@ -32,7 +32,7 @@ impl Entry {
     fn make(
         &mut self,
         alloc: Global,
-        board: &ShownBoard,
+        board: &BoardCopy,
         now: u64,
         change: u64,
     ) -> Result<(), AllocError> {

@@ -11,29 +11,29 @@ use std::alloc::{AllocError, Global};
 /// How many news are taken in at a time.
 const MOST_NEWS: u32 = 65536;
 
-/// A board, as far as the loop was told of it.
+/// A board of a loop, as far as the loop was told of it.
 #[derive(Drop)]
-pub(crate) struct ShownBoard {
-    pub(crate) name: BoardName,
+pub struct BoardCopy {
+    pub name: BoardName,
     /// Its game, but for an end that its moves do not make.
     game: Game,
     /// How its game ended, once it has.
-    pub(crate) outcome: Option<Outcome>,
+    pub outcome: Option<Outcome>,
 }
 
-impl ShownBoard {
+impl BoardCopy {
     /// How many moves were made.
-    pub(crate) fn len(&self) -> u16 {
+    pub fn len(&self) -> u16 {
         self.game.len()
     }
 
     /// The move at a place of its log.
-    pub(crate) fn move_at(&self, place: u16) -> Option<Move> {
+    pub fn move_at(&self, place: u16) -> Option<Move> {
         self.game.move_at(place)
     }
 
     /// The position at a place of its log, if the log has reached it.
-    pub(crate) fn position_at(&self, place: u16) -> Option<Position> {
+    pub fn position_at(&self, place: u16) -> Option<Position> {
         self.game.position_at(place)
     }
 
@@ -46,7 +46,7 @@ impl ShownBoard {
     }
 
     /// Its present state.
-    pub(crate) fn summary(&self) -> BoardSummary {
+    pub fn summary(&self) -> BoardSummary {
         let plies = self.game.len();
         BoardSummary {
             board: self.name,
@@ -71,12 +71,12 @@ pub(crate) struct Progress {
 
 /// The boards of a loop, in the order of opening, and the ring by which it is told of them.
 #[derive(Drop)]
-pub(crate) struct BoardTable {
+pub struct BoardTable {
     alloc: Global,
     ring: Consumer<News, Global>,
     /// The limits of the boards.
     limits: Limits,
-    boards: Vec<ShownBoard>,
+    boards: Vec<BoardCopy>,
 }
 
 impl BoardTable {
@@ -95,7 +95,7 @@ impl BoardTable {
     /// # Errors
     ///
     /// There was no memory.
-    pub(crate) fn take_in(&mut self) -> Result<(), AllocError> {
+    pub fn take_in(&mut self) -> Result<(), AllocError> {
         for _ in 0..MOST_NEWS {
             if self.ring.is_empty() {
                 return Ok(());
@@ -138,7 +138,7 @@ impl BoardTable {
         let Ok(game) = Game::open(self.alloc, start, self.limits.plies()) else {
             return Err(AllocError);
         };
-        self.boards.push(ShownBoard {
+        self.boards.push(BoardCopy {
             name,
             game,
             outcome: None,
@@ -147,17 +147,17 @@ impl BoardTable {
     }
 
     /// How many boards there are.
-    pub(crate) fn len(&self) -> usize {
+    pub fn len(&self) -> usize {
         self.boards.len()
     }
 
     /// The board of this index.
-    pub(crate) fn board(&self, at: usize) -> Option<&ShownBoard> {
+    pub fn board(&self, at: usize) -> Option<&BoardCopy> {
         self.boards.get(at)
     }
 
     /// The index of the board of this name.
-    pub(crate) fn find(&self, name: &BoardName) -> Option<usize> {
+    pub fn find(&self, name: &BoardName) -> Option<usize> {
         self.boards.iter().position(|board| board.name == *name)
     }
 }

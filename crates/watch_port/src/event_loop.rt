@@ -3,13 +3,11 @@
 use crate::board_table::BoardTable;
 use crate::clients::Clients;
 use crate::feed::Feed;
-use crate::news::News;
 use crate::port::Port;
 use c960_game::Limits;
 use mio::event::Event;
 use mio::{Registry, Token};
-use rtrb::{Consumer, RingBuffer};
-use server_loop::{Arrival, LISTENER, LoopClock, MOST_EVENTS, Poller, Reserve, WAKER};
+use server_loop::{Arrival, LISTENER, LoopClock, LoopWaker, MOST_EVENTS, Poller, Reserve, WAKER};
 use std::alloc::Global;
 use std::io;
 use std::io::ErrorKind;
@@ -26,63 +24,65 @@ const TURN_MILLIS: u64 = 1000;
 /// How many seconds connections have to leave once the port closes.
 const MOST_CLOSING_SECONDS: u64 = 4;
 
-/// How many news a loop may have yet to take in. What is beyond that it is told later.
-const MOST_NEWS: usize = 4096;
-
 /// A loop that serves connections of a port, ready to run.
 #[derive(Drop)]
 pub struct EventLoop {
     alloc: Global,
     poller: Poller,
     acceptor: usize,
-    news: Consumer<News, Global>,
+    boards: BoardTable,
 }
 
 impl EventLoop {
-    /// A loop of this port, and the feed by which it is told of boards.
+    /// A loop of this port, and the feed by which it is told of boards, with these limits.
     ///
     /// # Errors
     ///
     /// As the system's own calls, or there was no memory.
-    pub fn new<N: Net>(net: &N, alloc: Global, port: &mut Port) -> io::Result<(EventLoop, Feed)> {
+    pub fn new<N: Net>(
+        net: &N,
+        alloc: Global,
+        port: &mut Port,
+        limits: Limits,
+    ) -> io::Result<(EventLoop, Feed)> {
         let poller = Poller::new(net, alloc)?;
-        let (Ok((sender, news)), Ok(waker)) = (
-            RingBuffer::new(alloc, MOST_NEWS),
-            Arc::try_clone(poller.waker()),
-        ) else {
+        let Ok((feed, boards)) = Feed::new(alloc, limits) else {
             return Err(io::Error::from(ErrorKind::OutOfMemory));
         };
         let event_loop = EventLoop {
             alloc,
             acceptor: port.add_acceptor(poller.registry())?,
             poller,
-            news,
+            boards,
         };
-        Ok((event_loop, Feed::new(alloc, sender, waker)))
+        Ok((event_loop, feed))
     }
 
-    /// Serves connections of its port until the port closes and they have gone, or until a while after that. These are the limits of the
-    /// boards that it is told of.
+    /// What wakes it: to be called when it was told anything, or its port closes.
+    pub fn waker(&self) -> &Arc<LoopWaker, Global> {
+        self.poller.waker()
+    }
+
+    /// Serves connections of its port until the port closes and they have gone, or until a while after that.
     ///
     /// # Errors
     ///
     /// The clock or the system's own call fails.
-    pub fn run<R: Clock + Wait>(self, rt: &R, port: &Port, limits: Limits) -> io::Result<()> {
+    pub fn run<R: Clock + Wait>(self, rt: &R, port: &Port) -> io::Result<()> {
         let acceptor = self.acceptor;
-        let served = self.serve(rt, port, limits);
+        let served = self.serve(rt, port);
         port.acceptors().end(acceptor);
         served
     }
 
     /// Serves connections. At the end it leaves its acceptor as it is.
-    fn serve<R: Clock + Wait>(self, rt: &R, port: &Port, limits: Limits) -> io::Result<()> {
+    fn serve<R: Clock + Wait>(self, rt: &R, port: &Port) -> io::Result<()> {
         let EventLoop {
             alloc,
             mut poller,
             acceptor,
-            news,
+            boards,
         } = self;
-        let boards = BoardTable::new(alloc, news, limits);
         let mut turns = Turns {
             clients: Clients::new(alloc, port, acceptor, boards),
             reserve: Reserve::new(port.listener()),

@@ -1,13 +1,16 @@
-//! How the loops of the port get to know of boards: each by a ring of its own, so that nobody waits for it.
+//! What one loop is told of boards: by a ring of its own, so that nobody waits for it.
 
-use crate::news::{Boards, News};
+use crate::board_table::BoardTable;
+use crate::news::News;
 use c960_board::Move;
-use c960_game::{MOST_BOARDS, Outcome};
+use c960_game::{Limits, Outcome};
 use relay_core::BoardName;
-use rtrb::Producer;
-use server_loop::LoopWaker;
+use rtrb::{Producer, RingBuffer};
 use std::alloc::{AllocError, Global};
-use std::sync::Arc;
+use std::mem;
+
+/// How many news a loop may have yet to take in. What is beyond that it is told later.
+const MOST_NEWS: usize = 4096;
 
 /// How far a loop was told of a board.
 #[derive(Clone, Copy)]
@@ -22,209 +25,124 @@ struct Told {
 #[derive(Drop)]
 pub struct Feed {
     ring: Producer<News, Global>,
-    waker: Arc<LoopWaker, Global>,
     /// How far, of each board that it was told of.
     told: Vec<Told>,
     /// Whether the loop has yet to be woken.
     is_fresh: bool,
 }
 
+/// A board of which loops are to be told.
+#[derive(Clone, Copy)]
+pub(crate) struct NewsOfBoard<'a> {
+    /// Its index, in the order of opening.
+    pub(crate) at: u16,
+    pub(crate) name: BoardName,
+    pub(crate) start: u16,
+    /// The place of the first of its moves that are at hand. The loops were told of those before.
+    pub(crate) from: u16,
+    pub(crate) moves: &'a [Move],
+    pub(crate) outcome: Option<Outcome>,
+}
+
 impl Feed {
-    /// A feed by this ring, of a loop that this wakes.
-    pub(crate) fn new(
-        alloc: Global,
-        ring: Producer<News, Global>,
-        waker: Arc<LoopWaker, Global>,
-    ) -> Feed {
-        Feed {
-            ring,
-            waker,
+    /// A feed, and the boards of the loop that is told by it, with these limits.
+    ///
+    /// # Errors
+    ///
+    /// There was no memory.
+    pub fn new(alloc: Global, limits: Limits) -> Result<(Feed, BoardTable), AllocError> {
+        let (sender, receiver) = RingBuffer::new(alloc, MOST_NEWS)?;
+        let feed = Feed {
+            ring: sender,
             told: Vec::new(alloc),
             is_fresh: false,
-        }
+        };
+        Ok((feed, BoardTable::new(alloc, receiver, limits)))
     }
 
-    /// How many moves of this board the loop was told.
-    fn moves_told(&self, at: usize) -> u16 {
-        match self.told.get(at) {
+    /// How many moves of the board of this index the loop was told.
+    pub(crate) fn moves_told(&self, at: u16) -> u16 {
+        match self.told.get(usize::from(at)) {
             Some(told) => told.moves,
             None => 0,
         }
     }
 
-    /// Puts this into the ring. Returns whether there was room.
-    fn put(&mut self, news: News) -> bool {
-        let is_put = self.ring.push(news).is_ok();
-        self.is_fresh = self.is_fresh || is_put;
-        is_put
+    /// Whether the loop was told anything since the last such call.
+    pub(crate) fn take_fresh(&mut self) -> bool {
+        mem::replace(&mut self.is_fresh, false)
     }
 
     /// Tells the loop of a board what it has not been told, as far as there is room. Returns whether that is all.
-    fn tell(&mut self, board: &ChangedBoard, moves: &[Move]) -> bool {
-        self.tell_opened(board) && self.tell_moves(board, moves) && self.tell_end(board)
+    pub(crate) fn tell(&mut self, board: &NewsOfBoard<'_>) -> bool {
+        self.tell_opened(board) && self.tell_moves(board) && self.tell_end(board)
     }
 
     /// Tells the loop that a board was opened, once it knows of those before.
-    fn tell_opened(&mut self, board: &ChangedBoard) -> bool {
+    fn tell_opened(&mut self, board: &NewsOfBoard<'_>) -> bool {
         let at = usize::from(board.at);
         if at != self.told.len() {
             return at < self.told.len();
         }
-        let has_room = self.told.reserve(1).is_ok();
-        if !has_room || !self.put(News::Opened(board.name, board.start)) {
-            return false;
-        }
-        self.told.push_reserved(Told {
-            moves: 0,
-            is_over: false,
-        });
-        true
+        self.told.reserve(1).is_ok() && self.put(News::Opened(board.name, board.start))
     }
 
-    /// Tells the loop of the moves that it has not been told of those made from `board.from` on.
-    fn tell_moves(&mut self, board: &ChangedBoard, moves: &[Move]) -> bool {
-        let at = usize::from(board.at);
-        let first = self.moves_told(at).saturating_sub(board.from);
-        for m in moves.get(usize::from(first)..).unwrap_or(&[]) {
-            if !self.put(News::Played(board.at, *m)) {
+    /// Tells the loop of the moves of which it has not been told.
+    fn tell_moves(&mut self, board: &NewsOfBoard<'_>) -> bool {
+        let told = self.moves_told(board.at).saturating_sub(board.from);
+        for at in usize::from(told)..board.moves.len() {
+            if !self.put(News::Played(board.at, board.moves[at])) {
                 return false;
-            }
-            if let Some(told) = self.told.get_mut(at) {
-                told.moves = told.moves.saturating_add(1);
             }
         }
         true
     }
 
     /// Tells the loop how the game ended, once it has, and only once.
-    fn tell_end(&mut self, board: &ChangedBoard) -> bool {
-        let at = usize::from(board.at);
-        let is_told = match self.told.get(at) {
+    fn tell_end(&mut self, board: &NewsOfBoard<'_>) -> bool {
+        match board.outcome {
+            Some(outcome) if !self.is_told_of_the_end(board.at) => {
+                self.put(News::Ended(board.at, outcome))
+            }
+            _ => true,
+        }
+    }
+
+    /// Whether the loop was told how the game of the board of this index ended.
+    fn is_told_of_the_end(&self, at: u16) -> bool {
+        match self.told.get(usize::from(at)) {
             Some(told) => told.is_over,
             None => false,
-        };
-        let (false, Some(outcome)) = (is_told, board.outcome) else {
-            return true;
-        };
-        if !self.put(News::Ended(board.at, outcome)) {
+        }
+    }
+
+    /// Puts this into the ring, and notes it. Returns whether there was room.
+    fn put(&mut self, news: News) -> bool {
+        if self.ring.push(news).is_err() {
             return false;
         }
-        if let Some(told) = self.told.get_mut(at) {
-            told.is_over = true;
-        }
+        self.is_fresh = true;
+        self.note(&news);
         true
     }
 
-    /// Wakes the loop if it was told anything since it was last woken.
-    fn wake(&mut self) {
-        if self.is_fresh {
-            self.is_fresh = false;
-            self.waker.wake();
-        }
-    }
-}
-
-/// A board that has changed.
-#[derive(Clone, Copy)]
-struct ChangedBoard {
-    /// Its index, in the order of opening.
-    at: u16,
-    name: BoardName,
-    start: u16,
-    /// The place of the first of the moves that are at hand. Each loop was told of those before.
-    from: u16,
-    outcome: Option<Outcome>,
-}
-
-/// Tells all loops what happens to boards.
-#[derive(Drop)]
-pub struct Publisher {
-    feeds: Vec<Feed>,
-    /// Of each board, whether some loop has yet to be told of it.
-    changed: [bool; MOST_BOARDS as usize],
-    has_changed: bool,
-    /// Room for the moves of a board.
-    moves: Vec<Move>,
-}
-
-impl Publisher {
-    /// Tells these loops. There are no boards yet.
-    pub fn new(alloc: Global, feeds: Vec<Feed>) -> Publisher {
-        Publisher {
-            feeds,
-            changed: [false; MOST_BOARDS as usize],
-            has_changed: false,
-            moves: Vec::new(alloc),
-        }
-    }
-
-    /// The board of this index was opened, or its game has changed: loops are told of it by the next `publish`.
-    pub fn marks(&mut self, at: usize) {
-        if at < self.changed.len() {
-            self.changed[at] = true;
-            self.has_changed = true;
-        }
-    }
-
-    /// Tells the loops of the boards that have changed, and wakes those that were told anything. What does not fit into a loop's ring, or
-    /// finds no memory, is told by the next call. Returns whether all loops were told all.
-    pub fn publish<B: Boards>(&mut self, boards: &B) -> bool {
-        if !self.has_changed {
-            return true;
-        }
-        self.has_changed = false;
-        for at in 0..MOST_BOARDS {
-            if self.changed[usize::from(at)] {
-                let is_told = self.publish_one(boards, at).unwrap_or(false);
-                self.changed[usize::from(at)] = !is_told;
-                self.has_changed = self.has_changed || !is_told;
+    /// Notes what was put into the ring.
+    fn note(&mut self, news: &News) {
+        match *news {
+            News::Opened(_, _) => self.told.push_reserved(Told {
+                moves: 0,
+                is_over: false,
+            }),
+            News::Played(at, _) => {
+                if let Some(told) = self.told.get_mut(usize::from(at)) {
+                    told.moves = told.moves.saturating_add(1);
+                }
             }
-        }
-        for feed in self.feeds.iter_mut() {
-            feed.wake();
-        }
-        !self.has_changed
-    }
-
-    /// Tells all loops of one board. Returns whether each was told all.
-    ///
-    /// # Errors
-    ///
-    /// There was no memory.
-    fn publish_one<B: Boards>(&mut self, boards: &B, at: u16) -> Result<bool, AllocError> {
-        let Some((name, start)) = boards.opened(usize::from(at)) else {
-            return Ok(true);
-        };
-        let from = self.least_told(usize::from(at));
-        self.moves.clear();
-        let outcome = boards.news(usize::from(at), from, &mut self.moves)?;
-        let board = ChangedBoard {
-            at,
-            name,
-            start,
-            from,
-            outcome,
-        };
-        let mut are_told = true;
-        for feed in self.feeds.iter_mut() {
-            are_told = feed.tell(&board, self.moves.as_slice()) && are_told;
-        }
-        Ok(are_told)
-    }
-
-    /// How many moves of this board every loop was told.
-    fn least_told(&self, at: usize) -> u16 {
-        let mut least = u16::MAX;
-        for feed in self.feeds.iter() {
-            least = least.min(feed.moves_told(at));
-        }
-        least
-    }
-
-    /// Wakes all loops.
-    pub fn wake_all(&self) {
-        for feed in self.feeds.iter() {
-            feed.waker.wake();
+            News::Ended(at, _) => {
+                if let Some(told) = self.told.get_mut(usize::from(at)) {
+                    told.is_over = true;
+                }
+            }
         }
     }
 }

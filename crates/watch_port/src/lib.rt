@@ -15,11 +15,13 @@ mod event_loop;
 mod feed;
 mod news;
 mod port;
+mod publisher;
 mod ready_list;
 mod request;
 mod visitor;
 
+pub use board_table::{BoardCopy, BoardTable};
 pub use event_loop::EventLoop;
-pub use feed::{Feed, Publisher};
-pub use news::Boards;
+pub use feed::Feed;
 pub use port::Port;
+pub use publisher::Publisher;

@@ -1,11 +1,11 @@
 //! The watch port, next to the relay's main port.
 
 use crate::serving::fault::ServeFault;
-use crate::serving::hall_boards::HallBoards;
 use c960_game::Limits;
 use main_port::Watchers;
 use relay_hall::Hall;
 use relay960_words::WatchPort;
+use server_loop::LoopWaker;
 use std::alloc::Global;
 use std::io;
 use std::io::ErrorKind;
@@ -28,18 +28,26 @@ pub(super) struct Watch {
     feeds: Vec<Feed>,
 }
 
+/// A running loop, and its waker.
+#[derive(Drop)]
+struct Running {
+    handle: JoinHandle<()>,
+    waker: Arc<LoopWaker, Global>,
+}
+
 /// The running loops, and what tells them of boards.
 #[derive(Drop)]
 pub(super) struct Loops {
     port: Arc<Port, Global>,
     publisher: Publisher,
-    running: Vec<JoinHandle<()>>,
+    /// In the order of the publisher's feeds.
+    running: Vec<Running>,
     /// Whether all boards were ended.
     has_ended: bool,
 }
 
 impl Watch {
-    /// Listens on the watch port.
+    /// Listens on the watch port. These are the limits of the boards.
     ///
     /// # Errors
     ///
@@ -49,8 +57,9 @@ impl Watch {
         alloc: Global,
         asked: &WatchPort,
         most_idle: Option<u64>,
+        limits: Limits,
     ) -> Result<Watch, ServeFault> {
-        match open(rt, alloc, asked, most_idle) {
+        match open(rt, alloc, asked, most_idle, limits) {
             Ok(watch) => Ok(watch),
             Err(error) => Err(fault_of(asked.address, error)),
         }
@@ -64,17 +73,12 @@ impl Watch {
         }
     }
 
-    /// Starts the loops, each on a thread of its own. These are the limits of the boards.
+    /// Starts the loops, each on a thread of its own.
     ///
     /// # Errors
     ///
     /// There was no memory, or no thread. The loops that were started are ended.
-    pub(super) fn start<R>(
-        self,
-        rt: &R,
-        alloc: Global,
-        limits: Limits,
-    ) -> Result<Loops, ServeFault>
+    pub(super) fn start<R>(self, rt: &R, alloc: Global) -> Result<Loops, ServeFault>
     where
         R: Threads + Wait + Clock + Clone + Send + Drop + 'static,
     {
@@ -86,8 +90,8 @@ impl Watch {
             has_ended: false,
         };
         for event_loop in loops {
-            let is_started = match spawn(rt, &started.port, limits, event_loop) {
-                Some(handle) => started.running.push(handle).is_ok(),
+            let is_started = match spawn(rt, &started.port, event_loop) {
+                Some(running) => started.running.push(running).is_ok(),
                 None => false,
             };
             if !is_started {
@@ -109,12 +113,13 @@ fn open<R: Net>(
     alloc: Global,
     asked: &WatchPort,
     most_idle: Option<u64>,
+    limits: Limits,
 ) -> io::Result<Watch> {
     let listener = TcpListener::from(mio::net::TcpListener::bind(rt, asked.address)?);
     let mut port = Port::new(alloc, listener, asked.most, most_idle)?;
     let (mut loops, mut feeds) = (Vec::new(alloc), Vec::new(alloc));
     for _ in 0..asked.threads {
-        let (event_loop, feed) = EventLoop::new(rt, alloc, &mut port)?;
+        let (event_loop, feed) = EventLoop::new(rt, alloc, &mut port, limits)?;
         if loops.push(event_loop).is_err() || feeds.push(feed).is_err() {
             return Err(io::Error::from(ErrorKind::OutOfMemory));
         }
@@ -134,38 +139,36 @@ fn fault_of(address: SocketAddr, error: io::Error) -> ServeFault {
 }
 
 /// Starts a loop.
-fn spawn<R>(
-    rt: &R,
-    port: &Arc<Port, Global>,
-    limits: Limits,
-    event_loop: EventLoop,
-) -> Option<JoinHandle<()>>
+fn spawn<R>(rt: &R, port: &Arc<Port, Global>, event_loop: EventLoop) -> Option<Running>
 where
     R: Threads + Wait + Clock + Clone + Send + Drop + 'static,
 {
     let own = rt.clone().ok()?;
     let port = Arc::try_clone(port).ok()?;
-    Builder::new()
+    let waker = Arc::try_clone(event_loop.waker()).ok()?;
+    let handle = Builder::new()
         .stack_size(STACK_BYTES)
         .spawn(rt, move || {
-            let _ = event_loop.run(&own, &port, limits);
+            let _ = event_loop.run(&own, &port);
         })
-        .ok()
+        .ok()?;
+    Some(Running { handle, waker })
 }
 
 impl Loops {
     /// Ends the loops once spectators have what they are due, or after a while.
     pub(super) fn end<R: Threads>(self, rt: &R) {
-        let Loops {
-            port,
-            publisher,
-            running,
-            ..
-        } = self;
-        port.close();
-        publisher.wake_all();
-        for handle in running {
-            let () = handle.join(rt);
+        self.close();
+        for running in self.running {
+            let () = running.handle.join(rt);
+        }
+    }
+
+    /// Closes the port, and wakes all loops.
+    fn close(&self) {
+        self.port.close();
+        for running in self.running.iter() {
+            running.waker.wake();
         }
     }
 }
@@ -178,11 +181,15 @@ impl Watchers for Loops {
     /// Once all loops were told that all boards were ended, the port closes: its spectators need not wait until connections of the main port
     /// have gone.
     fn wake(&mut self, hall: &Hall) {
-        let are_told = self.publisher.publish(&HallBoards(hall));
+        let are_told = self.publisher.publish(hall);
+        for at in 0..self.running.len() {
+            if self.publisher.take_fresh(at) {
+                self.running[at].waker.wake();
+            }
+        }
         if self.has_ended && are_told {
             self.has_ended = false;
-            self.port.close();
-            self.publisher.wake_all();
+            self.close();
         }
     }
 
