@@ -1,9 +1,11 @@
 //! The watch port, next to the relay's main port.
 
 use crate::serving::fault::ServeFault;
-use crate::serving::showcase::Showcase;
-use relay_server::{Lookout, Registry};
+use c960_game::Limits;
+use main_port::Watchers;
+use relay_hall::Hall;
 use relay960_words::WatchPort;
+use server_loop::LoopWaker;
 use std::alloc::Global;
 use std::io;
 use std::io::ErrorKind;
@@ -12,7 +14,7 @@ use std::sync::atomic::AtomicU32;
 use std::sync::{Arc, Wait};
 use std::thread::{Builder, JoinHandle, Threads};
 use std::time::Clock;
-use watch_port::{EventLoop, Port};
+use watch_port::{EventLoop, Feed, Port, Publisher};
 
 /// How many bytes the stack of a loop's thread has. JSON of the greatest nesting, 127, takes some 144 KiB of it, and a request with 64
 /// header fields less.
@@ -22,32 +24,30 @@ const STACK_BYTES: usize = 512 * 1024;
 #[derive(Drop)]
 pub(super) struct Watch {
     port: Arc<Port, Global>,
-    ready: Vec<Ready>,
-}
-
-/// A loop that is not running yet, and its waker.
-#[derive(Drop)]
-struct Ready {
-    event_loop: EventLoop,
-    lookout: Arc<Lookout, Global>,
-}
-
-/// The running loops.
-#[derive(Drop)]
-pub(super) struct Loops {
-    port: Arc<Port, Global>,
-    running: Vec<Running>,
+    loops: Vec<EventLoop>,
+    feeds: Vec<Feed>,
 }
 
 /// A running loop, and its waker.
 #[derive(Drop)]
 struct Running {
     handle: JoinHandle<()>,
-    lookout: Arc<Lookout, Global>,
+    waker: Arc<LoopWaker, Global>,
+}
+
+/// The running loops, and what tells them of boards.
+#[derive(Drop)]
+pub(super) struct Loops {
+    port: Arc<Port, Global>,
+    publisher: Publisher,
+    /// In the order of the publisher's feeds.
+    running: Vec<Running>,
+    /// Whether all boards were ended.
+    has_ended: bool,
 }
 
 impl Watch {
-    /// Listens on the watch port.
+    /// Listens on the watch port. These are the limits of the boards.
     ///
     /// # Errors
     ///
@@ -57,38 +57,12 @@ impl Watch {
         alloc: Global,
         asked: &WatchPort,
         most_idle: Option<u64>,
+        limits: Limits,
     ) -> Result<Watch, ServeFault> {
-        let listener = match mio::net::TcpListener::bind(rt, asked.address) {
-            Ok(listener) => TcpListener::from(listener),
-            Err(reason) => return Err(ServeFault::at(asked.address, reason)),
-        };
-        let mut port = match Port::new(alloc, listener, asked.most, most_idle) {
-            Ok(port) => port,
-            Err(error) => return Err(fault_of(asked.address, error)),
-        };
-        let mut ready = Vec::new(alloc);
-        for _ in 0..asked.threads {
-            let (event_loop, waker) = match EventLoop::new(rt, alloc, &mut port) {
-                Ok(made) => made,
-                Err(error) => return Err(fault_of(asked.address, error)),
-            };
-            let Ok(lookout) = Arc::new(alloc, Lookout::new(waker)) else {
-                return Err(ServeFault::OutOfMemory);
-            };
-            if ready
-                .push(Ready {
-                    event_loop,
-                    lookout,
-                })
-                .is_err()
-            {
-                return Err(ServeFault::OutOfMemory);
-            }
+        match open(rt, alloc, asked, most_idle, limits) {
+            Ok(watch) => Ok(watch),
+            Err(error) => Err(fault_of(asked.address, error)),
         }
-        let Ok(port) = Arc::new(alloc, port) else {
-            return Err(ServeFault::OutOfMemory);
-        };
-        Ok(Watch { port, ready })
     }
 
     /// How many spectators there are.
@@ -99,50 +73,60 @@ impl Watch {
         }
     }
 
-    /// The lookouts to be woken when there is news.
-    pub(super) fn lookouts(&self, alloc: Global) -> Result<Vec<Arc<Lookout, Global>>, ServeFault> {
-        let mut lookouts = Vec::new(alloc);
-        for ready in self.ready.iter() {
-            let Ok(lookout) = Arc::try_clone(&ready.lookout) else {
-                return Err(ServeFault::OutOfMemory);
-            };
-            if lookouts.push(lookout).is_err() {
-                return Err(ServeFault::OutOfMemory);
-            }
-        }
-        Ok(lookouts)
-    }
-
     /// Starts the loops, each on a thread of its own.
     ///
     /// # Errors
     ///
     /// There was no memory, or no thread. The loops that were started are ended.
-    pub(super) fn start<R>(
-        self,
-        rt: &R,
-        alloc: Global,
-        registry: &Arc<Registry, Global>,
-    ) -> Result<Loops, ServeFault>
+    pub(super) fn start<R>(self, rt: &R, alloc: Global) -> Result<Loops, ServeFault>
     where
         R: Threads + Wait + Clock + Clone + Send + Drop + 'static,
     {
-        let Watch { port, ready } = self;
-        let mut loops = Loops {
+        let Watch { port, loops, feeds } = self;
+        let mut started = Loops {
             port,
+            publisher: Publisher::new(alloc, feeds),
             running: Vec::new(alloc),
+            has_ended: false,
         };
-        for ready in ready {
-            let started = match spawn(rt, registry, &loops.port, ready) {
-                Some(running) => loops.running.push(running).is_ok(),
+        for event_loop in loops {
+            let is_started = match spawn(rt, &started.port, event_loop) {
+                Some(running) => started.running.push(running).is_ok(),
                 None => false,
             };
-            if !started {
-                loops.end(rt);
+            if !is_started {
+                started.end(rt);
                 return Err(ServeFault::OutOfMemory);
             }
         }
-        Ok(loops)
+        Ok(started)
+    }
+}
+
+/// Listens on the watch port.
+///
+/// # Errors
+///
+/// As the system's own calls, or there was no memory.
+fn open<R: Net>(
+    rt: &R,
+    alloc: Global,
+    asked: &WatchPort,
+    most_idle: Option<u64>,
+    limits: Limits,
+) -> io::Result<Watch> {
+    let listener = TcpListener::from(mio::net::TcpListener::bind(rt, asked.address)?);
+    let mut port = Port::new(alloc, listener, asked.most, most_idle)?;
+    let (mut loops, mut feeds) = (Vec::new(alloc), Vec::new(alloc));
+    for _ in 0..asked.threads {
+        let (event_loop, feed) = EventLoop::new(rt, alloc, &mut port, limits)?;
+        if loops.push(event_loop).is_err() || feeds.push(feed).is_err() {
+            return Err(io::Error::from(ErrorKind::OutOfMemory));
+        }
+    }
+    match Arc::new(alloc, port) {
+        Ok(port) => Ok(Watch { port, loops, feeds }),
+        Err(_) => Err(io::Error::from(ErrorKind::OutOfMemory)),
     }
 }
 
@@ -154,57 +138,62 @@ fn fault_of(address: SocketAddr, error: io::Error) -> ServeFault {
     }
 }
 
-/// Runs a loop to its end.
-fn run<R: Wait + Clock>(
-    rt: &R,
-    registry: &Registry,
-    lookout: &Lookout,
-    port: &Port,
-    event_loop: EventLoop,
-) {
-    let boards = Showcase {
-        rt,
-        registry,
-        lookout,
-        port,
-    };
-    let _ = event_loop.run(rt, port, &boards);
-}
-
 /// Starts a loop.
-fn spawn<R>(
-    rt: &R,
-    registry: &Arc<Registry, Global>,
-    port: &Arc<Port, Global>,
-    ready: Ready,
-) -> Option<Running>
+fn spawn<R>(rt: &R, port: &Arc<Port, Global>, event_loop: EventLoop) -> Option<Running>
 where
     R: Threads + Wait + Clock + Clone + Send + Drop + 'static,
 {
-    let Ready {
-        event_loop,
-        lookout,
-    } = ready;
     let own = rt.clone().ok()?;
-    let registry = Arc::try_clone(registry).ok()?;
     let port = Arc::try_clone(port).ok()?;
-    let of_thread = Arc::try_clone(&lookout).ok()?;
+    let waker = Arc::try_clone(event_loop.waker()).ok()?;
     let handle = Builder::new()
         .stack_size(STACK_BYTES)
         .spawn(rt, move || {
-            run(&own, &registry, &of_thread, &port, event_loop);
+            let _ = event_loop.run(&own, &port);
         })
         .ok()?;
-    Some(Running { handle, lookout })
+    Some(Running { handle, waker })
 }
 
 impl Loops {
-    /// Ends the loops once guests have what they are due, or after a while.
+    /// Ends the loops once spectators have what they are due, or after a while.
     pub(super) fn end<R: Threads>(self, rt: &R) {
-        self.port.close();
+        self.close();
         for running in self.running {
-            running.lookout.wake();
             let () = running.handle.join(rt);
         }
+    }
+
+    /// Closes the port, and wakes all loops.
+    fn close(&self) {
+        self.port.close();
+        for running in self.running.iter() {
+            running.waker.wake();
+        }
+    }
+}
+
+impl Watchers for Loops {
+    fn changed(&mut self, at: usize) {
+        self.publisher.marks(at);
+    }
+
+    /// Once all loops were told that all boards were ended, the port closes: its spectators need not wait until connections of the main port
+    /// have gone.
+    fn wake(&mut self, hall: &Hall) {
+        let are_told = self.publisher.publish(hall);
+        for at in 0..self.running.len() {
+            if self.publisher.take_fresh(at) {
+                self.running[at].waker.wake();
+            }
+        }
+        if self.has_ended && are_told {
+            self.has_ended = false;
+            self.close();
+        }
+    }
+
+    fn has_ended(&mut self) {
+        self.has_ended = true;
     }
 }
