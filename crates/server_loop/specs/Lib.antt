@@ -1,0 +1,4 @@
+pub mod Backoff
+pub mod Deadlines
+pub mod RunQueue
+pub mod Socket

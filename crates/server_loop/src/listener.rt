@@ -1,0 +1,143 @@
+//! Where connections come in without being waited for, and how one is turned away if there is no descriptor for it.
+
+use mio::net::TcpStream;
+use mio::unix::SourceFd;
+use mio::{Interest, Registry, Token};
+use std::io::{ErrorKind, Read, Write};
+use std::net::{Shutdown, TcpListener};
+use std::os::fd::AsRawFd;
+use std::{io, net};
+
+/// What a newcomer is told if there is no descriptor for it (RFC 9110, section 15.6.4).
+const NO_ROOM: &[u8] =
+    b"HTTP/1.1 503 Service Unavailable\r\nConnection: close\r\nContent-Length: 0\r\n\r\n";
+
+/// In how many pieces the request of a newcomer that is turned away is read.
+const MOST_PIECES: u32 = 16;
+
+/// The result of an accept.
+#[derive(Drop)]
+pub enum Arrival {
+    /// A newcomer, whose connection does not wait.
+    Newcomer(TcpStream),
+    /// A newcomer was turned away for lack of a descriptor, or its connection cannot be used.
+    TurnedAway,
+    /// Nobody is waiting.
+    Nobody,
+    /// It failed, and is tried again later.
+    Failed,
+}
+
+/// A descriptor in reserve: another one for the same listener. If the system has none for a newcomer, this one is given up for as long as
+/// it takes to tell the newcomer so.
+#[derive(Drop)]
+pub struct Reserve {
+    spare: Option<TcpListener>,
+}
+
+impl Reserve {
+    /// A descriptor in reserve for this listener, if the system has one.
+    pub fn new(listener: &TcpListener) -> Reserve {
+        Reserve {
+            spare: listener.try_clone().ok(),
+        }
+    }
+
+    /// Accepts the next newcomer of this listener, which does not wait. If there is no descriptor for it, the one in reserve is given up.
+    /// Once the newcomer has come, there may be one again, and then there is room for it.
+    pub fn accept(&mut self, listener: &TcpListener) -> Arrival {
+        match listener.accept() {
+            Ok((stream, _)) => return welcomed(stream),
+            Err(error) if is_nobody(&error) => return Arrival::Nobody,
+            Err(_) => {}
+        }
+        self.spare = None;
+        let met = listener.accept();
+        self.spare = listener.try_clone().ok();
+        match met {
+            Ok((stream, _)) => self.receive(listener, stream),
+            Err(error) if is_nobody(&error) => Arrival::Nobody,
+            Err(_) => Arrival::Failed,
+        }
+    }
+
+    /// Receives a newcomer that has the descriptor which was in reserve.
+    fn receive(&mut self, listener: &TcpListener, stream: net::TcpStream) -> Arrival {
+        if self.spare.is_some() {
+            return welcomed(stream);
+        }
+        turn_away(stream);
+        self.spare = listener.try_clone().ok();
+        Arrival::TurnedAway
+    }
+}
+
+/// A listener that does not wait, with a descriptor in reserve.
+#[derive(Drop)]
+pub struct Listener {
+    listener: TcpListener,
+    reserve: Reserve,
+}
+
+impl Listener {
+    /// Takes a listener, which is made non-blocking. This registry reports newcomers under this token.
+    ///
+    /// # Errors
+    ///
+    /// As the system's own calls. The listener is given back as it was.
+    pub fn new(
+        listener: TcpListener,
+        registry: &Registry,
+        token: Token,
+    ) -> Result<Listener, TcpListener> {
+        if opens(&listener, registry, token).is_err() {
+            let _ = listener.set_nonblocking(false);
+            return Err(listener);
+        }
+        let reserve = Reserve::new(&listener);
+        Ok(Listener { listener, reserve })
+    }
+
+    /// Accepts the next newcomer.
+    pub fn accept(&mut self) -> Arrival {
+        self.reserve.accept(&self.listener)
+    }
+}
+
+/// Makes a listener non-blocking, and has newcomers reported.
+fn opens(listener: &TcpListener, registry: &Registry, token: Token) -> io::Result<()> {
+    listener.set_nonblocking(true)?;
+    let descriptor = listener.as_raw_fd();
+    registry.register(&mut SourceFd(&descriptor), token, Interest::READABLE)
+}
+
+/// Whether the error means that nobody is waiting to be accepted.
+fn is_nobody(error: &io::Error) -> bool {
+    error.kind() == ErrorKind::WouldBlock
+}
+
+/// A newcomer whose connection does not wait.
+fn welcomed(stream: net::TcpStream) -> Arrival {
+    if stream.set_nonblocking(true).is_err() {
+        return Arrival::TurnedAway;
+    }
+    let _ = stream.set_nodelay(true);
+    Arrival::Newcomer(TcpStream::from_std(stream))
+}
+
+/// Tells a newcomer that there is no room for it, and ends its connection. What it has sent is read first: otherwise a reset would destroy
+/// what it is told.
+fn turn_away(mut stream: net::TcpStream) {
+    if stream.set_nonblocking(true).is_err() {
+        return;
+    }
+    let mut bytes = [0; 1024];
+    for _ in 0..MOST_PIECES {
+        match stream.read(&mut bytes) {
+            Ok(0) | Err(_) => break,
+            Ok(_) => {}
+        }
+    }
+    let _ = stream.write(NO_ROOM);
+    let _ = stream.shutdown(Shutdown::Write);
+}

@@ -1,0 +1,265 @@
+//! The log on standard error. Whoever writes it may be slow, and nobody is to wait for that: a thread of its own writes the lines.
+
+use crate::event_count::EventCount;
+use crate::log_line::LogLine;
+use log::sink::Console;
+use log::{Level, Logged, info};
+use std::alloc::{AllocError, Global};
+use std::mem;
+use std::sync::atomic::{AtomicBool, AtomicU32, AtomicU64, Ordering};
+use std::sync::{Arc, Mutex, Wait};
+use std::thread::{Builder, JoinHandle, Threads};
+use std::time::{Clock, Duration, Instant};
+
+/// How many lines may wait to be written. Anything beyond that is counted and left out.
+const MOST_LINES: usize = 4096;
+
+/// How many seconds pass between two lines of counts.
+const BETWEEN_COUNTS_SECONDS: u64 = 60;
+
+/// How many bytes the stack of the thread has.
+const STACK_BYTES: usize = 256 * 1024;
+
+/// What the lines of counts tell.
+#[derive(Drop)]
+pub struct Counts {
+    /// How many connections there are.
+    pub connections: AtomicU64,
+    /// How many of them follow a board.
+    pub followers: AtomicU64,
+    /// How many boards there are.
+    pub boards: AtomicU64,
+    /// How many games have ended.
+    pub ended: AtomicU64,
+    /// How many followers were cut off.
+    pub cut: AtomicU64,
+    /// How many connections the watch port has, if there is one.
+    watching: Option<Arc<AtomicU32, Global>>,
+}
+
+/// Lines that wait to be written.
+#[derive(Drop)]
+struct Lines {
+    kept: Vec<LogLine>,
+    /// How many were left out, because too many were waiting or there was no memory.
+    left_out: u64,
+}
+
+impl Lines {
+    /// No lines.
+    fn new(alloc: Global) -> Lines {
+        Lines {
+            kept: Vec::new(alloc),
+            left_out: 0,
+        }
+    }
+
+    /// Adds a line, or counts it if there is no room. Returns whether there was.
+    fn add(&mut self, line: LogLine) -> bool {
+        let has_room = self.kept.len() < MOST_LINES && self.kept.reserve(1).is_ok();
+        if has_room {
+            self.kept.push_reserved(line);
+        } else {
+            self.left_out = self.left_out.saturating_add(1);
+        }
+        has_room
+    }
+}
+
+/// What the loop and the thread share.
+#[derive(Drop)]
+struct Shared {
+    alloc: Global,
+    /// Whether there is a log.
+    is_kept: bool,
+    lines: Mutex<Lines>,
+    /// Advanced at each line, and when no more will come.
+    noted: EventCount,
+    /// Whether no more lines come.
+    is_over: AtomicBool,
+    /// Whether the last line of a connection that was turned away has yet to be written.
+    is_short: AtomicBool,
+    counts: Counts,
+}
+
+impl Shared {
+    /// Takes the lines that wait.
+    fn take<R: Wait>(&self, rt: &R) -> Lines {
+        let mut lines = self.lines.lock(rt);
+        mem::replace(&mut *lines, Lines::new(self.alloc))
+    }
+
+    /// Wakes the thread.
+    fn wake(&self) {
+        self.noted.advance();
+        self.noted.wake_all();
+    }
+}
+
+/// What is written on standard error.
+#[derive(Drop)]
+pub struct Log {
+    shared: Arc<Shared, Global>,
+    thread: Option<JoinHandle<()>>,
+}
+
+impl Log {
+    /// Starts the thread that writes. Without a log it writes only what is reported in any case, and no counts. If the system has no
+    /// thread, nothing is written.
+    ///
+    /// # Errors
+    ///
+    /// There was no memory.
+    pub fn start<R>(
+        rt: &R,
+        alloc: Global,
+        is_kept: bool,
+        watching: Option<Arc<AtomicU32, Global>>,
+    ) -> Result<Log, AllocError>
+    where
+        R: Threads + Wait + Clock + Eprint + Clone + Send + Drop + 'static,
+    {
+        let shared = Shared {
+            alloc,
+            is_kept,
+            lines: Mutex::new(Lines::new(alloc)),
+            noted: EventCount::new(),
+            is_over: AtomicBool::new(false),
+            is_short: AtomicBool::new(false),
+            counts: Counts {
+                connections: AtomicU64::new(0),
+                followers: AtomicU64::new(0),
+                boards: AtomicU64::new(0),
+                ended: AtomicU64::new(0),
+                cut: AtomicU64::new(0),
+                watching,
+            },
+        };
+        let Ok(shared) = Arc::new(alloc, shared) else {
+            return Err(AllocError);
+        };
+        let thread = spawn(rt, &shared);
+        Ok(Log { shared, thread })
+    }
+
+    /// Whether there is a log.
+    pub fn is_kept(&self) -> bool {
+        self.shared.is_kept
+    }
+
+    /// What the lines of counts tell.
+    pub fn counts(&self) -> &Counts {
+        &self.shared.counts
+    }
+
+    /// Has a line written, if there is a log or it is reported in any case. That a connection was turned away is not reported while the
+    /// last such line has yet to be written.
+    pub fn note<R: Wait>(&self, rt: &R, line: LogLine) {
+        let shared = &*self.shared;
+        if line.is_of_log() && !shared.is_kept {
+            return;
+        }
+        let is_short = matches!(line, LogLine::NoRoom);
+        if is_short && shared.is_short.swap(true, Ordering::SeqCst) {
+            return;
+        }
+        let is_added = shared.lines.lock(rt).add(line);
+        if is_short && !is_added {
+            shared.is_short.store(false, Ordering::SeqCst);
+        }
+        shared.wake();
+    }
+
+    /// Lets the thread write what is left, and joins it.
+    pub fn end<R: Threads>(self, rt: &R) {
+        self.shared.is_over.store(true, Ordering::SeqCst);
+        self.shared.wake();
+        if let Some(thread) = self.thread {
+            let () = thread.join(rt);
+        }
+    }
+}
+
+/// Starts the thread, if the system has one.
+fn spawn<R>(rt: &R, shared: &Arc<Shared, Global>) -> Option<JoinHandle<()>>
+where
+    R: Threads + Wait + Clock + Eprint + Clone + Send + Drop + 'static,
+{
+    let own = rt.clone().ok()?;
+    let shared = Arc::try_clone(shared).ok()?;
+    Builder::new()
+        .stack_size(STACK_BYTES)
+        .spawn(rt, move || run(&own, &shared))
+        .ok()
+}
+
+/// Writes the lines, and once a minute the counts if there is a log, until no more lines come.
+fn run<R: Wait + Clock + Eprint>(rt: &R, shared: &Shared) {
+    let mut counted_at = Instant::now(rt).ok();
+    for _ in rt.forever() {
+        let seen = shared.noted.count();
+        let is_over = shared.is_over.load(Ordering::SeqCst);
+        write_lines(rt, shared);
+        if is_over {
+            return;
+        }
+        match until_counts(rt, shared, counted_at) {
+            None => {
+                let _ = shared.noted.wait(rt, seen);
+            }
+            Some(Duration::ZERO) => {
+                write_counts(rt, &shared.counts);
+                counted_at = Instant::now(rt).ok();
+            }
+            Some(left) => shared.noted.doze(rt, seen, left),
+        }
+    }
+}
+
+/// In what time the counts are due, if they ever are.
+fn until_counts<R: Clock>(
+    rt: &R,
+    shared: &Shared,
+    counted_at: Option<Instant>,
+) -> Option<Duration> {
+    if !shared.is_kept {
+        return None;
+    }
+    let passed = Instant::now(rt).ok()?.duration_since(counted_at?);
+    let between = Duration::from_secs(BETWEEN_COUNTS_SECONDS);
+    Some(between.saturating_sub(passed))
+}
+
+/// Writes the lines that wait, and one if some were left out. Serving goes on even if standard error is closed.
+fn write_lines<R: Wait + Eprint>(rt: &R, shared: &Shared) {
+    let lines = shared.take(rt);
+    let log = Logged::new(rt, Level::Info, Console(rt));
+    for line in lines.kept.iter() {
+        if line.is_of_log() {
+            info!(log; target: "relay960", "{line}");
+        } else {
+            let _ = eprintln!(rt; "{line}");
+        }
+        if matches!(line, LogLine::NoRoom) {
+            shared.is_short.store(false, Ordering::SeqCst);
+        }
+    }
+    if lines.left_out > 0 {
+        info!(log; target: "relay960", "{} lines left out", lines.left_out);
+    }
+}
+
+/// Writes how many connections and boards there are.
+fn write_counts<R: Eprint>(rt: &R, counts: &Counts) {
+    let connections = counts.connections.load(Ordering::SeqCst);
+    let boards = counts.boards.load(Ordering::SeqCst);
+    let ended = counts.ended.load(Ordering::SeqCst);
+    let followers = counts.followers.load(Ordering::SeqCst);
+    let cut = counts.cut.load(Ordering::SeqCst);
+    let log = Logged::new(rt, Level::Info, Console(rt));
+    info!(log; target: "relay960", "connections {connections}, boards {boards}, ended {ended}, followers {followers}, cut off {cut}");
+    if let Some(watching) = &counts.watching {
+        let watching = watching.load(Ordering::SeqCst);
+        info!(log; target: "relay960", "connections of the watch port {watching}");
+    }
+}

@@ -1,0 +1,74 @@
+//! What a loop asks the system for: what it reports, and what wakes the loop.
+
+use crate::waker::LoopWaker;
+use mio::{Events, Poll, Registry, Token, Waker};
+use std::alloc::Global;
+use std::io;
+use std::io::ErrorKind;
+use std::net::Net;
+use std::sync::Arc;
+use std::time::Duration;
+
+/// The token of the listener.
+pub const LISTENER: Token = Token(usize::MAX);
+
+/// The token of the loop's waker.
+pub const WAKER: Token = Token(usize::MAX - 1);
+
+/// How many events the system reports at a time.
+pub const MOST_EVENTS: usize = 1024;
+
+/// What the system reports to a loop.
+#[derive(Drop)]
+pub struct Poller {
+    poll: Poll,
+    events: Events,
+    waker: Arc<LoopWaker, Global>,
+}
+
+impl Poller {
+    /// Nothing is reported yet but wakes.
+    ///
+    /// # Errors
+    ///
+    /// As the system's own calls, or there was no memory.
+    pub fn new<N: Net>(net: &N, alloc: Global) -> io::Result<Poller> {
+        let poll = Poll::new(net)?;
+        let waker = Waker::new(poll.registry(), WAKER)?;
+        let Ok(events) = Events::with_capacity(alloc, MOST_EVENTS) else {
+            return Err(io::Error::from(ErrorKind::OutOfMemory));
+        };
+        let Ok(waker) = Arc::new(alloc, LoopWaker::new(waker)) else {
+            return Err(io::Error::from(ErrorKind::OutOfMemory));
+        };
+        Ok(Poller {
+            poll,
+            events,
+            waker,
+        })
+    }
+
+    /// Where connections are registered whose events are to be reported.
+    pub fn registry(&self) -> &Registry {
+        self.poll.registry()
+    }
+
+    /// What wakes the loop.
+    pub fn waker(&self) -> &Arc<LoopWaker, Global> {
+        &self.waker
+    }
+
+    /// Waits for events, but no longer than this.
+    ///
+    /// # Errors
+    ///
+    /// As the system's own call.
+    pub fn wait(&mut self, most: Duration) -> io::Result<()> {
+        self.poll.poll(&mut self.events, Some(most))
+    }
+
+    /// The events that the system reported last.
+    pub fn events(&self) -> &Events {
+        &self.events
+    }
+}
