@@ -2,7 +2,6 @@
 
 mod fault;
 mod service;
-mod showcase;
 mod status;
 mod watching;
 

@@ -22,7 +22,7 @@ pub(crate) struct FollowerConnection {
     due: Vec<u8>,
     unread: u64,
     has_whole: bool,
-    is_over: bool,
+    pub(crate) was_cut: bool,
 }
 
 impl FollowerConnection {
@@ -36,7 +36,7 @@ impl FollowerConnection {
             due,
             unread: 0,
             has_whole: false,
-            is_over: false,
+            was_cut: false,
         }
     }
 
@@ -155,6 +155,7 @@ impl FollowerConnection {
             return Ok(true);
         }
         if account.cut {
+            self.was_cut = true;
             self.end(last, Taken::Cut, Code::new(4001))?;
         } else if let Some(outcome) = outcome {
             let code = if is_ending { Code::AWAY } else { Code::NORMAL };

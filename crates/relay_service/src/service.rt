@@ -244,6 +244,13 @@ impl Service {
         }
     }
 
+    pub fn was_cut(&self, number: u64) -> bool {
+        match self.connections.get(&number) {
+            Some(Connection::Follower(follower, _, _)) => follower.was_cut,
+            _ => false,
+        }
+    }
+
     pub fn owner(&self, number: u64) -> Option<Owner> {
         match self.connections.get(&number)? {
             Connection::Operator(caller, true) => Some(*caller.owner()),

@@ -24,6 +24,6 @@ pub use listener::{Arrival, Listener, Reserve};
 pub use log_line::LogLine;
 pub use log_thread::{Counts, Log};
 pub use poller::{LISTENER, MOST_EVENTS, Poller, WAKER};
-pub use run_queue::RunQueue;
+pub use run_queue::{Rank, RunQueue};
 pub use socket::{Delivery, Intake, Written, receive, send, write_once};
 pub use waker::LoopWaker;

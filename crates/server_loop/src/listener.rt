@@ -84,16 +84,9 @@ impl Listener {
     ///
     /// # Errors
     ///
-    /// As the system's own calls. The listener is given back as it was.
-    pub fn new(
-        listener: TcpListener,
-        registry: &Registry,
-        token: Token,
-    ) -> Result<Listener, TcpListener> {
-        if opens(&listener, registry, token).is_err() {
-            let _ = listener.set_nonblocking(false);
-            return Err(listener);
-        }
+    /// As the system's own calls.
+    pub fn new(listener: TcpListener, registry: &Registry, token: Token) -> io::Result<Listener> {
+        opens(&listener, registry, token)?;
         let reserve = Reserve::new(&listener);
         Ok(Listener { listener, reserve })
     }

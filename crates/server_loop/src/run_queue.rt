@@ -1,11 +1,22 @@
 //! The connections that are due a turn.
 
-ghost use Rattle.std.specs.Prelude.{◌≡◌, ◌==◌, ◌&&◌, length, drop, option_map, slice_get, OnErr, OnOk};
-ghost use Rattle.server_loop.specs.RunQueue.{nothing_due, with_due};
+ghost use Rattle.std.specs.Prelude.{◌≡◌, ◌==◌, ◌&&◌, length, option_map, slice_get, OnErr, OnOk};
+ghost use Rattle.server_loop.specs.RunQueue.{count_of, first_of, nothing_due, with_due, without_first};
 
 use std::alloc::{AllocError, Global};
 use std::collections::VecDeque;
 use std::marker::Model;
+
+/// Which connections have their turn first.
+#[derive(Clone, Copy, PartialEq, Eq, Debug)]
+pub enum Rank {
+    /// One that owns a board.
+    Owner,
+    /// One that follows a board.
+    Follower,
+    /// Any other.
+    Other,
+}
 
 /// A connection that is due a turn, and since which millisecond what it is due for may have been there.
 #[derive(Clone, Copy)]
@@ -14,11 +25,12 @@ pub struct Waiting {
     pub since: u64,
 }
 
-/// The keys of connections that are due a turn: those of owners, and those of all others, each in the order in which they became due. A key
-/// may be among them whose connection is not due any more.
+/// The keys of connections that are due a turn: those of each rank in the order in which they became due. A key may be among them whose
+/// connection is not due any more.
 #[derive(Drop)]
 pub struct RunQueue {
     owners: VecDeque<u64>,
+    followers: VecDeque<u64>,
     others: VecDeque<Waiting>,
 }
 
@@ -27,7 +39,7 @@ impl Model for RunQueue {
 
     ghost Value = { RunQueueRecord };
 
-    ghost view = { λ a. record { owners = a.owners.items; others = a.others.items } };
+    ghost view = { λ a. record { owners = a.owners.items; followers = a.followers.items; others = a.others.items } };
 }
 
 impl RunQueue {
@@ -37,65 +49,59 @@ impl RunQueue {
     {
         RunQueue {
             owners: VecDeque::new(alloc),
+            followers: VecDeque::new(alloc),
             others: VecDeque::new(alloc),
         }
     }
 
     /// Whether there are none.
     pub fn is_empty(&self) -> bool
-        ensures { result ≡ ((length self.now.owners == 0) && (length self.now.others == 0)) }
+        ensures { result ≡ ((length self.now.owners == 0) && ((length self.now.followers == 0) && (length self.now.others == 0))) }
     {
-        self.owners.is_empty() && self.others.is_empty()
+        self.owners.is_empty() && self.followers.is_empty() && self.others.is_empty()
     }
 
-    /// Adds a connection, which is an owner or not.
+    /// Adds a connection of this rank, behind those that are due already.
     ///
     /// # Errors
     ///
     /// There was no memory.
-    pub fn add(&mut self, key: u64, is_owner: bool, since: u64) -> Result<(), AllocError>
-        ensures ok { OnOk result (self.new ≡ with_due self.old key is_owner since) }
+    pub fn add(&mut self, key: u64, rank: Rank, since: u64) -> Result<(), AllocError>
+        ensures ok { OnOk result (self.new ≡ with_due self.old key rank since) }
         ensures err { OnErr result (self.new ≡ self.old) }
     {
-        if is_owner {
-            self.owners.push_back(key)?;
-        } else {
-            self.others.push_back(Waiting { key, since })?;
+        match rank {
+            Rank::Owner => self.owners.push_back(key)?,
+            Rank::Follower => self.followers.push_back(key)?,
+            Rank::Other => self.others.push_back(Waiting { key, since })?,
         }
         Ok(())
     }
 
-    /// Takes the first of the owners.
-    pub fn take_owner(&mut self) -> Option<u64>
-        ensures first { result ≡ slice_get self.old.owners 0 }
-        ensures rest { self.new ≡ record self.old { owners = drop 1 self.old.owners } }
+    /// Takes the first of this rank.
+    pub fn take(&mut self, rank: Rank) -> Option<u64>
+        ensures first { result ≡ first_of self.old rank }
+        ensures rest { self.new ≡ without_first self.old rank }
     {
-        self.owners.pop_front()
+        match rank {
+            Rank::Owner => self.owners.pop_front(),
+            Rank::Follower => self.followers.pop_front(),
+            Rank::Other => Some(self.others.pop_front()?.key),
+        }
     }
 
-    /// How many owners there are.
-    pub fn owners(&self) -> usize
-        ensures { result ≡ length self.now.owners }
+    /// How many of this rank there are.
+    pub fn len(&self, rank: Rank) -> usize
+        ensures { result ≡ count_of self.now rank }
     {
-        self.owners.len()
+        match rank {
+            Rank::Owner => self.owners.len(),
+            Rank::Follower => self.followers.len(),
+            Rank::Other => self.others.len(),
+        }
     }
 
-    /// Takes the first of the others.
-    pub fn take_other(&mut self) -> Option<u64>
-        ensures first { result ≡ option_map (λ w. w.key) (slice_get self.old.others 0) }
-        ensures rest { self.new ≡ record self.old { others = drop 1 self.old.others } }
-    {
-        Some(self.others.pop_front()?.key)
-    }
-
-    /// How many others there are.
-    pub fn others(&self) -> usize
-        ensures { result ≡ length self.now.others }
-    {
-        self.others.len()
-    }
-
-    /// Since which millisecond the first of the others may have been due.
+    /// Since which millisecond the first of those may have been due that neither own nor follow a board.
     pub fn since(&self) -> Option<u64>
         ensures { result ≡ option_map (λ w. w.since) (slice_get self.now.others 0) }
     {
