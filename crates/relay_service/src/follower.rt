@@ -22,6 +22,7 @@ pub(crate) struct FollowerConnection {
     due: Vec<u8>,
     unread: u64,
     has_whole: bool,
+    is_in_fragments: bool,
     pub(crate) was_cut: bool,
 }
 
@@ -36,6 +37,7 @@ impl FollowerConnection {
             due,
             unread: 0,
             has_whole: false,
+            is_in_fragments: false,
             was_cut: false,
         }
     }
@@ -68,9 +70,12 @@ impl FollowerConnection {
         let Some(event) = self.peer.next()? else {
             return Ok(false);
         };
-        if !matches!(event, Event::Fragment) {
-            self.has_whole = true;
+        match event {
+            Event::Fragment => self.is_in_fragments = true,
+            Event::Text(_) | Event::Binary(_) => self.is_in_fragments = false,
+            _ => {}
         }
+        self.has_whole = self.has_whole || !self.is_in_fragments;
         let done = match &event {
             Event::Ping(payload) => outgoing::pong(payload.as_slice(), &mut self.due),
             Event::Text(text) => self.pass(text.as_str().len()),
