@@ -1,7 +1,8 @@
 //! The tests, a module for each crate that is tested: `hall` of `relay_hall`, `registry` of `relay_registry`, `calling` of `relay_calling`,
-//! `service` of `relay_service`.
+//! `service` of `relay_service`, `feeds` of those of `watch_port`.
 
 mod calling;
+mod feeds;
 mod hall;
 mod registry;
 mod service;

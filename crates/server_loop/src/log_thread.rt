@@ -172,9 +172,10 @@ impl Log {
 
     /// Lets the thread write what is left, and joins it.
     pub fn end<R: Threads>(self, rt: &R) {
-        self.shared.is_over.store(true, Ordering::SeqCst);
-        self.shared.wake();
-        if let Some(thread) = self.thread {
+        let Log { shared, thread } = self;
+        shared.is_over.store(true, Ordering::SeqCst);
+        shared.wake();
+        if let Some(thread) = thread {
             let () = thread.join(rt);
         }
     }

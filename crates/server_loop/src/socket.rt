@@ -1,6 +1,6 @@
 //! Reading and writing a connection that does not wait.
 
-ghost use Rattle.std.specs.Prelude.{◌≡◌, ◌≤◌, ◌+◌, length};
+ghost use Rattle.std.specs.Prelude.{◌≤◌, ◌+◌, length, IfOk};
 ghost use Rattle.server_loop.specs.Socket.{IsLeft, IsWithin, IsWrittenOf};
 
 use mio::net::TcpStream;

@@ -1,82 +1,70 @@
 //! The spectators of one board, and the tape that they are sent.
 
-use crate::boards::Boards;
-use crate::ready::Ready;
-use c960_board::{Move, Position};
-use c960_game::Outcome;
-use relay_core::BoardName;
+use crate::board_table::{BoardCopy, Progress};
+use crate::ready_list::ReadyList;
+use c960_board::Position;
 use relay_watching::{Tape, Watcher};
 use slab::Slab;
 use std::alloc::{AllocError, Global};
 
 /// The spectators of one board.
 #[derive(Drop)]
-pub(crate) struct Audience<B> {
-    pub(crate) name: BoardName,
-    pub(crate) board: B,
+pub(crate) struct Audience {
+    /// The index of the board.
+    pub(crate) board: usize,
     pub(crate) tape: Tape,
-    /// The board's count of rings when its news were last asked for.
-    heard: Option<u64>,
+    /// How far the board was when its moves were last put on the tape.
+    taped: Option<Progress>,
     /// How many spectators there are.
     pub(crate) count: usize,
     /// The second in which the last spectator left. An audience that is empty is dropped soon after it.
     pub(crate) left_at: u64,
     /// Those that are written to as soon as there is news.
-    pub(crate) ready: Ready,
+    pub(crate) ready: ReadyList,
     /// The place at which a spectator last joined, and the position there.
     last: Option<(u16, Position)>,
 }
 
-impl<B> Audience<B> {
-    /// An audience of this board, still without spectators.
-    pub(crate) fn new(alloc: Global, name: BoardName, board: B) -> Audience<B> {
+impl Audience {
+    /// An audience of the board of this index, still without spectators.
+    pub(crate) fn new(alloc: Global, board: usize) -> Audience {
         Audience {
-            name,
             board,
             tape: Tape::new(alloc),
-            heard: None,
+            taped: None,
             count: 0,
             left_at: 0,
-            ready: Ready::new(alloc),
+            ready: ReadyList::new(alloc),
             last: None,
         }
     }
 
-    /// Puts on the tape what has happened on the board since the last such call. Returns whether anything has.
+    /// Puts on the tape what has happened on its board since the last such call. Returns whether anything has.
     ///
     /// # Errors
     ///
-    /// There was no memory. The next call asks again for what is missing.
-    pub(crate) fn refresh<H: Boards<Board = B>>(
-        &mut self,
-        alloc: Global,
-        boards: &H,
-    ) -> Result<bool, AllocError> {
-        let rings = boards.rings(&self.board);
-        if self.heard == Some(rings) {
+    /// There was no memory. The next call puts there what is missing.
+    pub(crate) fn refresh(&mut self, board: &BoardCopy) -> Result<bool, AllocError> {
+        let progress = board.progress();
+        if self.taped == Some(progress) {
             return Ok(false);
         }
-        if let (false, Ok(from)) = (self.tape.is_over(), u16::try_from(self.tape.len())) {
-            let mut moves = Vec::new(alloc);
-            let outcome = boards.news(&self.board, from, &mut moves)?;
-            put_all(&mut self.tape, moves.as_slice())?;
-            finish(&mut self.tape, outcome)?;
-        }
-        self.heard = Some(rings);
+        put_on(&mut self.tape, board)?;
+        self.taped = Some(progress);
         Ok(true)
     }
 
-    /// A watcher for a spectator that joins at a place of the tape. There is none if the board does not know the position there.
+    /// A watcher for a spectator that joins at a place of the tape. There is none if its board has not reached that place.
     ///
     /// # Errors
     ///
     /// There was no memory.
-    pub(crate) fn join<H: Boards<Board = B>>(
+    pub(crate) fn join(
         &mut self,
-        boards: &H,
+        board: &BoardCopy,
         place: u16,
     ) -> Result<Option<Watcher>, AllocError> {
-        let Some(position) = self.position_at(boards, place) else {
+        let Some(position) = self.position_at(board, place) else {
             return Ok(None);
         };
         if usize::from(place) > self.tape.len() {
@@ -86,26 +74,26 @@ impl<B> Audience<B> {
     }
 
     /// The position at a place. When many spectators arrive at once, they join at the same one.
-    fn position_at<H: Boards<Board = B>>(&mut self, boards: &H, place: u16) -> Option<Position> {
+    fn position_at(&mut self, board: &BoardCopy, place: u16) -> Option<Position> {
         if let Some((at, position)) = self.last {
             if at == place {
                 return Some(position);
             }
         }
-        let position = boards.position_at(&self.board, place)?;
+        let position = board.position_at(place)?;
         self.last = Some((place, position));
         Some(position)
     }
 }
 
 /// The tape of an audience.
-pub(crate) fn tape_at<B>(audiences: &Slab<Audience<B>>, at: Option<usize>) -> Option<&Tape> {
+pub(crate) fn tape_at(audiences: &Slab<Audience>, at: Option<usize>) -> Option<&Tape> {
     Some(&audiences.get(at?)?.tape)
 }
 
 /// Drops the audiences that have been empty for about a second, and their tapes with them. If an audience were dropped at once, its tape
-/// would be made again for each guest of a board whose guests come and go one after another.
-pub(crate) fn drop_empty<B: Drop>(audiences: &mut Slab<Audience<B>>, now: u64) {
+/// would be made again for each spectator of a board whose spectators come and go one after another.
+pub(crate) fn drop_empty(audiences: &mut Slab<Audience>, now: u64) {
     for at in 0..audiences.capacity() {
         let is_dropped = match audiences.get(at) {
             Some(audience) => audience.count == 0 && audience.left_at < now,
@@ -117,21 +105,36 @@ pub(crate) fn drop_empty<B: Drop>(audiences: &mut Slab<Audience<B>>, now: u64) {
     }
 }
 
-/// Puts the end on a tape, if there is one that is not on it yet.
-fn finish(tape: &mut Tape, outcome: Option<Outcome>) -> Result<(), AllocError> {
-    match outcome {
+/// Puts on a tape what it lacks of its board: the moves from its length on, and the end.
+///
+/// # Errors
+///
+/// There was no memory. Some of it may be there.
+fn put_on(tape: &mut Tape, board: &BoardCopy) -> Result<(), AllocError> {
+    put_moves_on(tape, board)?;
+    match board.outcome {
         Some(outcome) if !tape.is_over() => tape.finish(outcome),
         _ => Ok(()),
     }
 }
 
-/// Puts these moves on a tape whose game goes on.
-fn put_all(tape: &mut Tape, moves: &[Move]) -> Result<(), AllocError> {
-    for m in moves {
+/// Puts on a tape the moves that it lacks of its board.
+///
+/// # Errors
+///
+/// There was no memory. Some of them may be there.
+fn put_moves_on(tape: &mut Tape, board: &BoardCopy) -> Result<(), AllocError> {
+    let Ok(from) = u16::try_from(tape.len()) else {
+        return Ok(());
+    };
+    for place in from..board.len() {
+        let Some(m) = board.move_at(place) else {
+            return Ok(());
+        };
         if tape.is_over() || tape.len() >= 65536 {
             return Ok(());
         }
-        tape.push(*m)?;
+        tape.push(m)?;
     }
     Ok(())
 }

@@ -1,24 +1,27 @@
 //! The watch port: a few threads, each an event loop, send any number of spectators what happens on boards. Its spectators may look at
 //! everything and change nothing.
 //!
-//! What is sent is the tape of a board (`relay_watching`), and what peers say is read by `relay_frames`. Neither knows of sockets. This
-//! crate decides who is written to when, and how long each guest is waited for.
+//! Each loop has boards of its own, and is told by a ring what happens to them. What is sent is the tape of a board (`relay_watching`), and
+//! what peers say is read by `relay_frames`. Neither knows of sockets. This crate decides who is written to when.
 #![tactic(auto)]
 
+mod acceptors;
 mod audience;
-mod boards;
-mod crowd;
-mod doors;
-mod entrance;
+mod board_list;
+mod board_table;
+mod client;
+mod clients;
 mod event_loop;
-mod guest;
-mod patience;
+mod feed;
+mod news;
 mod port;
-mod ready;
+mod publisher;
+mod ready_list;
 mod request;
-mod round;
 mod visitor;
 
-pub use boards::Boards;
+pub use board_table::{BoardCopy, BoardTable};
 pub use event_loop::EventLoop;
+pub use feed::Feed;
 pub use port::Port;
+pub use publisher::Publisher;

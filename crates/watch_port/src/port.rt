@@ -1,6 +1,6 @@
 //! The port that several loops serve.
 
-use crate::doors::Doors;
+use crate::acceptors::Acceptors;
 use mio::Registry;
 use std::alloc::{AllocError, Global};
 use std::io;
@@ -14,17 +14,17 @@ use std::sync::atomic::{AtomicBool, AtomicU32, Ordering};
 #[derive(Drop)]
 pub struct Port {
     listener: TcpListener,
-    doors: Doors,
-    /// How many guests there may be, and how many there are.
+    acceptors: Acceptors,
+    /// How many connections there may be, and how many there are.
     most: u32,
     count: Arc<AtomicU32, Global>,
-    /// For how many seconds a guest that asks for nothing is waited for.
+    /// For how many seconds a connection that asks for nothing is waited for.
     most_idle: Option<u64>,
     is_closing: AtomicBool,
 }
 
 impl Port {
-    /// A port at this listener, which is made non-blocking, for `most` spectators at once. A guest that asks for nothing goes after
+    /// A port at this listener, which is made non-blocking, for `most` spectators at once. A connection that asks for nothing goes after
     /// `most_idle` seconds, or never. No loop serves the port yet.
     ///
     /// # Errors
@@ -40,10 +40,10 @@ impl Port {
         let Ok(count) = Arc::new(alloc, AtomicU32::new(0)) else {
             return Err(io::Error::from(ErrorKind::OutOfMemory));
         };
-        let doors = Doors::new(alloc, listener.as_raw_fd());
+        let acceptors = Acceptors::new(alloc, listener.as_raw_fd());
         Ok(Port {
             listener,
-            doors,
+            acceptors,
             most,
             count,
             most_idle,
@@ -51,7 +51,7 @@ impl Port {
         })
     }
 
-    /// How many guests there are, for others to read.
+    /// How many connections there are, for others to read.
     ///
     /// # Errors
     ///
@@ -73,7 +73,7 @@ impl Port {
         self.is_closing.load(Ordering::SeqCst)
     }
 
-    /// For how many seconds a guest that asks for nothing is waited for.
+    /// For how many seconds a connection that asks for nothing is waited for.
     pub(crate) fn most_idle(&self) -> Option<u64> {
         self.most_idle
     }
@@ -83,34 +83,29 @@ impl Port {
         &self.listener
     }
 
-    /// Adds the door of the loop to which this registry reports newcomers. Returns its number.
+    /// Adds the acceptor of the loop to which this registry reports newcomers. Returns its number.
     ///
     /// # Errors
     ///
     /// As the system's own calls, or there was no memory.
-    pub(crate) fn add_door(&mut self, registry: &Registry) -> io::Result<usize> {
-        self.doors.add(registry)
+    pub(crate) fn add_acceptor(&mut self, registry: &Registry) -> io::Result<usize> {
+        self.acceptors.add(registry)
     }
 
-    /// The doors of the loops.
-    pub(crate) fn doors(&self) -> &Doors {
-        &self.doors
+    /// The acceptors of the loops.
+    pub(crate) fn acceptors(&self) -> &Acceptors {
+        &self.acceptors
     }
 
-    /// Counts a newcomer that came in at this door, and returns whether there is room for it.
-    pub(crate) fn enters(&self, door: usize) -> bool {
-        self.doors.enters(door);
+    /// Counts a newcomer that came by this acceptor, and returns whether there is room for it.
+    pub(crate) fn enters(&self, acceptor: usize) -> bool {
+        self.acceptors.enters(acceptor);
         self.count.fetch_add(1, Ordering::SeqCst) < self.most
     }
 
-    /// Counts off a guest that goes and had come in at this door.
-    pub(crate) fn leaves(&self, door: usize) {
-        self.doors.leaves(door);
+    /// Counts off a connection that goes and had come by this acceptor.
+    pub(crate) fn leaves(&self, acceptor: usize) {
+        self.acceptors.leaves(acceptor);
         self.count.fetch_sub(1, Ordering::SeqCst);
     }
-}
-
-/// Whether the error means that nobody is waiting to be accepted.
-pub(crate) fn is_nobody(error: &io::Error) -> bool {
-    error.kind() == ErrorKind::WouldBlock
 }

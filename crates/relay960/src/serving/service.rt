@@ -53,7 +53,7 @@ where
     let Ok(log) = Log::start(rt, alloc, service.log, watching) else {
         return Err(ServeFault::OutOfMemory);
     };
-    let loops = start_loops(rt, alloc, service, watch)?;
+    let loops = start_loops(rt, alloc, watch)?;
     if let Err(reason) = announce(rt, service) {
         end_loops(rt, loops);
         return Err(ServeFault::Write(Failure {
@@ -76,10 +76,11 @@ fn open_watch<R: Net>(
     alloc: Global,
     service: &Service,
 ) -> Result<Option<Watch>, ServeFault> {
-    match &service.watch {
-        Some(asked) => Ok(Some(Watch::open(rt, alloc, asked, most_idle(service.idle))?)),
-        None => Ok(None),
-    }
+    let Some(asked) = &service.watch else {
+        return Ok(None);
+    };
+    let most_idle = most_idle(service.idle);
+    Ok(Some(Watch::open(rt, alloc, asked, most_idle, service.limits)?))
 }
 
 /// Listens on the main port, and takes all that it takes to serve it.
@@ -138,14 +139,13 @@ fn relay_of(alloc: Global, service: &Service) -> Result<RelayService, ServeFault
 fn start_loops<R>(
     rt: &R,
     alloc: Global,
-    service: &Service,
     watch: Option<Watch>,
 ) -> Result<Option<Loops>, ServeFault>
 where
     R: Threads + Wait + Clock + Clone + Send + Drop + 'static,
 {
     match watch {
-        Some(watch) => Ok(Some(watch.start(rt, alloc, service.limits)?)),
+        Some(watch) => Ok(Some(watch.start(rt, alloc)?)),
         None => Ok(None),
     }
 }

@@ -5,54 +5,195 @@ use c960_game::Limits;
 use main_port::Watchers;
 use relay_hall::Hall;
 use relay960_words::WatchPort;
+use server_loop::LoopWaker;
 use std::alloc::Global;
-use std::net::Net;
+use std::io;
+use std::io::ErrorKind;
+use std::net::{Net, SocketAddr, TcpListener};
 use std::sync::atomic::AtomicU32;
 use std::sync::{Arc, Wait};
-use std::thread::Threads;
+use std::thread::{Builder, JoinHandle, Threads};
 use std::time::Clock;
+use watch_port::{EventLoop, Feed, Port, Publisher};
 
-#[derive(Drop)]
-pub(super) struct Watch;
+/// How many bytes the stack of a loop's thread has. JSON of the greatest nesting, 127, takes some 144 KiB of it, and a request with 64
+/// header fields less.
+const STACK_BYTES: usize = 512 * 1024;
 
+/// A watch port that is listening, and its loops, which are not running yet.
 #[derive(Drop)]
-pub(super) struct Loops;
+pub(super) struct Watch {
+    port: Arc<Port, Global>,
+    loops: Vec<EventLoop>,
+    feeds: Vec<Feed>,
+}
+
+/// A running loop, and its waker.
+#[derive(Drop)]
+struct Running {
+    handle: JoinHandle<()>,
+    waker: Arc<LoopWaker, Global>,
+}
+
+/// The running loops, and what tells them of boards.
+#[derive(Drop)]
+pub(super) struct Loops {
+    port: Arc<Port, Global>,
+    publisher: Publisher,
+    /// In the order of the publisher's feeds.
+    running: Vec<Running>,
+    /// Whether all boards were ended.
+    has_ended: bool,
+}
 
 impl Watch {
+    /// Listens on the watch port. These are the limits of the boards.
+    ///
+    /// # Errors
+    ///
+    /// The server cannot listen there, or there was no memory.
     pub(super) fn open<R: Net>(
-        _rt: &R,
-        _alloc: Global,
-        _asked: &WatchPort,
-        _most_idle: Option<u64>,
+        rt: &R,
+        alloc: Global,
+        asked: &WatchPort,
+        most_idle: Option<u64>,
+        limits: Limits,
     ) -> Result<Watch, ServeFault> {
-        Err(ServeFault::OutOfMemory)
+        match open(rt, alloc, asked, most_idle, limits) {
+            Ok(watch) => Ok(watch),
+            Err(error) => Err(fault_of(asked.address, error)),
+        }
     }
 
+    /// How many spectators there are.
     pub(super) fn count(&self) -> Result<Arc<AtomicU32, Global>, ServeFault> {
-        Err(ServeFault::OutOfMemory)
+        match self.port.count() {
+            Ok(count) => Ok(count),
+            Err(_) => Err(ServeFault::OutOfMemory),
+        }
     }
 
-    pub(super) fn start<R>(
-        self,
-        _rt: &R,
-        _alloc: Global,
-        _limits: Limits,
-    ) -> Result<Loops, ServeFault>
+    /// Starts the loops, each on a thread of its own.
+    ///
+    /// # Errors
+    ///
+    /// There was no memory, or no thread. The loops that were started are ended.
+    pub(super) fn start<R>(self, rt: &R, alloc: Global) -> Result<Loops, ServeFault>
     where
         R: Threads + Wait + Clock + Clone + Send + Drop + 'static,
     {
-        Ok(Loops)
+        let Watch { port, loops, feeds } = self;
+        let mut started = Loops {
+            port,
+            publisher: Publisher::new(alloc, feeds),
+            running: Vec::new(alloc),
+            has_ended: false,
+        };
+        for event_loop in loops {
+            let is_started = match spawn(rt, &started.port, event_loop) {
+                Some(running) => started.running.push(running).is_ok(),
+                None => false,
+            };
+            if !is_started {
+                started.end(rt);
+                return Err(ServeFault::OutOfMemory);
+            }
+        }
+        Ok(started)
     }
 }
 
+/// Listens on the watch port.
+///
+/// # Errors
+///
+/// As the system's own calls, or there was no memory.
+fn open<R: Net>(
+    rt: &R,
+    alloc: Global,
+    asked: &WatchPort,
+    most_idle: Option<u64>,
+    limits: Limits,
+) -> io::Result<Watch> {
+    let listener = TcpListener::from(mio::net::TcpListener::bind(rt, asked.address)?);
+    let mut port = Port::new(alloc, listener, asked.most, most_idle)?;
+    let (mut loops, mut feeds) = (Vec::new(alloc), Vec::new(alloc));
+    for _ in 0..asked.threads {
+        let (event_loop, feed) = EventLoop::new(rt, alloc, &mut port, limits)?;
+        if loops.push(event_loop).is_err() || feeds.push(feed).is_err() {
+            return Err(io::Error::from(ErrorKind::OutOfMemory));
+        }
+    }
+    match Arc::new(alloc, port) {
+        Ok(port) => Ok(Watch { port, loops, feeds }),
+        Err(_) => Err(io::Error::from(ErrorKind::OutOfMemory)),
+    }
+}
+
+/// Why the port at this address, or a loop of it, could not be created.
+fn fault_of(address: SocketAddr, error: io::Error) -> ServeFault {
+    match error.kind() {
+        ErrorKind::OutOfMemory => ServeFault::OutOfMemory,
+        _ => ServeFault::at(address, error),
+    }
+}
+
+/// Starts a loop.
+fn spawn<R>(rt: &R, port: &Arc<Port, Global>, event_loop: EventLoop) -> Option<Running>
+where
+    R: Threads + Wait + Clock + Clone + Send + Drop + 'static,
+{
+    let own = rt.clone().ok()?;
+    let port = Arc::try_clone(port).ok()?;
+    let waker = Arc::try_clone(event_loop.waker()).ok()?;
+    let handle = Builder::new()
+        .stack_size(STACK_BYTES)
+        .spawn(rt, move || {
+            let _ = event_loop.run(&own, &port);
+        })
+        .ok()?;
+    Some(Running { handle, waker })
+}
+
 impl Loops {
-    pub(super) fn end<R: Threads>(self, _rt: &R) {}
+    /// Ends the loops once spectators have what they are due, or after a while.
+    pub(super) fn end<R: Threads>(self, rt: &R) {
+        self.close();
+        for running in self.running {
+            let () = running.handle.join(rt);
+        }
+    }
+
+    /// Closes the port, and wakes all loops.
+    fn close(&self) {
+        self.port.close();
+        for running in self.running.iter() {
+            running.waker.wake();
+        }
+    }
 }
 
 impl Watchers for Loops {
-    fn changed(&mut self, _at: usize) {}
+    fn changed(&mut self, at: usize) {
+        self.publisher.marks(at);
+    }
 
-    fn wake(&mut self, _hall: &Hall) {}
+    /// Once all loops were told that all boards were ended, the port closes: its spectators need not wait until connections of the main port
+    /// have gone.
+    fn wake(&mut self, hall: &Hall) {
+        let are_told = self.publisher.publish(hall);
+        for at in 0..self.running.len() {
+            if self.publisher.take_fresh(at) {
+                self.running[at].waker.wake();
+            }
+        }
+        if self.has_ended && are_told {
+            self.has_ended = false;
+            self.close();
+        }
+    }
 
-    fn has_ended(&mut self) {}
+    fn has_ended(&mut self) {
+        self.has_ended = true;
+    }
 }

@@ -6,7 +6,7 @@ pub mod chance;
 pub mod command;
 pub mod comparing;
 mod full;
-mod heard;
+pub mod heard;
 mod keys;
 mod memory;
 pub mod plain;

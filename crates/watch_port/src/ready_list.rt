@@ -1,20 +1,20 @@
-//! The guests of an audience that are written to as soon as there is news: all but those whose connections take no more now.
+//! The connections of an audience that are written to as soon as there is news: all but those whose connections take no more now.
 
 use crate::audience::Audience;
 use crate::visitor::{Doing, Watching};
 use slab::Slab;
 use std::alloc::{AllocError, Global};
 
-/// Keys of guests, in any order.
+/// Keys of connections, in any order.
 #[derive(Drop)]
-pub(crate) struct Ready {
+pub(crate) struct ReadyList {
     keys: Vec<usize>,
 }
 
-impl Ready {
-    /// No guests.
-    pub(crate) fn new(alloc: Global) -> Ready {
-        Ready {
+impl ReadyList {
+    /// None.
+    pub(crate) fn new(alloc: Global) -> ReadyList {
+        ReadyList {
             keys: Vec::new(alloc),
         }
     }
@@ -29,14 +29,14 @@ impl Ready {
         self.keys.len()
     }
 
-    /// Adds a guest and returns its index.
+    /// Adds one and returns its index.
     pub(crate) fn add(&mut self, key: usize) -> Result<usize, AllocError> {
         let index = self.keys.len();
         self.keys.push(key)?;
         Ok(index)
     }
 
-    /// Removes the guest at an index. Returns the one that moves to that index, if any.
+    /// Removes the one at an index. Returns the one that moves to that index, if any.
     pub(crate) fn remove(&mut self, index: usize) -> Option<usize> {
         if index >= self.keys.len() {
             return None;
@@ -46,18 +46,18 @@ impl Ready {
     }
 }
 
-/// Those that are written to as soon as there is news of what a guest watches, if it watches anything.
-pub(crate) fn ready_of<'r, B>(
-    audiences: &'r mut Slab<Audience<B>>,
-    round_ready: &'r mut Ready,
+/// Those that are written to as soon as there is news of what a connection watches, if it watches anything.
+pub(crate) fn ready_of<'r>(
+    audiences: &'r mut Slab<Audience>,
+    list_ready: &'r mut ReadyList,
     doing: &Doing,
-) -> Option<&'r mut Ready> {
+) -> Option<&'r mut ReadyList> {
     match doing {
         Doing::Watches(Watching { audience, .. }) => {
             let audience = audiences.get_mut(*audience)?;
             Some(&mut audience.ready)
         }
-        Doing::WatchesAll(_) => Some(round_ready),
+        Doing::WatchesAll(_) => Some(list_ready),
         Doing::Comes(_) | Doing::Asks => None,
     }
 }

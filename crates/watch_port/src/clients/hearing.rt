@@ -1,58 +1,57 @@
-//! What guests say, and what they are answered.
+//! What clients say, and what they are answered.
 
-use crate::boards::Boards;
-use crate::crowd::Crowd;
-use crate::guest::Intake;
+use crate::clients::Clients;
 use crate::request::take_request;
 use crate::visitor::Doing;
 use c960_game::Refusal;
 use relay_core::{Reply, Step};
 use relay_frames::{Breach, Event, outgoing};
 use relay_messages::{Answer, MessageFault, WatchCommand, encode};
+use server_loop::{Intake, receive};
 use std::alloc::AllocError;
 use std::mem;
 
-/// How many pieces of what a guest sends are read before the others have their turn.
+/// How many pieces of what a client sends are read before the others have their turn.
 const MOST_PIECES: u32 = 4;
 
 /// How many bytes a piece has.
 const PIECE_BYTES: usize = 4096;
 
-impl<'a, H: Boards> Crowd<'a, H> {
-    /// Reads the guests that are to be read on.
+impl<'a> Clients<'a> {
+    /// Reads the clients that are to be read on.
     pub(crate) fn hear_unread(&mut self) {
         let unread = mem::replace(&mut self.unread, Vec::new(self.alloc));
         for key in unread {
-            if let Some(guest) = self.guests.get_mut(key) {
-                guest.is_unread = false;
+            if let Some(client) = self.clients.get_mut(key) {
+                client.is_unread = false;
                 self.hear(key, true);
             }
         }
     }
 
-    /// Adds a guest to those that are to be read on, only once however much it sends.
+    /// Adds a client to those that are to be read on, only once however much it sends.
     pub(super) fn stands_unread(&mut self, key: usize) {
-        let Some(guest) = self.guests.get_mut(key) else {
+        let Some(client) = self.clients.get_mut(key) else {
             return;
         };
-        if guest.is_unread {
+        if client.is_unread {
             return;
         }
-        guest.is_unread = true;
+        client.is_unread = true;
         if self.unread.push(key).is_err() {
             self.remove(key);
         }
     }
 
-    /// Reads a guest from which, as the system reports, something came, perhaps the end. One that is to be read on has had its turn.
+    /// Reads a client from which, as the system reports, something came, perhaps the end. One that is to be read on has had its turn.
     pub(crate) fn hear_of(&mut self, key: usize, has_ended: bool) {
-        match self.guests.get(key) {
-            Some(guest) if !guest.is_unread => self.hear(key, has_ended),
+        match self.clients.get(key) {
+            Some(client) if !client.is_unread => self.hear(key, has_ended),
             _ => {}
         }
     }
 
-    /// Reads what a guest sends, for a while, and answers it. A piece that is not full was the last of what had come, except for the end:
+    /// Reads what a client sends, for a while, and answers it. A piece that is not full was the last of what had come, except for the end:
     /// the system reports everything that comes later.
     fn hear(&mut self, key: usize, may_have_ended: bool) {
         let mut piece = [0; PIECE_BYTES];
@@ -66,15 +65,15 @@ impl<'a, H: Boards> Crowd<'a, H> {
                 self.send(key);
                 return;
             }
-            let Some(guest) = self.guests.get_mut(key) else {
+            let Some(client) = self.clients.get_mut(key) else {
                 return;
             };
-            match guest.receive(&mut piece) {
+            match receive(&mut client.stream, &mut piece) {
                 Intake::Nothing => {
                     self.send(key);
                     return;
                 }
-                Intake::End => {
+                Intake::End | Intake::Failed => {
                     self.remove(key);
                     return;
                 }
@@ -91,57 +90,57 @@ impl<'a, H: Boards> Crowd<'a, H> {
         self.stands_unread(key);
     }
 
-    /// Answers what a guest sent.
+    /// Answers what a client sent.
     fn take_in(&mut self, key: usize, bytes: &[u8]) -> Result<(), AllocError> {
-        let Some(guest) = self.guests.get_mut(key) else {
+        let Some(client) = self.clients.get_mut(key) else {
             return Ok(());
         };
-        if guest.has_left || guest.visitor.is_leaving() {
+        if client.has_left || client.visitor.is_leaving() {
             return Ok(());
         }
-        let used = take_request(self.alloc, &mut guest.visitor, bytes)?;
+        let used = take_request(self.alloc, &mut client.visitor, bytes)?;
         if used > 0 {
-            guest.turn_away_if_full(self.now)?;
+            client.turn_away_if_full(self.now)?;
         }
-        guest.visitor.feed(bytes.get(used..).unwrap_or(&[]))?;
+        client.visitor.feed(bytes.get(used..).unwrap_or(&[]))?;
         self.answer(key)?;
         self.has_heard(key);
         Ok(())
     }
 
-    /// Something came from a guest, and was answered.
+    /// Something came from a client, and was answered.
     fn has_heard(&mut self, key: usize) {
         let now = self.now;
-        if let Some(guest) = self.guests.get_mut(key) {
-            let is_midway = guest.visitor.is_midway();
-            guest.patience.silence.hears(now, is_midway);
+        if let Some(client) = self.clients.get_mut(key) {
+            let is_midway = client.visitor.is_midway();
+            client.deadlines.silence.hears(now, is_midway);
         }
     }
 
-    /// Whether a guest is not heard now, because too much is kept for it, or because it is still owed what it has to be sent first. It is
+    /// Whether a client is not heard now, because too much is kept for it, or because it is still owed what it has to be sent first. It is
     /// heard again once that is written.
     fn is_deaf_to(&mut self, key: usize) -> bool {
         let is_owed_first = self.is_owed_first(key);
-        let Some(guest) = self.guests.get_mut(key) else {
+        let Some(client) = self.clients.get_mut(key) else {
             return false;
         };
-        if !is_owed_first && !guest.visitor.is_stuffed() {
+        if !is_owed_first && !client.visitor.is_stuffed() {
             return false;
         }
-        guest.is_stuffed = true;
-        guest.patience.silence.owes_no_rest();
+        client.is_stuffed = true;
+        client.deadlines.silence.owes_no_rest();
         true
     }
 
-    /// Whether nothing has been written yet to a guest of what it watches. That comes before the answers to what it said later.
+    /// Whether nothing has been written yet to a client of what it watches. That comes before the answers to what it said later.
     pub(super) fn is_owed_first(&self, key: usize) -> bool {
-        match self.guests.get(key) {
-            Some(guest) => guest.visitor.is_owed_first(self.round.changes()),
+        match self.clients.get(key) {
+            Some(client) => client.visitor.is_owed_first(self.list.changes()),
             None => false,
         }
     }
 
-    /// Whether a guest is still owed what it has to be sent first, although it was written to.
+    /// Whether a client is still owed what it has to be sent first, although it was written to.
     fn stays_owed_first(&mut self, key: usize) -> bool {
         if !self.is_owed_first(key) {
             return false;
@@ -150,19 +149,19 @@ impl<'a, H: Boards> Crowd<'a, H> {
         self.is_owed_first(key)
     }
 
-    /// Answers what a guest has said, until it is owed what it has to be sent first.
+    /// Answers what a client has said, until it is owed what it has to be sent first.
     fn answer(&mut self, key: usize) -> Result<(), AllocError> {
         for _ in 0..u64::MAX {
             if self.stays_owed_first(key) {
                 return Ok(());
             }
-            let Some(guest) = self.guests.get_mut(key) else {
+            let Some(client) = self.clients.get_mut(key) else {
                 return Ok(());
             };
-            if guest.has_left || guest.visitor.is_leaving() {
+            if client.has_left || client.visitor.is_leaving() {
                 return Ok(());
             }
-            let Some(event) = guest.visitor.next()? else {
+            let Some(event) = client.visitor.next()? else {
                 return Ok(());
             };
             self.answer_one(key, &event)?;
@@ -170,7 +169,7 @@ impl<'a, H: Boards> Crowd<'a, H> {
         Ok(())
     }
 
-    /// Answers one thing that a guest said.
+    /// Answers one thing that a client said.
     fn answer_one(&mut self, key: usize, event: &Event) -> Result<(), AllocError> {
         if matches!(event, Event::Text(_) | Event::Binary(_)) {
             self.has_said(key);
@@ -186,11 +185,12 @@ impl<'a, H: Boards> Crowd<'a, H> {
         }
     }
 
-    /// A guest has sent something complete: its time begins again.
+    /// A client has sent something complete: its time begins again.
     fn has_said(&mut self, key: usize) {
         let now = self.now;
-        if let Some(guest) = self.guests.get_mut(key) {
-            guest.patience.has_heard_all(now);
+        if let Some(client) = self.clients.get_mut(key) {
+            client.deadlines.begins(now);
+            client.deadlines.silence.owes_no_rest();
         }
     }
 
@@ -206,12 +206,12 @@ impl<'a, H: Boards> Crowd<'a, H> {
         }
     }
 
-    /// Lets a guest watch all boards from now on.
+    /// Lets a client watch all boards from now on.
     fn watch_all(&mut self, key: usize) -> Result<(), AllocError> {
-        self.round.refresh(self.boards, self.now)?;
-        if let Some(guest) = self.guests.get_mut(key) {
-            guest.visitor.watch_all();
-            self.round_count = self.round_count.saturating_add(1);
+        self.list.refresh(&self.boards, self.now)?;
+        if let Some(client) = self.clients.get_mut(key) {
+            client.visitor.watch_all();
+            self.list_count = self.list_count.saturating_add(1);
         }
         Ok(())
     }
@@ -238,12 +238,12 @@ impl<'a, H: Boards> Crowd<'a, H> {
         self.put_answer(key, &answer)
     }
 
-    /// Whether a guest watches a board.
+    /// Whether a client watches a board.
     fn is_watching(&self, key: usize) -> bool {
-        match self.guests.get(key) {
-            Some(guest) => {
+        match self.clients.get(key) {
+            Some(client) => {
                 matches!(
-                    guest.visitor.doing,
+                    client.visitor.doing,
                     Doing::Watches(_) | Doing::WatchesAll(_)
                 )
             }
@@ -251,26 +251,26 @@ impl<'a, H: Boards> Crowd<'a, H> {
         }
     }
 
-    /// Puts the frame of an answer into a guest's output.
+    /// Puts the frame of an answer into a client's output.
     fn put_answer(&mut self, key: usize, answer: &Answer) -> Result<(), AllocError> {
         let text = encode(self.alloc, answer)?;
-        match self.guests.get_mut(key) {
-            Some(guest) => outgoing::text(text.as_str(), guest.visitor.output()),
+        match self.clients.get_mut(key) {
+            Some(client) => outgoing::text(text.as_str(), client.visitor.output()),
             None => Ok(()),
         }
     }
 
-    /// Puts into a guest's output the frame that is due for what it said, if there is one. After a close it leaves.
+    /// Puts into a client's output the frame that is due for what it said, if there is one. After a close it leaves.
     fn put_event(&mut self, key: usize, event: &Event) -> Result<(), AllocError> {
         let frame = event.answer(self.alloc)?;
-        let Some(guest) = self.guests.get_mut(key) else {
+        let Some(client) = self.clients.get_mut(key) else {
             return Ok(());
         };
         if let Some(frame) = frame {
-            guest.visitor.output().extend_from_slice(frame.as_slice())?;
+            client.visitor.output().extend_from_slice(frame.as_slice())?;
         }
         if event.is_last() {
-            guest.visitor.leaves();
+            client.visitor.leaves();
         }
         Ok(())
     }

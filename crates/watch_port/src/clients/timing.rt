@@ -1,18 +1,17 @@
-//! What happens to guests as time passes, and when serving ends.
+//! What happens to clients as time passes, and when serving ends.
 
 use crate::audience::{drop_empty, tape_at};
-use crate::boards::Boards;
-use crate::crowd::Crowd;
-use crate::patience::{Stage, Verdict};
+use crate::clients::Clients;
 use relay_frames::{Code, outgoing};
+use server_loop::{Stage, Times, Verdict};
 
-/// The close code if serving ends, or if a guest asks for nothing (RFC 6455, section 7.4.1).
+/// The close code if serving ends, or if a client asks for nothing (RFC 6455, section 7.4.1).
 const AWAY: u16 = 1001;
 
-/// The close code for a guest that takes nothing (RFC 6455, section 7.4.1).
+/// The close code for a client that takes nothing (RFC 6455, section 7.4.1).
 const POLICY: u16 = 1008;
 
-impl<'a, H: Boards> Crowd<'a, H> {
+impl<'a> Clients<'a> {
     /// How many seconds had passed at the last call of `is_now`.
     pub(crate) fn now(&self) -> u64 {
         self.now
@@ -23,27 +22,30 @@ impl<'a, H: Boards> Crowd<'a, H> {
         self.now = now;
     }
 
-    /// Looks at each guest, once a second. Returns whether that was now. All that guests had sent by the second `now` has been heard.
+    /// Looks at each client, once a second. Returns whether that was now. All that clients had sent by the second `now` has been heard.
     pub(crate) fn look_around(&mut self, now: u64) -> bool {
         if now <= self.looked_at {
             return false;
         }
         self.looked_at = now;
         drop_empty(&mut self.audiences, self.now);
-        for key in 0..self.guests.capacity() {
+        for key in 0..self.clients.capacity() {
             self.look_at(key, now);
         }
         true
     }
 
-    /// Does what is due for a guest.
+    /// Does what is due for a client.
     fn look_at(&mut self, key: usize, now: u64) {
         let most_idle = self.port.most_idle();
-        let Some(guest) = self.guests.get_mut(key) else {
+        let Some(client) = self.clients.get_mut(key) else {
             return;
         };
-        let stage = guest.stage();
-        match guest.patience.verdict(now, stage, most_idle) {
+        let stage = client.stage();
+        match client
+            .deadlines
+            .verdict(&Times::WATCH_PORT, now, stage, most_idle)
+        {
             Verdict::Stays => {}
             Verdict::Ping => self.ping(key),
             Verdict::Tries => self.send(key),
@@ -53,10 +55,10 @@ impl<'a, H: Boards> Crowd<'a, H> {
         }
     }
 
-    /// Sends a guest a ping.
+    /// Sends a client a ping.
     fn ping(&mut self, key: usize) {
-        if let Some(guest) = self.guests.get_mut(key) {
-            if outgoing::ping(b"", guest.visitor.output()).is_err() {
+        if let Some(client) = self.clients.get_mut(key) {
+            if outgoing::ping(b"", client.visitor.output()).is_err() {
                 self.remove(key);
                 return;
             }
@@ -64,48 +66,48 @@ impl<'a, H: Boards> Crowd<'a, H> {
         self.send(key);
     }
 
-    /// Closes a guest's connection with a code.
+    /// Closes a client's connection with a code.
     fn close(&mut self, key: usize, code: u16) {
-        if let Some(guest) = self.guests.get_mut(key) {
-            if guest.visitor.is_leaving() {
+        if let Some(client) = self.clients.get_mut(key) {
+            if client.visitor.is_leaving() {
                 return;
             }
-            if outgoing::close(Code::new(code), guest.visitor.output()).is_err() {
+            if outgoing::close(Code::new(code), client.visitor.output()).is_err() {
                 self.remove(key);
                 return;
             }
-            guest.visitor.leaves();
+            client.visitor.leaves();
         }
         self.send(key);
     }
 
-    /// Serving ends: guests that ask for nothing are told so, and so are those that watch a board whose game goes on.
+    /// Serving ends: clients that ask for nothing are told so, and so are those that watch a board whose game goes on.
     pub(crate) fn end(&mut self) {
-        for key in 0..self.guests.capacity() {
+        for key in 0..self.clients.capacity() {
             self.end_one(key);
         }
     }
 
-    /// Tells a guest that serving ends.
+    /// Tells a client that serving ends.
     fn end_one(&mut self, key: usize) {
-        let Some(guest) = self.guests.get(key) else {
+        let Some(client) = self.clients.get(key) else {
             return;
         };
-        let is_over = match tape_at(&self.audiences, guest.visitor.audience()) {
+        let is_over = match tape_at(&self.audiences, client.visitor.audience()) {
             Some(tape) => tape.is_over(),
             None => false,
         };
-        match guest.stage() {
+        match client.stage() {
             Stage::Comes => self.remove(key),
             Stage::Asks => self.close(key, AWAY),
-            Stage::Watches if !is_over => {
+            Stage::Follows if !is_over => {
                 if self.put_changes(key, true).is_err() {
                     self.remove(key);
                 } else {
                     self.close(key, AWAY);
                 }
             }
-            Stage::Watches | Stage::Leaves => {}
+            Stage::Follows | Stage::Leaves | Stage::HasLeft => {}
         }
     }
 }

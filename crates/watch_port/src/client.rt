@@ -1,46 +1,22 @@
 //! A visitor and its connection.
 
-use crate::patience::{Patience, Stage};
 use crate::visitor::{Doing, Visitor};
 use mio::net::TcpStream;
 use relay_frames::{Code, outgoing};
 use relay_watching::Tape;
+use server_loop::{Deadlines, Delivery, Stage, Written, write_once};
 use std::alloc::AllocError;
-use std::io;
-use std::io::{ErrorKind, IoSlice, Read, Write};
 use std::net::Shutdown;
 
-/// The close code for a guest for which there is no room now (IANA's registry of close codes).
+/// The close code for a client for which there is no room now (IANA's registry of close codes).
 const AGAIN: u16 = 1013;
-
-/// How a connection took what was written to it.
-#[derive(Clone, Copy, PartialEq, Eq)]
-pub(crate) enum Delivery {
-    /// It took everything that is due.
-    All,
-    /// It takes no more now. The system reports when it does again.
-    Blocked,
-    /// It has failed.
-    Failed,
-}
-
-/// What came from a connection.
-#[derive(Clone, Copy)]
-pub(crate) enum Intake {
-    /// This many bytes came.
-    Bytes(usize),
-    /// Nothing more has arrived yet. The system reports when something has.
-    Nothing,
-    /// It has ended or failed.
-    End,
-}
 
 /// A visitor and its connection.
 #[derive(Drop)]
-pub(crate) struct Guest {
+pub(crate) struct Client {
     pub(crate) stream: TcpStream,
     pub(crate) visitor: Visitor,
-    pub(crate) patience: Patience,
+    pub(crate) deadlines: Deadlines,
     /// Its index in its audience among those that are written to as soon as there is news, if it is among them.
     pub(crate) ready_index: Option<usize>,
     /// Whether there was room for it when it came.
@@ -53,28 +29,26 @@ pub(crate) struct Guest {
     pub(crate) is_unread: bool,
 }
 
-impl Guest {
+impl Client {
     /// Writes what is due, until nothing is or the connection takes no more. The tape is that of the board that it watches.
     pub(crate) fn send(&mut self, tape: Option<&Tape>, now: u64) -> Delivery {
         for _ in 0..u64::MAX {
             let piece = self.visitor.offered(tape);
             if piece.is_empty() {
-                self.patience.is_served();
+                self.deadlines.is_served();
                 return Delivery::All;
             }
             let length = piece.len();
-            match write(&self.stream, piece, self.visitor.offered_behind(tape)) {
-                Ok(0) => return Delivery::Failed,
-                Ok(n) => {
-                    self.patience.is_served();
+            match write_once(&self.stream, piece, self.visitor.offered_behind(tape)) {
+                Written::Bytes(n) => {
+                    self.deadlines.is_served();
                     self.wrote(tape, n, length);
                 }
-                Err(error) if error.kind() == ErrorKind::WouldBlock => {
-                    self.patience.is_kept_waiting(now);
+                Written::Blocked => {
+                    self.deadlines.is_kept_waiting(now);
                     return Delivery::Blocked;
                 }
-                Err(error) if error.kind() == ErrorKind::Interrupted => {}
-                Err(_) => return Delivery::Failed,
+                Written::Failed => return Delivery::Failed,
             }
         }
         Delivery::Failed
@@ -88,38 +62,24 @@ impl Guest {
         }
     }
 
-    /// Reads once from its connection.
-    pub(crate) fn receive(&mut self, buf: &mut [u8]) -> Intake {
-        for _ in 0..u64::MAX {
-            match self.stream.read(buf) {
-                Ok(0) => return Intake::End,
-                Ok(n) => return Intake::Bytes(n),
-                Err(error) if error.kind() == ErrorKind::WouldBlock => return Intake::Nothing,
-                Err(error) if error.kind() == ErrorKind::Interrupted => {}
-                Err(_) => return Intake::End,
-            }
-        }
-        Intake::End
-    }
-
     /// The stage at which it is.
     pub(crate) fn stage(&self) -> Stage {
         if self.has_left {
-            return Stage::Leaves;
+            return Stage::HasLeft;
         }
         match &self.visitor.doing {
             Doing::Comes(_) => Stage::Comes,
             Doing::Asks => Stage::Asks,
-            Doing::Watches(_) | Doing::WatchesAll(_) => Stage::Watches,
+            Doing::Watches(_) | Doing::WatchesAll(_) => Stage::Follows,
         }
     }
 
-    /// A guest that has shaken hands but for which there was no room is told so, and leaves. Any other asks from now on.
+    /// A client that has shaken hands but for which there was no room is told so, and leaves. Any other asks from now on.
     pub(crate) fn turn_away_if_full(&mut self, now: u64) -> Result<(), AllocError> {
         if !matches!(self.visitor.doing, Doing::Asks) {
             return Ok(());
         }
-        self.patience.begins(now);
+        self.deadlines.begins(now);
         if !self.has_room && !self.visitor.is_leaving() {
             outgoing::close(Code::new(AGAIN), self.visitor.output())?;
             self.visitor.leaves();
@@ -131,12 +91,4 @@ impl Guest {
     pub(crate) fn end_output(&mut self) {
         let _ = self.stream.shutdown(Shutdown::Write);
     }
-}
-
-/// Writes once, of this piece and then of what follows it. At a `&mut` of the stream the last line would be a call for each.
-fn write(mut stream: &TcpStream, piece: &[u8], behind: &[u8]) -> io::Result<usize> {
-    if behind.is_empty() {
-        return stream.write(piece);
-    }
-    stream.write_vectored(&[IoSlice::new(piece), IoSlice::new(behind)])
 }

@@ -1,25 +1,24 @@
-//! All boards of a relay, for guests that watch them all: the text of each, and when it last changed.
+//! All boards of a relay, for connections that watch them all: the text of each, and when it last changed.
 
-use crate::boards::Boards;
+use crate::board_table::{BoardCopy, BoardTable, Progress};
 use relay_frames::outgoing;
 use relay_messages::encode_board;
 use std::alloc::{AllocError, Global};
 
 /// All boards, in the order of opening. Each change of a text has a number, and the numbers rise.
 #[derive(Drop)]
-pub(crate) struct Round<B> {
+pub(crate) struct BoardList {
     alloc: Global,
-    entries: Vec<RoundEntry<B>>,
+    entries: Vec<Entry>,
     /// The number of the last change.
     changes: u64,
 }
 
-/// A board, and what is sent of it.
+/// What is sent of a board.
 #[derive(Drop)]
-struct RoundEntry<B> {
-    board: B,
-    /// The board's count of rings when its text was made, once one was.
-    heard: Option<u64>,
+struct Entry {
+    /// How far the board was when its text was made, once one was.
+    made_of: Option<Progress>,
     /// In which second that was.
     made_at: u64,
     /// The frame of its text.
@@ -28,39 +27,38 @@ struct RoundEntry<B> {
     change: u64,
 }
 
-impl<B> RoundEntry<B> {
+impl Entry {
     /// Makes its text again. The change has this number.
-    fn make<H: Boards<Board = B>>(
+    fn make(
         &mut self,
         alloc: Global,
-        boards: &H,
+        board: &BoardCopy,
         now: u64,
         change: u64,
     ) -> Result<(), AllocError> {
-        let rings = boards.rings(&self.board);
-        let text = encode_board(alloc, &boards.summary(&self.board))?;
+        let text = encode_board(alloc, &board.summary())?;
         let mut frame = Vec::new(alloc);
         outgoing::text(text.as_str(), &mut frame)?;
         self.frame = frame;
-        self.heard = Some(rings);
+        self.made_of = Some(board.progress());
         self.made_at = now;
         self.change = change;
         Ok(())
     }
 
     /// Whether its text has to be made again: there is news, and it was not made within this second, or its game has ended.
-    fn is_due<H: Boards<Board = B>>(&self, boards: &H, now: u64) -> bool {
-        if self.heard == Some(boards.rings(&self.board)) {
-            return false;
+    fn is_due(&self, progress: Progress, now: u64) -> bool {
+        match self.made_of {
+            None => true,
+            Some(made_of) => made_of != progress && (self.made_at < now || progress.is_over),
         }
-        self.heard.is_none() || self.made_at < now || boards.is_over(&self.board)
     }
 }
 
-impl<B: Drop> Round<B> {
+impl BoardList {
     /// No boards are known yet.
-    pub(crate) fn new(alloc: Global) -> Round<B> {
-        Round {
+    pub(crate) fn new(alloc: Global) -> BoardList {
+        BoardList {
             alloc,
             entries: Vec::new(alloc),
             changes: 0,
@@ -77,48 +75,35 @@ impl<B: Drop> Round<B> {
     /// # Errors
     ///
     /// There was no memory. The next call makes what is missing.
-    pub(crate) fn refresh<H: Boards<Board = B>>(
-        &mut self,
-        boards: &H,
-        now: u64,
-    ) -> Result<(), AllocError> {
-        self.take_in(boards)?;
-        for at in 0..self.entries.len() {
+    pub(crate) fn refresh(&mut self, boards: &BoardTable, now: u64) -> Result<(), AllocError> {
+        for at in 0..boards.len() {
+            if at == self.entries.len() {
+                self.add()?;
+            }
             self.refresh_one(at, boards, now)?;
         }
         Ok(())
     }
 
-    /// Adds the boards that were opened.
-    fn take_in<H: Boards<Board = B>>(&mut self, boards: &H) -> Result<(), AllocError> {
-        for _ in 0..u64::MAX {
-            let Some(board) = boards.board_at(self.entries.len())? else {
-                return Ok(());
-            };
-            self.entries.push(RoundEntry {
-                board,
-                heard: None,
-                made_at: 0,
-                frame: Vec::new(self.alloc),
-                change: 0,
-            })?;
-        }
+    /// Adds a board, of which no text was made yet.
+    fn add(&mut self) -> Result<(), AllocError> {
+        self.entries.push(Entry {
+            made_of: None,
+            made_at: 0,
+            frame: Vec::new(self.alloc),
+            change: 0,
+        })?;
         Ok(())
     }
 
     /// Makes the text of the board of this index again, if that is due.
-    fn refresh_one<H: Boards<Board = B>>(
-        &mut self,
-        at: usize,
-        boards: &H,
-        now: u64,
-    ) -> Result<(), AllocError> {
+    fn refresh_one(&mut self, at: usize, boards: &BoardTable, now: u64) -> Result<(), AllocError> {
         let change = self.changes.saturating_add(1);
-        let Some(entry) = self.entries.get_mut(at) else {
+        let (Some(entry), Some(board)) = (self.entries.get_mut(at), boards.board(at)) else {
             return Ok(());
         };
-        if entry.is_due(boards, now) {
-            entry.make(self.alloc, boards, now, change)?;
+        if entry.is_due(board.progress(), now) {
+            entry.make(self.alloc, board, now, change)?;
             self.changes = change;
         }
         Ok(())

@@ -1,29 +1,28 @@
-//! What guests are sent: what they are owed, and then what is new.
+//! What clients are sent: what they are owed, and then what is new.
 
 use crate::audience::tape_at;
-use crate::boards::Boards;
-use crate::crowd::Crowd;
-use crate::guest::Delivery;
-use crate::ready::Ready;
+use crate::clients::Clients;
+use crate::ready_list::ReadyList;
 use crate::visitor::Doing;
+use server_loop::Delivery;
 use std::alloc::AllocError;
 
-impl<'a, H: Boards> Crowd<'a, H> {
-    /// Writes to a guest what is due, as far as its connection takes it. If there was no memory for some changes of the boards, they are
+impl<'a> Clients<'a> {
+    /// Writes to a client what is due, as far as its connection takes it. If there was no memory for some changes of the boards, they are
     /// due again at the next turn.
     pub(crate) fn send(&mut self, key: usize) {
         if self.put_changes(key, false).is_err() {
-            self.round_told = 0;
+            self.list_told = 0;
         }
-        let Some(guest) = self.guests.get_mut(key) else {
+        let Some(client) = self.clients.get_mut(key) else {
             return;
         };
-        if guest.has_left {
+        if client.has_left {
             return;
         }
-        let tape = tape_at(&self.audiences, guest.visitor.audience());
-        let sent = guest.send(tape, self.now);
-        let is_done = sent == Delivery::All && guest.visitor.is_done(tape);
+        let tape = tape_at(&self.audiences, client.visitor.audience());
+        let sent = client.send(tape, self.now);
+        let is_done = sent == Delivery::All && client.visitor.is_done(tape);
         match sent {
             Delivery::Failed => self.remove(key),
             Delivery::Blocked => self.rests(key),
@@ -36,48 +35,48 @@ impl<'a, H: Boards> Crowd<'a, H> {
         }
     }
 
-    /// Puts the changes of the boards into the output of a guest that watches them all, if everything before is written. So a guest whose
+    /// Puts the changes of the boards into the output of a client that watches them all, if everything before is written. So a client whose
     /// connection takes it slowly is not sent what is out of date. The last ones are put there in any case.
     pub(super) fn put_changes(&mut self, key: usize, are_last: bool) -> Result<(), AllocError> {
-        let Some(guest) = self.guests.get_mut(key) else {
+        let Some(client) = self.clients.get_mut(key) else {
             return Ok(());
         };
-        let Doing::WatchesAll(told) = guest.visitor.doing else {
+        let Doing::WatchesAll(told) = client.visitor.doing else {
             return Ok(());
         };
-        let changes = self.round.changes();
-        if told == changes || !(are_last || guest.visitor.has_no_output()) {
+        let changes = self.list.changes();
+        if told == changes || !(are_last || client.visitor.has_no_output()) {
             return Ok(());
         }
-        self.round.put_changes(told, guest.visitor.output())?;
-        guest.visitor.doing = Doing::WatchesAll(changes);
+        self.list.put_changes(told, client.visitor.output())?;
+        client.visitor.doing = Doing::WatchesAll(changes);
         Ok(())
     }
 
-    /// At the end of the turn, sends a guest that watches all boards and was sent everything what has changed while that was written.
+    /// At the end of the turn, sends a client that watches all boards and was sent everything what has changed while that was written.
     fn tells_on(&mut self, key: usize) {
-        let Some(guest) = self.guests.get(key) else {
+        let Some(client) = self.clients.get(key) else {
             return;
         };
-        if let Doing::WatchesAll(told) = guest.visitor.doing {
-            if told != self.round.changes() {
-                self.round_told = 0;
+        if let Doing::WatchesAll(told) = client.visitor.doing {
+            if told != self.list.changes() {
+                self.list_told = 0;
             }
         }
     }
 
-    /// A guest that was not heard until what it is owed is written is heard again. Its unfinished message has its time from now on.
+    /// A client that was not heard until what it is owed is written is heard again. Its unfinished message has its time from now on.
     fn reads_on(&mut self, key: usize) {
         if self.is_owed_first(key) {
             return;
         }
-        let Some(guest) = self.guests.get_mut(key) else {
+        let Some(client) = self.clients.get_mut(key) else {
             return;
         };
-        if guest.is_stuffed {
-            guest.is_stuffed = false;
-            let is_midway = guest.visitor.is_midway();
-            guest.patience.silence.is_heard_again(self.now, is_midway);
+        if client.is_stuffed {
+            client.is_stuffed = false;
+            let is_midway = client.visitor.is_midway();
+            client.deadlines.silence.is_heard_again(self.now, is_midway);
             self.stands_unread(key);
         }
     }
@@ -90,7 +89,10 @@ impl<'a, H: Boards> Crowd<'a, H> {
         if audience.count == 0 {
             return Ok(());
         }
-        if audience.refresh(self.alloc, self.boards)? {
+        let Some(board) = self.boards.board(audience.board) else {
+            return Ok(());
+        };
+        if audience.refresh(board)? {
             self.send_to_ready(Some(at));
         }
         Ok(())
@@ -112,10 +114,10 @@ impl<'a, H: Boards> Crowd<'a, H> {
     }
 
     /// The ready ones of an audience, or without one those that watch all boards.
-    fn ready(&self, audience: Option<usize>) -> Option<&Ready> {
+    fn ready(&self, audience: Option<usize>) -> Option<&ReadyList> {
         match audience {
             Some(at) => Some(&self.audiences.get(at)?.ready),
-            None => Some(&self.round_ready),
+            None => Some(&self.list_ready),
         }
     }
 
@@ -127,30 +129,34 @@ impl<'a, H: Boards> Crowd<'a, H> {
         }
     }
 
-    /// The key of the guest at this index among them.
+    /// The key of the client at this index among them.
     fn ready_at(&self, audience: Option<usize>, index: usize) -> Option<usize> {
         self.ready(audience)?.at(index)
     }
 
-    /// Looks for news of all boards that are watched. If there is no memory for them, they are asked for again a second later.
+    /// Takes in what the loop was told of boards. Without memory for that the boards stay as they are until the next turn.
+    pub(crate) fn take_in_news(&mut self) {
+        let _ = self.boards.take_in();
+    }
+
+    /// Tells clients the news of all boards that are watched. If there is no memory for them, that is tried again in the next turn.
     pub(crate) fn tell_all(&mut self) {
-        self.boards.heed();
         for at in 0..self.audiences.capacity() {
             let _ = self.tell(at);
         }
-        let _ = self.tell_round();
+        let _ = self.tell_list();
     }
 
-    /// If any guest watches all boards, looks for changes of any board, and writes them to those that are ready. A newcomer that watches
+    /// If any client watches all boards, looks for changes of any board, and writes them to those that are ready. A newcomer that watches
     /// them all too may already have found changes.
-    fn tell_round(&mut self) -> Result<(), AllocError> {
-        if self.round_count == 0 {
+    fn tell_list(&mut self) -> Result<(), AllocError> {
+        if self.list_count == 0 {
             return Ok(());
         }
-        let refreshed = self.round.refresh(self.boards, self.now);
-        let changes = self.round.changes();
-        if changes != self.round_told {
-            self.round_told = changes;
+        let refreshed = self.list.refresh(&self.boards, self.now);
+        let changes = self.list.changes();
+        if changes != self.list_told {
+            self.list_told = changes;
             self.send_to_ready(None);
         }
         refreshed

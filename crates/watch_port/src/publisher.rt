@@ -1,0 +1,99 @@
+//! What happens to boards, for all loops that show them.
+
+use crate::feed::{Feed, NewsOfBoard};
+use c960_board::Move;
+use c960_game::MOST_BOARDS;
+use relay_hall::Hall;
+use std::alloc::{AllocError, Global};
+
+/// Tells all loops what happens to the boards of a hall. It never waits for one.
+#[derive(Drop)]
+pub struct Publisher {
+    feeds: Vec<Feed>,
+    /// Of each board, whether some loop has yet to be told of it.
+    changed: [bool; MOST_BOARDS as usize],
+    has_changed: bool,
+    /// Room for the moves of a board.
+    moves: Vec<Move>,
+}
+
+impl Publisher {
+    /// Tells the loops of these feeds. There are no boards yet.
+    pub fn new(alloc: Global, feeds: Vec<Feed>) -> Publisher {
+        Publisher {
+            feeds,
+            changed: [false; MOST_BOARDS as usize],
+            has_changed: false,
+            moves: Vec::new(alloc),
+        }
+    }
+
+    /// The board of this index was opened, or its game has changed: loops are told of it by the next `publish`.
+    pub fn marks(&mut self, at: usize) {
+        if at < self.changed.len() {
+            self.changed[at] = true;
+            self.has_changed = true;
+        }
+    }
+
+    /// Tells the loops of the boards that have changed. What does not fit into a loop's ring, or finds no memory, is told by the next call.
+    /// Returns whether all loops were told all.
+    pub fn publish(&mut self, hall: &Hall) -> bool {
+        if !self.has_changed {
+            return true;
+        }
+        self.has_changed = false;
+        for at in 0..MOST_BOARDS {
+            if self.changed[usize::from(at)] {
+                let is_told = self.publish_one(hall, at).unwrap_or(false);
+                self.changed[usize::from(at)] = !is_told;
+                self.has_changed = self.has_changed || !is_told;
+            }
+        }
+        !self.has_changed
+    }
+
+    /// Tells all loops of one board. Returns whether each was told all.
+    ///
+    /// # Errors
+    ///
+    /// There was no memory.
+    fn publish_one(&mut self, hall: &Hall, at: u16) -> Result<bool, AllocError> {
+        let Some(shown) = hall.board(usize::from(at)) else {
+            return Ok(true);
+        };
+        let from = self.least_told(at);
+        self.moves.clear();
+        let outcome = shown.news(from, &mut self.moves)?;
+        let board = NewsOfBoard {
+            at,
+            name: shown.name(),
+            start: shown.summary().start,
+            from,
+            moves: self.moves.as_slice(),
+            outcome,
+        };
+        let mut are_told = true;
+        for feed in self.feeds.iter_mut() {
+            are_told = feed.tell(&board) && are_told;
+        }
+        Ok(are_told)
+    }
+
+    /// How many moves of the board of this index every loop was told.
+    fn least_told(&self, at: u16) -> u16 {
+        let mut least = u16::MAX;
+        for feed in self.feeds.iter() {
+            least = least.min(feed.moves_told(at));
+        }
+        least
+    }
+
+    /// Whether the loop of this feed was told anything since the last such call.
+    pub fn take_fresh(&mut self, feed: usize) -> bool {
+        match self.feeds.get_mut(feed) {
+            Some(feed) => feed.take_fresh(),
+            None => false,
+        }
+    }
+}
