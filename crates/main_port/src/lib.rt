@@ -1,29 +1,24 @@
-//! The main port: one loop answers all connections until they follow a board. It owns its connections, not the hall, which is behind a
-//! lock, and waits for no peer.
+//! The main port: one loop on one thread, which drives one service.
 //!
-//! What a connection is answered is decided by `relay_calling` and `relay_hall`, which know of no socket. This crate decides who is read
-//! and written when, and how long each is waited for. Connections that follow are handed over to the loops of `relay_loops`.
+//! What a connection is sent is decided by `relay_service`, which knows of no socket. This crate moves bytes between sockets and the
+//! service, tells it the time, and decides who is read and written when, and how long each is waited for. It waits for no peer.
 #![tactic(auto)]
 
-mod crier;
-mod crowd;
-mod door;
-mod due;
-mod entrance;
-mod events;
-mod guest;
-mod hearing;
-mod heeding;
-mod hours;
-mod input;
-mod leaving;
-mod line;
-mod news;
-mod patience;
+mod acceptor;
+mod board_followers;
+mod board_log;
+mod client;
+mod clients;
+mod event_loop;
+mod passing;
 mod port;
-mod rests;
+mod rounds;
+mod serve_end;
+mod settings;
 mod tally;
-mod timing;
-mod turns;
+mod watchers;
 
 pub use port::MainPort;
+pub use serve_end::ServeEnd;
+pub use settings::Settings;
+pub use watchers::Watchers;

@@ -1,23 +1,23 @@
 //! The main port, and how it is served.
 
-ghost use Rattle.std.specs.Prelude.{◌≡◌, ◌≤◌, ◌+◌, IfSome, false, true};
-ghost use Rattle.main_port.specs.Meeting.{is_full};
+ghost use Rattle.std.specs.Prelude.{◌≡◌, ◌≤◌, ◌+◌, IfOk, IfSome, false};
 
-use crate::crowd::Crowd;
-use crate::door::Door;
-use crate::entrance::Entrance;
-use crate::events::{LISTENER, MOST_EVENTS, WAKER};
-use crate::hours::Hours;
-use crate::input::watch_input;
+use crate::acceptor::Acceptor;
+use crate::clients::{Clients, Room};
+use crate::event_loop::EventLoop;
+use crate::serve_end::ServeEnd;
+use crate::settings::Settings;
 use crate::tally::Tally;
-use crate::turns::Turns;
-use mio::{Events, Poll, Waker};
-use relay_loops::{ServeEnd, Staff};
-use relay_registry::{Lookout, Registry};
+use crate::watchers::Watchers;
+use mio::Registry;
+use relay_service::Service;
+use server_loop::{LISTENER, Listener, Log, LoopClock, LoopWaker, Poller, watch_input};
 use std::alloc::Global;
 use std::io;
 use std::io::{ErrorKind, StdinLock};
+use std::marker::Model;
 use std::net::{Net, TcpListener};
+use std::sync::atomic::{AtomicBool, Ordering};
 use std::sync::{Arc, Wait};
 use std::thread::{Threads, sleep};
 use std::time::{Clock, Duration};
@@ -25,174 +25,115 @@ use std::time::{Clock, Duration};
 /// How long, in milliseconds, the loop pauses if the system cannot be asked.
 const PAUSE_MILLIS: u64 = 20;
 
-/// The main port, ready to be served.
+/// The main port, ready to be served. Contracts see how it is served.
 #[derive(Drop)]
 pub struct MainPort {
     alloc: Global,
-    poll: Poll,
+    settings: Settings,
+    room: Room,
+    poller: Poller,
     /// The same, for whoever registers connections.
-    registry: mio::Registry,
-    events: Events,
-    lookout: Arc<Lookout, Global>,
-    door: Door,
-    hours: Hours,
+    registry: Registry,
+    waker: Arc<LoopWaker, Global>,
+    listener: Listener,
+    clock: LoopClock,
+    /// Whether standard input has ended.
+    has_input_ended: Arc<AtomicBool, Global>,
 }
 
-/// What is needed to ask the system.
-#[derive(Drop)]
-struct Asking {
-    poll: Poll,
-    registry: mio::Registry,
-    events: Events,
-    lookout: Arc<Lookout, Global>,
-    hours: Hours,
+impl Model for MainPort {
+    ghost use Rattle.main_port.specs.declared.settings.Settings.{Settings};
+
+    ghost Value = { Settings };
+
+    ghost view = { λ p. p.settings };
 }
 
-impl Asking {
-    /// Prepares to ask the system.
-    ///
-    /// # Errors
-    ///
-    /// As the system's own calls, or there was no memory.
-    fn new<N: Net + Clock>(net: &N, alloc: Global) -> io::Result<Asking> {
-        let poll = Poll::new(net)?;
-        let waker = Waker::new(poll.registry(), WAKER)?;
-        let Ok(events) = Events::with_capacity(alloc, MOST_EVENTS) else {
-            return Err(io::Error::from(ErrorKind::OutOfMemory));
-        };
-        let Ok(lookout) = Arc::new(alloc, Lookout::new(waker)) else {
-            return Err(io::Error::from(ErrorKind::OutOfMemory));
-        };
-        Ok(Asking {
-            registry: poll.registry().try_clone()?,
-            poll,
-            events,
-            lookout,
-            hours: Hours::begin(net)?,
-        })
+/// What was made, or the error that there was no memory for it.
+fn or_no_memory<T: Drop, E: Drop>(made: Result<T, E>) -> io::Result<T> {
+    match made {
+        Ok(made) => Ok(made),
+        Err(_) => Err(io::Error::from(ErrorKind::OutOfMemory)),
     }
 }
 
 impl MainPort {
-    /// The main port at this listener, which is made non-blocking.
+    /// The main port at this listener, which is made non-blocking. All that it takes to serve is taken here.
     ///
     /// # Errors
     ///
-    /// The system refuses, or there was no memory. The listener is given back as it was.
+    /// As the system's own calls, or there was no memory.
     pub fn open<N: Net + Clock>(
         net: &N,
         alloc: Global,
         listener: TcpListener,
-    ) -> Result<MainPort, TcpListener> {
-        let Ok(asking) = Asking::new(net, alloc) else {
-            return Err(listener);
-        };
-        let Asking {
-            poll,
-            registry,
-            events,
-            lookout,
-            hours,
-        } = asking;
-        let door = Door::new(listener, &registry, LISTENER)?;
+        settings: &Settings,
+    ) -> io::Result<MainPort>
+        ensures { IfOk result (λ port. port ≡ settings.now) }
+    {
+        let poller = Poller::new(net, alloc)?;
         Ok(MainPort {
             alloc,
-            poll,
-            registry,
-            events,
-            lookout,
-            door,
-            hours,
+            settings: *settings,
+            room: or_no_memory(Room::new(alloc, &settings.limits))?,
+            listener: Listener::new(listener, poller.registry(), LISTENER)?,
+            registry: poller.registry().try_clone()?,
+            waker: or_no_memory(Arc::try_clone(poller.waker()))?,
+            poller,
+            clock: LoopClock::begin(net)?,
+            has_input_ended: or_no_memory(Arc::new(alloc, AtomicBool::new(false)))?,
         })
     }
 
-    /// The listener, as it was before.
-    pub fn close(self) -> TcpListener {
-        let MainPort { door, registry, .. } = self;
-        door.close(&registry)
-    }
-
-    /// Accepts `most` connections, or without that number as many as come, and answers them all in one loop until they follow. Those that
-    /// follow are handed over to the staff. Returns once all of them have gone.
+    /// Accepts as many connections as the settings say, or without that number as many as come, and serves them all in one loop, by this
+    /// service. Returns once all of them have gone, and gives those who watch back.
     ///
     /// If serving ends with standard input, it then accepts no more connections, and all boards end as abandoned. Followers get what they
     /// have not had, the other peers are told by the close code 1001, and four seconds later it stops waiting for anybody.
-    pub fn attend<R>(
-        self,
-        rt: &R,
-        registry: &Arc<Registry, Global>,
-        staff: Staff,
-        most: Option<u32>,
-        until_input_ends: bool,
-    ) -> ServeEnd
+    pub fn attend<R, W>(self, rt: &R, service: Service, watchers: W, log: Log) -> (ServeEnd, W)
     where
-        R: Input<Reader = StdinLock<'static>>
-            + Net
-            + Threads
-            + Wait
-            + Clock
-            + Eprint
-            + Clone
-            + Send
-            + Drop
-            + 'static,
-        ensures most { IfSome most (λ n. result.served + result.failed ≤ n) }
-        ensures all { until_input_ends ≡ false → IfSome most (λ n. result.served + result.failed ≡ n) }
+        R: Input<Reader = StdinLock<'static>> + Threads + Wait + Clock + Clone + Send + Drop + 'static,
+        W: Watchers + Drop,
+        ensures most { IfSome self.most (λ n. result.0.served + result.0.failed ≤ n) }
+        ensures all { self.until_input_ends ≡ false → IfSome self.most (λ n. result.0.served + result.0.failed ≡ n) }
     {
-        // If nobody can watch the input, serving ends at once.
-        if until_input_ends && watch_input(rt, registry, &self.lookout).is_none() {
-            registry.set_ending();
-        }
-        registry.set_closed(false);
-        registry.set_watched(true);
-        let (tally, left) = self.serve(rt, registry, &staff, most, until_input_ends);
-        staff.end(rt, registry, until_input_ends, left);
-        tally.end()
+        let (tally, watchers) = self.serve(rt, service, watchers, &log);
+        log.end(rt);
+        (tally.end(), watchers)
     }
 
-    /// Serves until no connection is left, or the time is over. Returns who was met, and for how long those that follow are waited for.
-    fn serve<R>(
-        self,
-        rt: &R,
-        registry: &Registry,
-        staff: &Staff,
-        most: Option<u32>,
-        until_input_ends: bool,
-    ) -> (Tally, Duration)
+    /// The same, but the log goes on. Returns who was met.
+    fn serve<R, W>(self, rt: &R, service: Service, watchers: W, log: &Log) -> (Tally, W)
     where
-        R: Threads + Wait + Clock + Eprint + Clone + Send + Drop + 'static,
-        ensures most { result.0.most ≡ most }
-        ensures all { until_input_ends ≡ false → is_full result.0 ≡ true }
+        R: Input<Reader = StdinLock<'static>> + Threads + Wait + Clock + Clone + Send + Drop + 'static,
+        W: Watchers + Drop,
     {
         let MainPort {
             alloc,
-            mut poll,
-            registry: reporter,
-            mut events,
-            lookout,
-            door,
-            hours,
-        } = self;
-        let mut turns = Turns {
-            rt,
+            settings,
+            room,
+            mut poller,
             registry,
-            lookout: &lookout,
-            crowd: Crowd::new(rt, alloc, registry, staff, reporter, hours),
-            entrance: Entrance::new(alloc, door, most, until_input_ends),
-            reported_by: 0,
-            heard_by: 0,
-            ticks_at: 0,
-            late_since: None,
-            is_shut: false,
-            ends_at: None,
-        };
+            waker,
+            listener,
+            clock,
+            has_input_ended,
+        } = self;
+        // If nobody can watch the input, serving ends at once.
+        if settings.until_input_ends && watch_input(rt, &has_input_ended, &waker).is_none() {
+            has_input_ended.store(true, Ordering::SeqCst);
+        }
+        let clients = Clients::new(
+            rt, alloc, service, &settings, room, registry, clock, watchers, log,
+        );
+        let acceptor = Acceptor::new(listener, &settings, &has_input_ended, log);
+        let mut event_loop = EventLoop::new(rt, &waker, clients, acceptor);
         for _ in rt.forever() {
-            if poll.poll(&mut events, Some(turns.patience())).is_err() {
+            if poller.wait(event_loop.patience()).is_err() {
                 let _ = sleep(rt, Duration::from_millis(PAUSE_MILLIS));
             }
-            if turns.take(&events) {
-                let left = turns.left();
-                return (turns.entrance.end(rt), left);
+            if event_loop.take(poller.events()) {
+                return event_loop.end();
             }
         }
         unreachable!()

@@ -3,7 +3,7 @@
 ghost use Rattle.std.specs.Prelude.{◌≡◌, ◌≤◌, ◌+◌, IfSome};
 ghost use Rattle.main_port.specs.Meeting.{failed_one, is_full, met_one, none_met};
 
-use relay_loops::ServeEnd;
+use crate::serve_end::ServeEnd;
 use std::marker::Model;
 
 /// How many connections were met and how many of them failed, and how many may be met. Contracts see a `TallyRecord`.

@@ -2,7 +2,7 @@
 use Rattle.std.specs.Prelude.{◌≡◌, ◌+◌, ◌≤◌, Bool, ⊤, true, false}
 use Rattle.relay960_words.specs.declared.order.Connections.{Connections}
 use Rattle.relay960_words.specs.declared.order.Connections.TheVariants.{Count, Forever}
-use Rattle.relay_loops.specs.declared.ends.ServeEnd.{ServeEnd}
+use Rattle.main_port.specs.declared.serve_end.ServeEnd.{ServeEnd}
 
 -- As many were met as were requested: they were served, or that failed. If serving might end with the input, at most that many.
 abbrev pub MeetsWith : Connections → Bool → ServeEnd → Type 0

@@ -1,13 +1,9 @@
-//! The server of the main port as one value: a hall and all connections of operators. Bytes come in, bytes go out. It takes no lock, opens
-//! no socket, reads no clock and waits for nobody, so that each of its facts is one of the whole run. A driver moves the bytes and tells
-//! the time.
+//! A plain body of the service.
 #![tactic(auto)]
 
-mod bytes;
-mod connection;
+mod follower;
 mod service;
-mod turn;
-mod turns;
+mod stage;
 
-pub use connection::Connection;
 pub use service::Service;
+pub use stage::Stage;

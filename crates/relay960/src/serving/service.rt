@@ -1,28 +1,33 @@
 //! Serving.
 
-ghost use Rattle.std.specs.Prelude.{◌≡◌, ◌≤◌, ◌+◌, IfOk, IfSome, false};
+ghost use Rattle.std.specs.Prelude.{IfOk};
 ghost use Rattle.relay960.specs.Serving.{MeetsWith};
 
 use crate::failure::{Device, Failure};
 use crate::serving::fault::ServeFault;
 use crate::serving::watching::{Loops, Watch};
-use main_port::MainPort;
-use relay_server::{OpenGate, Registry, ServeEnd, Staff, serve};
+use main_port::{MainPort, ServeEnd, Settings};
+use relay_service::Service as RelayService;
 use relay960_words::{Connections, Service};
-use std::alloc::{AllocError, Global};
+use server_loop::Log;
+use std::alloc::Global;
 use std::io;
-use std::io::{StdinLock, Write};
+use std::io::{ErrorKind, StdinLock, Write};
 use std::net::{Ipv4Addr, Net, SocketAddr, TcpListener, TcpStream};
-use std::sync::{Arc, Wait};
+use std::sync::Wait;
 use std::thread::Threads;
-use std::time::Clock;
+use std::time::{Clock, Duration};
 
-/// Listens, writes the line `listening P` to standard output, and `watching A:P` if there is a watch port. Serves until all sessions
-/// have ended, or until standard input ends if that is asked for.
+/// How many milliseconds a second has.
+const SECOND_MILLIS: u64 = 1000;
+
+/// Listens, writes the line `listening P` to standard output, and `watching A:P` if there is a watch port. Serves until all connections
+/// have gone, or until standard input ends if that is asked for.
 ///
 /// # Errors
 ///
-/// Nothing was served: the server cannot listen on a port, the lines could not be written, or there was no memory.
+/// Nothing was served: the server cannot listen on a port, the system lacks what serving takes, the lines could not be written, or there
+/// was no memory.
 pub fn serve_run<R>(rt: &R, alloc: Global, service: &Service) -> Result<ServeEnd, ServeFault>
 where
     R: Net<Listener = TcpListener, Stream = TcpStream>
@@ -39,12 +44,16 @@ where
     ensures { IfOk result (MeetsWith service.now.connections service.now.until_input_ends) }
 {
     let watch = open_watch(rt, alloc, service)?;
-    let registry = shared_registry(alloc, service, &watch)?;
-    let Ok(gate) = Arc::new(alloc, OpenGate) else {
+    let port = open_port(rt, alloc, service)?;
+    let relay = relay_of(alloc, service)?;
+    let watching = match &watch {
+        Some(watch) => Some(watch.count()?),
+        None => None,
+    };
+    let Ok(log) = Log::start(rt, alloc, service.log, watching) else {
         return Err(ServeFault::OutOfMemory);
     };
-    let listener = listen(rt, service.port)?;
-    let loops = start_loops(rt, alloc, watch, &registry)?;
+    let loops = start_loops(rt, alloc, watch)?;
     if let Err(reason) = announce(rt, service) {
         end_loops(rt, loops);
         return Err(ServeFault::Write(Failure {
@@ -52,60 +61,9 @@ where
             reason,
         }));
     }
-    let most = match service.connections {
-        Connections::Count(most) => Some(most),
-        Connections::Forever => None,
-    };
-    let end = attend(
-        rt,
-        alloc,
-        listener,
-        &registry,
-        &gate,
-        most,
-        service.until_input_ends,
-        service.by_threads,
-    );
+    let (end, loops) = port.attend(rt, relay, loops, log);
     end_loops(rt, loops);
     Ok(end)
-}
-
-/// Serves the main port: by one loop, and by a thread for each connection if that is asked for or the system lacks what the loop takes.
-fn attend<R>(
-    rt: &R,
-    alloc: Global,
-    listener: TcpListener,
-    registry: &Arc<Registry, Global>,
-    gate: &Arc<OpenGate, Global>,
-    most: Option<u32>,
-    until_input_ends: bool,
-    by_threads: bool,
-) -> ServeEnd
-where
-    R: Net<Listener = TcpListener, Stream = TcpStream>
-        + Input<Reader = StdinLock<'static>>
-        + Eprint
-        + Threads
-        + Wait
-        + Clock
-        + Clone
-        + Send
-        + Drop
-        + 'static,
-    ensures most { IfSome most (λ n. result.served + result.failed ≤ n) }
-    ensures all { until_input_ends ≡ false → IfSome most (λ n. result.served + result.failed ≡ n) }
-{
-    if by_threads {
-        return serve(rt, alloc, listener, registry, gate, most, until_input_ends);
-    }
-    let listener = match MainPort::open(rt, alloc, listener) {
-        Ok(port) => match Staff::start(rt, alloc, registry) {
-            Some(staff) => return port.attend(rt, registry, staff, most, until_input_ends),
-            None => port.close(),
-        },
-        Err(listener) => listener,
-    };
-    serve(rt, alloc, listener, registry, gate, most, until_input_ends)
 }
 
 /// Listens on the watch port, if there is to be one.
@@ -118,34 +76,57 @@ fn open_watch<R: Net>(
     alloc: Global,
     service: &Service,
 ) -> Result<Option<Watch>, ServeFault> {
-    match &service.watch {
-        Some(asked) => Ok(Some(Watch::open(rt, alloc, asked, most_idle(service.idle))?)),
-        None => Ok(None),
+    let Some(asked) = &service.watch else {
+        return Ok(None);
+    };
+    let most_idle = most_idle(service.idle);
+    Ok(Some(Watch::open(rt, alloc, asked, most_idle, service.limits)?))
+}
+
+/// Listens on the main port, and takes all that it takes to serve it.
+///
+/// # Errors
+///
+/// The server cannot listen there, the system lacks what serving takes, or there was no memory.
+fn open_port<R: Net<Listener = TcpListener, Stream = TcpStream> + Clock>(
+    rt: &R,
+    alloc: Global,
+    service: &Service,
+) -> Result<MainPort, ServeFault> {
+    let address = SocketAddr::from((Ipv4Addr::LOCALHOST, service.port));
+    let listener = match bind(rt, address) {
+        Ok(listener) => listener,
+        Err(reason) => return Err(ServeFault::at(address, reason)),
+    };
+    match MainPort::open(rt, alloc, listener, &settings_of(service)) {
+        Ok(port) => Ok(port),
+        Err(error) if error.kind() == ErrorKind::OutOfMemory => Err(ServeFault::OutOfMemory),
+        Err(reason) => Err(ServeFault::at(address, reason)),
     }
 }
 
-/// The registry of the service, which wakes the loops of the watch port when there is news.
+/// How the main port is served.
+fn settings_of(service: &Service) -> Settings {
+    Settings {
+        limits: service.limits,
+        idle: idle_of(service.idle),
+        most: match service.connections {
+            Connections::Count(most) => Some(most),
+            Connections::Forever => None,
+        },
+        until_input_ends: service.until_input_ends,
+    }
+}
+
+/// The boards and connections of the main port, of which there are none yet.
 ///
 /// # Errors
 ///
 /// There was no memory.
-fn shared_registry(
-    alloc: Global,
-    service: &Service,
-    watch: &Option<Watch>,
-) -> Result<Arc<Registry, Global>, ServeFault> {
-    let Ok(registry) = registry_of(alloc, service) else {
-        return Err(ServeFault::OutOfMemory);
-    };
-    let registry = match watch {
-        Some(watch) => match registry.looked_at_by(watch.lookouts(alloc)?, watch.count()?) {
-            Ok(registry) => registry,
-            Err(_) => return Err(ServeFault::OutOfMemory),
-        },
-        None => registry,
-    };
-    match Arc::new(alloc, registry) {
-        Ok(registry) => Ok(registry),
+fn relay_of(alloc: Global, service: &Service) -> Result<RelayService, ServeFault> {
+    let grace = u64::from(service.grace) * SECOND_MILLIS;
+    match RelayService::new(alloc, service.limits, grace, service.grace > 0) {
+        Ok(relay) => Ok(relay),
         Err(_) => Err(ServeFault::OutOfMemory),
     }
 }
@@ -159,13 +140,12 @@ fn start_loops<R>(
     rt: &R,
     alloc: Global,
     watch: Option<Watch>,
-    registry: &Arc<Registry, Global>,
 ) -> Result<Option<Loops>, ServeFault>
 where
     R: Threads + Wait + Clock + Clone + Send + Drop + 'static,
 {
     match watch {
-        Some(watch) => Ok(Some(watch.start(rt, alloc, registry)?)),
+        Some(watch) => Ok(Some(watch.start(rt, alloc)?)),
         None => Ok(None),
     }
 }
@@ -191,7 +171,7 @@ fn announce<R: Print>(rt: &R, service: &Service) -> io::Result<()> {
     }
 }
 
-/// For how many seconds a guest that asks for nothing is waited for.
+/// For how many seconds a guest of the watch port that asks for nothing is waited for.
 fn most_idle(idle: u32) -> Option<u64> {
     if idle == 0 {
         None
@@ -200,31 +180,12 @@ fn most_idle(idle: u32) -> Option<u64> {
     }
 }
 
-/// The registry of the service.
-///
-/// # Errors
-///
-/// There was no memory.
-fn registry_of(alloc: Global, service: &Service) -> Result<Registry, AllocError> {
-    let grace = u32::from(service.grace);
-    let registry = Registry::with_grace(alloc, service.limits, grace)?.with_idle(service.idle);
-    if service.log {
-        Ok(registry.with_log())
+/// For how long a connection of the main port is waited for that asks for nothing.
+fn idle_of(idle: u32) -> Option<Duration> {
+    if idle == 0 {
+        None
     } else {
-        Ok(registry)
-    }
-}
-
-/// Listens on this port of 127.0.0.1.
-///
-/// # Errors
-///
-/// The server cannot listen there.
-fn listen<R: Net>(rt: &R, port: u16) -> Result<TcpListener, ServeFault> {
-    let address = SocketAddr::from((Ipv4Addr::LOCALHOST, port));
-    match bind(rt, address) {
-        Ok(listener) => Ok(listener),
-        Err(reason) => Err(ServeFault::at(address, reason)),
+        Some(Duration::from_secs(u64::from(idle)))
     }
 }
 
@@ -234,7 +195,5 @@ fn listen<R: Net>(rt: &R, port: u16) -> Result<TcpListener, ServeFault> {
 ///
 /// As the system's own calls.
 fn bind<R: Net>(rt: &R, address: SocketAddr) -> io::Result<TcpListener> {
-    let listener = TcpListener::from(mio::net::TcpListener::bind(rt, address)?);
-    listener.set_nonblocking(false)?;
-    Ok(listener)
+    Ok(TcpListener::from(mio::net::TcpListener::bind(rt, address)?))
 }

@@ -5,7 +5,7 @@ ghost use Rattle.relay960.specs.ServeFaults.{serve_fault_status};
 
 use crate::report::Report;
 use crate::serving::fault::ServeFault;
-use relay_server::ServeEnd;
+use main_port::ServeEnd;
 use relay960_words::Status;
 
 /// Reports on standard error how serving ended, and returns the status: `Done` if all connections were met, `DeviceFailed` if a

@@ -1,0 +1,196 @@
+//! Where newcomers come in, and how many were met.
+
+use crate::clients::Clients;
+use crate::settings::Settings;
+use crate::tally::Tally;
+use crate::watchers::Watchers;
+use server_loop::{Arrival, Listener, Log, LogLine};
+use std::sync::Wait;
+use std::sync::atomic::{AtomicBool, Ordering};
+use std::time::Clock;
+
+/// How many newcomers are accepted at most before the others have their turn.
+const MOST_NEWCOMERS: usize = 64;
+
+/// How many milliseconds after an accept that failed another one is tried.
+const RETRY_MILLIS: u64 = 20;
+
+/// The listener, until it is closed, and how many have come. Contracts see an `AcceptorRecord`.
+#[derive(Drop)]
+pub(crate) struct Acceptor<'a> {
+    /// Where newcomers come in, as long as any may.
+    listener: Option<Listener>,
+    tally: Tally,
+    /// Whether serving may end before the last has come.
+    may_end: bool,
+    /// Whether it is to, if it may.
+    has_input_ended: &'a AtomicBool,
+    log: &'a Log,
+    /// Whether there may be newcomers that the system does not report again.
+    has_newcomers: bool,
+    /// From which millisecond on they are accepted: an accept that failed is not tried again at once.
+    opens_at: u64,
+    /// Once all is heard that had come by this millisecond, so is all that newcomers had sent before they were accepted.
+    heard_from: u64,
+    /// Whether the last newcomer was turned away.
+    is_short: bool,
+}
+
+impl<'a> Acceptor<'a> {
+    /// Accepts at this listener as many as these settings say, or without that number as many as come.
+    pub(crate) fn new(
+        listener: Listener,
+        settings: &Settings,
+        has_input_ended: &'a AtomicBool,
+        log: &'a Log,
+    ) -> Acceptor<'a> {
+        Acceptor {
+            listener: Some(listener),
+            tally: Tally::new(settings.most),
+            may_end: settings.until_input_ends,
+            has_input_ended,
+            log,
+            has_newcomers: true,
+            opens_at: 0,
+            heard_from: 0,
+            is_short: false,
+        }
+    }
+
+    /// In how many milliseconds newcomers are accepted that may be waiting, if any may come.
+    pub(crate) fn accepts_in(&self, now: u64) -> Option<u64> {
+        if self.has_newcomers && self.listener.is_some() && !self.tally.is_full() {
+            Some(self.opens_at.saturating_sub(now))
+        } else {
+            None
+        }
+    }
+
+    /// Once all is heard that had come by this millisecond, so is all that newcomers had sent before they were accepted.
+    pub(crate) fn heard_from(&self) -> u64 {
+        self.heard_from
+    }
+
+    /// Newcomers may be waiting.
+    pub(crate) fn looks(&mut self) {
+        self.has_newcomers = true;
+    }
+
+    /// Accepts newcomers, but no more of them than the system reported events, and only as long as there is time for that.
+    pub(crate) fn accept<R: Wait + Clock, W: Watchers>(
+        &mut self,
+        clients: &mut Clients<'_, R, W>,
+        told: usize,
+    ) {
+        let until = clients.time_for_newcomers();
+        for _ in 0..told.clamp(1, MOST_NEWCOMERS) {
+            if self.accepts_in(clients.now()) != Some(0) {
+                return;
+            }
+            self.accept_one(clients);
+            if clients.is_late(until) {
+                return;
+            }
+        }
+    }
+
+    /// Accepts the next newcomer.
+    fn accept_one<R: Wait + Clock, W: Watchers>(&mut self, clients: &mut Clients<'_, R, W>) {
+        let arrival = self.next();
+        self.lets_in(arrival, clients);
+    }
+
+    /// Lets in whoever came. Each that came was met, also one that was turned away or could not be accepted: another try comes later.
+    fn lets_in<R: Wait + Clock, W: Watchers>(
+        &mut self,
+        arrival: Arrival,
+        clients: &mut Clients<'_, R, W>,
+    ) {
+        match arrival {
+            Arrival::Newcomer(stream) => {
+                self.meets();
+                self.heard_from = clients.now().saturating_add(1);
+                if clients.enters(stream) {
+                    self.is_short = false;
+                } else {
+                    self.fails(clients.rt);
+                }
+            }
+            Arrival::TurnedAway => {
+                self.meets();
+                self.fails(clients.rt);
+            }
+            Arrival::Nobody => self.has_newcomers = false,
+            Arrival::Failed => {
+                self.meets();
+                self.fails(clients.rt);
+                self.opens_at = clients.now().saturating_add(RETRY_MILLIS);
+            }
+        }
+    }
+
+    /// The next newcomer, if any may come.
+    fn next(&mut self) -> Arrival {
+        match &mut self.listener {
+            Some(listener) => listener.accept(),
+            None => Arrival::Nobody,
+        }
+    }
+
+    /// One was met.
+    fn meets(&mut self) {
+        self.tally.meet();
+    }
+
+    /// A newcomer was turned away. That is reported on standard error, unless the one before was, too.
+    fn fails<R: Wait>(&mut self, rt: &R) {
+        self.tally.fail();
+        if !self.is_short {
+            self.log.note(rt, LogLine::NoRoom);
+        }
+        self.is_short = true;
+    }
+
+    /// Whether serving ends before the last has come.
+    pub(crate) fn is_ending(&self) -> bool {
+        self.may_end && self.has_input_ended.load(Ordering::SeqCst)
+    }
+
+    /// Closes the listener if the last has come that may, or serving ends. Returns whether it is closed.
+    pub(crate) fn is_closed<R: Wait>(&mut self, rt: &R) -> bool {
+        if self.listener.is_none() {
+            return true;
+        }
+        if !self.is_over() {
+            return false;
+        }
+        self.close(rt);
+        true
+    }
+
+    /// Whether the last has come that may, or serving ends.
+    fn is_over(&self) -> bool {
+        self.tally.is_full() || self.is_ending()
+    }
+
+    /// Closes the listener, and says so if that is because the last has come that may.
+    fn close<R: Wait>(&mut self, rt: &R) {
+        self.listener = None;
+        if self.tally.is_full() {
+            self.says_so(rt);
+        }
+    }
+
+    /// Says that the last connection has come that may.
+    fn says_so<R: Wait>(&self, rt: &R) {
+        if let Some(most) = self.tally.most() {
+            self.log.note(rt, LogLine::TheLast(most));
+        }
+    }
+
+    /// Who was met.
+    pub(crate) fn end(self) -> Tally {
+        let Acceptor { tally, .. } = self;
+        tally
+    }
+}

@@ -1,0 +1,180 @@
+//! A connection, as the loop sees it: its socket, how far the loop is with it, and how long it is waited for.
+
+use mio::net::TcpStream;
+use server_loop::{Deadlines, Rank, end_of_pause};
+use std::net::Shutdown;
+
+/// How many pieces a connection may send after everything was written to it.
+const MOST_DROPPED: u32 = 4096;
+
+/// How far the loop is with a connection.
+#[derive(Clone, Copy, PartialEq, Eq, Debug)]
+pub(crate) enum State {
+    /// Its request has yet to come, or some of it.
+    Comes,
+    /// It is read, and answered.
+    Talks,
+    /// Its turn was over before all was answered that it said: it is not read before that is.
+    Interrupted,
+    /// So much is due to it that it is neither answered nor read before that is written.
+    Full,
+    /// It was refused to follow, and has not been read since this millisecond.
+    Pauses(u64),
+    /// Its own output has ended: it goes once everything is written.
+    InputClosed,
+    /// Everything was written to it, and the output to it has ended. So many pieces were read and dropped since then.
+    Drains(u32),
+}
+
+/// What may have come from a connection.
+#[derive(Clone, Copy, PartialEq, Eq, Debug)]
+pub(crate) enum Input {
+    /// Nothing more, until the system reports it.
+    Nothing,
+    /// Something.
+    Something,
+    /// Something, or the end of its output: it is read until nothing more comes.
+    End,
+}
+
+/// What a connection is to boards, as the loop knows it.
+#[derive(Clone, Copy, PartialEq, Eq, Debug)]
+pub(crate) enum Role {
+    /// A board belongs to it. No board is ever removed, so this stays true, unless it follows.
+    Owner,
+    /// It follows the board of this index, in the order of opening.
+    Follower(usize),
+    /// Neither is known of it.
+    Other,
+}
+
+/// A connection.
+#[derive(Drop)]
+pub(crate) struct Client {
+    pub(crate) stream: TcpStream,
+    pub(crate) deadlines: Deadlines,
+    pub(crate) state: State,
+    pub(crate) input: Input,
+    pub(crate) role: Role,
+    /// How many commands to follow were refused since it was last read.
+    pub(crate) refused: u32,
+    /// Whether it is in the run queue.
+    pub(crate) is_queued: bool,
+}
+
+impl Client {
+    /// A newcomer, from which nothing has come yet.
+    pub(crate) fn new(stream: TcpStream, now: u64) -> Client {
+        Client {
+            stream,
+            deadlines: Deadlines::new(now),
+            state: State::Comes,
+            input: Input::Nothing,
+            role: Role::Other,
+            refused: 0,
+            is_queued: false,
+        }
+    }
+
+    /// Its rank in the run queue.
+    pub(crate) fn rank(&self) -> Rank {
+        match self.role {
+            Role::Owner => Rank::Owner,
+            Role::Follower(_) => Rank::Follower,
+            Role::Other => Rank::Other,
+        }
+    }
+
+    /// Whether its connection did not take what is due.
+    pub(crate) fn is_blocked(&self) -> bool {
+        self.deadlines.waits_since.is_some()
+    }
+
+    /// Whether it follows, and its connection takes what it is sent.
+    pub(crate) fn takes_moves(&self) -> bool {
+        matches!(self.role, Role::Follower(_)) && !self.is_blocked()
+    }
+
+    /// Whether what comes from it is read now.
+    pub(crate) fn is_read(&self) -> bool {
+        self.input != Input::Nothing
+            && matches!(self.state, State::Comes | State::Talks | State::Drains(_))
+    }
+
+    /// The system reported that it may be read, or that its output has ended.
+    pub(crate) fn is_reported(&mut self, is_readable: bool, has_ended: bool) {
+        if has_ended {
+            self.input = Input::End;
+        } else if is_readable && self.input == Input::Nothing {
+            self.input = Input::Something;
+        }
+    }
+
+    /// A piece came from it that was not full: it was the last of what had come, except for the end.
+    pub(crate) fn has_sent_little(&mut self) {
+        if self.input == Input::Something {
+            self.input = Input::Nothing;
+        }
+    }
+
+    /// At which millisecond it is read again, if it pauses.
+    pub(crate) fn pauses_until(&self) -> Option<u64> {
+        match self.state {
+            State::Pauses(since) => Some(end_of_pause(since, self.refused)),
+            _ => None,
+        }
+    }
+
+    /// It has paused, and is read again.
+    pub(crate) fn has_paused(&mut self) {
+        self.state = State::Talks;
+        self.refused = 0;
+    }
+
+    /// Something came from it, and was answered. After a message its time begins again. The rest of a message is waited for only once
+    /// everything before it is answered. One whose rest was waited for before goes on to owe it meanwhile: else pings in the middle of a
+    /// message, as many as one turn does not answer, would begin its time again.
+    pub(crate) fn has_heard(
+        &mut self,
+        now: u64,
+        has_said: bool,
+        has_come_whole: bool,
+        is_midway: bool,
+    ) {
+        if has_said {
+            self.deadlines.begins(now);
+        }
+        let silence = &mut self.deadlines.silence;
+        if has_come_whole {
+            silence.owes_no_rest();
+        }
+        let is_behind = matches!(self.state, State::Interrupted | State::Full);
+        let owes = if is_behind {
+            silence.midway_since.is_some()
+        } else {
+            is_midway
+        };
+        silence.hears(now, owes);
+    }
+
+    /// A piece came from it that is dropped, since everything was written to it. Returns whether it may send more.
+    pub(crate) fn drops(&mut self) -> bool {
+        let State::Drains(dropped) = self.state else {
+            return true;
+        };
+        let dropped = dropped.saturating_add(1);
+        self.state = State::Drains(dropped);
+        dropped < MOST_DROPPED
+    }
+
+    /// Everything was written to it: the output to it ends, and what it still sends is read for a while, since a reset would otherwise
+    /// destroy the end of it.
+    pub(crate) fn drains(&mut self, now: u64) {
+        let _ = self.stream.shutdown(Shutdown::Write);
+        self.state = State::Drains(0);
+        if self.input == Input::Nothing {
+            self.input = Input::Something;
+        }
+        self.deadlines.begins(now);
+    }
+}

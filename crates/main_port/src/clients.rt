@@ -1,0 +1,329 @@
+//! All connections of the loop: how they come and go, and which are due a turn.
+
+mod changes;
+mod leaving;
+mod reading;
+mod timing;
+mod writing;
+
+use crate::board_followers::BoardFollowers;
+use crate::board_log::BoardLog;
+use crate::client::Client;
+use crate::rounds::Rounds;
+use crate::settings::Settings;
+use crate::watchers::Watchers;
+use c960_game::Limits;
+use indexmap::IndexMap;
+use mio::event::Event;
+use mio::net::TcpStream;
+use mio::{Events, Interest, Registry, Token};
+use relay_service::Service;
+use server_loop::{Backoff, LISTENER, Log, LoopClock, Rank, RunQueue, WAKER};
+use std::alloc::{AllocError, Global};
+use std::sync::Wait;
+use std::thread::yield_now;
+use std::time::{Clock, Duration};
+
+/// For how many microseconds those that own a board are served in a turn. The rest are the first of the next turn: without a bound a flood
+/// of owners would leave the others one connection for each round of all owners.
+const MOST_OWNERS_MICROS: u64 = 500;
+
+/// For how many microseconds those that follow a board are served in a turn. An owner whose move comes meanwhile waits for that.
+const MOST_FOLLOWERS_MICROS: u64 = 150;
+
+/// For how many microseconds connections that neither own nor follow a board are served in a turn, and newcomers accepted: about as long as
+/// one of them takes, so that an owner whose move comes meanwhile hardly waits for more than that one.
+const MOST_OTHERS_MICROS: u64 = 20;
+
+/// For how many microseconds one connection is answered in its turn.
+const MOST_ANSWERED_MICROS: u64 = 50;
+
+/// How many connections are answered before the answers of all of them are sent.
+const MOST_UNSENT: usize = 8;
+
+/// Room that is taken before anybody is served.
+#[derive(Drop)]
+pub(crate) struct Room {
+    followers: BoardFollowers,
+    rounds: Rounds,
+    unsent: Vec<u64>,
+}
+
+impl Room {
+    /// Room for the boards that these limits allow.
+    ///
+    /// # Errors
+    ///
+    /// There was no memory.
+    pub(crate) fn new(alloc: Global, limits: &Limits) -> Result<Room, AllocError> {
+        Ok(Room {
+            followers: BoardFollowers::new(alloc, limits)?,
+            rounds: Rounds::new(alloc, limits)?,
+            unsent: Vec::with_capacity(alloc, MOST_UNSENT)?,
+        })
+    }
+}
+
+/// What the system reported at once.
+#[derive(Clone, Copy)]
+pub(crate) struct Report {
+    /// How many events.
+    pub(crate) told: usize,
+    /// Whether newcomers are waiting.
+    pub(crate) has_newcomers: bool,
+}
+
+/// The service, and the sockets of all its connections. Each is known by the number that the service has for it, which is also the token of
+/// its socket.
+#[derive(Drop)]
+pub(crate) struct Clients<'a, R, W> {
+    pub(super) rt: &'a R,
+    alloc: Global,
+    pub(super) service: Service,
+    pub(super) clients: IndexMap<u64, Client>,
+    /// What reports of their sockets.
+    poll: Registry,
+    queue: RunQueue,
+    backoff: Backoff,
+    followers: BoardFollowers,
+    rounds: Rounds,
+    watchers: W,
+    log: BoardLog<'a, R>,
+    pub(super) clock: LoopClock,
+    /// Those that were answered, and whose answers have yet to be sent.
+    unsent: Vec<u64>,
+    /// Those that have left while boards had waited long enough and had yet to be ended: they leave once these are.
+    late: Vec<u64>,
+    /// How many have yet to shake hands.
+    coming: u64,
+    /// How many moves of its board's log a follower may be behind.
+    capacity: u64,
+    /// For how many milliseconds a connection is waited for that owns no board and sends no message, if that is bounded.
+    most_idle: Option<u64>,
+    /// All that the system reports now has come since this millisecond.
+    since: u64,
+    /// When they were last looked at, in milliseconds.
+    looked_at: u64,
+    /// How many of them have yet to be looked at since then.
+    unlooked: usize,
+}
+
+impl<'a, R: Wait + Clock, W: Watchers> Clients<'a, R, W> {
+    /// No connections yet.
+    pub(crate) fn new(
+        rt: &'a R,
+        alloc: Global,
+        service: Service,
+        settings: &Settings,
+        room: Room,
+        poll: Registry,
+        clock: LoopClock,
+        watchers: W,
+        log: &'a Log,
+    ) -> Clients<'a, R, W> {
+        let Room {
+            followers,
+            rounds,
+            unsent,
+        } = room;
+        Clients {
+            rt,
+            alloc,
+            service,
+            clients: IndexMap::new(alloc),
+            poll,
+            queue: RunQueue::new(alloc),
+            backoff: Backoff::new(alloc),
+            followers,
+            rounds,
+            watchers,
+            log: BoardLog::new(rt, log),
+            clock,
+            unsent,
+            late: Vec::new(alloc),
+            coming: 0,
+            capacity: u64::from(settings.limits.capacity()),
+            most_idle: settings.most_idle(),
+            since: 0,
+            looked_at: 0,
+            unlooked: 0,
+        }
+    }
+
+    /// Those who watch. All connections go.
+    pub(crate) fn end(self) -> W {
+        let Clients { watchers, .. } = self;
+        watchers
+    }
+
+    /// Whether there are no connections.
+    pub(crate) fn is_empty(&self) -> bool {
+        self.clients.is_empty()
+    }
+
+    /// Whether some have yet to shake hands.
+    pub(crate) fn has_coming(&self) -> bool {
+        self.coming > 0
+    }
+
+    // ---- Coming and going.
+
+    /// Adds a newcomer. The system is to report when it may be read and written. Returns whether there was room for it.
+    pub(crate) fn enters(&mut self, stream: TcpStream) -> bool {
+        let Ok(number) = self.service.connect() else {
+            return false;
+        };
+        let client = Client::new(stream, self.clock.millis());
+        if self.clients.insert(number, client).is_err() {
+            self.service.disconnect(number);
+            return false;
+        }
+        self.coming = self.coming.saturating_add(1);
+        let is_registered = self.is_registered(number);
+        if !is_registered {
+            self.remove(number);
+        }
+        is_registered
+    }
+
+    /// Registers a connection. Returns whether that succeeded.
+    fn is_registered(&mut self, number: u64) -> bool {
+        let Some(client) = self.clients.get_mut(&number) else {
+            return false;
+        };
+        let interest = Interest::READABLE | Interest::WRITABLE;
+        self.poll
+            .register(&mut client.stream, Token(number as usize), interest)
+            .is_ok()
+    }
+
+    // ---- Turns.
+
+    /// Notes what the system reported, all of which has come since this millisecond: who is due a turn. Returns how much it was.
+    pub(crate) fn note(&mut self, events: &Events, since: u64) -> Report {
+        self.since = since;
+        let mut report = Report {
+            told: 0,
+            has_newcomers: false,
+        };
+        for event in events.iter() {
+            report.told = report.told.saturating_add(1);
+            report.has_newcomers = report.has_newcomers || event.token() == LISTENER;
+            self.is_told(event);
+        }
+        report
+    }
+
+    /// Notes one thing that the system reported: that a connection may be read or written, or that its output has ended.
+    fn is_told(&mut self, event: &Event) {
+        let token = event.token();
+        if token == LISTENER || token == WAKER {
+            return;
+        }
+        let number = token.0 as u64;
+        if let Some(client) = self.clients.get_mut(&number) {
+            client.is_reported(event.is_readable(), event.is_read_closed());
+            self.stands_due(number);
+        }
+    }
+
+    /// Gives a connection a turn, only once however much there is. Without memory for that it has its turn when it is looked at next.
+    fn stands_due(&mut self, number: u64) {
+        let Some(client) = self.clients.get(&number) else {
+            return;
+        };
+        let rank = client.rank();
+        self.stands_due_as(number, rank);
+    }
+
+    /// Gives a connection a turn of this rank.
+    fn stands_due_as(&mut self, number: u64, rank: Rank) {
+        let Some(client) = self.clients.get_mut(&number) else {
+            return;
+        };
+        if client.is_queued {
+            return;
+        }
+        client.is_queued = self.queue.add(number, rank, self.since).is_ok();
+        if rank == Rank::Follower && client.is_queued {
+            self.rounds.is_due();
+        }
+    }
+
+    /// Whether any is due a turn.
+    pub(crate) fn has_due(&self) -> bool {
+        !self.queue.is_empty()
+    }
+
+    /// Everything that connections had sent by this millisecond has been heard, if everything by the millisecond `asked` was reported.
+    pub(crate) fn heard_by(&self, asked: u64) -> u64 {
+        match self.queue.since() {
+            Some(since) => since.min(asked),
+            None => asked,
+        }
+    }
+
+    /// Gives those a turn that are due one, owners before followers before others, as long as there is time for each: the rest have theirs
+    /// next time. Behind the owners the loop yields if there are others: an owner that was just answered, or a proxy before it, may wait
+    /// for this processor.
+    pub(crate) fn serve_all(&mut self) {
+        let has_owners = self.queue.len(Rank::Owner) > 0;
+        self.serve_rank(Rank::Owner, MOST_OWNERS_MICROS);
+        self.watchers.wake(self.service.hall());
+        if has_owners && self.has_due() {
+            yield_now();
+        }
+        self.serve_rank(Rank::Follower, MOST_FOLLOWERS_MICROS);
+        self.serve_rank(Rank::Other, MOST_OTHERS_MICROS);
+        self.watchers.wake(self.service.hall());
+    }
+
+    /// Gives those of a rank a turn that are due one, as long as there is time for that. One that becomes due meanwhile waits.
+    fn serve_rank(&mut self, rank: Rank, most_micros: u64) {
+        let until = self.time_for(most_micros);
+        for _ in 0..self.queue.len(rank) {
+            let Some(number) = self.queue.take(rank) else {
+                break;
+            };
+            self.serve_if_due(number);
+            if self.is_late(until) {
+                break;
+            }
+        }
+        self.send_answers();
+    }
+
+    /// Gives a connection its turn, if it is still due one: it is sent what is due, and what it says is answered.
+    fn serve_if_due(&mut self, number: u64) {
+        let Some(client) = self.clients.get_mut(&number) else {
+            return;
+        };
+        if !client.is_queued {
+            return;
+        }
+        client.is_queued = false;
+        if client.is_blocked() {
+            self.send(number);
+        }
+        self.hear(number);
+        self.is_answered(number);
+    }
+
+    /// Until when a slice of this many microseconds lasts that begins now.
+    fn time_for(&mut self, micros: u64) -> Duration {
+        self.clock.look(self.rt);
+        let passed = self.clock.passed();
+        passed.saturating_add(Duration::from_micros(micros))
+    }
+
+    /// Until when newcomers are accepted if that begins now.
+    pub(crate) fn time_for_newcomers(&mut self) -> Duration {
+        self.time_for(MOST_OTHERS_MICROS)
+    }
+
+    /// Whether it is this late.
+    pub(crate) fn is_late(&mut self, until: Duration) -> bool {
+        self.clock.look(self.rt);
+        self.clock.passed() >= until
+    }
+}

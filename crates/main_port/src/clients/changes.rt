@@ -1,0 +1,149 @@
+//! What changes at boards, and who is told of it: those who follow them, those who watch them, and the log.
+
+use super::Clients;
+use crate::client::Role;
+use crate::watchers::Watchers;
+use c960_game::MOST_BOARDS;
+use server_loop::Rank;
+use std::sync::Wait;
+use std::time::Clock;
+
+impl<'a, R: Wait + Clock, W: Watchers> Clients<'a, R, W> {
+    // ---- Boards.
+
+    /// Notes what an event made of the boards, of which there were so many before. Returns whether a board is as far ahead of its followers
+    /// as it may be.
+    pub(super) fn gather(&mut self, boards: usize) -> bool {
+        let mut is_far_ahead = false;
+        for _ in 0..MOST_BOARDS {
+            let Some(at) = self.service.take_rung() else {
+                break;
+            };
+            is_far_ahead = self.changes(at) || is_far_ahead;
+        }
+        if self.service.hall().len() > boards {
+            self.watchers.changed(boards);
+            self.log.opened(self.service.hall(), boards);
+        }
+        is_far_ahead
+    }
+
+    /// The game of a board has changed: those who follow it are due a turn. Returns whether it is as far ahead of them as it may be.
+    fn changes(&mut self, at: usize) -> bool {
+        self.watchers.changed(at);
+        self.log.ended(self.service.hall(), at);
+        for index in 0..self.followers.count(at) {
+            if let Some(number) = self.followers.number(at, index) {
+                self.has_news(number);
+            }
+        }
+        self.rounds.changes(at, self.queue.len(Rank::Follower))
+    }
+
+    /// The board that a connection follows has changed.
+    fn has_news(&mut self, number: u64) {
+        let Some(client) = self.clients.get(&number) else {
+            return;
+        };
+        if client.takes_moves() && !client.is_queued {
+            self.stands_due(number);
+        }
+    }
+
+    // ---- Time.
+
+    /// The time is this millisecond of the loop: boards that have waited until then are ended. Returns when the next ones are, if any wait.
+    pub(crate) fn tick(&mut self, millis: u64) -> Option<u64> {
+        self.service.tick(millis);
+        let next = self.service.hall().next_due();
+        self.notes_all();
+        next
+    }
+
+    /// Nobody can come back any more: boards that wait are ended.
+    pub(crate) fn shut(&mut self) {
+        self.service.shut();
+        self.notes_all();
+    }
+
+    /// All boards are ended.
+    pub(crate) fn end_all(&mut self) {
+        self.service.end_all();
+        self.notes_all();
+        self.watchers.has_ended();
+    }
+
+    /// Notes what became of the boards by themselves. Those leave who were to leave behind that.
+    fn notes_all(&mut self) {
+        let boards = self.service.hall().len();
+        self.gather(boards);
+        self.leave_late();
+    }
+
+    // ---- Those who follow.
+
+    /// Notes what a connection is to boards, by the service: whether it owns one, or follows one.
+    pub(super) fn notes_role(&mut self, number: u64) {
+        let Some(client) = self.clients.get(&number) else {
+            return;
+        };
+        let was = client.role;
+        let role = self.role(number, was);
+        if role == was {
+            return;
+        }
+        self.leaves_board(number);
+        if let Role::Follower(at) = role {
+            if self.followers.add(at, number).is_err() {
+                self.fails(number);
+                return;
+            }
+            self.counts_followers(at);
+        }
+        self.is_now(number, role);
+    }
+
+    /// A connection is this to boards from now on.
+    fn is_now(&mut self, number: u64, role: Role) {
+        if let Some(client) = self.clients.get_mut(&number) {
+            client.role = role;
+        }
+    }
+
+    /// What a connection is to boards that was this before.
+    fn role(&self, number: u64, was: Role) -> Role {
+        match self.service.place(number) {
+            Some(at) => Role::Follower(at),
+            None if was == Role::Owner || self.service.is_owner(number) => Role::Owner,
+            None => Role::Other,
+        }
+    }
+
+    /// A connection follows its board no more, if it did.
+    pub(super) fn leaves_board(&mut self, number: u64) {
+        let Some(client) = self.clients.get(&number) else {
+            return;
+        };
+        let Role::Follower(at) = client.role else {
+            return;
+        };
+        self.unfollows(at, number);
+        if self.service.was_cut(number) {
+            self.log.cut(self.service.hall(), at);
+        }
+        self.is_now(number, Role::Other);
+    }
+
+    /// A connection is not among those any more that follow a board.
+    pub(super) fn unfollows(&mut self, at: usize, number: u64) {
+        self.followers.remove(at, number);
+        self.counts_followers(at);
+    }
+
+    /// Tells the service whether a board has as many followers as it may have. Else each refused follow would look at all slots, each of
+    /// which is its own word of memory.
+    fn counts_followers(&mut self, at: usize) {
+        let is_full = self.followers.is_full(at);
+        self.service.knows_full(at, is_full);
+    }
+}

@@ -1,0 +1,110 @@
+//! What connections are sent: answers, and the moves of the boards that they follow.
+
+use super::{Clients, MOST_UNSENT};
+use crate::client::State;
+use crate::passing::send_to;
+use crate::watchers::Watchers;
+use relay_service::Stage;
+use server_loop::Delivery;
+use std::sync::Wait;
+use std::time::Clock;
+
+impl<'a, R: Wait + Clock, W: Watchers> Clients<'a, R, W> {
+    // ---- Answers.
+
+    /// A connection had its turn, and has yet to be sent its answers. They are sent for some connections at once.
+    pub(super) fn is_answered(&mut self, number: u64) {
+        if self.unsent.push(number).is_err() {
+            self.deliver(number);
+        }
+        if self.unsent.len() >= MOST_UNSENT {
+            self.send_answers();
+        }
+    }
+
+    /// Sends the answers of all that had a turn. What they were told is not taken back from here on: where boards are kept on a disk, all
+    /// that has changed is to be written there before.
+    pub(super) fn send_answers(&mut self) {
+        for at in 0..self.unsent.len() {
+            let Some(number) = self.unsent.get(at).copied() else {
+                break;
+            };
+            self.deliver(number);
+        }
+        self.unsent.clear();
+    }
+
+    /// Sends a connection what is due, and before that puts the moves of its board behind it, if it follows. If there are more moves, it
+    /// has another turn, after the others.
+    fn deliver(&mut self, number: u64) {
+        let has_more = self.takes_moves(number) && self.push(number);
+        self.send(number);
+        if has_more && self.takes_moves(number) {
+            self.stands_due(number);
+        }
+    }
+
+    /// Whether a connection follows and takes what it is sent.
+    fn takes_moves(&self, number: u64) -> bool {
+        match self.clients.get(&number) {
+            Some(client) => client.takes_moves(),
+            None => false,
+        }
+    }
+
+    /// Puts moves of the board that a connection follows behind what is due to it. Returns whether there are more.
+    fn push(&mut self, number: u64) -> bool {
+        let Ok(has_more) = self.service.push(number) else {
+            self.fails(number);
+            return false;
+        };
+        self.notes_role(number);
+        has_more
+    }
+
+    // ---- Writing.
+
+    /// Writes to a connection what is due, as far as it takes that.
+    pub(super) fn send(&mut self, number: u64) {
+        match self.clients.get(&number) {
+            Some(client) if !matches!(client.state, State::Drains(_)) => {}
+            _ => return,
+        }
+        match send_to(&self.clients, &mut self.service, number) {
+            Delivery::All => self.is_served(number),
+            Delivery::Blocked => self.is_kept_waiting(number),
+            Delivery::Failed => self.remove(number),
+        }
+    }
+
+    /// A connection took everything that was due. If it says no more, that was all; if it was not answered meanwhile, it is again.
+    fn is_served(&mut self, number: u64) {
+        let stage = self.service.stage(number);
+        let Some(client) = self.clients.get_mut(&number) else {
+            return;
+        };
+        client.deadlines.is_served();
+        match client.state {
+            State::InputClosed => self.remove(number),
+            _ if stage == Some(Stage::Leaves) => self.lets_go(number),
+            State::Full => {
+                client.state = State::Interrupted;
+                self.stands_due(number);
+            }
+            _ => {}
+        }
+    }
+
+    /// A connection takes no more now. One that says no more leaves the hall meanwhile.
+    fn is_kept_waiting(&mut self, number: u64) {
+        let now = self.clock.millis();
+        let stage = self.service.stage(number);
+        let Some(client) = self.clients.get_mut(&number) else {
+            return;
+        };
+        client.deadlines.is_kept_waiting(now);
+        if client.state == State::InputClosed || stage == Some(Stage::Leaves) {
+            self.leaves_hall(number);
+        }
+    }
+}

@@ -1,0 +1,191 @@
+//! The turns of the loop.
+
+use crate::acceptor::Acceptor;
+use crate::clients::Clients;
+use crate::tally::Tally;
+use crate::watchers::Watchers;
+use mio::Events;
+use server_loop::{LoopWaker, MOST_EVENTS};
+use std::sync::Wait;
+use std::time::{Clock, Duration};
+
+/// How many milliseconds a turn waits at most.
+const TURN_MILLIS: u64 = 500;
+
+/// After how many milliseconds the hall is told the time at the latest.
+const TICK_MILLIS: u64 = 1000;
+
+/// How many milliseconds later it is told at the most, while there is somebody to be heard first.
+const MOST_LATE_MILLIS: u64 = 1000;
+
+/// How many seconds connections have to leave once serving is to end.
+const MOST_LEAVING_SECONDS: u64 = 4;
+
+/// The loop. In a turn it reads and answers who is due, sends the answers, and pushes the moves of boards that have changed; then it tells
+/// the time and accepts newcomers.
+#[derive(Drop)]
+pub(crate) struct EventLoop<'a, R, W> {
+    rt: &'a R,
+    waker: &'a LoopWaker,
+    clients: Clients<'a, R, W>,
+    acceptor: Acceptor<'a>,
+    /// Everything that connections had sent by this millisecond was reported.
+    reported_by: u64,
+    /// Everything that connections had sent by this millisecond has been heard.
+    heard_by: u64,
+    /// The millisecond at which the hall is told the time next.
+    ticks_at: u64,
+    /// Since which millisecond it was to be told the time, if there was somebody to be heard first.
+    late_since: Option<u64>,
+    /// Whether nobody can come back any more.
+    is_shut: bool,
+    /// When the loop ends even if connections remain, once serving is to end.
+    ends_at: Option<Duration>,
+}
+
+impl<'a, R: Wait + Clock, W: Watchers> EventLoop<'a, R, W> {
+    /// The loop that serves these connections, and whoever comes in here.
+    pub(crate) fn new(
+        rt: &'a R,
+        waker: &'a LoopWaker,
+        clients: Clients<'a, R, W>,
+        acceptor: Acceptor<'a>,
+    ) -> EventLoop<'a, R, W> {
+        EventLoop {
+            rt,
+            waker,
+            clients,
+            acceptor,
+            reported_by: 0,
+            heard_by: 0,
+            ticks_at: 0,
+            late_since: None,
+            is_shut: false,
+            ends_at: None,
+        }
+    }
+
+    /// How long the next turn waits at most.
+    pub(crate) fn patience(&self) -> Duration {
+        if self.clients.has_due() || self.clients.is_looking() {
+            return Duration::ZERO;
+        }
+        let now = self.clients.now();
+        // There may be somebody to be heard before the hall is told the time.
+        let ticks = self.ticks_at.saturating_sub(now).max(1);
+        let mut most = Duration::from_millis(TURN_MILLIS.min(ticks));
+        if let Some(ends_at) = self.ends_at {
+            most = most.min(ends_at.saturating_sub(self.clients.passed()));
+        }
+        if let Some(accepts) = self.acceptor.accepts_in(now) {
+            most = most.min(Duration::from_millis(accepts));
+        }
+        if let Some(pause) = self.clients.next_pause() {
+            // The system waits in whole milliseconds, and this one has begun.
+            most = most.min(Duration::from_millis(pause.saturating_add(1)));
+        }
+        most
+    }
+
+    /// Tells the hall the time, once a second and when boards have waited long enough. Boards that begin to wait meanwhile do so for a
+    /// second at least. However long the program was suspended, whoever came back in time is heard before, if that takes no longer than a
+    /// second, and the time that is told is the one by which all has been heard.
+    fn tick(&mut self) {
+        let now = self.clients.now();
+        if now < self.ticks_at {
+            return;
+        }
+        let since = self.late_since.unwrap_or(now);
+        let heard = if self.has_heard_all() {
+            self.heard_by
+        } else if now.saturating_sub(since) >= MOST_LATE_MILLIS {
+            since
+        } else {
+            self.late_since = Some(since);
+            return;
+        };
+        self.late_since = None;
+        let next = match self.clients.tick(heard) {
+            Some(due) => due.saturating_sub(heard).clamp(1, TICK_MILLIS),
+            None => TICK_MILLIS,
+        };
+        self.ticks_at = heard.saturating_add(next);
+    }
+
+    /// Whether nobody is waiting to be accepted, and all has been heard that had come when the hall was to be told the time, also from
+    /// those that were accepted since.
+    fn has_heard_all(&self) -> bool {
+        self.acceptor.accepts_in(self.clients.now()).is_none()
+            && self.heard_by >= self.acceptor.heard_from()
+            && self.heard_by >= self.ticks_at
+    }
+
+    /// Handles what the system reported, and what is due. Returns whether it was the last turn, which none is while newcomers come in.
+    pub(crate) fn take(&mut self, events: &Events) -> bool {
+        let asked = self.clients.now();
+        // This comes before looking: whoever wakes the loop from now on wakes it again.
+        self.waker.reset();
+        self.clients.look_at_clock();
+        // What the system reports now may have come right after it was asked the time before, or earlier if it left something out then.
+        let report = self.clients.note(events, self.reported_by);
+        if report.has_newcomers {
+            self.acceptor.looks();
+        }
+        self.clients.end_pauses();
+        self.clients.serve_all();
+        if report.told < MOST_EVENTS {
+            // The system has reported everything that had arrived when it was asked.
+            self.reported_by = asked;
+            self.heard_by = self.heard_by.max(self.clients.heard_by(asked));
+        }
+        self.tick();
+        self.acceptor.accept(&mut self.clients, report.told);
+        // However long a turn took, or the program was suspended, nobody is dropped for what it had sent in time.
+        if self.clients.look_around(self.heard_by) {
+            // An accept that failed is tried again.
+            self.acceptor.looks();
+        }
+        self.is_over()
+    }
+
+    // ---- The end.
+
+    /// Does what is due at the end. Returns whether that is over.
+    fn is_over(&mut self) -> bool {
+        if !self.acceptor.is_closed(self.rt) {
+            return false;
+        }
+        let is_ending = self.acceptor.is_ending();
+        if !self.is_shut && (is_ending || !self.clients.has_coming()) {
+            self.is_shut = true;
+            self.clients.shut();
+        }
+        if is_ending {
+            return self.has_ended();
+        }
+        self.clients.is_empty()
+    }
+
+    /// Serving is to end. All boards are ended, connections are told, and then waited for. Returns whether this is over.
+    fn has_ended(&mut self) -> bool {
+        let now = self.clients.passed();
+        let ends_at = match self.ends_at {
+            Some(ends_at) => ends_at,
+            None => {
+                self.clients.end_all();
+                self.clients.tell_of_the_end();
+                now.saturating_add(Duration::from_secs(MOST_LEAVING_SECONDS))
+            }
+        };
+        self.ends_at = Some(ends_at);
+        self.clients.is_empty() || now >= ends_at
+    }
+
+    /// Who was met, and those who watch.
+    pub(crate) fn end(self) -> (Tally, W) {
+        let EventLoop {
+            acceptor, clients, ..
+        } = self;
+        (acceptor.end(), clients.end())
+    }
+}

@@ -1,0 +1,42 @@
+//! Bytes on their way between the socket of a connection and the service.
+
+use crate::client::Client;
+use indexmap::IndexMap;
+use relay_service::Service;
+use server_loop::{Delivery, Intake, receive, send};
+use std::alloc::AllocError;
+
+/// Reads once from the socket of the connection of this number, and hands the service what was read, under this number and no other.
+///
+/// # Errors
+///
+/// There was no memory. What was read is lost.
+pub(crate) fn receive_from(
+    clients: &mut IndexMap<u64, Client>,
+    service: &mut Service,
+    number: u64,
+    piece: &mut [u8],
+) -> Result<Intake, AllocError> {
+    let Some(client) = clients.get_mut(&number) else {
+        return Ok(Intake::Failed);
+    };
+    let intake = receive(&mut client.stream, piece);
+    if let Intake::Bytes(n) = intake {
+        service.receive(number, &piece[..n])?;
+    }
+    Ok(intake)
+}
+
+/// Writes what is due to the connection of this number to its socket, as far as that takes it: just this is sent, as the service has it.
+pub(crate) fn send_to(
+    clients: &IndexMap<u64, Client>,
+    service: &mut Service,
+    number: u64,
+) -> Delivery {
+    let Some(client) = clients.get(&number) else {
+        return Delivery::Failed;
+    };
+    let (n, delivery) = send(&client.stream, service.output(number));
+    service.sent(number, n);
+    delivery
+}

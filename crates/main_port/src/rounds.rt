@@ -1,0 +1,68 @@
+//! How far boards may be ahead of those who follow them.
+
+use c960_game::Limits;
+use std::alloc::{AllocError, Global};
+
+/// The changes of one board since all who follow it had their turn.
+#[derive(Clone, Copy)]
+struct Round {
+    /// How many changes there were.
+    changes: u16,
+    /// The round is over once this many followers in all have had a turn.
+    ends: u64,
+}
+
+/// How far each board is ahead of those of its followers whose connections take all. Those have their turns in the order in which they
+/// became due. An owner that makes moves faster than all of them have their turns waits for them: else they would be cut off for the slowness
+/// of the server.
+#[derive(Drop)]
+pub(crate) struct Rounds {
+    each: Vec<Round>,
+    /// How many changes there may be in a round: few enough that no queue fills.
+    most: u16,
+    /// How many turns of followers became due so far.
+    pub(crate) due: u64,
+}
+
+impl Rounds {
+    /// No changes yet of any board that these limits allow.
+    ///
+    /// # Errors
+    ///
+    /// There was no memory.
+    pub(crate) fn new(alloc: Global, limits: &Limits) -> Result<Rounds, AllocError> {
+        let boards = usize::from(limits.boards());
+        let mut each = Vec::with_capacity(alloc, boards)?;
+        for _ in 0..boards {
+            each.push(Round {
+                changes: 0,
+                ends: 0,
+            })?;
+        }
+        Ok(Rounds {
+            each,
+            most: (limits.capacity() / 4).max(1),
+            due: 0,
+        })
+    }
+
+    /// One more turn of a follower is due.
+    pub(crate) fn is_due(&mut self) {
+        self.due = self.due.saturating_add(1);
+    }
+
+    /// The board of this index has changed, its followers are due a turn, and so many turns of followers wait in all. Returns whether the
+    /// board is as far ahead as it may be.
+    pub(crate) fn changes(&mut self, at: usize, waiting: usize) -> bool {
+        let due = self.due;
+        let Some(round) = self.each.get_mut(at) else {
+            return false;
+        };
+        if due.saturating_sub(waiting as u64) >= round.ends {
+            round.changes = 0;
+        }
+        round.changes = round.changes.saturating_add(1);
+        round.ends = due;
+        waiting > 0 && round.changes >= self.most
+    }
+}

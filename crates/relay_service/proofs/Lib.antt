@@ -1,8 +1,0 @@
-mod Connections
-mod Doing
-mod Events
-mod Here
-mod Keeping
-mod Led
-mod Ordering
-mod Owners

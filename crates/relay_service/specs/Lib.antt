@@ -1,5 +1,0 @@
-pub mod Calls
-pub mod Inner
-pub mod Noting
-pub mod Record
-pub mod Runs
