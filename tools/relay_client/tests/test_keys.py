@@ -12,7 +12,7 @@ import unittest
 from relay_client.connection import Connection
 from relay_client.frames import frame, request
 from relay_client.keys import new_key, target_of
-from relay_client.program import BY_LOOP, PATIENCE, PROGRAM
+from relay_client.program import PATIENCE, PROGRAM
 from relay_client.server import Server
 from relay_client.tests.sessions import ABANDONED, guest_of, owner_of
 from relay_client.tests.test_watching import close_all
@@ -169,9 +169,8 @@ class TheGrace(Keys):
                 self.is_abandoned(guest, 2, lost)
 
     def test_boards_that_wait_take_no_thread_each(self):
-        """One thread ends all those whose time is over. Beside it there are the one that accepts, and two for those who follow. In a server
-        of one loop, this one does both."""
-        wanted = 3 if BY_LOOP else 4
+        """One loop ends all those whose time is over. Beside it there is the thread that writes standard error."""
+        wanted = 2
         with waits(LONG) as server:
             boards = [(f"b{number}", f"{KEY}{number}") for number in range(40)]
             for name, key in boards:

@@ -12,7 +12,7 @@ import unittest
 from relay_client.connection import Connection
 from relay_client.frames import frame, pong
 from relay_client.keys import new_key
-from relay_client.program import BY_LOOP, PROGRAM, TOP
+from relay_client.program import PROGRAM, TOP
 from relay_client.server import Server, last_has_come
 from relay_client.tests.sessions import ABANDONED, guest_of, owner_of, play
 from relay_client.texts import NO_BOARD, NOT_OBJECT, ended, ends, follows, moved, over, played, refused, submits
@@ -271,9 +271,8 @@ class UntilInputEnds(unittest.TestCase):
             silent.close()
 
     def test_it_ends_where_there_is_no_descriptor_left(self):
-        """The three standard streams, the listener, the one in reserve, two for each of two loops, and three connections. A server of one
-        loop has three for that."""
-        most = 15 if BY_LOOP else 12
+        """The three standard streams, the listener, the one in reserve, three of the loop, and three connections."""
+        most = 11
         with self.server("--forever") as server:
             resource.prlimit(server.process.pid, resource.RLIMIT_NOFILE, (most, most))
             owner, guest, other = owner_of(server), guest_of(server), Connection(server.port)
