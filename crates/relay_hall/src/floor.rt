@@ -232,12 +232,12 @@ impl Floor {
         conn.answer_with(decoder, text, self)
     }
 
-    /// Makes a step for this speaker.
-    pub(crate) fn step_of(&mut self, speaker: &Owner, step: &Step) -> Reply
+    /// Makes a step for this one, who then speaks.
+    pub(crate) fn step_of(&mut self, owner: &Owner, step: &Step) -> Reply
         requires empty { self.old.handed ≡ None }
-        ensures { Makes self.old.floor speaker.now step.now result self.new.handed self.new.floor }
+        ensures { Makes self.old.floor owner.now step.now result self.new.handed self.new.floor }
     {
-        self.speaker = *speaker;
+        self.speaker = *owner;
         self.make(step)
     }
 
