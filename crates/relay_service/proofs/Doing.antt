@@ -4,8 +4,7 @@ use Rattle.std.specs.Prelude.{MatchOption}
 use Rattle.std.specs.declared.alloc.AllocError.{AllocError}
 use Rattle.relay_hall.specs.declared.handed.Handed.{Handed}
 use Rattle.relay_hall.specs.Record.{HallRecord}
-use Rattle.relay_hall.specs.Runs.{HallEvent, IsOneStep}
-use Rattle.relay_calling.proofs.Stepping.{fails_once, heeds_once}
+use Rattle.relay_hall.specs.Runs.{HallEvent}
 use Rattle.relay_calling.specs.Calling.{CallerRecord}
 use Rattle.relay_calling.specs.Crowd.{LeadsHall, happens}
 use Rattle.relay_calling.specs.Running.{Deed, Moment, came, failed, heeded}
@@ -19,6 +18,7 @@ use Rattle.relay_service.specs.Noting.{deed_of, moment_of}
 use Rattle.relay_service.specs.Record.{ServiceRecord, caller_at, caller_in, connection_at}
 use Rattle.relay_service.specs.Runs.{MadeBy, OneOrNoneOf}
 use Rattle.relay_service.proofs.Owners.{IsNoIntake}
+use Rattle.relay_service.proofs.Rights.{IsOneRightStep, fails_right, heeds_right}
 
 -- ---- Whose it is.
 
@@ -64,7 +64,7 @@ pub record IsNoted (i : ℕ) (before : Connection) (n : Moment) (after : Connect
   pub does : DoesTo before x after
   pub present : does.is_present ≡ true
   pub hall : LeadsHall n.before x n.after
-  pub once : IsOneStep n.before does.caller.who n.handed n.after
+  pub right : IsOneRightStep n.before does.caller.who does.caller.boards n.handed n.after does.then.boards
   pub quiet : IsNoIntake x
   pub makes : (events rest : List HallEvent) → OneOrNoneOf i events rest → MadeBy (happens i x) events rest
 
@@ -78,7 +78,7 @@ answering_does i (Ok some) r m before after n is present ok err noted not =
       does = record { caller = p.0; then = p.2.0; is_present = true; was = p.1; done = p.2.1; is = p.2.2 };
       present = refl;
       hall = (refl, refl);
-      once = heeds_once some p.0 n.before n.handed n.after p.2.0 p.2.1;
+      right = heeds_right some p.0 n.before n.handed n.after p.2.0 p.2.1;
       quiet = tt;
       makes = λ events rest one. one;
     })
@@ -88,7 +88,7 @@ answering_does i (Err e) r m before after n is present ok err noted not =
       does = record { caller = p.0; then = p.2.0; is_present = true; was = p.1; done = p.2.1; is = p.2.2 };
       present = refl;
       hall = (refl, refl);
-      once = fails_once p.0 n.before n.handed n.after p.2.0 p.2.1;
+      right = fails_right p.0 n.before n.handed n.after p.2.0 p.2.1;
       quiet = tt;
       makes = λ events rest one. one;
     })

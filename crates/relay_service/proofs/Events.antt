@@ -1,10 +1,9 @@
 -- One event more, at the end of a list of events.
 use Rattle.std.proofs.Common.{◌≡◌, ℕ, List, [], ◌∷◌, ◌++◌, Bool, true, false, true≢false, ◌||◌, inl, inr, refl, sym, ap, ◌∙◌, subst}
-use Rattle.relay_hall.specs.Runs.{AllSayWhileThere, HallEvent, IsOrderly, SaysNoMore, SaysWhileThere, count_after, goes_now, has_gone, says_now}
+use Rattle.relay_hall.specs.Runs.{AllSayWhileThere, HallEvent, IsOrderly, SaysNoMore, SaysWhileThere, count_after, counts_after, goes_now, has_gone, says_now}
 use Rattle.relay_calling.specs.Crowd.{Turn, happens, passes}
 use Rattle.relay_calling.specs.Running.{came, failed, heeded, was_pinged, was_sent_away, wrote}
-use Rattle.relay_service.specs.Inner.{counts_after}
-use Rattle.relay_service.specs.Runs.{AreMadeBy, MadeBy, has_left, leaves_by}
+use Rattle.relay_service.specs.Runs.{AreMadeBy, MadeBy, counts_by, has_left, holders_after, leaves_by}
 
 -- ---- Tests.
 
@@ -84,3 +83,18 @@ pub all_left : (i : ℕ) (xs : List Turn) (events : List HallEvent) → AreMadeB
 all_left i [] events is = sym (ap (has_gone i) is)
 all_left i (x ∷ xs) events (rest, first, others) =
     ap (λ (t : Bool). leaves_by i x || t) (all_left i xs rest others) ∙ sym (one_left i x events rest first)
+
+one_count : (q : List ℕ) (count : List ℕ → ℕ) (x : Turn) (events rest : List HallEvent) → MadeBy x events rest → counts_after count events q ≡ counts_after (counts_by count x) rest q
+one_count q count (happens j (came bytes)) events rest is = ap (λ (es : List HallEvent). counts_after count es q) is
+one_count q count (happens j (heeded some m)) events rest (inl (who, step, mine, is)) = ap (λ (es : List HallEvent). counts_after count es q) is
+one_count q count (happens j (heeded some m)) events rest (inr is) = ap (λ (es : List HallEvent). counts_after count es q) is
+one_count q count (happens j (failed m)) events rest (inl (who, step, mine, is)) = ap (λ (es : List HallEvent). counts_after count es q) is
+one_count q count (happens j (failed m)) events rest (inr is) = ap (λ (es : List HallEvent). counts_after count es q) is
+one_count q count (happens j (wrote bytes)) events rest is = ap (λ (es : List HallEvent). counts_after count es q) is
+one_count q count (happens j (was_pinged some)) events rest is = ap (λ (es : List HallEvent). counts_after count es q) is
+one_count q count (happens j (was_sent_away some code)) events rest is = ap (λ (es : List HallEvent). counts_after count es q) is
+one_count q count (passes e told) events rest is = ap (λ (es : List HallEvent). counts_after count es q) is
+
+pub all_counts : (q : List ℕ) (count : List ℕ → ℕ) (xs : List Turn) (events : List HallEvent) → AreMadeBy xs events → counts_after count events q ≡ holders_after count xs q
+all_counts q count [] events is = ap (λ (es : List HallEvent). counts_after count es q) is
+all_counts q count (x ∷ xs) events (rest, first, others) = one_count q count x events rest first ∙ all_counts q (counts_by count x) xs rest others

@@ -7,7 +7,7 @@ use Rattle.c960_game.specs.Limits.{LimitNumbers}
 use Rattle.relay_hall.specs.declared.handed.Handed.{Handed}
 use Rattle.relay_hall.specs.declared.owner.Owner.{Owner}
 use Rattle.relay_hall.specs.Record.{HallRecord}
-use Rattle.relay_hall.specs.Runs.{HallEvent, HallStep, Comes, Goes, Silent, IsOneStep, SaysWhileThere, count_after, goes_now, says_now}
+use Rattle.relay_hall.specs.Runs.{HallEvent, HallStep, Comes, Goes, Silent, SaysWhileThere, count_after, goes_now, says_now}
 use Rattle.relay_calling.specs.Calling.{CallerRecord, after_write, asks}
 use Rattle.relay_calling.specs.Crowd.{LeadsHall, Turn, happens, passes}
 use Rattle.relay_calling.specs.Running.{Deed, IsDone, Moment, came, failed, heeded, wrote}
@@ -18,14 +18,16 @@ use Rattle.relay_service.specs.declared.turn.Moments.{Moments}
 use Rattle.relay_service.specs.declared.turn.NewDeed.{NewDeed}
 use Rattle.relay_service.specs.declared.turn.NewDeed.TheVariants.{Answered, Failed}
 use Rattle.relay_service.specs.Calls.{AnswersAt, AnswersTo, FailsAt, FailsTo, Arrives, Departs, Does, DoesAny, DoesIfPresent, DoesTo, Enters, FeedsTo, IfOperator, IfPresent, LeavesAt, Loses, Passes, Receives, Replaces, arrival, arrivals, following_at, following_in, has_handed, moment}
-use Rattle.relay_service.specs.Inner.{IsCallerOf, IsLedTo, IsOrdered, IsService, NamesNoneYet, service_of}
+use Rattle.relay_service.specs.Inner.{AreOpened, IsCallerOf, IsLedTo, IsOrdered, IsService, NamesNoneYet, OwnsOpened, service_of}
 use Rattle.relay_service.specs.Noting.{deed_of, moment_of}
 use Rattle.relay_service.specs.Record.{ServiceRecord, begun, caller_at, caller_in, connection_at, due_in, opened, operator_at, operator_in, owner_at, owner_in}
+use Rattle.relay_service.specs.Rights.{IsRightful}
 use Rattle.relay_service.specs.Runs.{MadeBy, OneOrNoneOf}
 use Rattle.relay_service.proofs.Doing.{IsFed, IsNoted, answering_does, at_present, fed_by, match_at, match_some, present_there}
 use Rattle.relay_service.proofs.Led.{led_at_first, led_by_pass, led_on, led_passed, led_to_next, led_with, led_without}
-use Rattle.relay_service.proofs.Ordering.{ordered_at_first, ordered_by_arrival, ordered_by_departing, ordered_by_newcomer, ordered_by_pass, ordered_lost, ordered_says, ordered_still, ordered_with, ordered_without, owner_before}
-use Rattle.relay_service.proofs.Owners.{IsNoIntake, no_arrival}
+use Rattle.relay_service.proofs.Ordering.{ordered_at_first, ordered_by_arrival, ordered_by_departing, ordered_by_newcomer, ordered_by_pass, ordered_lost, ordered_says, ordered_still, ordered_with, ordered_without, names_before, owner_before}
+use Rattle.relay_service.proofs.Owners.{IsNoIntake, IsUnheeded, no_arrival, same_opened, same_owner, unheeded_opened}
+use Rattle.relay_service.proofs.Rights.{IsOneRightStep}
 
 -- both, of what is shown
 pub record IsKept (s : ServiceRecord) : Type 0 where
@@ -64,7 +66,8 @@ kept_handing : (s : ServiceRecord) (number : ℕ) (c : CallerRecord) (connection
 kept_handing s number c connections k there over = record {
   led = led_with s number (Some (HandedOver c.who)) connections k.led over
       (λ d is. (k.led.known number (Operator c true) there, subst (IsCallerOf (k.led.callers number)) (same_Some _ _ is) (ap (λ (e : CallerRecord). e.who) (k.led.there number (Operator c true) there))));
-  ordered = ordered_with s number (Some (HandedOver c.who)) connections k.ordered over (λ who is. ap owner_in there ∙ is) (λ d is. subst NamesNoneYet (same_Some _ _ is) tt);
+  ordered = ordered_with s number (Some (HandedOver c.who)) connections k.ordered over (λ who is. ap owner_in there ∙ is) (λ d is. subst NamesNoneYet (same_Some _ _ is) tt)
+      (λ d is. subst (OwnsOpened s.hall.floor) (same_Some _ _ is) tt);
 }
 
 handed_in : (o : Option Connection) (who : Owner) → option_map (λ (c : CallerRecord). c.who) (following_in (caller_in o)) ≡ Some who → (c : CallerRecord) × (o ≡ Some (Operator c true)) × (c.who ≡ who)
@@ -133,22 +136,26 @@ disconnected_at s number who t k d =
     kept_by_disconnecting s number who c.0 t k c.1 d
 
 pub kept_by_pass : (s : ServiceRecord) (e : HallEvent) (t : ServiceRecord) → IsKept s → Passes s e t → ((w : ℕ) → says_now w e ≡ false) → ((w : ℕ) → goes_now w e ≡ false)
-    → ((count : List ℕ → ℕ) (q : List ℕ) → count_after count e q ≡ count q) → ((count : List ℕ → ℕ) → SaysWhileThere count e) → IsKept t
-kept_by_pass s e t k p says goes counts there = record { led = led_by_pass s e t k.led p; ordered = ordered_by_pass s e t k.ordered p says goes counts there }
+    → ((count : List ℕ → ℕ) (q : List ℕ) → count_after count e q ≡ count q) → ((count : List ℕ → ℕ) → SaysWhileThere count e) → IsRightful s.hall e → IsKept t
+kept_by_pass s e t k p says goes counts there right = record { led = led_by_pass s e t k.led p; ordered = ordered_by_pass s e t k.ordered p says goes counts there right }
 
 -- ---- What is done to a connection.
 
 -- nobody comes to the hall by it, and nothing is said there
 kept_still : (s : ServiceRecord) (number : ℕ) (x : Deed) (t : ServiceRecord) → IsKept s → (d : Does s number x t) → arrival d.does.caller d.does.then ≡ None
-    → MadeBy (happens number x) [] [] → t.hall ≡ s.hall → IsKept t
-kept_still s number x t k d none made same = record { led = led_on s number x t k.led d; ordered = ordered_still s number x t k.ordered d none made same }
+    → MadeBy (happens number x) [] [] → t.hall ≡ s.hall → (AreOpened s.hall.floor d.does.caller.who d.does.caller.boards → AreOpened s.hall.floor d.does.then.who d.does.then.boards) → IsKept t
+kept_still s number x t k d none made same own = record { led = led_on s number x t k.led d; ordered = ordered_still s number x t k.ordered d none made same own }
 
-pub kept_quietly : (s : ServiceRecord) (number : ℕ) (x : Deed) (t : ServiceRecord) → IsKept s → Does s number x t → IsNoIntake x → MadeBy (happens number x) [] [] → t.hall ≡ s.hall → IsKept t
-kept_quietly s number x t k d quiet made same = kept_still s number x t k d (no_arrival d.does.caller x d.does.then quiet d.does.done) made same
+unheeded_own : (s : ServiceRecord) (number : ℕ) (x : Deed) (t : ServiceRecord) → IsKept s → (d : Does s number x t) → IsUnheeded x
+    → AreOpened s.hall.floor d.does.caller.who d.does.caller.boards → AreOpened s.hall.floor d.does.then.who d.does.then.boards
+unheeded_own s number x t k d un are = unheeded_opened s.hall.floor d.does.caller x d.does.then (names_before s number x t k.ordered d) un d.does.done are
+
+pub kept_quietly : (s : ServiceRecord) (number : ℕ) (x : Deed) (t : ServiceRecord) → IsKept s → Does s number x t → IsNoIntake x → IsUnheeded x → MadeBy (happens number x) [] [] → t.hall ≡ s.hall → IsKept t
+kept_quietly s number x t k d quiet un made same = kept_still s number x t k d (no_arrival d.does.caller x d.does.then quiet d.does.done) made same (unheeded_own s number x t k d un)
 
 -- what is answered is one step or none
 kept_answering : (s : ServiceRecord) (number : ℕ) (x : Deed) (t : ServiceRecord) (handed : Option Handed) → IsKept s → (d : Does s number x t) → d.does.is_present ≡ true → IsNoIntake x
-    → IsOneStep s.hall d.does.caller.who handed t.hall → ((events rest : List HallEvent) → OneOrNoneOf number events rest → MadeBy (happens number x) events rest) → IsKept t
+    → IsOneRightStep s.hall d.does.caller.who d.does.caller.boards handed t.hall d.does.then.boards → ((events rest : List HallEvent) → OneOrNoneOf number events rest → MadeBy (happens number x) events rest) → IsKept t
 kept_answering s number x t handed k d present quiet once makes = by once
   where
     none : arrival d.does.caller d.does.then ≡ None
@@ -157,12 +164,15 @@ kept_answering s number x t handed k d present quiet once makes = by once
     numbered : d.does.caller.who.opener ≡ number
     numbered = (k.ordered.seated number d.does.caller.who (owner_before s number x t d present)).numbered
 
-    by : IsOneStep s.hall d.does.caller.who handed t.hall → IsKept t
-    by (inl (step, reply, made)) = record {
+    by : IsOneRightStep s.hall d.does.caller.who d.does.caller.boards handed t.hall d.does.then.boards → IsKept t
+    by (inl (step, reply, made, may, now-is)) = record {
       led = led_on s number x t k.led d;
-      ordered = ordered_says s number x t k.ordered d present none step reply handed made (makes _ _ (inl (d.does.caller.who, step, numbered, refl)));
+      ordered = ordered_says s number x t k.ordered d present none step reply handed made (makes _ _ (inl (d.does.caller.who, step, numbered, refl))) may now-is;
     }
-    by (inr (same, nothing)) = kept_still s number x t k d none (makes _ _ (inr refl)) same
+    by (inr (same, nothing, now-is)) =
+        kept_still s number x t k d none (makes _ _ (inr refl)) same
+        (λ are. same_opened s.hall.floor d.does.caller.who d.does.then.who d.does.caller.boards d.does.then.boards
+        (same_owner d.does.caller x d.does.then (names_before s number x t k.ordered d) d.does.done none) now-is are)
 
 answered_at : (s : ServiceRecord) (number : ℕ) (before after : Connection) (n : Moment) (x : Deed) (t : ServiceRecord) → IsKept s → connection_at s number ≡ Some before
     → IsNoted number before n after x → n.before ≡ s.hall → n.after ≡ t.hall → Replaces number (Some after) s.connections t.connections
@@ -178,9 +188,10 @@ answered_at s number before after n x t k there m first last replaced rest =
       connections = replaced;
       rest = rest;
     } in
-    let once : IsOneStep s.hall m.does.caller.who n.handed t.hall =
-    subst (λ (h : HallRecord). IsOneStep h m.does.caller.who n.handed t.hall) first (subst (IsOneStep n.before m.does.caller.who n.handed) last m.once) in
-    (kept_answering s number x t n.handed k does m.present m.quiet once m.makes, does)
+    let right : IsOneRightStep s.hall m.does.caller.who m.does.caller.boards n.handed t.hall m.does.then.boards =
+    subst (λ (h : HallRecord). IsOneRightStep h m.does.caller.who m.does.caller.boards n.handed t.hall m.does.then.boards) first
+    (subst (λ (h : HallRecord). IsOneRightStep n.before m.does.caller.who m.does.caller.boards n.handed h m.does.then.boards) last m.right) in
+    (kept_answering s number x t n.handed k does m.present m.quiet right m.makes, does)
 
 answers_ok : (answered : Result Bool AllocError) (r : NewDeed) (m : Moments) (s : ServiceRecord) (number : ℕ) (handed : Option Handed) (t : ServiceRecord) → moment_of m ≡ moment s handed t
     → IfOk answered (λ some. r ≡ Answered some m) → is_some (caller_at s number) ≡ true → Does s number (deed_of r) t → IfOk answered (λ some. AnswersAt s number some handed t)
@@ -214,7 +225,7 @@ kept_receiving : (s : ServiceRecord) (number : ℕ) (bytes : List ℕ) (mid t : 
 kept_receiving s number bytes mid t k d present arrives = by (arrival d.does.caller d.does.then) refl arrives
   where
     by : (key : Option (List ℕ)) → arrival d.does.caller d.does.then ≡ key → Arrives key mid t → IsKept t
-    by None is same = subst IsKept (sym same) (kept_still s number (came bytes) mid k d is refl d.hall)
+    by None is same = subst IsKept (sym same) (kept_still s number (came bytes) mid k d is refl d.hall (unheeded_own s number (came bytes) mid k d tt))
     by (Some key) is p = record {
       led = led_by_pass mid (Comes key) t (led_on s number (came bytes) mid k.led d) p;
       ordered = ordered_by_arrival s number bytes mid key t k.ordered d present is p;
@@ -269,13 +280,13 @@ lost s number bytes before after key connections left turns k there present feed
 -- ---- What is put unasked, and sent.
 
 -- a frame is put if it asks
-pub put_at : (x : Bool → Deed) (f : CallerRecord → CallerRecord) → ((c : CallerRecord) (some : Bool) → asks c.stage ≡ some → IsDone c (x some) (f c)) → ((some : Bool) → IsNoIntake (x some))
+pub put_at : (x : Bool → Deed) (f : CallerRecord → CallerRecord) → ((c : CallerRecord) (some : Bool) → asks c.stage ≡ some → IsDone c (x some) (f c)) → ((some : Bool) → IsNoIntake (x some)) → ((some : Bool) → IsUnheeded (x some))
     → ((k : HallRecord) (some : Bool) → LeadsHall k (x some) k) → ((number : ℕ) (some : Bool) → MadeBy (happens number (x some)) [] [])
     → (s : ServiceRecord) (number : ℕ) (before after : Connection) (some : Bool) (t : ServiceRecord) → IsKept s → connection_at s number ≡ Some before → is_some (caller_at s number) ≡ true
     → IfPresent before (λ c. (asks c.stage ≡ some) × (after ≡ Operator (f c) true)) → Replaces number (Some after) s.connections t.connections
     → t ≡ record s { connections = t.connections; turns = s.turns ++ happens number (x some) ∷ [] }
     → IsKept t × DoesIfPresent s number (λ c. x (asks c.stage)) t
-put_at x f done quiet leads made s number before after some t k there present puts replaced rest =
+put_at x f done quiet un leads made s number before after some t k there present puts replaced rest =
     let p = at_present before (λ c. (asks c.stage ≡ some) × (after ≡ Operator (f c) true)) (present_there s number before there present) puts in
     let same : t.hall ≡ s.hall = ap (λ (r : ServiceRecord). r.hall) rest in
     let does : Does s number (x some) t =
@@ -288,7 +299,7 @@ put_at x f done quiet leads made s number before after some t k there present pu
       connections = replaced;
       rest = rest ∙ ap (λ (h : HallRecord). record s { hall = h; connections = t.connections; turns = s.turns ++ happens number (x some) ∷ [] }) (sym same);
     } in (
-      kept_quietly s number (x some) t k does (quiet some) (made number some) same,
+      kept_quietly s number (x some) t k does (quiet some) (un some) (made number some) same,
       match_at (caller_at s number) p.0 _ (λ c. Does s number (x (asks c.stage)) t) (ap caller_in there ∙ ap (λ (d : Connection). caller_in (Some d)) p.1)
           (subst (λ (b : Bool). Does s number (x b) t) (sym p.2.0) does),
     )
@@ -317,7 +328,7 @@ sent_at s number n before after bytes t k there some sends replaced rest = by be
           connections = replaced;
           rest = rest ∙ ap (λ (h : HallRecord). record s { hall = h; connections = t.connections; turns = s.turns ++ happens number (wrote bytes) ∷ [] }) (sym same);
         } in (
-          kept_quietly s number (wrote bytes) t k does tt refl same,
+          kept_quietly s number (wrote bytes) t k does tt tt refl same,
           match_at (operator_at s number) c _ (λ d. Does s number (wrote (take n (due_in (operator_at s number)))) t) at_number
               (subst (λ (bs : List ℕ). Does s number (wrote bs) t) (first ∙ ap (λ (o : Option CallerRecord). take n (due_in o)) (sym at_number)) does),
         )

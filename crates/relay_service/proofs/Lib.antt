@@ -6,3 +6,4 @@ mod Keeping
 mod Led
 mod Ordering
 mod Owners
+mod Rights

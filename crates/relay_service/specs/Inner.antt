@@ -2,10 +2,12 @@
 use Rattle.std.specs.Prelude.{◌≡◌, ◌≤◌, ◌<◌, ◌+◌, ℕ, nat_eq, Bool, cond, true, false, List, [], ◌∷◌, Some, None}
 use Rattle.std.specs.Map.{lookup}
 use Rattle.c960_game.specs.Limits.{LimitNumbers}
+use Rattle.relay_core.specs.Name.{same_name}
+use Rattle.relay_pushing.specs.Connections.{is_among}
 use Rattle.relay_hall.specs.declared.owner.Owner.{Owner}
 use Rattle.relay_hall.specs.Keys.{same_key}
-use Rattle.relay_hall.specs.Record.{nobody_yet}
-use Rattle.relay_hall.specs.Runs.{HallEvent, count_after, has_gone}
+use Rattle.relay_hall.specs.Record.{FloorRecord, HallBoard, nobody_yet}
+use Rattle.relay_hall.specs.Runs.{HallEvent, counts_after, has_gone}
 use Rattle.relay_calling.specs.Calling.{CallerRecord, newcomer}
 use Rattle.relay_calling.specs.Coming.{comes}
 use Rattle.relay_calling.specs.Crowd.{CrowdRecord, Turns, deeds_of}
@@ -44,11 +46,6 @@ pub record IsLedTo (s : ServiceRecord) : Type 0 where
   pub yet : (i : ℕ) → s.next ≤ i → callers i ≡ newcomer i s.takes_keys
   pub unused : (i : ℕ) → s.next ≤ i → deeds_of i s.turns ≡ []
 
--- how many of each key are there after events
-abbrev pub counts_after : (List ℕ → ℕ) → List HallEvent → List ℕ → ℕ
-counts_after count [] = count
-counts_after count (e ∷ es) = counts_after (count_after count e) es
-
 -- how many of those that are here have this key
 abbrev pub count_of : List ℕ → List (ℕ × List ℕ) → ℕ
 count_of q [] = 0
@@ -60,13 +57,22 @@ pub record IsSeated (events : List HallEvent) (here : List (ℕ × List ℕ)) (i
   pub alive : has_gone i events ≡ false
   pub listed : (key : List ℕ) → who.key ≡ Some key → lookup (nat_eq i) here ≡ Some key
 
--- a connection names a key by its request alone
+-- a connection names a key by its request alone, and opens no board before
 abbrev pub NamesNone : CallerRecord → Type 0
-NamesNone c = comes c.stage ≡ true → c.who.key ≡ None
+NamesNone c = comes c.stage ≡ true → (c.who.key ≡ None) × (c.boards ≡ [])
 
 abbrev pub NamesNoneYet : Connection → Type 0
 NamesNoneYet (Operator c here) = NamesNone c
 NamesNoneYet (HandedOver who) = Unit {0}
+
+-- each board that this one has opened is there, and belongs to it
+abbrev pub AreOpened : FloorRecord → Owner → List (List ℕ) → Type 0
+AreOpened f who opened = (name : List ℕ) → is_among name opened ≡ true → (b : HallBoard) × (lookup (same_name name) f.boards ≡ Some b) × (b.owner ≡ who)
+
+abbrev pub OwnsOpened : FloorRecord → Connection → Type 0
+OwnsOpened f (Operator c true) = AreOpened f c.who c.boards
+OwnsOpened f (Operator c false) = Unit {0}
+OwnsOpened f (HandedOver who) = Unit {0}
 
 pub record IsOrdered (s : ServiceRecord) : Type 0 where
   pub book : IsOrderlyService s
@@ -76,6 +82,7 @@ pub record IsOrdered (s : ServiceRecord) : Type 0 where
   pub counted : (q : List ℕ) → counts_after (λ key. 0) book.events q ≡ count_of q here
   pub seated : (i : ℕ) (who : Owner) → owner_at s i ≡ Some who → IsSeated book.events here i who
   pub coming : (i : ℕ) (c : Connection) → connection_at s i ≡ Some c → NamesNoneYet c
+  pub opened : (i : ℕ) (c : Connection) → connection_at s i ≡ Some c → OwnsOpened s.hall.floor c
 
 pub record IsService (a : Inside) : Type 0 where
   pub led : IsLedTo (service_of a)

@@ -2,4 +2,5 @@ pub mod Calls
 pub mod Inner
 pub mod Noting
 pub mod Record
+pub mod Rights
 pub mod Runs

@@ -6,11 +6,11 @@ ghost use Rattle.c960_game.specs.Game960.{Game960};
 ghost use Rattle.relay_core.specs.Name.{same_name};
 ghost use Rattle.relay_hall.specs.Holders.{presence_of};
 ghost use Rattle.relay_hall.specs.Record.{HallBoard};
-ghost use Rattle.relay_hall.specs.Runs.{IsInTime};
+ghost use Rattle.relay_hall.specs.Runs.{IsInTime, present};
 ghost use Rattle.relay_calling.specs.Crowd.{deeds_of};
 ghost use Rattle.relay_service.specs.Calls.{Replaces};
 ghost use Rattle.relay_service.specs.Record.{begun, caller_at, opened, operator_at, owner_at};
-ghost use Rattle.relay_service.specs.Runs.{IsOrderlyService, has_left};
+ghost use Rattle.relay_service.specs.Runs.{IsOrderlyService, has_left, holders_after};
 
 mod answering;
 mod leaving;
@@ -164,7 +164,8 @@ impl Service {
     }
 
     /// The hall, to be looked at. It is what the turns so far make of an empty hall, in an orderly run: so each of its games is legal, and
-    /// one that goes on has somebody.
+    /// one that goes on has somebody: its opener has not gone, or its key is held or in time. As many hold a key as came with it by the
+    /// turns and have not gone.
     pub fn hall(&self) -> &Hall
         ensures hall { result.now ≡ self.now.hall }
         ensures run { IsOrderlyService self.now }
@@ -173,6 +174,7 @@ impl Service {
             → b.owner.key ≡ None → b.game.outcome ≡ None → has_left b.owner.opener self.now.turns ≡ false }
         ensures held { (name : List ℕ) (b : HallBoard) → lookup (same_name name) self.now.hall.floor.boards ≡ Some b → (key : List ℕ) → b.owner.key ≡ Some key
             → b.game.outcome ≡ None → IsInTime self.now.hall.time self.now.hall.shut (presence_of key self.now.hall.keys) }
+        ensures counted { (key : List ℕ) → present (presence_of key self.now.hall.keys) ≡ holders_after (λ q. 0) self.now.turns key }
     {
         whatever_happens();
         &self.hall

@@ -7,4 +7,4 @@ use Rattle.relay_service.proofs.service.Service.tick.Goals as goal
 pub invariant_of-self : goal.invariant_of-self
 invariant_of-self c =
     keeps _ (kept_by_pass (service_of c.self.inside) (Time c.args.millis) _ (kept c.self.inside c.self.invariant) (search rules)
-    (λ w. refl) (λ w. refl) (λ count q. refl) (λ count. tt))
+    (λ w. refl) (λ w. refl) (λ count q. refl) (λ count. tt) tt)
