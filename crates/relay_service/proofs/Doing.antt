@@ -2,21 +2,24 @@
 use Rattle.std.proofs.Common.{◌≡◌, ℕ, List, Bool, true, false, true≢false, is_some, Option, Some, None, Result, Ok, Err, IfOk, OnErr, refl, sym, ap, ◌∙◌, subst}
 use Rattle.std.specs.Prelude.{MatchOption}
 use Rattle.std.specs.declared.alloc.AllocError.{AllocError}
+use Rattle.std.proofs.lemmas.Option.{none-some}
 use Rattle.relay_hall.specs.declared.handed.Handed.{Handed}
 use Rattle.relay_hall.specs.Record.{HallRecord}
 use Rattle.relay_hall.specs.Runs.{HallEvent}
 use Rattle.relay_calling.specs.Calling.{CallerRecord}
 use Rattle.relay_calling.specs.Crowd.{LeadsHall, happens}
 use Rattle.relay_calling.specs.Running.{Deed, Moment, came, failed, heeded}
+use Rattle.relay_following.specs.Record.{ConnectionRecord}
 use Rattle.relay_service.specs.declared.connection.Connection.{Connection}
-use Rattle.relay_service.specs.declared.connection.Connection.TheVariants.{Operator, HandedOver}
+use Rattle.relay_service.specs.declared.connection.Connection.TheVariants.{Operator, Follower}
 use Rattle.relay_service.specs.declared.turn.NewDeed.{NewDeed}
 use Rattle.relay_service.specs.declared.turn.NewDeed.TheVariants.{Answered, Failed}
 use Rattle.relay_service.specs.declared.turn.Moments.{Moments}
-use Rattle.relay_service.specs.Calls.{AnswersTo, DoesTo, FailsTo, FeedsTo, IfPresent, arrival}
+use Rattle.relay_service.specs.Calls.{AnswersTo, DoesTo, FailsTo, FeedsTo, ForEach, IfPresent, arrival}
 use Rattle.relay_service.specs.Noting.{deed_of, moment_of}
-use Rattle.relay_service.specs.Record.{ServiceRecord, caller_at, caller_in, connection_at}
+use Rattle.relay_service.specs.Record.{ServiceRecord, caller_at, caller_in, connection_at, follower_in}
 use Rattle.relay_service.specs.Runs.{MadeBy, OneOrNoneOf}
+use Rattle.relay_service.proofs.Becoming.{handed_of}
 use Rattle.relay_service.proofs.Owners.{IsNoIntake}
 use Rattle.relay_service.proofs.Rights.{IsOneRightStep, fails_right, heeds_right}
 
@@ -33,10 +36,30 @@ match_some (Some x) N R is r = r
 pub at_present : (b : Connection) (P : CallerRecord → Type 0) → is_some (caller_in (Some b)) ≡ true → IfPresent b P → (c : CallerRecord) × (b ≡ Operator c true) × P c
 at_present (Operator c true) P is p = (c, refl, p)
 at_present (Operator c false) P is p = absurd (true≢false (sym is))
-at_present (HandedOver who) P is p = absurd (true≢false (sym is))
+at_present (Follower f who here) P is p = absurd (true≢false (sym is))
 
 pub present_there : (s : ServiceRecord) (number : ℕ) (b : Connection) → connection_at s number ≡ Some b → is_some (caller_at s number) ≡ true → is_some (caller_in (Some b)) ≡ true
 present_there s number b there present = sym (ap (λ (o : Option Connection). is_some (caller_in o)) there) ∙ present
+
+-- ---- Which kind it is.
+
+pub for_follower : (o : Option Connection) (N R : Type 0) (O : CallerRecord → Type 0) → is_some (follower_in o) ≡ true → R → ForEach o N O (λ f. R)
+for_follower None N R O is r = absurd (true≢false (sym is))
+for_follower (Some (Operator c true)) N R O is r = absurd (true≢false (sym is))
+for_follower (Some (Operator c false)) N R O is r = absurd (true≢false (sym is))
+for_follower (Some (Follower f who here)) N R O is r = r
+
+pub for_operator : (o : Option Connection) (N R : Type 0) (F : ConnectionRecord → Type 0) → is_some (caller_in o) ≡ true → R → ForEach o N (λ c. R) F
+for_operator None N R F is r = absurd (true≢false (sym is))
+for_operator (Some (Operator c true)) N R F is r = r
+for_operator (Some (Operator c false)) N R F is r = absurd (true≢false (sym is))
+for_operator (Some (Follower f who here)) N R F is r = absurd (true≢false (sym is))
+
+pub for_nobody : (o : Option Connection) (N : Type 0) (O : CallerRecord → Type 0) (F : ConnectionRecord → Type 0) → is_some (follower_in o) ≡ false → is_some (caller_in o) ≡ false → N → ForEach o N O F
+for_nobody None N O F follows present n = n
+for_nobody (Some (Operator c true)) N O F follows present n = absurd (true≢false present)
+for_nobody (Some (Operator c false)) N O F follows present n = n
+for_nobody (Some (Follower f who here)) N O F follows present n = absurd (true≢false follows)
 
 -- ---- What is received.
 
@@ -66,6 +89,7 @@ pub record IsNoted (i : ℕ) (before : Connection) (n : Moment) (after : Connect
   pub hall : LeadsHall n.before x n.after
   pub right : IsOneRightStep n.before does.caller.who does.caller.boards n.handed n.after does.then.boards
   pub quiet : IsNoIntake x
+  pub hands : (h : Handed) → handed_of x ≡ Some h → n.handed ≡ Some h
   pub makes : (events rest : List HallEvent) → OneOrNoneOf i events rest → MadeBy (happens i x) events rest
 
 pub answering_does : (i : ℕ) (answered : Result Bool AllocError) (r : NewDeed) (m : Moments) (before after : Connection) (n : Moment) → moment_of m ≡ n → is_some (caller_in (Some before)) ≡ true
@@ -80,6 +104,7 @@ answering_does i (Ok some) r m before after n is present ok err noted not =
       hall = (refl, refl);
       right = heeds_right some p.0 n.before n.handed n.after p.2.0 p.2.1;
       quiet = tt;
+      hands = λ h is. is;
       makes = λ events rest one. one;
     })
 answering_does i (Err e) r m before after n is present ok err noted not =
@@ -90,5 +115,6 @@ answering_does i (Err e) r m before after n is present ok err noted not =
       hall = (refl, refl);
       right = fails_right p.0 n.before n.handed n.after p.2.0 p.2.1;
       quiet = tt;
+      hands = λ h is. absurd (none-some h is);
       makes = λ events rest one. one;
     })

@@ -8,10 +8,14 @@ use Rattle.relay_calling.specs.Calling.{CallerRecord, newcomer}
 use Rattle.relay_calling.specs.Crowd.{CrowdRecord, IsTaken, OthersStay, Turn, Turns, deeds_of, happens, passes}
 use Rattle.relay_calling.specs.Running.{Deed, IsDone, IsServed}
 use Rattle.relay_service.specs.declared.connection.Connection.{Connection}
-use Rattle.relay_service.specs.declared.connection.Connection.TheVariants.{Operator, HandedOver}
+use Rattle.relay_service.specs.declared.connection.Connection.TheVariants.{Operator, Follower}
+use Rattle.relay_following.proofs.lemmas.Shown.{shown}
+use Rattle.relay_following.specs.Record.{ConnectionRecord}
+use Rattle.relay_following.specs.Served.{IsServed as IsDelivered}
 use Rattle.relay_service.specs.Calls.{Does, IsServedAt, IsServedIn, Passes, Replaces}
-use Rattle.relay_service.specs.Inner.{IsCallerOf, IsLedTo, beginning}
-use Rattle.relay_service.specs.Record.{ServiceRecord, begun, connection_at, operator_in}
+use Rattle.relay_service.specs.Inner.{AreJoined, IsCallerOf, IsLedTo, beginning}
+use Rattle.relay_service.specs.Record.{ServiceRecord, begun, connection_at, follower_at, follower_in}
+use Rattle.relay_service.proofs.Becoming.{caller_becomes}
 use Rattle.relay_service.proofs.Connections.{each_after, same_number, unlike}
 
 -- ---- One turn more.
@@ -58,7 +62,9 @@ led_on s number x t l d =
     let own : l.callers number ≡ d.does.caller = subst (IsCallerOf (l.callers number)) d.does.was (l.there number d.before d.there) in
     let was : IsDone (l.callers number) x d.does.then = subst (λ (c : CallerRecord). IsDone c x d.does.then) (sym own) d.does.done in
     let done : IsDone (l.callers number) x (g number) = subst (λ (c : CallerRecord). IsDone (l.callers number) x c) (sym mine) was in
-    let new : IsCallerOf (g number) d.after = subst (IsCallerOf (g number)) (sym d.does.is) mine in
+    let is_so : IsCallerOf d.does.then d.after =
+    subst (IsCallerOf d.does.then) (sym d.does.is) (caller_becomes d.does.caller x d.does.then d.does.is_present d.does.done) in
+    let new : IsCallerOf (g number) d.after = subst (λ (e : CallerRecord). IsCallerOf e d.after) (sym mine) is_so in
     let others : OthersStay number l.callers g = theirs in
     let is : IsLedTo u = record {
       callers = g;
@@ -126,15 +132,27 @@ led_without s number connections l gone = led_with s number None connections l g
 
 -- ---- What each is sent.
 
-pub served_at : (s : ServiceRecord) (number : ℕ) → IsLedTo s
+pub no_follower : (o : Option ConnectionRecord) → o ≡ None → (f : ConnectionRecord) → o ≡ Some f → IsDelivered f.delivery
+no_follower o none f is = absurd (none-some f (sym none ∙ is))
+
+pub one_follower : (o : Option ConnectionRecord) (g : ConnectionRecord) → o ≡ Some g → IsDelivered g.delivery → (f : ConnectionRecord) → o ≡ Some f → IsDelivered f.delivery
+one_follower o g is delivered f at = subst (λ (h : ConnectionRecord). IsDelivered h.delivery) (same_Some _ _ (sym is ∙ at)) delivered
+
+pub served_at : (s : ServiceRecord) (number : ℕ) → IsLedTo s → AreJoined s
     → ((f : CrowdRecord) (turns : List Turn) (g : CrowdRecord) → Turns f turns g → (i : ℕ) (opener : ℕ) (takes_keys : Bool) → f.callers i ≡ newcomer opener takes_keys
     → IsServed opener takes_keys (deeds_of i turns) (g.callers i))
+    → ((f : ConnectionRecord) → follower_at s number ≡ Some f → IsDelivered f.delivery)
     → IsServedAt s number
-served_at s number l law = by (connection_at s number) refl
+served_at s number l joined law delivered = by (connection_at s number) refl
   where
-    by : (o : Option Connection) → connection_at s number ≡ o → IsServedIn s.takes_keys s.turns number (operator_in o)
+    served : IsServed number s.takes_keys (deeds_of number s.turns) (l.callers number)
+    served = law (beginning s.limits s.grace s.takes_keys) s.turns (record { hall = s.hall; callers = l.callers }) l.run number number s.takes_keys refl
+
+    by : (o : Option Connection) → connection_at s number ≡ o → IsServedIn s number o
     by None at = tt
-    by (Some (HandedOver who)) at = tt
+    by (Some (Follower f who here)) at =
+        let t = l.there number (Follower f who here) at in
+        (record { caller = l.callers number; served = served; handed = t.1; due = t.2 },
+        shown s.hall.floor f.delivery (delivered f (ap follower_in at)) (joined number (Follower f who here) at))
     by (Some (Operator c here)) at =
-        subst (λ (d : CallerRecord). IsServed number s.takes_keys (deeds_of number s.turns) d) (l.there number (Operator c here) at)
-        (law (beginning s.limits s.grace s.takes_keys) s.turns (record { hall = s.hall; callers = l.callers }) l.run number number s.takes_keys refl)
+        subst (λ (d : CallerRecord). IsServed number s.takes_keys (deeds_of number s.turns) d) (l.there number (Operator c here) at) served

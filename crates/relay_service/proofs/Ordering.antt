@@ -20,12 +20,13 @@ use Rattle.relay_calling.specs.Calling.{CallerRecord}
 use Rattle.relay_calling.specs.Crowd.{Turn, happens, passes}
 use Rattle.relay_calling.specs.Running.{Deed, came}
 use Rattle.relay_service.specs.declared.connection.Connection.{Connection}
-use Rattle.relay_service.specs.declared.connection.Connection.TheVariants.{Operator, HandedOver}
+use Rattle.relay_service.specs.declared.connection.Connection.TheVariants.{Operator, Follower}
 use Rattle.relay_service.specs.Calls.{Departs, Does, Passes, Replaces, arrival}
 use Rattle.relay_service.specs.Inner.{AreOpened, IsOrdered, IsSeated, OwnsOpened, NamesNone, NamesNoneYet, count_of}
 use Rattle.relay_service.specs.Record.{ServiceRecord, begun, connection_at, connection_in, opened, owner_at, owner_in}
 use Rattle.relay_service.specs.Rights.{IsRightful}
 use Rattle.relay_service.specs.Runs.{AreMadeBy, IsOrderlyRun, MadeBy}
+use Rattle.relay_service.proofs.Becoming.{names_becomes, opened_becomes, owner_becomes}
 use Rattle.relay_service.proofs.Connections.{each_after, each_owner, other_way, owners_stay, same_number, unlike}
 use Rattle.relay_service.proofs.Events.{counts_then, made_then, not_gone_then, orderly_then, say_then}
 use Rattle.relay_service.proofs.Here.{is_here, one_less, others_here}
@@ -147,7 +148,8 @@ names_after : (s : ServiceRecord) (number : ℕ) (x : Deed) (t : ServiceRecord) 
     → (i : ℕ) (c : Connection) → connection_at t i ≡ Some c → NamesNoneYet c
 names_after s number x t o d =
     each_after (λ i c. NamesNoneYet c) number (Some d.after) s.connections t.connections d.connections
-    (λ c is. subst NamesNoneYet (sym d.does.is ∙ same_Some _ _ is) (still_none d.does.caller x d.does.then (names_before s number x t o d) d.does.done))
+    (λ c is. subst NamesNoneYet (sym d.does.is ∙ same_Some _ _ is)
+    (names_becomes x d.does.then d.does.is_present (still_none d.does.caller x d.does.then (names_before s number x t o d) d.does.done)))
     (λ i c other at. o.coming i c at)
 
 -- who is in the hall then, if no connection comes to it
@@ -156,6 +158,7 @@ owners_after : (s : ServiceRecord) (number : ℕ) (x : Deed) (t : ServiceRecord)
 owners_after s number x t o d none =
     owners_stay number (Some d.after) s.connections t.connections d.connections
     (ap (λ (c : Connection). owner_in (Some c)) d.does.is
+    ∙ owner_becomes x d.does.then d.does.is_present
     ∙ (ap (λ (w : Owner). cond d.does.is_present (Some w) None) (same_owner d.does.caller x d.does.then (names_before s number x t o d) d.does.done none)
     ∙ (sym (ap (λ (c : Connection). owner_in (Some c)) d.does.was) ∙ sym (ap owner_in d.there))))
 
@@ -163,7 +166,7 @@ owners_after s number x t o d none =
 grown_opened : (f g : FloorRecord) (c : Connection) → BoardsStay f g → OwnsOpened f c → OwnsOpened g c
 grown_opened f g (Operator c true) stay are = opened_still f g c.who c.boards stay are
 grown_opened f g (Operator c false) stay are = tt
-grown_opened f g (HandedOver who) stay are = tt
+grown_opened f g (Follower h who here) stay are = tt
 
 one_opened : (f g : FloorRecord) (before : Connection) (c d : CallerRecord) (here : Bool) → before ≡ Operator c here → (AreOpened f c.who c.boards → AreOpened g d.who d.boards) → OwnsOpened f before
     → OwnsOpened g (Operator d here)
@@ -176,8 +179,8 @@ opened_after : (s : ServiceRecord) (number : ℕ) (x : Deed) (t : ServiceRecord)
     → (i : ℕ) (c : Connection) → connection_at t i ≡ Some c → OwnsOpened t.hall.floor c
 opened_after s number x t o d stay own =
     each_after (λ i c. OwnsOpened t.hall.floor c) number (Some d.after) s.connections t.connections d.connections
-    (λ c is. subst (OwnsOpened t.hall.floor) (sym d.does.is ∙ same_Some _ _ is)
-    (one_opened s.hall.floor t.hall.floor d.before d.does.caller d.does.then d.does.is_present d.does.was own (o.opened number d.before d.there)))
+    (λ c is. subst (OwnsOpened t.hall.floor) (sym d.does.is ∙ same_Some _ _ is) (opened_becomes t.hall.floor x d.does.then d.does.is_present
+    (one_opened s.hall.floor t.hall.floor d.before d.does.caller d.does.then d.does.is_present d.does.was own (o.opened number d.before d.there))))
     (λ i c other at. grown_opened s.hall.floor t.hall.floor c stay (o.opened i c at))
 
 floor_same : (k l : HallRecord) → l ≡ k → BoardsStay k.floor l.floor
@@ -273,14 +276,16 @@ ordered_by_arrival s number bytes mid key t o d present arrives p =
   where
     mine : (who : Owner) → owner_in (Some d.after) ≡ Some who → d.does.then.who ≡ who
     mine who is =
-        same_Some _ _ (sym (ap (λ (c : Connection). owner_in (Some c)) d.does.is ∙ ap (λ (b : Bool). cond b (Some d.does.then.who) None) present) ∙ is)
+        same_Some _ _
+        (sym (ap (λ (c : Connection). owner_in (Some c)) d.does.is ∙ owner_becomes (came bytes) d.does.then d.does.is_present
+        ∙ ap (λ (b : Bool). cond b (Some d.does.then.who) None) present) ∙ is)
 
 -- ---- Going from it.
 
 absent_opened : (f : FloorRecord) (c : Connection) → owner_in (Some c) ≡ None → OwnsOpened f c
 absent_opened f (Operator c true) nobody = absurd (none-some c.who (sym nobody))
 absent_opened f (Operator c false) nobody = tt
-absent_opened f (HandedOver who) nobody = tt
+absent_opened f (Follower h who here) nobody = tt
 
 departing_with : (s : ServiceRecord) (number : ℕ) (who : Owner) (c : Option Connection) (t : ServiceRecord) (o : IsOrdered s) → number < s.next → Departs s number who c t
     → owner_in c ≡ None → ((d : Connection) → c ≡ Some d → NamesNoneYet d) → (now : List (ℕ × List ℕ))

@@ -1,5 +1,5 @@
 -- Whoever moves or ends a board owns it: a step is made only if its connection may make it.
-use Rattle.std.proofs.Common.{◌≡◌, ◌⊎◌, ◌||◌, ℕ, Bool, true, false, true≢false, cond, List, [], ◌∷◌, ◌++◌, append-nil, Option, None, Some, option_map, Result, Ok, Err, inl, inr, refl, sym, ap, ◌∙◌, subst}
+use Rattle.std.proofs.Common.{◌≡◌, ◌⊎◌, ◌||◌, ℕ, Bool, true, false, true≢false, cond, List, [], ◌∷◌, ◌++◌, append-nil, length, is_some, Option, None, Some, option_map, Result, Ok, Err, inl, inr, refl, sym, ap, ◌∙◌, subst}
 use Rattle.std.proofs.lemmas.Option.{none-some}
 use Rattle.std.specs.Map.{lookup}
 use Rattle.c960_game.specs.declared.refusal.Refusal.{Refusal}
@@ -21,7 +21,7 @@ use Rattle.relay_hall.specs.declared.handed.Handed.{Handed}
 use Rattle.relay_hall.specs.declared.owner.Owner.{Owner}
 use Rattle.relay_hall.specs.Meeting.{BoardsStay}
 use Rattle.relay_hall.specs.Record.{FloorRecord, HallBoard, HallRecord, games_of, nobody_yet}
-use Rattle.relay_hall.specs.Runs.{HallEvent, HallRuns, HallStep, HallTold, Replied, Says, history_after}
+use Rattle.relay_hall.specs.Runs.{HallEvent, HallRuns, HallStep, HallTold, IsOneStep, Replied, Says, history_after}
 use Rattle.relay_hall.specs.Steps.{Makes, OpensAs, answer_to_open, is_owned, new_board, tells_of}
 use Rattle.relay_hall.specs.Talk.{IsAnsweredBy, IsUnansweredBy, IsUnmade, IsUnread, SaidAnswered, StepReplied, may_make}
 use Rattle.relay_hall.proofs.lemmas.Staying.{made_stay}
@@ -58,6 +58,11 @@ abbrev pub IsOneRightStep : HallRecord → Owner → List (List ℕ) → Option 
 IsOneRightStep k who opened handed l now =
     ((step : Step) × (reply : Reply) × HallStep k (Says who step) (Replied reply handed) l × (may_make k.floor who opened step ≡ true) × (now ≡ opened_after opened step reply))
     ⊎ ((l ≡ k) × (handed ≡ None) × (now ≡ opened))
+
+-- which is one step or none
+pub one_step : (k : HallRecord) (who : Owner) (opened : List (List ℕ)) (handed : Option Handed) (l : HallRecord) (now : List (List ℕ)) → IsOneRightStep k who opened handed l now → IsOneStep k who handed l
+one_step k who opened handed l now (inl (step, reply, made, may, now-is)) = inl (step, reply, made)
+one_step k who opened handed l now (inr (same, none, now-is)) = inr (same, none)
 
 module _ (k l : HallRecord) (rest : l ≡ record k { floor = l.floor }) (who : Owner) (opened : List (List ℕ)) (handed : Option Handed) (now : List (List ℕ)) where
   unmade : IsUnmade k.floor opened handed l.floor now → IsOneRightStep k who opened handed l now
@@ -130,11 +135,12 @@ among_then q [] name is = inr (by (same_name name q) is)
     by : (b : Bool) → (b || false) ≡ true → b ≡ true
     by true h = refl
     by false h = h
-among_then q (x ∷ xs) name is = by (same_name x q) is
+among_then q (x ∷ xs) name is = by (same_name x q) is (λ h. among_then q xs name h)
   where
-    by : (b : Bool) → (b || is_among q (xs ++ name ∷ [])) ≡ true → ((b || is_among q xs) ≡ true) ⊎ (same_name name q ≡ true)
-    by true h = inl refl
-    by false h = among_then q xs name h
+    by : (b : Bool) → (b || is_among q (xs ++ name ∷ [])) ≡ true → (is_among q (xs ++ name ∷ []) ≡ true → (is_among q xs ≡ true) ⊎ (same_name name q ≡ true))
+        → ((b || is_among q xs) ≡ true) ⊎ (same_name name q ≡ true)
+    by true h rest = inl refl
+    by false h rest = rest h
 
 none_there : (f : FloorRecord) (name : List ℕ) → lookup (same_name name) (games_of f) ≡ None → lookup (same_name name) f.boards ≡ None
 none_there f name none = by (lookup (same_name name) f.boards) (sym (lookup-map (same_name name) (λ (b : HallBoard). b.game) f.boards) ∙ none)
@@ -162,7 +168,7 @@ opened_own f g who name start opened (Ok u) reply is (inl (table, reply-is, g-is
     subst (AreOpened g who) (sym (ap (opened_after opened (Open name start)) reply-is)) all
   where
     free : lookup (same_name name) (games_of f) ≡ None
-    free = nothing (lookup (same_name name) (games_of f)) (opened_where _ _ _ _ u is).0
+    free = nothing (lookup (same_name name) (games_of f)) (opened_where (is_some (lookup (same_name name) (games_of f))) start (length (games_of f)) f.limits.boards u is).0
 
     new : HallBoard
     new = new_board f table who start

@@ -11,8 +11,10 @@ use Rattle.relay_hall.specs.Runs.{HallEvent, counts_after, has_gone}
 use Rattle.relay_calling.specs.Calling.{CallerRecord, newcomer}
 use Rattle.relay_calling.specs.Coming.{comes}
 use Rattle.relay_calling.specs.Crowd.{CrowdRecord, Turns, deeds_of}
+use Rattle.relay_calling.specs.declared.stage.Stage.TheVariants.{HandsOver}
+use Rattle.relay_following.specs.Boards.{IsIn}
 use Rattle.relay_service.specs.declared.connection.Connection.{Connection}
-use Rattle.relay_service.specs.declared.connection.Connection.TheVariants.{Operator, HandedOver}
+use Rattle.relay_service.specs.declared.connection.Connection.TheVariants.{Operator, Follower}
 use Rattle.relay_service.specs.declared.service.Service.TheInside.{Inside}
 use Rattle.relay_service.specs.Record.{ServiceRecord, connection_at, owner_at}
 use Rattle.relay_service.specs.Runs.{IsOrderlyService}
@@ -23,6 +25,7 @@ service_of a = record {
   connections = a.connections.entries;
   next = a.next;
   takes_keys = a.takes_keys;
+  is_ending = a.is_ending;
   limits = a.limits.value;
   grace = a.grace.value;
   turns = a.turns.items;
@@ -32,10 +35,10 @@ service_of a = record {
 abbrev pub beginning : LimitNumbers → ℕ → Bool → CrowdRecord
 beginning limits grace takes_keys = record { hall = nobody_yet limits grace; callers = λ i. newcomer i takes_keys }
 
--- this is the caller of the connection, or the one that was handed over
+-- this is the caller of the connection; or the one that it was when it was handed out what it follows, to which its opening was due
 abbrev pub IsCallerOf : CallerRecord → Connection → Type 0
 IsCallerOf d (Operator c here) = d ≡ c
-IsCallerOf d (HandedOver who) = d.who ≡ who
+IsCallerOf d (Follower f who here) = (d.who ≡ who) × (d.stage ≡ HandsOver) × (d.due ≡ f.delivery.opening)
 
 -- The turns lead from an empty hall and newcomers to this hall and these connections; numbers from the next on were never used.
 pub record IsLedTo (s : ServiceRecord) : Type 0 where
@@ -63,7 +66,7 @@ NamesNone c = comes c.stage ≡ true → (c.who.key ≡ None) × (c.boards ≡ [
 
 abbrev pub NamesNoneYet : Connection → Type 0
 NamesNoneYet (Operator c here) = NamesNone c
-NamesNoneYet (HandedOver who) = Unit {0}
+NamesNoneYet (Follower f who here) = Unit {0}
 
 -- each board that this one has opened is there, and belongs to it
 abbrev pub AreOpened : FloorRecord → Owner → List (List ℕ) → Type 0
@@ -72,7 +75,7 @@ AreOpened f who opened = (name : List ℕ) → is_among name opened ≡ true →
 abbrev pub OwnsOpened : FloorRecord → Connection → Type 0
 OwnsOpened f (Operator c true) = AreOpened f c.who c.boards
 OwnsOpened f (Operator c false) = Unit {0}
-OwnsOpened f (HandedOver who) = Unit {0}
+OwnsOpened f (Follower g who here) = Unit {0}
 
 pub record IsOrdered (s : ServiceRecord) : Type 0 where
   pub book : IsOrderlyService s
@@ -84,6 +87,15 @@ pub record IsOrdered (s : ServiceRecord) : Type 0 where
   pub coming : (i : ℕ) (c : Connection) → connection_at s i ≡ Some c → NamesNoneYet c
   pub opened : (i : ℕ) (c : Connection) → connection_at s i ≡ Some c → OwnsOpened s.hall.floor c
 
+-- one that follows does so in this hall
+abbrev pub IsJoined : FloorRecord → Connection → Type 0
+IsJoined f (Operator c here) = Unit {0}
+IsJoined f (Follower g who here) = IsIn f g.delivery
+
+abbrev pub AreJoined : ServiceRecord → Type 0
+AreJoined s = (i : ℕ) (c : Connection) → connection_at s i ≡ Some c → IsJoined s.hall.floor c
+
 pub record IsService (a : Inside) : Type 0 where
   pub led : IsLedTo (service_of a)
   pub ordered : IsOrdered (service_of a)
+  pub joined : AreJoined (service_of a)

@@ -1,5 +1,6 @@
 pub mod Calls
 pub mod Inner
+pub mod Looking
 pub mod Noting
 pub mod Record
 pub mod Rights

@@ -2,34 +2,70 @@
 
 ghost use Rattle.std.specs.Prelude.{◌≡◌, Some, IfOk, OnErr, false, is_some, option_map, take, true};
 ghost use Rattle.relay_calling.specs.Calling.{after_write, asks, pinged, sent_away};
-ghost use Rattle.relay_service.specs.declared.connection.Connection.TheVariants.{Operator};
-ghost use Rattle.relay_service.specs.Calls.{AnswersTo, FailsTo, FeedsTo, IfOperator, IfPresent, arrival_at, following_in};
-ghost use Rattle.relay_service.specs.Record.{caller_in, opened, operator_in, owner_in};
+ghost use Rattle.relay_service.specs.declared.connection.Connection.TheVariants.{Operator, Follower};
+ghost use Rattle.relay_following.specs.Served.{IsOpening};
+ghost use Rattle.relay_service.specs.Calls.{AnswersTo, FailsTo, FeedsTo, HeedsTo, IfOperator, IfPresent, LeftAs, arrival_at, heard_as, taken_up};
+ghost use Rattle.relay_service.specs.Looking.{is_full_in, is_midway_in, stage_of, stage_of_caller, stage_of_follower, was_cut_in};
+ghost use Rattle.relay_service.specs.Record.{caller_in, follower_in, opened, operator_in, owner_in};
 
 use crate::bytes::Bytes;
-use relay_calling::{Caller, Stage};
+use crate::stage::Stage;
+use relay_calling::laws::what_is_handed_over_was_told;
+use relay_calling::{Caller, Stage as CallerStage};
+use relay_following::{FollowerConnection, Stage as FollowerStage};
 use relay_frames::Code;
 use relay_hall::{Hall, Handed, Key, Owner};
 use std::alloc::{AllocError, Global};
+use std::mem;
+use std::snapshot::Snapshot;
 
 /// A connection of a service.
 #[derive(Drop)]
 pub enum Connection {
     /// An operator's, whose bytes are answered by the hall. Once it is not present there any more it says nothing, and is sent what is due.
     Operator { caller: Caller, is_present: bool },
-    /// One that follows a board, and was handed over to whoever serves it. It is present until it is disconnected.
-    HandedOver(Owner),
+    /// One that follows a board. It is present in the hall as who it was when it asked.
+    Follower {
+        connection: FollowerConnection,
+        who: Owner,
+        is_present: bool,
+    },
 }
 
 /// The key with which a connection comes to the hall that was at this stage before: the one that its request named, if that was accepted
 /// now.
-fn arrival(was: Stage, caller: &Caller) -> Option<Key>
+fn arrival(was: CallerStage, caller: &Caller) -> Option<Key>
     ensures { result ≡ arrival_at was caller.now }
 {
-    if was == Stage::Comes && caller.stage() == Stage::Asks {
+    if was == CallerStage::Comes && caller.stage() == CallerStage::Asks {
         caller.owner().key
     } else {
         None
+    }
+}
+
+/// What an operator's connection does that is present in the hall.
+fn stage_of_caller(stage: CallerStage) -> Stage
+    ensures { result ≡ stage_of_caller stage }
+{
+    match stage {
+        CallerStage::Comes => Stage::Comes,
+        CallerStage::Asks => Stage::Asks,
+        CallerStage::HandsOver => Stage::Follows,
+        CallerStage::Leaves => Stage::Leaves,
+    }
+}
+
+/// What a connection does that follows, or did.
+fn stage_of_follower(stage: FollowerStage) -> Stage
+    ensures { result ≡ stage_of_follower stage }
+{
+    match stage {
+        FollowerStage::Follows => Stage::Follows,
+        FollowerStage::Over(_)
+        | FollowerStage::Cut
+        | FollowerStage::Left
+        | FollowerStage::Failed => Stage::Leaves,
     }
 }
 
@@ -59,7 +95,17 @@ impl Connection {
     {
         match self {
             Connection::Operator { caller, .. } => Some(caller),
-            Connection::HandedOver(_) => None,
+            Connection::Follower { .. } => None,
+        }
+    }
+
+    /// The connection of one that follows.
+    pub(crate) fn follower(&self) -> Option<&FollowerConnection>
+        ensures { option_map (λ f. f.now) result ≡ follower_in (Some self.now) }
+    {
+        match self {
+            Connection::Operator { .. } => None,
+            Connection::Follower { connection, .. } => Some(connection),
         }
     }
 
@@ -69,7 +115,7 @@ impl Connection {
     {
         match self {
             Connection::Operator { is_present, .. } => *is_present,
-            Connection::HandedOver(_) => false,
+            Connection::Follower { .. } => false,
         }
     }
 
@@ -79,19 +125,55 @@ impl Connection {
     {
         match self {
             Connection::Operator { caller, is_present } if *is_present => Some(*caller.owner()),
-            Connection::Operator { .. } => None,
-            Connection::HandedOver(owner) => Some(*owner),
+            Connection::Follower {
+                who, is_present, ..
+            } if *is_present => Some(*who),
+            _ => None,
         }
     }
 
-    /// Who it is, if it is present and follows what it was handed out.
-    pub(crate) fn follower(&self) -> Option<Owner>
-        ensures { result ≡ option_map (λ c. c.who) (following_in (caller_in (Some self.now))) }
+    /// What it does.
+    pub(crate) fn stage(&self) -> Stage
+        ensures { result ≡ stage_of self.now }
     {
         match self {
-            Connection::Operator { caller, is_present }
-                if *is_present && caller.stage() == Stage::HandsOver => { Some(*caller.owner()) }
-            _ => None,
+            Connection::Operator { caller, is_present } if *is_present => {
+                stage_of_caller(caller.stage())
+            }
+            Connection::Operator { .. } => Stage::Leaves,
+            Connection::Follower { connection, .. } => stage_of_follower(connection.stage()),
+        }
+    }
+
+    /// Whether it was cut off from the board that it followed, and told so.
+    pub(crate) fn was_cut(&self) -> bool
+        ensures { result ≡ was_cut_in (Some self.now) }
+    {
+        match self {
+            Connection::Operator { .. } => false,
+            Connection::Follower { connection, .. } => {
+                matches!(connection.stage(), FollowerStage::Cut)
+            }
+        }
+    }
+
+    /// Whether so much is due to it that it is not heard.
+    pub(crate) fn is_full(&self) -> bool
+        ensures { result ≡ is_full_in (Some self.now) }
+    {
+        match self {
+            Connection::Operator { caller, .. } => caller.is_full(),
+            Connection::Follower { connection, .. } => connection.is_full(),
+        }
+    }
+
+    /// Whether it is in the middle of a frame or of a message.
+    pub(crate) fn is_midway(&self) -> bool
+        ensures { result ≡ is_midway_in (Some self.now) }
+    {
+        match self {
+            Connection::Operator { caller, .. } => caller.is_midway(),
+            Connection::Follower { connection, .. } => connection.is_midway(),
         }
     }
 
@@ -112,22 +194,77 @@ impl Connection {
                 caller.feed(bytes)?;
                 Ok(arrival(was, caller))
             }
-            Connection::HandedOver(_) => Ok(None),
+            Connection::Follower { .. } => Ok(None),
         }
     }
 
-    /// Answers what it says next, by this hall.
+    /// Answers what it says next, by this hall. If a follower is handed out the connection follows from then on. Returns as well what was
+    /// handed out, as clauses see it.
+    ///
+    /// # Errors
+    ///
+    /// There was no memory. A follower that was handed out has left its board again.
+    pub(crate) fn answer(
+        &mut self,
+        alloc: Global,
+        hall: &mut Hall,
+    ) -> (Result<bool, AllocError>, Snapshot<Option<Handed>>)
+        ensures ok { IfOk result.0 (λ some. IfPresent self.old (λ c. AnswersTo c some hall.old result.1.value hall.new self.new)) }
+        ensures err { OnErr result.0 (IfPresent self.old (λ c. FailsTo c hall.old result.1.value hall.new self.new)) }
+    {
+        what_is_handed_over_was_told();
+        let (answered, handed) = self.heed(hall);
+        let what = Snapshot::of(&handed);
+        self.take_up(alloc, answered.is_ok(), handed);
+        (answered, what)
+    }
+
+    /// Answers what it says next, by this hall. Returns as well what was handed out.
     ///
     /// # Errors
     ///
     /// There was no memory.
-    pub(crate) fn answer(&mut self, hall: &mut Hall) -> (Result<bool, AllocError>, Option<Handed>)
-        ensures ok { IfOk result.0 (λ some. IfPresent self.old (λ c. AnswersTo c some hall.old result.1 hall.new self.new)) }
+    fn heed(&mut self, hall: &mut Hall) -> (Result<bool, AllocError>, Option<Handed>)
+        ensures ok { IfOk result.0 (λ some. IfPresent self.old (λ c. HeedsTo c some hall.old result.1 hall.new self.new)) }
         ensures err { OnErr result.0 (IfPresent self.old (λ c. FailsTo c hall.old result.1 hall.new self.new)) }
+        ensures none { caller_in (Some self.old) ≡ None → result.1 ≡ None }
     {
         match self {
-            Connection::Operator { caller, .. } => caller.heed(hall),
-            Connection::HandedOver(_) => (Ok(false), None),
+            Connection::Operator { caller, is_present } if *is_present => caller.heed(hall),
+            _ => (Ok(false), None),
+        }
+    }
+
+    /// If something was handed out to it and it was told so, it follows from now on; if it was not told, the follower leaves its board again.
+    fn take_up(&mut self, alloc: Global, is_told: bool, handed: Option<Handed>)
+        requires told { is_told ≡ true → IfSome handed (λ h. IfOperator self.old (λ c here. IsOpening c.due h.follower.part)) }
+        requires untaken { IfSome handed (λ h. h.follower.part.taken ≡ []) }
+        ensures { IfOperator self.old (λ c here. self.new ≡ taken_up is_told handed c here) }
+    {
+        match handed {
+            None => {}
+            Some(handed) if is_told => self.follow(alloc, handed),
+            Some(handed) => {
+                let _ = handed.follower.leave();
+            }
+        }
+    }
+
+    /// It follows what was handed out from now on.
+    fn follow(&mut self, alloc: Global, handed: Handed)
+        requires told { IfOperator self.old (λ c here. IsOpening c.due handed.follower.part) }
+        requires untaken { handed.follower.part.taken ≡ [] }
+        ensures { IfOperator self.old (λ c here. self.new ≡ heard_as (Some handed) c here) }
+    {
+        let asked = mem::replace(self, Connection::new(alloc, 0, false));
+        if let Connection::Operator { caller, is_present } = asked {
+            let who = *caller.owner();
+            let (peer, opening) = caller.into_parts();
+            *self = Connection::Follower {
+                connection: FollowerConnection::new(handed, peer, opening),
+                who,
+                is_present,
+            };
         }
     }
 
@@ -141,7 +278,7 @@ impl Connection {
                 caller.wrote(n);
                 bytes
             }
-            Connection::HandedOver(_) => Bytes::of(&[]),
+            Connection::Follower { .. } => Bytes::of(&[]),
         }
     }
 
@@ -156,11 +293,11 @@ impl Connection {
     {
         match self {
             Connection::Operator { caller, .. } => {
-                let asks = caller.stage() == Stage::Asks;
+                let asks = caller.stage() == CallerStage::Asks;
                 caller.ping()?;
                 Ok(asks)
             }
-            Connection::HandedOver(_) => Ok(false),
+            Connection::Follower { .. } => Ok(false),
         }
     }
 
@@ -175,20 +312,28 @@ impl Connection {
     {
         match self {
             Connection::Operator { caller, .. } => {
-                let asks = caller.stage() == Stage::Asks;
+                let asks = caller.stage() == CallerStage::Asks;
                 caller.send_away(code)?;
                 Ok(asks)
             }
-            Connection::HandedOver(_) => Ok(false),
+            Connection::Follower { .. } => Ok(false),
         }
     }
 
-    /// It is not present in the hall any more.
+    /// It is not present in the hall any more. If it follows it leaves its board.
     pub(crate) fn leave(&mut self)
-        ensures { IfPresent self.old (λ c. self.new ≡ Operator c false) }
+        ensures { LeftAs self.old self.new }
     {
-        if let Connection::Operator { is_present, .. } = self {
-            *is_present = false;
+        match self {
+            Connection::Operator { is_present, .. } => *is_present = false,
+            Connection::Follower {
+                connection,
+                is_present,
+                ..
+            } => {
+                connection.leave();
+                *is_present = false;
+            }
         }
     }
 
@@ -198,7 +343,7 @@ impl Connection {
     {
         match self {
             Connection::Operator { caller, .. } => caller.take_said(),
-            Connection::HandedOver(_) => false,
+            Connection::Follower { .. } => false,
         }
     }
 
@@ -208,7 +353,7 @@ impl Connection {
     {
         match self {
             Connection::Operator { caller, .. } => caller.take_whole(),
-            Connection::HandedOver(_) => false,
+            Connection::Follower { .. } => false,
         }
     }
 }

@@ -1,6 +1,6 @@
-//! A hall and all connections of operators, as one value.
+//! A hall and all connections, as one value.
 
-ghost use Rattle.std.specs.Prelude.{◌≡◌, ◌+◌, ℕ, List, [], Some, None, IfOk, OnErr, OnOk, false, is_some, option_map};
+ghost use Rattle.std.specs.Prelude.{◌≡◌, ◌+◌, ℕ, List, [], Some, None, IfOk, OnErr, OnOk, false};
 ghost use Rattle.std.specs.Map.{lookup};
 ghost use Rattle.c960_game.specs.Game960.{Game960};
 ghost use Rattle.relay_core.specs.Name.{same_name};
@@ -9,11 +9,13 @@ ghost use Rattle.relay_hall.specs.Record.{HallBoard};
 ghost use Rattle.relay_hall.specs.Runs.{IsInTime, present};
 ghost use Rattle.relay_calling.specs.Crowd.{deeds_of};
 ghost use Rattle.relay_service.specs.Calls.{Replaces};
-ghost use Rattle.relay_service.specs.Record.{begun, caller_at, opened, operator_at, owner_at};
+ghost use Rattle.relay_service.specs.Record.{begun, opened};
 ghost use Rattle.relay_service.specs.Runs.{IsOrderlyService, has_left, holders_after};
 
 mod answering;
+mod following;
 mod leaving;
+mod looking;
 mod passing;
 mod receiving;
 mod sending;
@@ -22,9 +24,9 @@ use crate::connection::Connection;
 use crate::turns::Turns;
 use c960_game::Limits;
 use indexmap::IndexMap;
-use relay_calling::Caller;
 use relay_hall::laws::whatever_happens;
-use relay_hall::{Hall, Owner};
+use relay_hall::Hall;
+use relay_pushing::LastText;
 use std::alloc::{AllocError, Global};
 use std::marker::Model;
 use std::snapshot::Snapshot;
@@ -39,6 +41,10 @@ pub struct Service {
     next: u64,
     /// Whether requests may name keys.
     takes_keys: bool,
+    /// Whether the end of all was called.
+    is_ending: bool,
+    /// The text of a move or an end that was made last, for all that follow.
+    last: LastText,
     limits: Snapshot<Limits>,
     grace: Snapshot<u64>,
     turns: Turns,
@@ -76,6 +82,8 @@ impl Service {
             connections: IndexMap::new(alloc),
             next: 0,
             takes_keys,
+            is_ending: false,
+            last: LastText::new(alloc),
             limits: Snapshot::of(&limits),
             grace: Snapshot::of(&grace),
             turns: Turns::new(),
@@ -104,63 +112,6 @@ impl Service {
         }
         self.next = next;
         Ok(number)
-    }
-
-    /// The caller of the operator's connection of this number, to be looked at: how far it has come, and who it is.
-    pub fn caller(&self, number: u64) -> Option<&Caller>
-        ensures { option_map (λ c. c.now) result ≡ operator_at self.now number }
-    {
-        self.connections.get(&number)?.caller()
-    }
-
-    /// Whether the connection of this number is an operator's.
-    fn is_operator(&self, number: u64) -> bool
-        ensures { result ≡ is_some (operator_at self.now number) }
-    {
-        matches!(
-            self.connections.get(&number),
-            Some(Connection::Operator { .. })
-        )
-    }
-
-    /// Whether the connection of this number is an operator's that is present in the hall.
-    fn is_present(&self, number: u64) -> bool
-        ensures { result ≡ is_some (caller_at self.now number) }
-    {
-        match self.connections.get(&number) {
-            Some(connection) => connection.is_present(),
-            None => false,
-        }
-    }
-
-    /// Who the connection of this number is in the hall, if it is present there.
-    pub fn owner(&self, number: u64) -> Option<Owner>
-        ensures { result ≡ owner_at self.now number }
-    {
-        self.connections.get(&number)?.owner()
-    }
-
-    /// Whether the connection of this number has said a whole message since the last such call. It is no part of what contracts see.
-    #[tactic(auto, using(std::proofs::lemmas::Map::Steps::set_value_same))]
-    pub fn take_said(&mut self, number: u64) -> bool
-        ensures { self.new ≡ self.old }
-    {
-        let Some(connection) = self.connections.get_mut(&number) else {
-            return false;
-        };
-        connection.take_said()
-    }
-
-    /// Whether something has come whole of the connection of this number since the last such call: a message, or what is not between the
-    /// parts of one. It is no part of what contracts see.
-    #[tactic(auto, using(std::proofs::lemmas::Map::Steps::set_value_same))]
-    pub fn take_whole(&mut self, number: u64) -> bool
-        ensures { self.new ≡ self.old }
-    {
-        let Some(connection) = self.connections.get_mut(&number) else {
-            return false;
-        };
-        connection.take_whole()
     }
 
     /// The hall, to be looked at. It is what the turns so far make of an empty hall, in an orderly run: so each of its games is legal, and

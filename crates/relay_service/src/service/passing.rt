@@ -1,6 +1,6 @@
 //! What passes in the hall, and what it tells a driver.
 
-ghost use Rattle.std.specs.Prelude.{◌≡◌};
+ghost use Rattle.std.specs.Prelude.{◌≡◌, true};
 ghost use Rattle.relay_hall.specs.Runs.{Ends, Shuts, Time};
 ghost use Rattle.relay_service.specs.Calls.{Passes};
 
@@ -24,10 +24,11 @@ impl Service {
         self.turns = self.turns.and(&NewTurn::Shuts);
     }
 
-    /// Ends, as abandoned, each game that is not over.
+    /// Ends, as abandoned, each game that is not over. From now on connections that follow are closed with 1001 behind the end of a game.
     pub fn end_all(&mut self)
-        ensures { Passes self.old Ends self.new }
+        ensures { Passes (record self.old { is_ending = true }) Ends self.new }
     {
+        self.is_ending = true;
         self.hall.end_all();
         self.turns = self.turns.and(&NewTurn::Ends);
     }

@@ -1,8 +1,7 @@
 //! What comes from connections.
 
-ghost use Rattle.std.specs.Prelude.{◌≡◌, ◌⊎◌, ◌++◌, OnErr, OnOk, MatchOption, is_some, true};
-ghost use Rattle.relay_service.specs.Calls.{Enters, Loses, Receives, arrivals};
-ghost use Rattle.relay_service.specs.Record.{caller_at};
+ghost use Rattle.std.specs.Prelude.{◌≡◌, ◌⊎◌, ◌++◌, OnErr, OnOk, is_some, true};
+ghost use Rattle.relay_service.specs.Calls.{Enters, Loses, ReceivesAt, arrivals};
 
 use crate::bytes::Bytes;
 use crate::service::Service;
@@ -46,9 +45,12 @@ impl Service {
     /// There was no memory. Nothing has changed; or there was none for it to come to the hall, and there is no such connection any more.
     #[tactic(auto, using(std::proofs::lemmas::Map::Steps::set_value_same))]
     pub fn receive(&mut self, number: u64, bytes: &[u8]) -> Result<(), AllocError>
-        ensures ok { OnOk result (MatchOption (caller_at self.old number) (self.new ≡ self.old) (λ c. Receives self.old number bytes.now self.new)) }
+        ensures ok { OnOk result (ReceivesAt self.old number bytes.now self.new) }
         ensures err { OnErr result ((self.new ≡ self.old) ⊎ Loses self.old number bytes.now self.new) }
     {
+        if self.follows(number) {
+            return self.feed_follower(number, bytes);
+        }
         if !self.is_present(number) {
             return Ok(());
         }

@@ -1,10 +1,10 @@
 //! What connections are sent.
 
-ghost use Rattle.std.specs.Prelude.{◌≡◌, OnErr, OnOk, take};
-ghost use Rattle.relay_calling.specs.Calling.{asks};
-ghost use Rattle.relay_calling.specs.Running.{was_pinged, was_sent_away, wrote};
-ghost use Rattle.relay_service.specs.Calls.{DoesAny, DoesIfPresent, IsServedAt};
-ghost use Rattle.relay_service.specs.Record.{due_in, operator_at};
+ghost use Rattle.std.specs.Prelude.{◌≡◌, OnErr, OnOk};
+ghost use Rattle.relay_calling.specs.Running.{was_pinged, was_sent_away};
+ghost use Rattle.relay_following.specs.Calls.{closed_by, pinged};
+ghost use Rattle.relay_service.specs.Calls.{IsServedAt, PutsAt, SendsIn};
+ghost use Rattle.relay_service.specs.Record.{connection_at, due_at};
 
 use crate::connection::Connection;
 use crate::service::Service;
@@ -15,22 +15,28 @@ use std::alloc::AllocError;
 
 impl Service {
     /// Offers the bytes that are due to the connection of this number. With what was sent to it before, they are what its deeds among all
-    /// turns so far require.
+    /// turns so far require; and of one that follows then the moves of the board of its name in this very hall, each once and in order, from
+    /// where it joined to as far as it has come, and the end.
     pub fn output(&self, number: u64) -> &[u8]
-        ensures due { result.now ≡ due_in (operator_at self.now number) }
+        ensures due { result.now ≡ due_at self.now number }
         ensures served { IsServedAt self.now number }
     {
         however_many_there_are();
         match self.connections.get(&number) {
             Some(Connection::Operator { caller, .. }) => caller.due(),
-            _ => &[],
+            Some(Connection::Follower { connection, .. }) => connection.output(),
+            None => &[],
         }
     }
 
     /// The first `n` of the bytes due to the connection of this number were sent, or all if they are fewer.
     pub fn sent(&mut self, number: u64, n: usize)
-        ensures { DoesAny self.old number (wrote (take n (due_in (operator_at self.old number)))) self.new }
+        ensures { SendsIn (connection_at self.old number) self.old number n self.new }
     {
+        if self.follows(number) {
+            self.sent_to_follower(number, n);
+            return;
+        }
         if !self.is_operator(number) {
             return;
         }
@@ -41,16 +47,19 @@ impl Service {
         self.turns = self.turns.and(&NewTurn::Happens(number, deed));
     }
 
-    /// Puts a ping behind what is due to the connection of this number, if it asks.
+    /// Puts a ping behind what is due to the connection of this number, if it asks or follows.
     ///
     /// # Errors
     ///
     /// There was no memory. Nothing has changed.
     #[tactic(auto, using(std::proofs::lemmas::Map::Steps::set_value_same))]
     pub fn ping(&mut self, number: u64) -> Result<(), AllocError>
-        ensures ok { OnOk result (DoesIfPresent self.old number (λ c. was_pinged (asks c.stage)) self.new) }
+        ensures ok { OnOk result (PutsAt self.old number was_pinged pinged self.new) }
         ensures err { OnErr result (self.new ≡ self.old) }
     {
+        if self.follows(number) {
+            return self.ping_follower(number);
+        }
         if !self.is_present(number) {
             return Ok(());
         }
@@ -62,16 +71,20 @@ impl Service {
         Ok(())
     }
 
-    /// Puts a close with this code behind what is due to the connection of this number, if it asks. Then it says no more.
+    /// Puts a close with this code behind what is due to the connection of this number, if it asks or follows. Then it says no more, and has
+    /// left the board that it followed.
     ///
     /// # Errors
     ///
     /// There was no memory. Nothing has changed.
     #[tactic(auto, using(std::proofs::lemmas::Map::Steps::set_value_same))]
     pub fn close(&mut self, number: u64, code: Code) -> Result<(), AllocError>
-        ensures ok { OnOk result (DoesIfPresent self.old number (λ c. was_sent_away (asks c.stage) code.number) self.new) }
+        ensures ok { OnOk result (PutsAt self.old number (λ some. was_sent_away some code.number) (λ f. closed_by f code.number) self.new) }
         ensures err { OnErr result (self.new ≡ self.old) }
     {
+        if self.follows(number) {
+            return self.close_follower(number, code);
+        }
         if !self.is_present(number) {
             return Ok(());
         }

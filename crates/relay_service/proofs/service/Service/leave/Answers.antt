@@ -9,7 +9,7 @@ invariant_of-self-2 c =
     let s : ServiceRecord = service_of c.self.inside in
     let t : ServiceRecord = record s { hall = c.leave-2.new.self; connections = (c.get_mut.follows.lender c.leave.new.self).entries; turns = c.and-self-inside.result.items } in
     keeps_as _ t (left_at s c.args.number c.in-Some-get_mut.connection.now c.leave.new.self c.in-Some.who t (kept c.self.inside c.self.invariant)
-    (search rules) (search rules) (search rules) c.leave.ensures (search rules) (search rules) (search rules)).0 refl
+    (search rules) (search rules) c.leave.ensures (search rules) (search rules) (search rules)).0 refl
 
 pub returns : goal.returns
 returns c =
@@ -17,4 +17,4 @@ returns c =
     let t : ServiceRecord = record s { hall = c.leave-2.new.self; connections = (c.get_mut.follows.lender c.leave.new.self).entries; turns = c.and-self-inside.result.items } in
     rw (← c.self.view_is)
     (left_at s c.args.number c.in-Some-get_mut.connection.now c.leave.new.self c.in-Some.who t (kept c.self.inside c.self.invariant)
-    (search rules) (search rules) (search rules) c.leave.ensures (search rules) (search rules) (search rules)).1
+    (search rules) (search rules) c.leave.ensures (search rules) (search rules) (search rules)).1
