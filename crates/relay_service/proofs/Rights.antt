@@ -1,5 +1,5 @@
 -- Whoever moves or ends a board owns it: a step is made only if its connection may make it.
-use Rattle.std.proofs.Common.{◌≡◌, ◌⊎◌, ◌||◌, ℕ, Bool, true, false, true≢false, cond, List, [], ◌∷◌, ◌++◌, append-nil, Option, None, Some, option_map, Result, Ok, Err, inl, inr, refl, sym, ap, ◌∙◌, subst}
+use Rattle.std.proofs.Common.{◌≡◌, ◌⊎◌, ◌||◌, ℕ, Bool, true, false, true≢false, cond, List, [], ◌∷◌, ◌++◌, append-nil, length, is_some, Option, None, Some, option_map, Result, Ok, Err, inl, inr, refl, sym, ap, ◌∙◌, subst}
 use Rattle.std.proofs.lemmas.Option.{none-some}
 use Rattle.std.specs.Map.{lookup}
 use Rattle.c960_game.specs.declared.refusal.Refusal.{Refusal}
@@ -130,11 +130,12 @@ among_then q [] name is = inr (by (same_name name q) is)
     by : (b : Bool) → (b || false) ≡ true → b ≡ true
     by true h = refl
     by false h = h
-among_then q (x ∷ xs) name is = by (same_name x q) is
+among_then q (x ∷ xs) name is = by (same_name x q) is (λ h. among_then q xs name h)
   where
-    by : (b : Bool) → (b || is_among q (xs ++ name ∷ [])) ≡ true → ((b || is_among q xs) ≡ true) ⊎ (same_name name q ≡ true)
-    by true h = inl refl
-    by false h = among_then q xs name h
+    by : (b : Bool) → (b || is_among q (xs ++ name ∷ [])) ≡ true → (is_among q (xs ++ name ∷ []) ≡ true → (is_among q xs ≡ true) ⊎ (same_name name q ≡ true))
+        → ((b || is_among q xs) ≡ true) ⊎ (same_name name q ≡ true)
+    by true h rest = inl refl
+    by false h rest = rest h
 
 none_there : (f : FloorRecord) (name : List ℕ) → lookup (same_name name) (games_of f) ≡ None → lookup (same_name name) f.boards ≡ None
 none_there f name none = by (lookup (same_name name) f.boards) (sym (lookup-map (same_name name) (λ (b : HallBoard). b.game) f.boards) ∙ none)
@@ -162,7 +163,7 @@ opened_own f g who name start opened (Ok u) reply is (inl (table, reply-is, g-is
     subst (AreOpened g who) (sym (ap (opened_after opened (Open name start)) reply-is)) all
   where
     free : lookup (same_name name) (games_of f) ≡ None
-    free = nothing (lookup (same_name name) (games_of f)) (opened_where _ _ _ _ u is).0
+    free = nothing (lookup (same_name name) (games_of f)) (opened_where (is_some (lookup (same_name name) (games_of f))) start (length (games_of f)) f.limits.boards u is).0
 
     new : HallBoard
     new = new_board f table who start
