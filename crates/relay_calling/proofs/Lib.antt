@@ -2,7 +2,6 @@ pub mod lemmas
 mod Answering
 mod Arriving
 mod Crowding
-mod Dues
 mod Handing
 mod Heeding
 mod Keying

@@ -1,5 +1,5 @@
 -- What a push puts: takes one behind another, meetings between them, and the end.
-use Rattle.std.proofs.Common.{◌≡◌, ◌≢◌, ◌+◌, ◌≤◌, ◌==◌, nat_le, ℕ, suc, Bool, true, false, true≢false, cond, not, ◌&&◌, List, [], ◌∷◌, ◌++◌, length, length-append, Option, None, Some, IfSome, is_some, Result, Ok, Err, inl, inr, refl, sym, ap, ◌∙◌, subst, append_assoc, append-nil, arith}
+use Rattle.std.proofs.Common.{◌≡◌, ◌≢◌, ◌+◌, ◌≤◌, ◌==◌, nat_le, ℕ, suc, Bool, true, false, true≢false, cond, not, ◌&&◌, List, [], ◌∷◌, ◌++◌, length, length-append, take, Option, None, Some, IfSome, is_some, Result, Ok, Err, inl, inr, refl, sym, ap, ◌∙◌, subst, append_assoc, append-nil, arith}
 use Rattle.std.specs.Prelude.{IfOk, OnErr, OnOk, is_ok, unwrap_or, ◌⊎◌}
 use Rattle.std.specs.declared.alloc.AllocError.{AllocError}
 use Rattle.std.proofs.lemmas.Bool.{eqb-true}
@@ -26,7 +26,7 @@ use Rattle.relay_following.specs.declared.stage.Stage.TheVariants.{Follows, Over
 use Rattle.relay_following.specs.Boards.{IsEndOf, IsIn, IsOf, end_of}
 use Rattle.relay_following.specs.Calls.{left, puts}
 use Rattle.relay_following.specs.Pieces.{Piece, a_move, an_end, frames_in, frames_of, move_pieces}
-use Rattle.relay_following.specs.Pushing.{CatchesUp, CaughtUp, Delivers, DeliversLost, EndsBy, Finishes, FinishesNot, GoesOn, IsAt, IsMet, MeetsIn, PushFails, Pushes, PutAs, StaysWith, StopsAt, TakesOne, end_pieces, is_through, stage_behind}
+use Rattle.relay_following.specs.Pushing.{CatchesUp, CaughtUp, Delivers, DeliversLost, EndsBy, Finishes, FinishesNot, GoesOn, IsAt, HasNoEnd, IsMet, MeetsIn, PushFails, Pushes, PutAs, StaysWith, StopsAt, TakesOne, end_pieces, is_through, stage_behind}
 use Rattle.relay_following.specs.Record.{DeliveryRecord}
 use Rattle.relay_following.specs.Served.{IsLost}
 use Rattle.relay_following.proofs.lemmas.Boards.{of_at}
@@ -93,7 +93,7 @@ delivers_then c d e lost ends a b =
 -- ---- A take.
 
 module _ (c d : DeliveryRecord) (g : FollowerSeat) (stays : Stays c.follower g) where
-  taken : DeliveryRecord
+  abbrev pub taken : DeliveryRecord
   taken = record c { follower = g }
 
   same_board : StaysWith c taken
@@ -200,13 +200,13 @@ module _ (b : HallBoard) (c d : DeliveryRecord) (of : IsOf b c.follower c.stage)
   closing (Some n) is = ((m.sound.closing n is).0, m.closed n is)
 
   same_joined : h.part.joined ≡ c.follower.part.joined
-  same_joined = ap (λ (p : Part). p.joined) m.learned.2.1 ∙ went.stays.joined
+  same_joined = ap (λ (p : Part). p.joined) m.learned.2 ∙ went.stays.joined
 
   pub met_of : IsOf b h Follows
   met_of = record {
     table = m.table ∙ went.stays.table ∙ of.table;
-    start = ap (λ (p : Part). p.setup.start) m.learned.2.1 ∙ ap (λ x. x.start) went.stays.setup ∙ of.start;
-    before = ap (λ (p : Part). p.before) m.learned.2.1 ∙ went.stays.before ∙ of.before ∙ ap (λ n. take n b.game.log) (sym same_joined);
+    start = ap (λ (p : Part). p.setup.start) m.learned.2 ∙ ap (λ x. x.start) went.stays.setup ∙ of.start;
+    before = ap (λ (p : Part). p.before) m.learned.2 ∙ went.stays.before ∙ of.before ∙ ap (λ n. take n b.game.log) (sym same_joined);
     within = m.within;
     moves = m.has_stretch;
     closing = closing h.part.closing refl;
@@ -218,24 +218,311 @@ module _ (b : HallBoard) (c d : DeliveryRecord) (of : IsOf b c.follower c.stage)
     stays = record {
       board = went.stays.board;
       table = m.table ∙ went.stays.table;
-      setup = ap (λ (p : Part). p.setup) m.learned.2.1 ∙ went.stays.setup;
+      setup = ap (λ (p : Part). p.setup) m.learned.2 ∙ went.stays.setup;
       joined = same_joined;
-      before = ap (λ (p : Part). p.before) m.learned.2.1 ∙ went.stays.before;
+      before = ap (λ (p : Part). p.before) m.learned.2 ∙ went.stays.before;
       seen = known_then c.follower.part d.follower.part h.part went.stays.seen m.no_less;
       opening = went.stays.opening;
       sent = went.stays.sent;
     };
     moves = went.moves;
-    taken = ap (λ (p : Part). p.taken) m.learned.2.1 ∙ went.taken;
+    taken = ap (λ (p : Part). p.taken) m.learned.2 ∙ went.taken;
     pieces = went.pieces;
     due = went.due;
   }
 
   same_next : next_of h.part ≡ next_of d.follower.part
-  same_next = let j = ap (λ (p : Part). p.joined) m.learned.2.1 in let n = ap (λ (p : Part). length p.taken) m.learned.2.1 in omega (arith, j, n)
+  same_next = let j = ap (λ (p : Part). p.joined) m.learned.2 in let n = ap (λ (p : Part). length p.taken) m.learned.2 in omega (arith, j, n)
 
   pub met_stops : (limit : ℕ) → StopsAt limit c d → StopsAt limit c (record d { follower = h })
   met_stops limit (inl much) = inl much
   met_stops limit (inr (inl here)) = inr (inl (let n = same_next in omega (arith, n, here)))
   met_stops limit (inr (inr (inl seen))) = inr (inr (inl (let n = same_next in omega (arith, n, seen))))
   met_stops limit (inr (inr (inr closed))) = inr (inr (inr (m.no_less.2 (next_of d.follower.part) closed ∙ ap (λ n. Some n) (sym same_next))))
+
+-- ---- A round.
+
+module _ (f : FloorRecord) (limit : ℕ) (c d e : DeliveryRecord) (is : IsIn f c) (round : Round) (follows : d.stage ≡ Follows) (met : MeetsIn f d e round.account round.outcome) where
+  of_board : (board : d.board ≡ c.board) → IsOf met.0 c.follower c.stage
+  of_board board =
+      let same : Some is.board ≡ Some met.0 = sym is.found ∙ ap (λ n. lookup (same_name n) f.boards) (sym board) ∙ met.1 in
+      subst (λ (b : HallBoard). IsOf b c.follower c.stage) (same_Some _ _ same) is.is_of
+
+  gone_on : (lost : List Triple) (few : length lost ≤ 1) (went : Delivers c d lost []) → (round.is_put ≡ true → (lost ≡ []) × StopsAt limit c d) → GoesOn f limit c e round
+  gone_on lost few went whole =
+      let of = of_board went.stays.board in
+      let h = e.follower in
+      let m = met.2.2.1 in
+      subst (λ (x : DeliveryRecord). GoesOn f limit c x round) (sym met.2.1) (record {
+        met = record {
+          board = met.0;
+          found = met.1;
+          is_of = met_of met.0 c d of lost went h m;
+          follows = follows;
+          seen = m.seen;
+          account = met.2.2.2.0;
+          outcome = met.2.2.2.1;
+        };
+        lost = lost;
+        few = few;
+        delivers = met_delivers met.0 c d of lost went h m;
+        whole = λ put. ((whole put).0, met_stops met.0 c d of lost went h m limit (whole put).1);
+      })
+
+  pub goes_on : (r : Result Unit AllocError) → OnOk r (Delivers c d [] [] × StopsAt limit c d) → OnErr r (DeliversLost c d) → round.is_put ≡ is_ok r → GoesOn f limit c e round
+  goes_on (Ok u) (went, stops) err put = gone_on [] (omega arith) went (λ x. (refl, stops))
+  goes_on (Err error) ok (lost, few, went) put = gone_on lost few went (λ x. absurd (true≢false (sym x ∙ put)))
+
+-- it is at the table of its board still
+pub is_at : (f : FloorRecord) (c d : DeliveryRecord) → IsIn f c → (lost : List Triple) → Delivers c d lost [] → IsAt f d
+is_at f c d is lost went = (is.board, ap (λ n. lookup (same_name n) f.boards) went.stays.board ∙ is.found, went.stays.table ∙ is.is_of.table)
+
+pub is_at_each : (f : FloorRecord) (limit : ℕ) (c d : DeliveryRecord) → IsIn f c → (r : Result Unit AllocError) → OnOk r (Delivers c d [] [] × StopsAt limit c d) → OnErr r (DeliversLost c d) → IsAt f d
+is_at_each f limit c d is (Ok u) (went, stops) err = is_at f c d is [] went
+is_at_each f limit c d is (Err error) ok (lost, few, went) = is_at f c d is lost went
+
+pub met_in : (f : FloorRecord) (c : DeliveryRecord) (round : Round) → IsMet f c round → IsIn f c
+met_in f c round m = record { board = m.board; found = m.found; is_of = subst (λ (s : Stage). IsOf m.board c.follower s) (sym m.follows) m.is_of }
+
+-- ---- What was left.
+
+-- a follower that stands where its list ends, of one that met its board
+at_end : (b : HallBoard) (f : FollowerSeat) → IsOf b f Follows → length b.game.log ≤ next_of f.part → next_of f.part ≡ end_of b f.part
+at_end b f of all = by f.part.closing of.closing
+  where
+    by : (o : Option ℕ) → IfSome o (λ n. (next_of f.part ≤ n) × (n ≤ length b.game.log)) → next_of f.part ≡ unwrap_or o (length b.game.log)
+    by None x = let w = of.within in omega (arith, w, all)
+    by (Some n) (low, high) = omega (arith, low, high, all)
+
+at_closing : (b : HallBoard) (f : FollowerSeat) → f.part.closing ≡ Some (next_of f.part) → next_of f.part ≡ end_of b f.part
+at_closing b f closed = ap (λ (o : Option ℕ). unwrap_or o (length b.game.log)) (sym closed)
+
+module _ (b : HallBoard) (f g : FollowerSeat) (of : IsOf b g Follows) (seen : f.part.seen ≡ length b.game.log) (known : HasSeenNoLess f.part g.part) where
+  at_limit : unwrap_or f.part.closing f.part.seen ≤ next_of g.part → next_of g.part ≡ end_of b g.part
+  at_limit all = by f.part.closing refl all
+    where
+      by : (o : Option ℕ) → f.part.closing ≡ o → unwrap_or o f.part.seen ≤ next_of g.part → next_of g.part ≡ end_of b g.part
+      by None is low = at_end b g of (omega (arith, seen, low))
+      by (Some n) is low =
+          let same : g.part.closing ≡ Some n = known.2 n is in
+          let high = subst (λ (o : Option ℕ). IfSome o (λ k. (next_of g.part ≤ k) × (k ≤ length b.game.log))) same of.closing in
+          (let e : next_of g.part ≡ n = let h = high.0 in omega (arith, low, h) in e) ∙ ap (λ (o : Option ℕ). unwrap_or o (length b.game.log)) (sym same)
+
+-- all is taken, by what a meeting told
+through : (b : HallBoard) (c : DeliveryRecord) (round : Round) → c.follower.part.seen ≡ length b.game.log → round.account ≡ account_of c.follower.part
+    → is_through round ≡ true → next_of c.follower.part ≡ end_of b c.follower.part
+through b c round seen account is =
+    let e = eqb-true (round.account.joined + round.account.taken) round.account.limit is in
+    ap (λ (a : Account). a.joined + a.taken) (sym account) ∙ e ∙ ap (λ (a : Account). a.limit) account ∙ ap (λ n. unwrap_or c.follower.part.closing n) seen
+
+through_not : (b : HallBoard) (c : DeliveryRecord) (round : Round) → c.follower.part.seen ≡ length b.game.log → round.account ≡ account_of c.follower.part
+    → is_through round ≡ false → next_of c.follower.part ≡ end_of b c.follower.part → ⊥
+through_not b c round seen account is all =
+    let e : round.account.joined + round.account.taken ≡ round.account.limit = ap (λ (a : Account). a.joined + a.taken) account ∙ all ∙ ap (λ n. unwrap_or c.follower.part.closing n) (sym seen) ∙ ap (λ (a : Account). a.limit) (sym account) in
+    true≢false (sym (eqb-same e) ∙ is)
+  where
+    eqb-same : {m n : ℕ} → m ≡ n → (m == n) ≡ true
+    eqb-same {m} {n} e = grind (arith, e)
+
+module _ (f : FloorRecord) (before : Round) (c d : DeliveryRecord) (met : IsMet f c before) where
+  -- it was not to go on
+  stayed : (put all much : Bool) → before.is_put ≡ put → is_through before ≡ all → nat_le MOST_OUTPUT (length c.due) ≡ much → (put && (not all && not much)) ≡ false → CatchesUp put f before c c before
+  stayed false all much p a n is = (refl, refl)
+  stayed true true much p a n is = record {
+    met = met;
+    lost = [];
+    few = omega arith;
+    delivers = delivers_none c;
+    whole = λ put. (refl, λ no. absurd (true≢false (sym a ∙ no)));
+  }
+  stayed true false true p a n is = record {
+    met = met;
+    lost = [];
+    few = omega arith;
+    delivers = delivers_none c;
+    whole = λ put. (refl, λ no. leb_tells MOST_OUTPUT (length c.due) n);
+  }
+  stayed true false false p a n is = absurd (true≢false is)
+
+  pub stays_round : (before.is_put && (not (is_through before) && not (nat_le MOST_OUTPUT (length c.due)))) ≡ false → CatchesUp before.is_put f before c c before
+  stays_round is = stayed before.is_put (is_through before) (nat_le MOST_OUTPUT (length c.due)) refl refl refl is
+
+  -- what was left is taken, or much is due
+  more_or_all : (round : Round) (went : Delivers c d [] []) (m : IsMet f d round) → StopsAt before.account.limit c d → is_through round ≡ false → MOST_OUTPUT ≤ length d.due
+  more_or_all round went m (inl much) no = much
+  more_or_all round went m (inr rest) no = absurd (through_not m.board d round m.seen m.account no (by rest))
+    where
+      same_log : c.follower.part.seen ≡ length m.board.game.log
+      same_log = met.seen ∙ ap (λ (b : HallBoard). length b.game.log) (same_Some _ _ (sym met.found ∙ ap (λ n. lookup (same_name n) f.boards) (sym went.stays.board) ∙ m.found))
+
+      by : (before.account.limit ≤ next_of d.follower.part) ⊎ ((c.follower.part.seen ≤ next_of d.follower.part) ⊎ (d.follower.part.closing ≡ Some (next_of d.follower.part))) → next_of d.follower.part ≡ end_of m.board d.follower.part
+      by (inl here) = at_limit m.board c.follower d.follower m.is_of same_log went.stays.seen (subst (λ (a : Account). a.limit ≤ next_of d.follower.part) met.account here)
+      by (inr (inl seen)) = at_end m.board d.follower m.is_of (omega (arith, same_log, seen))
+      by (inr (inr closed)) = at_closing m.board d.follower closed
+
+  caught : (put : Bool) (round : Round) → put ≡ true → GoesOn f before.account.limit c d round → CatchesUp put f before c d round
+  caught true round p g = record {
+    met = g.met;
+    lost = g.lost;
+    few = g.few;
+    delivers = g.delivers;
+    whole = λ put. ((g.whole put).0, more_or_all round (subst (λ (l : List Triple). Delivers c d l []) (g.whole put).0 g.delivers) g.met (g.whole put).1);
+  }
+  caught false round p g = absurd (true≢false (sym p))
+
+  pub catches_round : (round : Round) → (before.is_put && (not (is_through before) && not (nat_le MOST_OUTPUT (length c.due)))) ≡ true → GoesOn f before.account.limit c d round → CatchesUp before.is_put f before c d round
+  catches_round round is g = caught before.is_put round (and_first before.is_put _ is) g
+    where
+      and_first : (a b : Bool) → (a && b) ≡ true → a ≡ true
+      and_first true b e = refl
+      and_first false b e = e
+
+-- ---- The end.
+
+module _ (f : FloorRecord) (limit : ℕ) (c d e : DeliveryRecord) (before after : Round) (g : GoesOn f limit c d before) where
+  both : (put : Bool) → before.is_put ≡ put → CatchesUp put f before d e after → CaughtUp f c e after
+  both true put u = record {
+    met = u.met;
+    lost = u.lost;
+    few = u.few;
+    delivers = delivers_then c d e u.lost [] (subst (λ (l : List Triple). Delivers c d l []) (g.whole put).0 g.delivers) u.delivers;
+    whole = u.whole;
+  }
+  both false put (d-is, after-is) = subst (λ (r : Round). CaughtUp f c e r) (sym after-is) (subst (λ (x : DeliveryRecord). CaughtUp f c x before) (sym d-is) (record {
+    met = g.met;
+    lost = g.lost;
+    few = g.few;
+    delivers = g.delivers;
+    whole = λ yes. absurd (true≢false (sym yes ∙ put));
+  }))
+
+  pub in_all : CatchesUp before.is_put f before d e after → CaughtUp f c e after
+  in_all u = both before.is_put refl u
+
+module _ (f : FloorRecord) (is_ending : Bool) (c d e : DeliveryRecord) (round : Round) (u : CaughtUp f c d round) where
+  found : lookup (same_name c.board) f.boards ≡ Some u.met.board
+  found = ap (λ n. lookup (same_name n) f.boards) (sym u.delivers.stays.board) ∙ u.met.found
+
+  all_put : round.is_put ≡ true → Delivers c d [] []
+  all_put put = subst (λ (l : List Triple). Delivers c d l []) (u.whole put).0 u.delivers
+
+  in_still : IsIn f d
+  in_still = met_in f d round u.met
+
+  -- an end was put
+  one_end : (p : Piece) (stage : Stage) → Delivers d (left (puts d p) stage) [] (p ∷ [])
+  one_end p stage =
+      let none = delivers_none d in
+      record {
+        stays = record { board = refl; table = refl; setup = refl; joined = refl; before = refl; seen = none.stays.seen; opening = refl; sent = refl };
+        moves = [];
+        taken = none.taken;
+        pieces = refl;
+        due = ap (λ l. d.due ++ l) (sym (append-nil (frames_in p)));
+      }
+
+  ends : (stage : Stage) → EndsBy is_ending stage d e → (e.stage ≡ stage) × Delivers d e [] (end_pieces is_ending stage) × (e.follower ≡ d.follower)
+  ends Follows is =
+      (ap (λ (x : DeliveryRecord). x.stage) is ∙ u.met.follows,
+      subst (λ (x : DeliveryRecord). Delivers d x [] []) (sym is) (delivers_none d),
+      ap (λ (x : DeliveryRecord). x.follower) is)
+  ends (Over outcome) is =
+      let p = an_end (takes.Over outcome) (cond is_ending 1001 1000) in
+      (ap (λ (x : DeliveryRecord). x.stage) is,
+      subst (λ (x : DeliveryRecord). Delivers d x [] (p ∷ [])) (sym is) (one_end p (Over outcome)),
+      ap (λ (x : DeliveryRecord). x.follower) is)
+  ends Cut is =
+      let p = an_end takes.Cut 4001 in
+      (ap (λ (x : DeliveryRecord). x.stage) is,
+      subst (λ (x : DeliveryRecord). Delivers d x [] (p ∷ [])) (sym is) (one_end p Cut),
+      ap (λ (x : DeliveryRecord). x.follower) is)
+
+  -- the stage that the account and the outcome tell is the one by the closing and by the board
+  same_stage : stage_behind round.account.cut round.outcome ≡ stage_behind (is_some d.follower.part.closing) u.met.board.game.outcome
+  same_stage = λ i. stage_behind (u.met.account i).cut (u.met.outcome i)
+
+  pub finished : (more : Bool) → Finishes more is_ending round d e → Pushes f is_ending c e more
+  finished true (put, no, is) = subst (λ (x : DeliveryRecord). Pushes f is_ending c x true) (sym is) (record {
+    board = u.met.board;
+    found = found;
+    delivers = subst (λ (s : Stage). Delivers c d [] (end_pieces is_ending s)) (sym u.met.follows) (all_put put);
+    reached = ((u.whole put).1 no, u.met.follows);
+  })
+  finished false (put, all, is) =
+      let stage = stage_behind round.account.cut round.outcome in
+      let x = ends stage is in
+      record {
+        board = u.met.board;
+        found = found;
+        delivers = subst (λ (s : Stage). Delivers c e [] (end_pieces is_ending s)) (sym x.0) (delivers_then c d e [] (end_pieces is_ending stage) (all_put put) x.1);
+        reached = subst (λ (h : FollowerSeat). (next_of h.part ≡ end_of u.met.board h.part) × (e.stage ≡ stage_behind (is_some h.part.closing) u.met.board.game.outcome)) (sym x.2)
+            (through u.met.board d round u.met.seen u.met.account all, x.0 ∙ same_stage);
+      }
+
+  -- what an end tells is so of the board
+  end_is : next_of d.follower.part ≡ end_of u.met.board d.follower.part
+      → (o : Option ℕ) → d.follower.part.closing ≡ o → (outcome : Option Outcome) → u.met.board.game.outcome ≡ outcome → IsEndOf u.met.board d.follower.part (stage_behind (is_some o) outcome)
+  end_is all (Some n) closed outcome over = closed ∙ ap (λ k. Some k) (sym (all ∙ ap (λ (x : Option ℕ). unwrap_or x (length u.met.board.game.log)) closed))
+  end_is all None closed (Some outcome) over = (over, all ∙ ap (λ (x : Option ℕ). unwrap_or x (length u.met.board.game.log)) closed, closed)
+  end_is all None closed None over = tt
+
+  pub in_finished : (more : Bool) → Finishes more is_ending round d e → IsIn f e
+  in_finished true (put, no, is) = subst (λ (x : DeliveryRecord). IsIn f x) (sym is) in_still
+  in_finished false (put, all, is) =
+      let x = ends (stage_behind round.account.cut round.outcome) is in
+      let there = through u.met.board d round u.met.seen u.met.account all in
+      record {
+        board = u.met.board;
+        found = ap (λ n. lookup (same_name n) f.boards) x.1.stays.board ∙ u.met.found;
+        is_of = subst (λ (h : FollowerSeat). IsOf u.met.board h e.stage) (sym x.2) (subst (λ (s : Stage). IsOf u.met.board d.follower s) (sym (x.0 ∙ same_stage))
+            (of_at u.met.board d.follower Follows _ u.met.is_of (end_is there d.follower.part.closing refl u.met.board.game.outcome refl)));
+      }
+
+  pub finished_not : FinishesNot round d e → PushFails c e
+  finished_not (inl (put, is)) = subst (λ (x : DeliveryRecord). PushFails c x) (sym is) (record {
+    lost = [];
+    few = subst (λ (s : Stage). IsLost s []) (sym u.met.follows) refl;
+    delivers = all_put put;
+    stands = subst (λ (s : Stage). HasNoEnd s) (sym u.met.follows) tt;
+  })
+  finished_not (inr (put, is)) = subst (λ (x : DeliveryRecord). PushFails c x) (sym is) (record {
+    lost = u.lost;
+    few = u.few;
+    delivers = record {
+      stays = record {
+        board = u.delivers.stays.board;
+        table = u.delivers.stays.table;
+        setup = u.delivers.stays.setup;
+        joined = u.delivers.stays.joined;
+        before = u.delivers.stays.before;
+        seen = u.delivers.stays.seen;
+        opening = u.delivers.stays.opening;
+        sent = u.delivers.stays.sent;
+      };
+      moves = u.delivers.moves;
+      taken = u.delivers.taken;
+      pieces = u.delivers.pieces;
+      due = u.delivers.due;
+    };
+    stands = tt;
+  })
+
+  pub in_finished_not : FinishesNot round d e → IsIn f e
+  in_finished_not (inl (put, is)) = subst (λ (x : DeliveryRecord). IsIn f x) (sym is) in_still
+  in_finished_not (inr (put, is)) = subst (λ (x : DeliveryRecord). IsIn f x) (sym is) (record {
+    board = u.met.board;
+    found = u.met.found;
+    is_of = of_at u.met.board d.follower Follows Failed u.met.is_of tt;
+  })
+
+  pub finished_in : (r : Result Bool AllocError) → IfOk r (λ more. Finishes more is_ending round d e) → OnErr r (FinishesNot round d e) → IsIn f e
+  finished_in (Ok more) ok err = in_finished more ok
+  finished_in (Err error) ok err = in_finished_not err
+
+  pub finished_ok : (r : Result Bool AllocError) → IfOk r (λ more. Finishes more is_ending round d e) → IfOk r (λ more. Pushes f is_ending c e more)
+  finished_ok (Ok more) ok = finished more ok
+  finished_ok (Err error) ok = tt
+
+  pub finished_err : (r : Result Bool AllocError) → OnErr r (FinishesNot round d e) → OnErr r (PushFails c e)
+  finished_err (Ok more) err = tt
+  finished_err (Err error) err = finished_not err

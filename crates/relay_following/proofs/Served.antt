@@ -1,6 +1,6 @@
 -- What is kept true of what a connection has been sent, by each call.
-use Rattle.std.proofs.Common.{◌≡◌, ◌+◌, ◌≤◌, ℕ, Bool, true, false, List, [], ◌∷◌, ◌++◌, length, take, drop, Option, Result, Ok, Err, inl, inr, refl, sym, ap, ◌∙◌, subst, append_assoc, append-nil, length-append, arith}
-use Rattle.std.specs.Prelude.{IfOk, OnErr}
+use Rattle.std.proofs.Common.{◌≡◌, ◌+◌, ◌≤◌, ℕ, Bool, true, false, cond, List, [], ◌∷◌, ◌++◌, length, take, drop, Option, Result, Ok, Err, inl, inr, refl, sym, ap, ◌∙◌, subst, append_assoc, append-nil, length-append, arith}
+use Rattle.std.specs.Prelude.{IfOk, OnErr, OnOk}
 use Rattle.std.specs.declared.alloc.AllocError.{AllocError}
 use Rattle.std.proofs.lemmas.List.{take-append-drop}
 use Rattle.c960_board.specs.Moves.{Triple}
@@ -18,8 +18,8 @@ use Rattle.relay_following.specs.declared.stage.Stage.{Stage}
 use Rattle.relay_following.specs.declared.stage.Stage.TheVariants.{Follows, Over, Cut, Left, Failed}
 use Rattle.relay_following.specs.Calls.{closes, left, puts, wrote}
 use Rattle.relay_following.specs.Pieces.{AllGoOn, Piece, a_close, frames_in, frames_of, move_pieces, moves_in}
-use Rattle.relay_following.specs.Pushing.{Delivers, PushFails, Pushes, end_pieces}
-use Rattle.relay_following.specs.Record.{DeliveryRecord}
+use Rattle.relay_following.specs.Pushing.{Delivers, HasNoEnd, PushFails, Pushes, end_pieces}
+use Rattle.relay_following.specs.Record.{DeliveryRecord, follows}
 use Rattle.relay_following.specs.Served.{IsLast, IsLost, IsOpening, IsServed}
 use Rattle.relay_following.proofs.lemmas.Pieces.{frames_append, go_on_append, moves_append, moves_go_on, moves_of_moves}
 
@@ -147,8 +147,32 @@ none_lost_at Cut = refl
 none_lost_at Left = refl
 none_lost_at Failed = omega arith
 
-none_last : (stage : Stage) → IsLast stage [] ≡ IsLast stage [] 
-none_last stage = refl
+no_end_last : (stage : Stage) → HasNoEnd stage → IsLast stage []
+no_end_last Follows x = refl
+no_end_last Failed x = refl
+
+pub served_push : (f : FloorRecord) (is_ending : Bool) (c d : DeliveryRecord) → IsServed c → c.stage ≡ Follows
+    → (r : Result Bool AllocError) → IfOk r (λ more. Pushes f is_ending c d more) → OnErr r (PushFails c d) → IsServed d
+served_push f is_ending c d s follows (Ok more) ok err = served_by c d s follows [] (end_pieces is_ending d.stage) ok.delivers (none_lost_at d.stage) (ends_last is_ending d.stage)
+served_push f is_ending c d s follows (Err error) ok err = served_by c d s follows err.lost [] err.delivers err.few (no_end_last d.stage err.stands)
+
+-- ---- The other calls.
+
+pub follows_is : (s : Stage) → follows s ≡ true → s ≡ Follows
+follows_is Follows z = refl
+follows_is (Over outcome) z = cc
+follows_is Cut z = cc
+follows_is Left z = cc
+follows_is Failed z = cc
+
+-- it became this if there was memory, and is as before if not
+pub served_either : (c d e : DeliveryRecord) (r : Result Unit AllocError) → OnOk r (d ≡ e) → OnErr r (d ≡ c) → IsServed c → IsServed e → IsServed d
+served_either c d e (Ok u) ok err s t = subst IsServed (sym ok) t
+served_either c d e (Err error) ok err s t = subst IsServed (sym err) s
+
+pub served_gone : (c d : DeliveryRecord) → IsServed c → (b : Bool) → follows c.stage ≡ b → d ≡ cond b (left c Left) c → IsServed d
+served_gone c d s true z is = subst IsServed (sym is) (served_left c s (follows_is c.stage z))
+served_gone c d s false z is = subst IsServed (sym is) s
 
 -- a newcomer
 pub served_new : (c : DeliveryRecord) → IsOpening c.opening c.follower.part → c.follower.part.taken ≡ [] → c.stage ≡ Follows → c.sent ≡ [] → c.due ≡ c.opening → c.pieces ≡ []

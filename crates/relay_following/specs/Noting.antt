@@ -8,5 +8,5 @@ abbrev pub piece_of : NewPiece → Piece
 piece_of (Move place m) = a_move place m
 piece_of (Pong bytes) = a_pong bytes.items
 piece_of Ping = a_ping
-piece_of (End taken code) = an_end taken code.number
+piece_of (End taken code) = an_end taken.value code.number
 piece_of (Close code) = a_close (number_of code)

@@ -1,5 +1,5 @@
 -- What a connection that follows a board is sent behind its opening, piece by piece, and the frames that this is.
-use Rattle.std.specs.Prelude.{ℕ, ◌+◌, List, [], ◌∷◌, ◌++◌, Option, Some, ⊤, ⊥}
+use Rattle.std.specs.Prelude.{ℕ, ◌+◌, List, [], ◌∷◌, ◌++◌, Option, Some, ⊤}
 use Rattle.c960_board.specs.Moves.{Triple}
 use Rattle.relay_core.specs.declared.reply.Taken.{Taken}
 use Rattle.relay_core.specs.declared.reply.Taken.TheVariants as takes

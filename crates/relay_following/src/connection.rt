@@ -1,6 +1,6 @@
 //! A connection that follows a board.
 
-ghost use Rattle.std.specs.Prelude.{◌≡◌, ◌×◌, ⊥, [], cond, IfOk, None, OnErr, OnOk, Some, false};
+ghost use Rattle.std.specs.Prelude.{◌≡◌, [], cond, IfOk, None, OnErr, OnOk, Some, false};
 ghost use Rattle.relay_frames.specs.Reading.{is_midway};
 ghost use Rattle.live_board.specs.Views.{next_of};
 ghost use Rattle.relay_following.specs.Boards.{IsIn};
@@ -15,7 +15,7 @@ mod hearing;
 use crate::delivery::Delivery;
 use crate::stage::Stage;
 use relay_core::BoardName;
-use relay_frames::{Code, Peer};
+use relay_frames::{Code, Peer, Progress};
 use relay_hall::{Hall, Handed};
 use relay_pushing::LastText;
 use std::alloc::AllocError;
@@ -29,6 +29,7 @@ pub struct FollowerConnection {
     peer: Peer,
     /// How many bytes of messages came that nobody answers.
     unanswered: u64,
+    progress: Progress,
 }
 
 impl Model for FollowerConnection {
@@ -55,6 +56,7 @@ impl FollowerConnection {
             delivery: Delivery::new(handed, opening),
             peer,
             unanswered: 0,
+            progress: Progress::new(),
         }
     }
 
@@ -86,6 +88,14 @@ impl FollowerConnection {
         ensures { result ≡ is_midway self.now.reading }
     {
         self.peer.is_midway()
+    }
+
+    /// Whether something that came whole was answered since the last such call: a message, or a ping, a pong or a close that is not between
+    /// the parts of one. By that a driver measures how long the rest of a message takes. It is no part of what contracts see.
+    pub fn take_whole(&mut self) -> bool
+        ensures { self.new ≡ self.old }
+    {
+        self.progress.take_whole()
     }
 
     /// Whether so much is due that it is not heard until some of it is sent.

@@ -22,6 +22,7 @@ use relay_hall::Handed;
 use relay_pushing::LastText;
 use std::alloc::AllocError;
 use std::marker::Model;
+use std::snapshot::Snapshot;
 
 /// What is delivered to a connection of the board that it follows. Contracts see a `DeliveryRecord`.
 #[derive(Drop)]
@@ -157,8 +158,9 @@ impl Delivery {
         ensures ok { OnOk result (self.new ≡ puts self.old (an_end end code.number)) }
         ensures err { OnErr result (self.new ≡ self.old) }
     {
+        let piece = NewPiece::End(Snapshot::of(&end), code);
         put_both(&mut self.output, last, end, code)?;
-        self.pieces = self.pieces.and(&NewPiece::End(end, code));
+        self.pieces = self.pieces.and(&piece);
         Ok(())
     }
 

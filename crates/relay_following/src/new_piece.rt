@@ -4,6 +4,7 @@ use crate::bytes::Bytes;
 use c960_board::Move;
 use relay_core::Taken;
 use relay_frames::Code;
+use std::snapshot::Snapshot;
 
 /// What was put behind what is due to a connection.
 #[derive(Drop)]
@@ -14,7 +15,7 @@ pub(crate) enum NewPiece {
     Pong(Bytes),
     Ping,
     /// What tells of the end, and a close with this code.
-    End(Taken, Code),
+    End(Snapshot<Taken>, Code),
     /// A close with this code or none.
     Close(Option<Code>),
 }

@@ -21,6 +21,8 @@ go_on_append [] qs x y = y
 go_on_append (a_move place m ∷ ps) qs x y = go_on_append ps qs x y
 go_on_append (a_pong bytes ∷ ps) qs x y = go_on_append ps qs x y
 go_on_append (a_ping ∷ ps) qs x y = go_on_append ps qs x y
+go_on_append (an_end taken code ∷ ps) qs x y = absurd x
+go_on_append (a_close number ∷ ps) qs x y = absurd x
 
 pub moves_of_moves : (place : ℕ) (ms : List Triple) → moves_in (move_pieces place ms) ≡ placed place ms
 moves_of_moves place [] = refl

@@ -34,13 +34,13 @@ first_of_stretch j n m l xs rest is long low short =
     ∙ take-append_seam (drop j (take n all)) (drop n all) ∙ ap (drop j) (sym same)
 
 module _ (f : FloorRecord) (c : DeliveryRecord) (s : IsServed c) (is : IsIn f c) where
-  log : List Triple
+  abbrev log : List Triple
   log = is.board.game.log
 
-  joined : ℕ
+  abbrev joined : ℕ
   joined = c.follower.part.joined
 
-  next : ℕ
+  abbrev next : ℕ
   next = next_of c.follower.part
 
   count : length c.follower.part.taken ≡ length s.moves + length s.lost

@@ -1,6 +1,6 @@
 //! What the peer of a connection that follows says, and the answers to that.
 
-ghost use Rattle.std.specs.Prelude.{◌≡◌, ◌×◌, IfOk, OnErr, OnOk, length, true};
+ghost use Rattle.std.specs.Prelude.{◌≡◌, IfOk, OnErr, OnOk, length, true};
 ghost use Rattle.relay_frames.specs.Events.{number_of, told};
 ghost use Rattle.relay_following.specs.Calls.{Answers, Fails, answered, closes, delivers, is_heard, left as left_as, passes_over, puts};
 ghost use Rattle.relay_following.specs.Pieces.{a_pong};
@@ -57,6 +57,7 @@ impl FollowerConnection {
             self.delivery.leave();
             return Err(AllocError);
         }
+        self.progress.note(&event);
         Ok(true)
     }
 

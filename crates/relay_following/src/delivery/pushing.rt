@@ -2,7 +2,8 @@
 //! it meets its board in the hall, by which all that it took is known to be that board's. If that shows that something was left, it takes that,
 //! and meets its board again. What a meeting told alone decides on the end: so it is told behind the whole log, or at the closing.
 
-ghost use Rattle.std.specs.Prelude.{◌≡◌, [], length, cond, nat_le, IfOk, OnErr, OnOk};
+ghost use Rattle.std.specs.Prelude.{◌≡◌, ◌&&◌, [], length, cond, nat_le, not, IfOk, OnErr, OnOk};
+ghost use Rattle.relay_frames.specs.declared.output.TheConstants.{MOST_OUTPUT};
 ghost use Rattle.relay_following.specs.Boards.{IsIn};
 ghost use Rattle.relay_following.specs.Calls.{left as left_as, puts};
 ghost use Rattle.relay_following.specs.Pieces.{an_end};
@@ -91,11 +92,18 @@ impl Delivery {
         ensures caught_up { CatchesUp round.is_put hall.old.floor round self.old self.new result }
         ensures hall { hall.new ≡ hall.old }
     {
-        if !round.is_put || round.is_through() || self.is_much() {
+        if !self.may_go_on(&round) {
             return round;
         }
         let limit = u64::from(round.account.limit);
         self.go_on(hall, last, limit)
+    }
+
+    /// Whether something is left behind a round that may be taken now.
+    fn may_go_on(&self, round: &Round) -> bool
+        ensures { result ≡ (round.now.is_put && (not (is_through round.now) && not (nat_le MOST_OUTPUT (length self.now.due)))) }
+    {
+        round.is_put && !round.is_through() && !self.is_much()
     }
 
     /// Takes moves to this place of the log, and meets its board then.
@@ -200,7 +208,10 @@ impl Delivery {
     {
         let next = self.next().unwrap_or(limit);
         for place in next..limit {
-            if self.is_much() || !self.take_one(last)? {
+            if self.is_much() {
+                return Ok(());
+            }
+            if !self.take_one(last)? {
                 return Ok(());
             }
         }

@@ -1,11 +1,11 @@
 //! What a driver asks of a connection as time passes.
 
-use relay_frames::Event;
+use crate::event::Event;
 use std::mem;
 
 /// What has been answered of a connection since that was last asked, and whether a message in fragments has begun.
 #[derive(Drop)]
-pub(crate) struct Progress {
+pub struct Progress {
     /// Whether a whole text or binary message was.
     has_said: bool,
     /// Whether something was behind which no message in fragments has begun.
@@ -15,7 +15,7 @@ pub(crate) struct Progress {
 
 impl Progress {
     /// Nothing has come.
-    pub(crate) fn new() -> Progress {
+    pub fn new() -> Progress {
         Progress {
             has_said: false,
             has_come_whole: false,
@@ -24,7 +24,7 @@ impl Progress {
     }
 
     /// This was answered.
-    pub(crate) fn note(&mut self, event: &Event) {
+    pub fn note(&mut self, event: &Event) {
         match event {
             Event::Fragment => self.is_in_fragments = true,
             Event::Text(_) | Event::Binary(_) => {
@@ -37,12 +37,12 @@ impl Progress {
     }
 
     /// Whether a whole text or binary message was answered since the last such call.
-    pub(crate) fn take_said(&mut self) -> bool {
+    pub fn take_said(&mut self) -> bool {
         mem::replace(&mut self.has_said, false)
     }
 
     /// Whether something was answered since the last such call behind which no message in fragments has begun.
-    pub(crate) fn take_whole(&mut self) -> bool {
+    pub fn take_whole(&mut self) -> bool {
         mem::replace(&mut self.has_come_whole, false)
     }
 }
