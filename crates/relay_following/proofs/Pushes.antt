@@ -1,5 +1,5 @@
 -- What a push puts: takes one behind another, meetings between them, and the end.
-use Rattle.std.proofs.Common.{◌≡◌, ◌≢◌, ◌+◌, ◌≤◌, ◌==◌, nat_le, ℕ, suc, Bool, true, false, true≢false, cond, not, ◌&&◌, List, [], ◌∷◌, ◌++◌, length, length-append, take, Option, None, Some, IfSome, is_some, Result, Ok, Err, inl, inr, refl, sym, ap, ◌∙◌, subst, append_assoc, append-nil, arith}
+use Rattle.std.proofs.Common.{◌≡◌, ◌≢◌, ◌+◌, ◌<◌, ◌≤◌, ◌==◌, nat_le, ℕ, suc, Bool, true, false, true≢false, cond, not, ◌&&◌, List, [], ◌∷◌, ◌++◌, length, length-append, take, Option, None, Some, IfSome, is_some, Result, Ok, Err, inl, inr, refl, sym, ap, ◌∙◌, subst, append_assoc, append-nil, arith}
 use Rattle.std.specs.Prelude.{IfOk, OnErr, OnOk, is_ok, unwrap_or, ◌⊎◌}
 use Rattle.std.specs.declared.alloc.AllocError.{AllocError}
 use Rattle.std.proofs.lemmas.Bool.{eqb-true}
@@ -26,11 +26,27 @@ use Rattle.relay_following.specs.declared.stage.Stage.TheVariants.{Follows, Over
 use Rattle.relay_following.specs.Boards.{IsEndOf, IsIn, IsOf, end_of}
 use Rattle.relay_following.specs.Calls.{left, puts}
 use Rattle.relay_following.specs.Pieces.{Piece, a_move, an_end, frames_in, frames_of, move_pieces}
-use Rattle.relay_following.specs.Pushing.{CatchesUp, CaughtUp, Delivers, DeliversLost, EndsBy, Finishes, FinishesNot, GoesOn, IsAt, HasNoEnd, IsMet, MeetsIn, PushFails, Pushes, PutAs, StaysWith, StopsAt, TakesOne, end_pieces, is_through, stage_behind}
+use Rattle.relay_following.specs.Pushing.{CatchesUp, CaughtUp, Delivers, DeliversLost, EndsBy, Finishes, FinishesNot, GoesOn, IsAt, HasNoEnd, IsMet, MeetsIn, PushFails, Pushes, PutAs, StaysWith, StopsAt, TakesOne, WhileLittle, end_pieces, is_through, stage_behind}
 use Rattle.relay_following.specs.Record.{DeliveryRecord}
 use Rattle.relay_following.specs.Served.{IsLost}
 use Rattle.relay_following.proofs.lemmas.Boards.{of_at}
 use Rattle.relay_following.proofs.lemmas.Pieces.{frames_append, more_moves}
+
+-- ---- How much is due.
+
+is_much : (a b : ℕ) → nat_le a b ≡ true → a ≤ b
+is_much a b z = by (leb_tells a b)
+  where
+    by : ((nat_le a b ≡ true) × (a ≤ b)) ⊎ ((nat_le a b ≡ false) × (b < a)) → a ≤ b
+    by (inl (y, low)) = low
+    by (inr (n, high)) = absurd (true≢false (sym z ∙ n))
+
+is_little : (a b : ℕ) → nat_le a b ≡ false → b < a
+is_little a b z = by (leb_tells a b)
+  where
+    by : ((nat_le a b ≡ true) × (a ≤ b)) ⊎ ((nat_le a b ≡ false) × (b < a)) → b < a
+    by (inl (y, low)) = absurd (true≢false (sym y ∙ z))
+    by (inr (n, high)) = high
 
 -- ---- One behind another.
 
@@ -56,6 +72,7 @@ pub delivers_none : (c : DeliveryRecord) → Delivers c c [] []
 delivers_none c = record {
   stays = record { board = refl; table = refl; setup = refl; joined = refl; before = refl; seen = known_same c.follower.part; opening = refl; sent = refl };
   moves = [];
+  little = inl refl;
   taken = sym (append-nil c.follower.part.taken);
   pieces = sym (append-nil c.pieces);
   due = sym (append-nil c.due);
@@ -67,18 +84,45 @@ next_behind c d a =
     let j = a.stays.joined in
     omega (arith, n, j)
 
+-- what is due then
+due_behind : (c d : DeliveryRecord) (a : Delivers c d [] []) → d.due ≡ c.due ++ frames_of (move_pieces (next_of c.follower.part) a.moves)
+due_behind c d a = a.due ∙ ap (λ l. c.due ++ frames_of l) (append-nil (move_pieces (next_of c.follower.part) a.moves))
+
+due_then : (c d : DeliveryRecord) (a : Delivers c d [] []) (ms : List Triple)
+    → c.due ++ frames_of (move_pieces (next_of c.follower.part) (a.moves ++ ms)) ≡ d.due ++ frames_of (move_pieces (next_of d.follower.part) ms)
+due_then c d a ms =
+    let place = next_of c.follower.part in
+    let first = move_pieces place a.moves in
+    let second = move_pieces (place + length a.moves) ms in
+    ap (λ l. c.due ++ frames_of l) (more_moves place a.moves ms) ∙ ap (λ l. c.due ++ l) (frames_append first second)
+    ∙ sym (append_assoc c.due (frames_of first) (frames_of second)) ∙ ap (λ l. l ++ frames_of second) (sym (due_behind c d a))
+    ∙ ap (λ n. d.due ++ frames_of (move_pieces n ms)) (sym (next_behind c d a))
+
+little_then : (c d e : DeliveryRecord) (lost : List Triple) (ends : List Piece) (a : Delivers c d [] []) (b : Delivers d e lost ends)
+    → WhileLittle d.due (next_of d.follower.part) (b.moves ++ lost) → WhileLittle c.due (next_of c.follower.part) ((a.moves ++ b.moves) ++ lost)
+little_then c d e lost ends a b (inl none) =
+    subst (λ l. WhileLittle c.due (next_of c.follower.part) l) (ap (λ l. a.moves ++ l) (sym none) ∙ sym (append_assoc a.moves b.moves lost)) a.little
+little_then c d e lost ends a b (inr (earlier, last, is, low)) =
+    inr (
+      a.moves ++ earlier,
+      last,
+      append_assoc a.moves b.moves lost ∙ ap (λ l. a.moves ++ l) is ∙ sym (append_assoc a.moves earlier (last ∷ [])),
+      subst (λ n. n < MOST_OUTPUT) (ap length (sym (due_then c d a earlier))) low,
+    )
+
 pub delivers_then : (c d e : DeliveryRecord) (lost : List Triple) (ends : List Piece) → Delivers c d [] [] → Delivers d e lost ends → Delivers c e lost ends
 delivers_then c d e lost ends a b =
     let place = next_of c.follower.part in
     let first = move_pieces place a.moves in
     let second = move_pieces (next_of d.follower.part) b.moves ++ ends in
     let all : first ++ second ≡ move_pieces place (a.moves ++ b.moves) ++ ends =
-        ap (λ (n : ℕ). first ++ (move_pieces n b.moves ++ ends)) (next_behind c d a)
-        ∙ sym (append_assoc first (move_pieces (place + length a.moves) b.moves) ends)
-        ∙ ap (λ l. l ++ ends) (sym (more_moves place a.moves b.moves)) in
+    ap (λ (n : ℕ). first ++ (move_pieces n b.moves ++ ends)) (next_behind c d a)
+    ∙ sym (append_assoc first (move_pieces (place + length a.moves) b.moves) ends)
+    ∙ ap (λ l. l ++ ends) (sym (more_moves place a.moves b.moves)) in
     record {
       stays = stays_then c d e a.stays b.stays;
       moves = a.moves ++ b.moves;
+      little = little_then c d e lost ends a b b.little;
       taken =
           b.taken ∙ ap (λ l. l ++ (b.moves ++ lost)) (a.taken ∙ ap (λ l. c.follower.part.taken ++ l) (append-nil a.moves))
           ∙ append_assoc c.follower.part.taken a.moves (b.moves ++ lost) ∙ ap (λ l. c.follower.part.taken ++ l) (sym (append_assoc a.moves b.moves lost));
@@ -92,9 +136,9 @@ delivers_then c d e lost ends a b =
 
 -- ---- A take.
 
-module _ (c d : DeliveryRecord) (g : FollowerSeat) (stays : Stays c.follower g) where
+module _ (c d : DeliveryRecord) (g : FollowerSeat) (stage : Stage) (stays : Stays c.follower g) (low : nat_le MOST_OUTPUT (length c.due) ≡ false) where
   abbrev pub taken : DeliveryRecord
-  taken = record c { follower = g }
+  taken = record c { follower = g; stage = stage }
 
   same_board : StaysWith c taken
   same_board = record {
@@ -108,18 +152,23 @@ module _ (c d : DeliveryRecord) (g : FollowerSeat) (stays : Stays c.follower g) 
     sent = refl;
   }
 
+  -- one was taken while little was due
+  little_one : (m : Triple) → WhileLittle c.due (next_of c.follower.part) (m ∷ [])
+  little_one m = inr ([], m, refl, subst (λ n. n < MOST_OUTPUT) (ap length (sym (append-nil c.due))) (is_little MOST_OUTPUT (length c.due) low))
+
   -- these moves were taken, and nothing was put
-  unput : (lost : List Triple) → g.part.taken ≡ c.follower.part.taken ++ lost → Delivers c taken lost []
-  unput lost is = record {
+  unput : (lost : List Triple) → WhileLittle c.due (next_of c.follower.part) lost → g.part.taken ≡ c.follower.part.taken ++ lost → Delivers c taken lost []
+  unput lost little is = record {
     stays = same_board;
     moves = [];
+    little = little;
     taken = is;
     pieces = sym (append-nil c.pieces);
     due = sym (append-nil c.due);
   }
 
   none_taken : g.part.taken ≡ c.follower.part.taken → Delivers c taken [] []
-  none_taken is = unput [] (is ∙ sym (append-nil c.follower.part.taken))
+  none_taken is = unput [] (inl refl) (is ∙ sym (append-nil c.follower.part.taken))
 
   put_one : (place : ℕ) (m : Triple) → place ≡ next_of c.follower.part → g.part.taken ≡ c.follower.part.taken ++ m ∷ [] → Delivers c (puts taken (a_move place m)) [] []
   put_one place m at is =
@@ -136,6 +185,7 @@ module _ (c d : DeliveryRecord) (g : FollowerSeat) (stays : Stays c.follower g) 
           sent = refl;
         };
         moves = m ∷ [];
+        little = little_one m;
         taken = is;
         pieces = ap (λ p. c.pieces ++ p ∷ []) piece;
         due = ap (λ p. c.due ++ frames_in p) piece ∙ ap (λ l. c.due ++ l) (sym (append-nil (frames_in (a_move (next_of c.follower.part) m))));
@@ -166,7 +216,7 @@ module _ (c d : DeliveryRecord) (g : FollowerSeat) (stays : Stays c.follower g) 
   loses_one t took is = subst (λ (e : DeliveryRecord). DeliversLost c e) (sym is) (by t took)
     where
       by : (t : Taken) → Took c.follower g t → DeliversLost c taken
-      by (takes.Move place m) took = (m ∷ [], omega arith, unput (m ∷ []) took.1)
+      by (takes.Move place m) took = (m ∷ [], omega arith, unput (m ∷ []) (little_one m) took.1)
       by takes.Nothing took = ([], omega arith, none_taken took.0.1)
       by (takes.Over outcome) took = ([], omega arith, none_taken took.0.1)
       by takes.Cut took = ([], omega arith, none_taken (ap (λ (x : FollowerSeat). x.part.taken) took.0))
@@ -181,16 +231,23 @@ module _ (c d : DeliveryRecord) (g : FollowerSeat) (stays : Stays c.follower g) 
 
 -- ---- Takes to a place.
 
+pub err_of : {A E P : Type 0} → (r : Result A E) → P → OnErr r P
+err_of (Ok done) p = tt
+err_of (Err fault) p = p
+
 module _ (limit : ℕ) (c d e : DeliveryRecord) (a : Delivers c d [] []) where
   pub lost_then : DeliversLost d e → DeliversLost c e
   lost_then (lost, few, b) = (lost, few, delivers_then c d e lost [] a b)
 
-  pub stops_none : TakesOne false d e → Delivers c e [] [] × StopsAt limit c e
+  stops_none : TakesOne false d e → Delivers c e [] [] × StopsAt limit c e
   stops_none (b, inl seen) = (delivers_then c d e [] [] a b, inr (inr (inl (let s = a.stays.seen.0 in omega (arith, s, seen)))))
   stops_none (b, inr closed) = (delivers_then c d e [] [] a b, inr (inr (inr closed)))
 
-  pub takes_more : TakesOne true d e → Delivers c e [] []
-  takes_more (b, next) = delivers_then c d e [] [] a b
+  pub stops_then : (some : Bool) → TakesOne some d e → some ≡ false → Delivers c e [] [] × StopsAt limit c e
+  stops_then some one none = stops_none (subst (λ (b : Bool). TakesOne b d e) none one)
+
+  pub takes_then : (some : Bool) → TakesOne some d e → some ≡ true → Delivers c e [] [] × (next_of e.follower.part ≡ next_of d.follower.part + 1)
+  takes_then some one is = let (b, next) = subst (λ (x : Bool). TakesOne x d e) is one in (delivers_then c d e [] [] a b, next)
 
 -- ---- A meeting.
 
@@ -226,6 +283,7 @@ module _ (b : HallBoard) (c d : DeliveryRecord) (of : IsOf b c.follower c.stage)
       sent = went.stays.sent;
     };
     moves = went.moves;
+    little = went.little;
     taken = ap (λ (p : Part). p.taken) m.learned.2 ∙ went.taken;
     pieces = went.pieces;
     due = went.due;
@@ -252,16 +310,16 @@ module _ (f : FloorRecord) (limit : ℕ) (c d e : DeliveryRecord) (is : IsIn f c
   gone_on lost few went whole =
       let of = of_board went.stays.board in
       let h = e.follower in
-      let m = met.2.2.1 in
-      subst (λ (x : DeliveryRecord). GoesOn f limit c x round) (sym met.2.1) (record {
+      let m = met.3 in
+      subst (λ (x : DeliveryRecord). GoesOn f limit c x round) (sym met.2) (record {
         met = record {
           board = met.0;
           found = met.1;
           is_of = met_of met.0 c d of lost went h m;
           follows = follows;
           seen = m.seen;
-          account = met.2.2.2.0;
-          outcome = met.2.2.2.1;
+          account = met.4;
+          outcome = met.5;
         };
         lost = lost;
         few = few;
@@ -333,14 +391,14 @@ module _ (f : FloorRecord) (before : Round) (c d : DeliveryRecord) (met : IsMet 
     lost = [];
     few = omega arith;
     delivers = delivers_none c;
-    whole = λ put. (refl, λ no. absurd (true≢false (sym a ∙ no)));
+    whole = λ put. (refl, λ not_all. absurd (true≢false (sym a ∙ not_all)));
   }
   stayed true false true p a n is = record {
     met = met;
     lost = [];
     few = omega arith;
     delivers = delivers_none c;
-    whole = λ put. (refl, λ no. leb_tells MOST_OUTPUT (length c.due) n);
+    whole = λ put. (refl, λ not_all. is_much MOST_OUTPUT (length c.due) n);
   }
   stayed true false false p a n is = absurd (true≢false is)
 
@@ -349,8 +407,8 @@ module _ (f : FloorRecord) (before : Round) (c d : DeliveryRecord) (met : IsMet 
 
   -- what was left is taken, or much is due
   more_or_all : (round : Round) (went : Delivers c d [] []) (m : IsMet f d round) → StopsAt before.account.limit c d → is_through round ≡ false → MOST_OUTPUT ≤ length d.due
-  more_or_all round went m (inl much) no = much
-  more_or_all round went m (inr rest) no = absurd (through_not m.board d round m.seen m.account no (by rest))
+  more_or_all round went m (inl much) not_all = much
+  more_or_all round went m (inr rest) not_all = absurd (through_not m.board d round m.seen m.account not_all (by rest))
     where
       same_log : c.follower.part.seen ≡ length m.board.game.log
       same_log = met.seen ∙ ap (λ (b : HallBoard). length b.game.log) (same_Some _ _ (sym met.found ∙ ap (λ n. lookup (same_name n) f.boards) (sym went.stays.board) ∙ m.found))
@@ -411,42 +469,53 @@ module _ (f : FloorRecord) (is_ending : Bool) (c d e : DeliveryRecord) (round : 
 
   -- an end was put
   one_end : (p : Piece) (stage : Stage) → Delivers d (left (puts d p) stage) [] (p ∷ [])
-  one_end p stage =
-      let none = delivers_none d in
-      record {
-        stays = record { board = refl; table = refl; setup = refl; joined = refl; before = refl; seen = none.stays.seen; opening = refl; sent = refl };
-        moves = [];
-        taken = none.taken;
-        pieces = refl;
-        due = ap (λ l. d.due ++ l) (sym (append-nil (frames_in p)));
-      }
+  one_end p stage = record {
+    stays = record {
+      board = refl;
+      table = refl;
+      setup = refl;
+      joined = refl;
+      before = refl;
+      seen = known_same d.follower.part;
+      opening = refl;
+      sent = refl;
+    };
+    moves = [];
+    little = inl refl;
+    taken = sym (append-nil d.follower.part.taken);
+    pieces = refl;
+    due = ap (λ l. d.due ++ l) (sym (append-nil (frames_in p)));
+  }
 
   ends : (stage : Stage) → EndsBy is_ending stage d e → (e.stage ≡ stage) × Delivers d e [] (end_pieces is_ending stage) × (e.follower ≡ d.follower)
-  ends Follows is =
-      (ap (λ (x : DeliveryRecord). x.stage) is ∙ u.met.follows,
-      subst (λ (x : DeliveryRecord). Delivers d x [] []) (sym is) (delivers_none d),
-      ap (λ (x : DeliveryRecord). x.follower) is)
+  ends Follows is = (
+    ap (λ (x : DeliveryRecord). x.stage) is ∙ u.met.follows,
+    subst (λ (x : DeliveryRecord). Delivers d x [] []) (sym is) (delivers_none d),
+    ap (λ (x : DeliveryRecord). x.follower) is,
+  )
   ends (Over outcome) is =
-      let p = an_end (takes.Over outcome) (cond is_ending 1001 1000) in
-      (ap (λ (x : DeliveryRecord). x.stage) is,
-      subst (λ (x : DeliveryRecord). Delivers d x [] (p ∷ [])) (sym is) (one_end p (Over outcome)),
-      ap (λ (x : DeliveryRecord). x.follower) is)
+      let p = an_end (takes.Over outcome) (cond is_ending 1001 1000) in (
+        ap (λ (x : DeliveryRecord). x.stage) is,
+        subst (λ (x : DeliveryRecord). Delivers d x [] (p ∷ [])) (sym is) (one_end p (Over outcome)),
+        ap (λ (x : DeliveryRecord). x.follower) is,
+      )
   ends Cut is =
-      let p = an_end takes.Cut 4001 in
-      (ap (λ (x : DeliveryRecord). x.stage) is,
-      subst (λ (x : DeliveryRecord). Delivers d x [] (p ∷ [])) (sym is) (one_end p Cut),
-      ap (λ (x : DeliveryRecord). x.follower) is)
+      let p = an_end takes.Cut 4001 in (
+        ap (λ (x : DeliveryRecord). x.stage) is,
+        subst (λ (x : DeliveryRecord). Delivers d x [] (p ∷ [])) (sym is) (one_end p Cut),
+        ap (λ (x : DeliveryRecord). x.follower) is,
+      )
 
   -- the stage that the account and the outcome tell is the one by the closing and by the board
   same_stage : stage_behind round.account.cut round.outcome ≡ stage_behind (is_some d.follower.part.closing) u.met.board.game.outcome
   same_stage = λ i. stage_behind (u.met.account i).cut (u.met.outcome i)
 
   pub finished : (more : Bool) → Finishes more is_ending round d e → Pushes f is_ending c e more
-  finished true (put, no, is) = subst (λ (x : DeliveryRecord). Pushes f is_ending c x true) (sym is) (record {
+  finished true (put, not_all, is) = subst (λ (x : DeliveryRecord). Pushes f is_ending c x true) (sym is) (record {
     board = u.met.board;
     found = found;
     delivers = subst (λ (s : Stage). Delivers c d [] (end_pieces is_ending s)) (sym u.met.follows) (all_put put);
-    reached = ((u.whole put).1 no, u.met.follows);
+    reached = ((u.whole put).1 not_all, u.met.follows);
   })
   finished false (put, all, is) =
       let stage = stage_behind round.account.cut round.outcome in
@@ -467,7 +536,7 @@ module _ (f : FloorRecord) (is_ending : Bool) (c d e : DeliveryRecord) (round : 
   end_is all None closed None over = tt
 
   pub in_finished : (more : Bool) → Finishes more is_ending round d e → IsIn f e
-  in_finished true (put, no, is) = subst (λ (x : DeliveryRecord). IsIn f x) (sym is) in_still
+  in_finished true (put, not_all, is) = subst (λ (x : DeliveryRecord). IsIn f x) (sym is) in_still
   in_finished false (put, all, is) =
       let x = ends (stage_behind round.account.cut round.outcome) is in
       let there = through u.met.board d round u.met.seen u.met.account all in
@@ -500,6 +569,7 @@ module _ (f : FloorRecord) (is_ending : Bool) (c d e : DeliveryRecord) (round : 
         sent = u.delivers.stays.sent;
       };
       moves = u.delivers.moves;
+      little = u.delivers.little;
       taken = u.delivers.taken;
       pieces = u.delivers.pieces;
       due = u.delivers.due;

@@ -149,6 +149,9 @@ none_lost_at Failed = omega arith
 
 no_end_last : (stage : Stage) → HasNoEnd stage → IsLast stage []
 no_end_last Follows x = refl
+no_end_last (Over outcome) x = absurd x
+no_end_last Cut x = absurd x
+no_end_last Left x = absurd x
 no_end_last Failed x = refl
 
 pub served_push : (f : FloorRecord) (is_ending : Bool) (c d : DeliveryRecord) → IsServed c → c.stage ≡ Follows

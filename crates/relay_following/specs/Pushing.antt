@@ -1,5 +1,5 @@
 -- What a push puts.
-use Rattle.std.specs.Prelude.{◌≡◌, ◌⊎◌, ◌+◌, ◌==◌, ◌≤◌, ℕ, Bool, cond, true, false, List, [], ◌∷◌, ◌++◌, length, Option, None, Some, is_some, ⊤}
+use Rattle.std.specs.Prelude.{◌≡◌, ◌⊎◌, ◌+◌, ◌==◌, ◌<◌, ◌≤◌, ℕ, Bool, cond, true, false, List, [], ◌∷◌, ◌++◌, length, Option, None, Some, is_some, ⊤}
 use Rattle.std.specs.Map.{lookup}
 use Rattle.c960_board.specs.Moves.{Triple}
 use Rattle.c960_game.specs.declared.outcome.Outcome.{Outcome}
@@ -33,10 +33,17 @@ pub record StaysWith (c d : DeliveryRecord) : Type 0 where
   pub opening : d.opening ≡ c.opening
   pub sent : d.sent ≡ c.sent
 
--- Its follower took moves. All but those lost were put, each once and in order, with the places from its next one on; and then this.
+-- the last of these moves, if there is one, was taken while little was due: these bytes, and the frames of the moves before it
+abbrev pub WhileLittle : List ℕ → ℕ → List Triple → Type 0
+WhileLittle due place moves =
+    (moves ≡ [])
+    ⊎ ((earlier : List Triple) × (last : Triple) × (moves ≡ earlier ++ last ∷ []) × (length (due ++ frames_of (move_pieces place earlier)) < MOST_OUTPUT))
+
+-- Its follower took moves while little was due. All but those lost were put, each once and in order, with the places from its next one on; and then this.
 pub record Delivers (c d : DeliveryRecord) (lost : List Triple) (ends : List Piece) : Type 0 where
   pub stays : StaysWith c d
   pub moves : List Triple
+  pub little : WhileLittle c.due (next_of c.follower.part) (moves ++ lost)
   pub taken : d.follower.part.taken ≡ c.follower.part.taken ++ (moves ++ lost)
   pub pieces : d.pieces ≡ c.pieces ++ (move_pieces (next_of c.follower.part) moves ++ ends)
   pub due : d.due ≡ c.due ++ frames_of (move_pieces (next_of c.follower.part) moves ++ ends)

@@ -2,7 +2,7 @@
 //! it meets its board in the hall, by which all that it took is known to be that board's. If that shows that something was left, it takes that,
 //! and meets its board again. What a meeting told alone decides on the end: so it is told behind the whole log, or at the closing.
 
-ghost use Rattle.std.specs.Prelude.{◌≡◌, ◌&&◌, [], length, cond, nat_le, not, IfOk, OnErr, OnOk};
+ghost use Rattle.std.specs.Prelude.{◌≡◌, ◌&&◌, [], length, cond, nat_le, not, false, IfOk, OnErr, OnOk};
 ghost use Rattle.relay_frames.specs.declared.output.TheConstants.{MOST_OUTPUT};
 ghost use Rattle.relay_following.specs.Boards.{IsIn};
 ghost use Rattle.relay_following.specs.Calls.{left as left_as, puts};
@@ -172,7 +172,12 @@ impl Delivery {
             return self.end(last, Taken::Cut, cut_code(), Stage::Cut);
         }
         match round.outcome {
-            Some(outcome) => self.end(last, Taken::Over(outcome), end_code(is_ending), Stage::Over(outcome)),
+            Some(outcome) => self.end(
+                last,
+                Taken::Over(outcome),
+                end_code(is_ending),
+                Stage::Over(outcome),
+            ),
             None => Ok(()),
         }
     }
@@ -225,6 +230,7 @@ impl Delivery {
     /// There was no memory to put it.
     fn take_one(&mut self, last: &mut LastText) -> Result<bool, AllocError>
         requires follows { self.old.stage ≡ Follows }
+        requires little { nat_le MOST_OUTPUT (length self.old.due) ≡ false }
         ensures ok { IfOk result (λ some. TakesOne some self.old self.new) }
         ensures err { OnErr result (DeliversLost self.old self.new) }
         ensures stage { self.new.stage ≡ Follows }
