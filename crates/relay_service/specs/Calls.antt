@@ -171,10 +171,10 @@ PushesAt s number most more t =
     (λ f. Serves s number (λ f g. PushesTo (follows f.delivery.stage) s.hall.floor most s.is_ending more f g) t)
 
 -- there was no memory
-abbrev pub PushFailsAt : ServiceRecord → ℕ → ServiceRecord → Type 0
-PushFailsAt s number t =
+abbrev pub PushFailsAt : ServiceRecord → ℕ → ℕ → ServiceRecord → Type 0
+PushFailsAt s number most t =
     MatchOption (follower_at s number) ⊥
-    (λ f. Serves s number (λ f g. (follows f.delivery.stage ≡ true) × (g ≡ following.delivers f g.delivery) × PushFails f.delivery g.delivery) t)
+    (λ f. Serves s number (λ f g. (follows f.delivery.stage ≡ true) × (g ≡ following.delivers f g.delivery) × PushFails most f.delivery g.delivery) t)
 
 -- ---- What is sent.
 

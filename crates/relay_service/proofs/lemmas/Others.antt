@@ -76,8 +76,8 @@ failed_others s number t is =
 pub pushed_others : (s : ServiceRecord) (number most : ℕ) (more : Bool) (t : ServiceRecord) → PushesAt s number most more t → OthersStay s number t
 pushed_others s number most more t is = if_some (OthersStay s number t) (follower_at s number) _ _ (λ n. unchanged s number t n.1) (λ f v. served_others s number _ t v) is
 
-pub push_failed_others : (s : ServiceRecord) (number : ℕ) (t : ServiceRecord) → PushFailsAt s number t → OthersStay s number t
-push_failed_others s number t is = if_some (OthersStay s number t) (follower_at s number) _ _ (λ no. absurd no) (λ f v. served_others s number _ t v) is
+pub push_failed_others : (s : ServiceRecord) (number most : ℕ) (t : ServiceRecord) → PushFailsAt s number most t → OthersStay s number t
+push_failed_others s number most t is = if_some (OthersStay s number t) (follower_at s number) _ _ (λ no. absurd no) (λ f v. served_others s number _ t v) is
 
 pub sent_others : (s : ServiceRecord) (number n : ℕ) (t : ServiceRecord) → SendsAt s number n t → OthersStay s number t
 sent_others s number n t is = by (connection_at s number) is
