@@ -4,7 +4,7 @@
 The order is that of reading: a module stands after those that it imports. A test that computes (`specs/Tests/`) is left out: laws say which
 relation it decides, and that one is read in its place. A word names another module to begin with.
 
-    tools/reading.py                                 # the table of docs/HEADLINE.md
+    tools/reading.py                                 # those behind the headline
     tools/reading.py relay_watching.specs.Watching   # that of another module
 """
 import pathlib

@@ -17,7 +17,9 @@
  */
 const createFollower = (view) => {
   const ASK_AGAIN = 2; // Seconds between two questions for a board,
-  const ASK_LATER = 10; // and for the successor of one that has a result: few have one, and each look at a shorter one takes a connection.
+  const ASK_LATER = 10; // and for the successor of one that has a result: few have one, and each look at a shorter one takes a connection;
+  const ASK_RARELY = 60; // once a result has stood
+  const SETTLED = 600; // for ten minutes, since most are corrected soon, and a question wakes a phone.
   const PATIENCE = 10800; // Three hours: a spectator may open the page long before the round.
   const LATER = ["NoSuchBoard", "TooManyFollowers", "OutOfMemory"];
   const NO_BOARD = { code: 1, name: "NoSuchBoard" };
@@ -331,11 +333,19 @@ const createFollower = (view) => {
     }
   }
 
+  /** The seconds until the boards are asked for again. */
+  function pause() {
+    if (!Outcomes.hasResult(view.record().outcome)) {
+      return ASK_AGAIN;
+    }
+    return wish.asked < SETTLED ? ASK_LATER : ASK_RARELY;
+  }
+
   /** None of the boards is to be had. */
   function refusedAll({ link }, answer) {
     log(answer);
     if (LATER.includes(answer.name) && (wish.isPatient || wish.asked < PATIENCE)) {
-      const seconds = Outcomes.hasResult(view.record().outcome) ? ASK_LATER : ASK_AGAIN;
+      const seconds = pause();
       wish.asked += seconds;
       pill("refused", `${Words.refusal(answer)} Asking again every ${seconds} s.`, SHORT[answer.name]);
       phase.go("waiting", { link, timer: setTimeout(() => phase.take("ask"), 1000 * seconds) });

@@ -34,9 +34,9 @@ const createOpening = (own) => {
   }
 
   /** Reopens the game under its next name, and sends these commands. */
-  function openNext(resend, isAlone = true) {
+  function openNext(resend) {
     const { next, start, players } = own.game;
-    phase.take("open", { board: next, start, players, anew: true }, resend, isAlone);
+    phase.take("open", { board: next, start, players, anew: true }, resend, true);
   }
 
   /* The claim of a window. */

@@ -62,16 +62,18 @@ const createOperator = (view) => {
    *   asked       link, command, resend, correct   the relay was sent a move or an ending, and has not answered
    *   lost        attempt            there is no connection; it is tried again by itself
    *   over                           the game has ended
+   *   weighing    command, glance    another connection looks whether somebody else has corrected its result
    * The relay is asked for one thing at a time, so that an answer is that to what was asked. Where none comes in time, the connection
    * counts as lost: a cable that was pulled tells nothing.
    */
   const states = {};
-  const phase = createPhase(states, entered, { sounding: 10, opening: 10, knocking: 10, looking: 30, probing: 10, asked: 10 });
+  const limits = { sounding: 10, opening: 10, knocking: 10, looking: 30, probing: 10, asked: 10, weighing: 10 };
+  const phase = createPhase(states, entered, limits);
   const claim = Claim.create(() => phase.take("taken"));
   Object.assign(own, { phase, claim, attempt, submits, movesOf, moves });
 
   const { open, back, show, claimed, held, anyway, connected, sounded, opened, notOpened, taken } = createOpening(own);
-  const { enter, probed, played, ended, refused, correctResult } = createPlaying(own);
+  const { enter, probed, played, ended, refused, correctResult, weighed } = createPlaying(own);
   const { tryAgain, broken, lost, retry, knocked, seen, unseen, stop } = createComeback(own);
 
   const ways = { closed: tryAgain, late: tryAgain, broken, stop, taken };
@@ -89,6 +91,7 @@ const createOperator = (view) => {
     asked: { played, ended, refused, closed: lost, late: lost, broken, taken },
     lost: { retry, stop, taken },
     over: { open, back, correctResult },
+    weighing: { open, weighed, late: weighed },
   });
 
   const isIdle = () => phase.is("idle", "over", "doubted");

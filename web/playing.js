@@ -33,18 +33,22 @@ const createPlaying = (own) => {
     }
   }
 
-  /** Ends a game to correct it, unless somebody else has its next name: then that is said first, and another name proposed. */
+  /** Ends a game to correct it, unless somebody else has its next name. */
   function probed({ link, command, correct }, answer) {
-    if (!Knock.isThere(answer)) {
+    if (Knock.isThere(answer)) {
+      goOn(link, []);
+      others("Another window or program seems to operate this board.", "Correct the game again");
+    } else {
       send(link, command, [], correct);
-      return;
     }
-    const others = "Another window or program seems to operate this board.";
-    const other = own.game.next;
-    own.game.next = Names.next(other);
-    goOn(link, []);
-    view.say(`${other} is at the relay, and this page did not open it. ${others} Nothing was entered. Correct the game again: it goes on `
-      + `as ${own.game.next}.`);
+  }
+
+  /** Says that the next name is somebody else's, and proposes the one behind it. */
+  function others(who, again) {
+    const { next } = own.game;
+    own.game.next = Names.next(next);
+    view.say(`${next} is at the relay, and this page did not open it. ${who} Nothing was entered. ${again}: it goes on as `
+      + `${own.game.next}.`);
   }
 
   /** A move was played; false where it is none of the game that this page has. */
@@ -97,9 +101,22 @@ const createPlaying = (own) => {
     view.over();
   }
 
-  /** Plays the game again under its next name that is free, and ends it by this command. */
+  /** Corrects a result by this command, once another connection has seen that nobody else did. */
   function correctResult(_, command) {
-    own.openNext([...submits(moves()), command], false);
+    phase.go("weighing", { command, glance: Glance.stand(view.server(), own.game.next, (it) => phase.take("weighed", it)) });
+  }
+
+  /** Plays the game again under its next name, and ends it there; unless another window has corrected it, and this one did not know. */
+  function weighed({ command, glance }, successor = null) {
+    glance.close();
+    if (successor === null) {
+      own.openNext([...submits(moves()), command]);
+      return;
+    }
+    const { outcome } = successor;
+    phase.go("over");
+    others(outcome === null ? "Another window or program seems to go on with the game there." : `It ended there: ${Outcomes.said(outcome)}`,
+      "Correct the result again");
   }
 
   /** A move or an ending was refused. A move that is legal on this page was played already, or the game has come further or has ended. */
@@ -124,5 +141,5 @@ const createPlaying = (own) => {
   }
 
   Object.assign(own, { goOn, send, finish, finished, turnedDown });
-  return { enter, probed, played, ended, refused, correctResult };
+  return { enter, probed, played, ended, refused, correctResult, weighed };
 };

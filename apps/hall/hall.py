@@ -85,8 +85,10 @@ def read_round(file):
     """The boards of a round, each with its players, in the order of the file."""
     try:
         lines = pathlib.Path(file).read_text(encoding="utf-8-sig").splitlines()
-    except (OSError, UnicodeDecodeError) as fault:
-        raise Wrong(f"{file} cannot be read: {fault}") from fault
+    except OSError as fault:
+        raise Wrong(f"{file} cannot be read: {fault.strerror}") from fault
+    except UnicodeDecodeError as fault:
+        raise Wrong(f"{file} cannot be read: it is not UTF-8") from fault
     boards = [read_board(line.strip()) for line in lines if line.strip()]
     names = [name for name, _ in boards]
     for name in names:
@@ -146,7 +148,7 @@ def try_port(address, port):
             probe.bind((address, port))
             probe.listen()
         except (OSError, OverflowError) as fault:
-            raise Wrong(f"{address}:{port} cannot be listened on: {fault}") from fault
+            raise Wrong(f"{address}:{port} cannot be listened on: {getattr(fault, 'strerror', fault)}") from fault
 
 
 # The relay.

@@ -129,20 +129,26 @@ async def try_without_qrencode(hall, address):
 
 
 def try_wrong_words(folder, taken):
-    """Wrong rounds, an address that is not this machine's, a port that is taken, and a main port in place of a watch port: each is refused
-    in one line, and nothing is left running."""
+    """Wrong rounds, lists that cannot be read, an address that is not this machine's, a port that is taken, and a main port in place of a
+    watch port: each is refused in one line with its reason, and nothing is left running."""
     before = listened()
-    for text, why in (("", "names no board"), ("b1\nb1\n", "twice"), ("b.1\n", "no board's name"), ("b1 A;B - C\n", "has no ;")):
+    for text, why in ((b"", "names no board"), (b"b1\nb1\n", "twice"), (b"b.1\n", "no board's name"), (b"b1 A;B - C\n", "has no ;"),
+                      (b"b1 M\xfcller - C\n", "cannot be read: it is not UTF-8"), (None, "cannot be read: Is a directory")):
         file = pathlib.Path(folder, "wrong.txt")
-        file.write_text(text, encoding="utf-8")
+        if text is None:
+            file = file.parent
+        else:
+            file.write_bytes(text)
         run = subprocess.run([PYTHON, HERE / "hall.py", file], capture_output=True, text=True, timeout=60, check=False)
         assert (run.returncode, run.stdout) == (1, "") and why in run.stderr and run.stderr.count("\n") == 1, run
     good = pathlib.Path(folder, "good.txt")
     good.write_text(ROUND, encoding="utf-8")
-    for address, port in ("127.0.0.1", str(taken)), ("192.0.2.1", "8960"), ("127.0.0.1", "70000"):
+    refused = (("127.0.0.1", str(taken), "Address already in use"), ("192.0.2.1", "8960", "Cannot assign requested address"),
+               ("127.0.0.1", "70000", "bind(): port must be 0-65535."))
+    for address, port, why in refused:
         words = ["--address", address, "--port", port, good]
         run = subprocess.run([PYTHON, HERE / "hall.py", *words], capture_output=True, text=True, timeout=60, check=False)
-        assert (run.returncode, run.stdout) == (1, "") and "cannot be listened on" in run.stderr and run.stderr.count("\n") == 1, run
+        assert (run.returncode, run.stdout, run.stderr) == (1, "", f"{address}:{port} cannot be listened on: {why}\n"), run
     words = ["--address", "127.0.0.1", "--watch", f"127.0.0.1:{taken}", good]
     run = subprocess.run([PYTHON, HERE / "hall.py", *words], capture_output=True, text=True, timeout=60, check=False)
     assert (run.returncode, run.stdout) == (1, "") and "is no relay's watch port" in run.stderr and run.stderr.count("\n") == 1, run

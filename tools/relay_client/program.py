@@ -7,9 +7,6 @@ import subprocess
 TOP = pathlib.Path(__file__).resolve().parents[2]
 # The environment's RELAY960 names another program to try.
 PROGRAM = pathlib.Path(os.environ.get("RELAY960") or TOP / "crates/relay960/out/relay960").resolve()
-# The environment's RELAY960_THREADS has each server of the tests answer each connection in a thread, in place of one loop for all.
-BY_LOOP = not os.environ.get("RELAY960_THREADS")
-SERVE = ["serve"] if BY_LOOP else ["serve", "--threads"]
 # Seconds: more than any run takes, on a slow machine too.
 PATIENCE = 300
 

@@ -7,7 +7,7 @@ import subprocess
 
 from relay_client.faults import port_fault
 from relay_client.ports import free_port
-from relay_client.program import PATIENCE, PROGRAM, SERVE
+from relay_client.program import PATIENCE, PROGRAM
 from relay_client.waiting import is_readable
 
 
@@ -34,7 +34,7 @@ class Server:
         self.words = words
         for _ in range(5):
             self.port = port or free_port()
-            given = [*before, PROGRAM, *SERVE, "--port", str(self.port), *words]
+            given = [*before, PROGRAM, "serve", "--port", str(self.port), *words]
             addresses, lines = [f"127.0.0.1:{self.port}"], [f"listening {self.port}\n"]
             if watch:
                 self.watch_port = free_port() if watch is True else watch

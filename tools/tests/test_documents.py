@@ -115,6 +115,11 @@ class Crate:
     def sources(self, file):
         return [it.read_text() for it in (self.folder / "src").rglob(file)]
 
+    def words(self):
+        """All words of its code and its definitions, with the names of their files."""
+        files = [*(self.folder / "src").rglob("*.rt"), *(self.folder / "specs").rglob("*.antt")]
+        return {word for it in files for word in re.findall(r"\w+", f"{it.relative_to(self.folder)} {it.read_text()}")}
+
     def defines(self, name, file="*"):
         """Whether a file of specs/ defines the name."""
         specs = (self.folder / "specs").rglob(f"{file}.antt")
@@ -222,29 +227,54 @@ class Map(unittest.TestCase):
                 self.assertIn(name, CRATES)
 
 
+class Proved(unittest.TestCase):
+    """What docs/PROVED.md says of each crate."""
+
+    PARTS = dict(re.findall(r"^## `(\w+)`\n(.*?)(?=^## |\Z)", DOCUMENTS["docs/PROVED.md"], re.S | re.M))
+
+    def test_each_crate_that_is_no_test_and_no_benchmark_has_its_part(self):
+        self.assertEqual(set(self.PARTS), {it for it in CRATES if not it.endswith(TESTS) and not it.startswith("bench")})
+
+    def test_each_name_is_in_the_crate_or_in_one_that_its_part_names(self):
+        count = 0
+        for crate, part in self.PARTS.items():
+            there = set().union(*(CRATES[it].words() for it in {crate, *code(part)} if it in CRATES))
+            for name in code(part):
+                if re.fullmatch(r"[A-Za-z_][\w:]*(\{[\w, ]+\})?", name) and name not in CRATES:
+                    for word in re.findall(r"\w+", name):
+                        self.assertIn(word, there, f"{crate}: {name}")
+                        count += 1
+        self.assertGreater(count, 500)
+
+
 class Terms(unittest.TestCase):
     def test_each_term_stands_once(self):
-        terms = [term.strip() for row in self.rows() for term in row[0].split(",")]
+        terms = [term for terms, _ in self.items() for term in terms]
         self.assertEqual(sorted(terms), sorted(set(terms)))
 
     def test_what_the_documents_speak_of_is_explained(self):
-        terms = {term.strip() for row in self.rows() for term in row[0].split(",")}
         wanted = ("place, ply, capacity, closing, seat, view, note, bell, tape, visitor, crowd, lookout, watch port, main port, spectator, "
                   "follower, owner, operator, limit, queue, cut, channel, feed, beat, key, grace, kit, crate, clause, headline, gate")
-        self.assertLessEqual(set(wanted.split(", ")), terms)
+        self.assertLessEqual(set(wanted.split(", ")), {term for terms, _ in self.items() for term in terms})
 
     def test_each_place_is_there(self):
         """A place is a crate and what is in it: a file of its src/, or a name that its specs/ or src/ define or have as a file."""
-        for row in self.rows():
-            for part in row[2].split(";"):
+        count = 0
+        for terms, places in self.items():
+            for part in places.split(";"):
                 head, _, names = part.partition(":")
                 crate = next((it for it in code(head) if it in CRATES), None)
                 for name in code(names) if crate else []:
-                    self.assertTrue(self.is_in(CRATES[crate], name), f"{row[0]}: {name} in {crate}")
+                    self.assertTrue(self.is_in(CRATES[crate], name), f"{terms}: {name} in {crate}")
+                    count += 1
+        self.assertGreater(count, 25)
 
-    def rows(self):
-        text = DOCUMENTS["docs/TERMS.md"]
-        return [row for part in text.split("\n## ")[1:] for row in rows(part)]
+    def items(self):
+        """Of each item the terms, which are in bold, and the places, which are in brackets at its end."""
+        items = re.findall(r"^- (.*(?:\n  .*)*)", DOCUMENTS["docs/TERMS.md"], re.M)
+        for text in (" ".join(it.split()) for it in items):
+            bold = ", ".join(re.findall(r"\*\*([^*]+)\*\*", text))
+            yield bold.split(", "), (re.search(r" \((`.*)\)$", text) or ["", ""])[1]
 
     def is_in(self, crate, name):
         if name.endswith(".rt"):

@@ -1,14 +1,22 @@
-"""The Python programs' table of outcomes has the texts of the program, and what FIDE's Laws say of each."""
+"""The Python programs' table of outcomes has the texts of the program, and what FIDE's Laws say of each. Programs and pages agree with the
+definitions on which ends come by themselves."""
 import pathlib
 import re
 import sys
 import unittest
 
 TOP = pathlib.Path(__file__).resolve().parents[2]
-sys.path.insert(0, str(TOP / "tools"))
+sys.path += [str(TOP / "tools"), str(TOP / "apps/pgn_in")]
 
+from plan import BY_ITSELF  # noqa: E402
 from relay_client.outcomes import GOING_ON, OUTCOMES, has_result, outcome_of  # noqa: E402
 
+SPECS = TOP / "crates/c960_game/specs"
+# The ends that a definition names: that of what ends a game by itself (the draws apart), and that of what somebody enters.
+OF_THEMSELVES, ENTERED = ("Ends.antt", "Draws.antt"), ("Ending.antt",)
+VARIANTS = re.compile(r"^use Rattle\.c960_game\.specs\.declared\.outcome\.Outcome\.TheVariants\.\{(.+)\}$", re.M)
+ROW = re.compile(r'^outcome_text \(?(\w+)[^=]*= codes "([^"]+)"$', re.M)
+OF_PAGES = re.compile(r'^    "([^"]+)": \[.*, BY_ITSELF\],$', re.M)
 TEXTS = re.compile(r"pub fn text\(&self\).*?\n    }\n", re.S)
 # Of Articles 5.1, 5.2, 6.9, 9.2, 9.3 and 9.6. An arbiter's decision has its result in its text.
 RESULTS = {
@@ -45,6 +53,23 @@ class Table(unittest.TestCase):
     def test_all_but_an_abandoned_game_have_a_result(self):
         self.assertEqual([text for text in OUTCOMES if not has_result(text)], ["abandoned"])
         self.assertFalse(has_result(None))
+
+
+def texts_of(files):
+    """The texts of the outcomes that some definitions name."""
+    lists = [VARIANTS.search((SPECS / it).read_text())[1] for it in files]
+    named = {it.split(" ")[0] for variants in lists for it in variants.split(", ")}
+    return {text for variant, text in ROW.findall((SPECS / "Outcome.antt").read_text()) if variant in named}
+
+
+class ByItself(unittest.TestCase):
+    def test_an_end_comes_by_itself_or_somebody_enters_it(self):
+        self.assertEqual(texts_of(OF_THEMSELVES) | texts_of(ENTERED), set(OUTCOMES))
+        self.assertEqual(texts_of(OF_THEMSELVES) & texts_of(ENTERED), set())
+
+    def test_programs_and_pages_have_the_ends_that_come_by_themselves(self):
+        self.assertEqual(set(BY_ITSELF), texts_of(OF_THEMSELVES))
+        self.assertEqual(set(OF_PAGES.findall((TOP / "web/outcomes.js").read_text())), texts_of(OF_THEMSELVES))
 
 
 if __name__ == "__main__":

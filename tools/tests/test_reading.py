@@ -1,4 +1,4 @@
-"""The order of reading in docs/HEADLINE.md is that of the sources, and short enough."""
+"""The order in which the definitions behind the headline are to be read is that of the sources, and short enough."""
 import pathlib
 import sys
 import unittest
@@ -7,13 +7,8 @@ sys.path.insert(0, str(pathlib.Path(__file__).resolve().parents[1]))
 
 import reading  # noqa: E402
 
-HEADLINE = (pathlib.Path(__file__).resolve().parents[2] / "docs/HEADLINE.md").read_text()
-
 
 class Reading(unittest.TestCase):
-    def test_the_table_is_that_of_the_sources(self):
-        self.assertIn("\n" + "\n".join(reading.table()) + "\n", HEADLINE)
-
     def test_each_stands_after_those_that_it_imports(self):
         seen = {}
         reading.in_order(reading.file_of(reading.HEADLINE), seen)

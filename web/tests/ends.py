@@ -14,7 +14,7 @@ from steps import (GRACE, catch_files, enter, listed, open_table, pgn, said, say
                    watch)
 from tabs import frame, play, site, until_stand
 from told import Told
-from windows import HAS, until_doubted
+from windows import HAS, is_there, until_doubted
 
 MOVES = ["e2e4", "e7e5", "g1f3"]  # Those of back.table_of.
 SAN = "1. e4 e5 2. Nf3"
@@ -138,20 +138,37 @@ async def try_corrected(browser):
     await table.close()
 
 
+async def until_others(table, board, who, successor):
+    """Until a page says that somebody else has the next name, and proposes the one behind it."""
+    words = (f"{board} is at the relay, and this page did not open it. {who} Nothing was entered. Correct the result again: it goes on as "
+             f"{successor}.")
+    await table.until(f'document.querySelector("#said").textContent === {json.dumps(words)}')
+    assert await state(table) == "over", await state(table)
+
+
 async def try_corrected_taken(browser):
-    """A next name that somebody else has is passed over when a result is corrected. Where another window of the browser has one, nothing is
-    sent until the board is taken over."""
+    """Where somebody else has the next name, a corrected result is not entered: the page says how the game ended there, and takes the name
+    behind it when it is corrected again. So no window overrides another's correction unseen. Where another window of the browser has the
+    board, nothing is sent until that is taken over."""
     relay = await Relay(grace=GRACE).start()
     stranger = await Client.to(relay.address)
     table, wire = await ended(browser, relay, "t1", "[data-how=agreed]")
     await stranger.open("t1_2")
+    await stranger.submit("t1_2", MOVES[0])
+    await stranger.end("t1_2")
+    await choose(table, "White resigned.")
+    await until_others(table, "t1_2", "It ended there: Draw by agreement.", "t1_3")
+    await until_result(table, "½–½ Draw by agreement.")
+    assert not await is_there(relay, "t1_3")
     await choose(table, "White resigned.")
     await until_result(table, "0–1 White resigned.")
-    assert await log_of(relay, "t1_3") == (MOVES, "white resigns") and await log_of(relay, "t1_2") == ([], None)
+    assert await log_of(relay, "t1_3") == (MOVES, "white resigns") and await log_of(relay, "t1_2") == (MOVES[:1], "agreed")
     assert await said(table) == ""
     other = await open_table(browser, relay, "t1_4", 518, address=wire.address)
     await choose(table, "Draw by agreement.")
-    await until_doubted(table, HAS.format("t1_4"), "Take the board over")
+    await until_others(table, "t1_4", "Another window or program seems to go on with the game there.", "t1_5")
+    await choose(table, "Draw by agreement.")
+    await until_doubted(table, HAS.format("t1_5"), "Take the board over")
     await table.click("#anyway")
     await until_result(table, "½–½ Draw by agreement.")
     assert await log_of(relay, "t1_5") == (MOVES, "agreed") and await log_of(relay, "t1_4") == ([], None)
@@ -276,6 +293,34 @@ async def try_successor_looked_at(browser):
         await until_moves(seer, len((await log_of(relay, f"{board}_2"))[0]))
         assert not seer.faults, seer.faults
         await seer.close()
+    await client.close()
+
+
+# Makes the pauses of a page that asks for a board a thousandth as long, and keeps how long each was to be, in seconds.
+PAUSES = """window.pauses = []; const plain = setTimeout; window.setTimeout = (act, pause, ...more) => {
+    const isAsked = new Error().stack.includes("refusedAll");
+    if (isAsked) { window.pauses.push(pause / 1000); }
+    return plain(act, isAsked ? pause / 1000 : pause, ...more); };"""
+
+
+async def try_successor_asked_rarely(browser):
+    """After a result a spectator's page asks for a successor every ten seconds, and every minute once the result has stood for ten minutes.
+    It goes to one that comes as late as that."""
+    relay = await Relay(watch=True).start()
+    client = await boards_of(relay, ("b1", 518, MOVES))
+    seer = await watch(browser, relay, "b1", address=relay.watch_address)
+    await until_moves(seer, 3)
+    await seer.run(PAUSES)
+    await client.end("b1")
+    await seer.until("window.pauses.length > 65", 60)
+    pauses = await seer.run("window.pauses")
+    assert pauses == [10] * 60 + [60] * (len(pauses) - 60), pauses
+    assert await state(seer) == "over"
+    await client.open("b1_2")
+    await client.submit("b1_2", *MOVES)
+    await until_said(seer, "b1 goes on as b1_2, which is shown now.")
+    assert not seer.faults, seer.faults
+    await seer.close()
     await client.close()
 
 

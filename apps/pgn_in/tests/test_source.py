@@ -1,6 +1,5 @@
 """A file that is written in every way, and a server that answers in every way."""
 
-import asyncio
 import http.server
 import logging
 import os
@@ -9,6 +8,7 @@ import tempfile
 import threading
 import time
 import unittest
+from unittest import mock
 
 import source
 from source import Unread, source_of
@@ -54,18 +54,18 @@ class Files(unittest.IsolatedAsyncioTestCase):
             await self.source.poll()
 
     async def test_one_that_is_being_written_is_read_when_that_is_done(self):
-        def write():
-            with open(self.path, "wb", buffering=0) as file:
-                for _ in range(8):
-                    file.write(b"x" * 100)
-                    time.sleep(0.01)
+        left = 7
 
-        self.path.write_bytes(b"")
-        await self.source.poll()
-        writing = asyncio.create_task(asyncio.to_thread(write))
-        await asyncio.sleep(0.02)
-        self.assertEqual(await self.read(), b"x" * 800)
-        await writing
+        async def more_is_written(_seconds):
+            nonlocal left
+            if left:
+                left -= 1
+                with open(self.path, "ab") as file:
+                    file.write(b"x" * 100)
+
+        self.path.write_bytes(b"x" * 100)
+        with mock.patch("source.asyncio.sleep", more_is_written):
+            self.assertEqual(await self.read(), b"x" * 800)
 
     async def test_one_that_is_too_long_is_not_read(self):
         self.path.touch()

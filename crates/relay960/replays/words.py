@@ -79,7 +79,6 @@ Options:
       --idle <idle>                    How many seconds a peer that owns and follows nothing may send nothing; 0: without an end \
 [default: 600]
       --log                            Write a line to standard error for what happens to each board, and counts once a minute
-      --threads                        Answer each connection in a thread, in place of one loop for all
       --watch <ADDRESS:PORT>           The address and port on which spectators may only watch; without it there is none
       --watch-threads <watch-threads>  How many threads serve the spectators of --watch [default: 2]
       --watch-most <watch-most>        How many spectators of --watch there may be at once [default: 100000]
@@ -125,6 +124,7 @@ TEXTS = [
     (("moves",), missing("moves", "FEN")),
     (("play",), missing("play", "N")),
     (("start", "x"), no_number("x", "<N>")),
+    (("start", "0x5"), no_number("0x5", "<N>")),
     (("play", "x"), no_number("x", "<N>")),
     (("start", "65536"), out_of_range(65536, "<N>", 0, 65535)),
     (("play", "65536"), out_of_range(65536, "<N>", 0, 65535)),

@@ -2,3 +2,4 @@ pub mod Statuses
 pub mod ServeFaults
 pub mod Serving
 pub mod Reports
+pub mod Failures

@@ -24,6 +24,11 @@ pub struct Failure {
 }
 
 impl fmt::Display for Device {
+    ghost use Rattle.std.specs.Prelude.{Some};
+    ghost use Rattle.relay960.specs.Failures.{device_text};
+
+    ghost output = { λ device. Some (device_text device) };
+
     fn fmt<W: fmt::Write>(&self, f: &mut fmt::Formatter<W>) -> fmt::Result {
         match self {
             Device::Input => f.write_str("standard input"),

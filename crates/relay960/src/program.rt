@@ -1,6 +1,7 @@
 //! What the program does for its arguments, and its exit status.
 
 ghost use Rattle.std.specs.Prelude.{◌≡◌, MatchResult, cond};
+ghost use Rattle.relay960.specs.Failures.{first_failure};
 ghost use Rattle.relay960.specs.Statuses.{Ends, EndsSomehow, end_status, fault_status};
 
 use crate::failure::{Device, Failure};
@@ -49,7 +50,9 @@ fn status_over_streams<R: Input + Print + Eprint>(rt: &R, alloc: Global, job: &J
 }
 
 /// What failed, of a reader and a writer with these errors.
-fn failure_of(reading: Option<io::Error>, writing: Option<io::Error>) -> Option<Failure> {
+fn failure_of(reading: Option<io::Error>, writing: Option<io::Error>) -> Option<Failure>
+    ensures { result ≡ first_failure reading writing }
+{
     let (device, reason) = match (reading, writing) {
         (Some(reason), _) => (Device::Input, reason),
         (None, Some(reason)) => (Device::Output, reason),

@@ -57,7 +57,7 @@ with_limits a = with_rule (with_rule (with_rule (with_rule a
 
 -- a command with the options of a service, except those of its limits
 abbrev pub with_service : App → App
-with_service a = with_rule (with_rule (with_rule (with_rule (with_rule (with_rule (with_rule (with_rule (with_rule (with_rule (with_rule a
+with_service a = with_rule (with_rule (with_rule (with_rule (with_rule (with_rule (with_rule (with_rule (with_rule (with_rule a
     (option_rule (codes "port") 1 65535 (codes "9600")))
     (option_rule (codes "connections") 1 1000000 (codes "1000000")))
     (flag_rule (codes "forever")))
@@ -65,7 +65,6 @@ with_service a = with_rule (with_rule (with_rule (with_rule (with_rule (with_rul
     (option_rule (codes "grace") 0 3600 (codes "0")))
     (option_rule (codes "idle") 0 86400 (codes "600")))
     (flag_rule (codes "log")))
-    (flag_rule (codes "threads")))
     (text_rule (codes "watch")))
     (option_rule (codes "watch-threads") 1 64 (codes "2")))
     (option_rule (codes "watch-most") 1 1000000 (codes "100000"))
@@ -139,7 +138,6 @@ pub record HasService (rows : List Row) (s : Service) : Type 0 where
   pub grace : HasNumber rows (codes "grace") s.grace
   pub idle : HasNumber rows (codes "idle") s.idle
   pub log : HasFlag rows (codes "log") s.log
-  pub by_threads : HasFlag rows (codes "threads") s.by_threads
   pub limits : HasLimits rows s.limits
   pub watch : HasWatch rows s.watch
 

@@ -114,7 +114,6 @@ pub(crate) fn with_service<'a>(
     let watch_most = "How many spectators of --watch there may be at once";
     let idle =
         "How many seconds a peer that owns and follows nothing may send nothing; 0: without an end";
-    let by_threads = "Answer each connection in a thread, in place of one loop for all";
     let log =
         "Write a line to standard error for what happens to each board, and counts once a minute";
     command
@@ -125,7 +124,6 @@ pub(crate) fn with_service<'a>(
         .arg(number_option(alloc, "grace", grace, 0, 3600, "0"))?
         .arg(number_option(alloc, "idle", idle, 0, 86_400, "600"))?
         .arg(flag_option(alloc, "log", log))?
-        .arg(flag_option(alloc, "threads", by_threads))?
         .arg(text_option(alloc, "watch", "ADDRESS:PORT", watch))?
         .arg(number_option(alloc, "watch-threads", watch_threads, 1, 64, "2"))?
         .arg(number_option(alloc, "watch-most", watch_most, 1, 1_000_000, "100000"))

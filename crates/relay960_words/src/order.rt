@@ -42,8 +42,6 @@ pub struct Service {
     pub idle: u32,
     /// Whether what happens to boards is written to standard error.
     pub log: bool,
-    /// Whether each connection has a thread that answers it, in place of one loop for all.
-    pub by_threads: bool,
     /// The limits of the relay.
     pub limits: Limits,
     /// The watch port, if there is one.

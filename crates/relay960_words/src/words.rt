@@ -233,7 +233,6 @@ fn service_of(alloc: Global, given: &ArgMatches) -> Result<Service, Error>
         grace: value_of(alloc, given, "grace")?,
         idle: value_of(alloc, given, "idle")?,
         log: flag_of(alloc, given, "log")?,
-        by_threads: flag_of(alloc, given, "threads")?,
         limits: limits_of(alloc, given)?,
         watch: watch_of(alloc, given)?,
     })

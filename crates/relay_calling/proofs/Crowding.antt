@@ -1,5 +1,5 @@
 -- Each of any number of callers runs as if it were alone, and all of them make one run of the hall.
-use Rattle.std.proofs.Common.{◌≡◌, inl, inr, ℕ, nat_eq, List, [], ◌∷◌, Bool, true, false, true≢false, cond, Option, refl, sym, ap, ◌∙◌, subst}
+use Rattle.std.proofs.Common.{◌≡◌, inl, inr, ℕ, nat_eq, List, [], ◌∷◌, Bool, true, false, cond, Option, refl, sym, ap, ◌∙◌, subst}
 use Rattle.std.proofs.lemmas.Bool.{eqb-true}
 use Rattle.relay_core.specs.History.{History}
 use Rattle.relay_hall.specs.declared.handed.Handed.{Handed}
@@ -8,11 +8,9 @@ use Rattle.relay_hall.specs.Record.{HallRecord}
 use Rattle.relay_hall.specs.Runs.{HallEvent, HallRuns, HallTold, IsOneStep, Replied, Says, history_after}
 use Rattle.relay_calling.specs.Calling.{CallerRecord, asks, newcomer}
 use Rattle.relay_calling.specs.Coming.{comes}
-use Rattle.relay_calling.specs.declared.stage.Stage.{Stage}
-use Rattle.relay_calling.specs.declared.stage.Stage.TheVariants.{Comes, Asks, HandsOver, Leaves}
 use Rattle.relay_calling.specs.Crowd.{AreEventsOf, CrowdRecord, IsAt, IsOneRun, OneOrNone, OthersStay, Turn, Turns, deeds_of, happens, passes}
 use Rattle.relay_calling.specs.Running.{Deed, IsDone, IsServed, Moment, Runs, came, failed, heeded, was_pinged, was_sent_away, wrote}
-use Rattle.relay_calling.proofs.Sending.{close_put, fed_behind, has_come_still, ping_put}
+use Rattle.relay_calling.proofs.lemmas.Deeds.{asking_has_come, has_come_still, who_stays}
 use Rattle.relay_calling.proofs.Serving.{is_served}
 use Rattle.relay_calling.proofs.Stepping.{fails_as, heeds_as}
 
@@ -38,27 +36,9 @@ each_is_served f turns g run i opener takes_keys new =
 
 -- ---- A caller whose request is answered stays who it is.
 
-who_stays : (c : CallerRecord) (x : Deed) (d : CallerRecord) → comes c.stage ≡ false → IsDone c x d → d.who ≡ c.who
-who_stays c (came bytes) d behind_it feeds = ap (λ (e : CallerRecord). e.who) (fed_behind c bytes d behind_it feeds)
-who_stays c (wrote bytes) d behind_it (n, first, is) = ap (λ (e : CallerRecord). e.who) is
-who_stays c (heeded true m) d behind_it (t, asking, says, (frames, met, is)) = ap (λ (e : CallerRecord). e.who) is
-who_stays c (heeded false m) d behind_it (none, same, is, more) = ap (λ (e : CallerRecord). e.who) is
-who_stays c (failed m) d behind_it (inl (none, same, is)) = ap (λ (e : CallerRecord). e.who) is
-who_stays c (failed m) d behind_it (inr (t, asking, says, (un, is))) = ap (λ (e : CallerRecord). e.who) is
-who_stays c (was_pinged true) d behind_it (asked, pings) = ap (λ (e : CallerRecord). e.who) (ping_put c d true asked pings)
-who_stays c (was_pinged false) d behind_it (asked, pings) = ap (λ (e : CallerRecord). e.who) (ping_put c d false asked pings)
-who_stays c (was_sent_away true code) d behind_it (asked, closes) = ap (λ (e : CallerRecord). e.who) (close_put c d true code asked closes)
-who_stays c (was_sent_away false code) d behind_it (asked, closes) = ap (λ (e : CallerRecord). e.who) (close_put c d false code asked closes)
-
 who_stays_on : (c : CallerRecord) (deeds : List Deed) (d : CallerRecord) → comes c.stage ≡ false → Runs c deeds d → d.who ≡ c.who
 who_stays_on c [] d behind_it is = ap (λ (e : CallerRecord). e.who) is
 who_stays_on c (x ∷ xs) d behind_it (mid, done, runs) = who_stays_on mid xs d (has_come_still c x mid behind_it done) runs ∙ who_stays c x mid behind_it done
-
-asking_has_come : (s : Stage) → asks s ≡ true → comes s ≡ false
-asking_has_come Comes asking = absurd (true≢false (sym asking))
-asking_has_come Asks asking = refl
-asking_has_come HandsOver asking = refl
-asking_has_come Leaves asking = refl
 
 -- one that asks is the one that it is in the end
 asks_as : (i : ℕ) (f : CrowdRecord) (turns : List Turn) (g : CrowdRecord) (one : Owner) → (g.callers i).who ≡ one → Turns f turns g

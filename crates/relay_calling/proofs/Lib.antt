@@ -1,11 +1,11 @@
-pub mod Answering
-pub mod Arriving
-pub mod Crowding
-pub mod Dues
-pub mod Handing
-pub mod Heeding
-pub mod Keying
-pub mod Owning
-pub mod Sending
-pub mod Serving
-pub mod Stepping
+pub mod lemmas
+mod Answering
+mod Arriving
+mod Crowding
+mod Handing
+mod Heeding
+mod Keying
+mod Owning
+mod Sending
+mod Serving
+mod Stepping

@@ -6,11 +6,12 @@ use Rattle.relay_frames.specs.Frames.{close_frame, ping_frame}
 use Rattle.relay_frames.specs.Hearing.{Heard, behind, hear_all, hear_piece}
 use Rattle.relay_frames.specs.Reading.{fed, next_step}
 use Rattle.relay_frames.proofs.lemmas.Hearings.{piece_after}
-use Rattle.relay_calling.specs.Calling.{CallerRecord, EventMet, after_feed, after_write, asks, has_left, is_the_last, is_through, left_after, moved_on, pinged, sent_away, stage_after, with_due}
-use Rattle.relay_calling.specs.Coming.{FedWhile, Feeds, comes}
+use Rattle.relay_calling.specs.Calling.{CallerRecord, EventMet, after_feed, after_write, asks, has_left, is_the_last, is_through, left_after, moved_on, stage_after, with_due}
+use Rattle.relay_calling.specs.Coming.{comes}
 use Rattle.relay_calling.specs.declared.stage.Stage.{Stage}
 use Rattle.relay_calling.specs.declared.stage.Stage.TheVariants.{Comes, Asks, HandsOver, Leaves}
-use Rattle.relay_calling.specs.Running.{AreSent, Cause, Deed, IsDone, Moment, Runs, came, causes_of, failed, heeded, messages_in, pieces_of, was_pinged, was_sent_away, written_of, wrote}
+use Rattle.relay_calling.specs.Running.{AreSent, Cause, Deed, Moment, Runs, came, causes_of, failed, heeded, messages_in, pieces_of, was_pinged, was_sent_away, written_of, wrote}
+use Rattle.relay_calling.proofs.lemmas.Deeds.{close_put, fed_behind, gone, has_come_still, ping_put}
 use Rattle.relay_calling.proofs.Heeding.{hear_next, pieces_behind}
 
 -- ---- How many messages it may still send.
@@ -46,18 +47,6 @@ no_more_than : (b : Bool) (n left : ℕ) → n ≤ cond b left 0 → n ≤ left
 no_more_than true n left few = few
 no_more_than false n left few = omega (arith, few)
 
--- ---- What is put unasked.
-
-pub ping_put : (c d : CallerRecord) (some : Bool) → asks c.stage ≡ some → d ≡ pinged c → d ≡ cond some (with_due c (ping_frame [])) c
-ping_put c d some asked is = is ∙ ap (λ (b : Bool). cond b (with_due c (ping_frame [])) c) asked
-
--- behind a close
-abbrev gone : CallerRecord → ℕ → CallerRecord
-gone c code = record c { due = c.due ++ close_frame (Some code); stage = Leaves }
-
-pub close_put : (c d : CallerRecord) (some : Bool) (code : ℕ) → asks c.stage ≡ some → d ≡ sent_away c code → d ≡ cond some (gone c code) c
-close_put c d some code asked is = is ∙ ap (λ (b : Bool). cond b (gone c code) c) asked
-
 -- ---- One that follows or leaves.
 
 leaves : {A : Type 0} (s : Stage) → is_through s ≡ true → asks s ≡ true → A
@@ -71,10 +60,6 @@ through_has_come Comes through = absurd (true≢false (sym through))
 through_has_come Asks through = refl
 through_has_come HandsOver through = refl
 through_has_come Leaves through = refl
-
--- bytes that come to one whose request is answered come behind it
-pub fed_behind : (c : CallerRecord) (bytes : List ℕ) (d : CallerRecord) → comes c.stage ≡ false → Feeds c bytes d → d ≡ after_feed c bytes
-fed_behind c bytes d behind_it feeds = subst (λ (b : Bool). FedWhile b c bytes d) behind_it feeds
 
 -- whatever happens nothing more is due to it, it stays as far as it has come, and it is sent what was due
 pub record IsSilent (c : CallerRecord) (deeds : List Deed) (d : CallerRecord) : Type 0 where
@@ -278,25 +263,6 @@ when_fed c piece xs mid d is runs g true left =
 when_fed c piece xs mid d is runs g false on =
     when_came c piece xs d
     (subst (λ (m : CallerRecord). GoesOn m xs d) (is ∙ ap (λ (b : Bool). record c { reading = cond b c.reading (fed c.reading piece) }) on) g)
-
-after_has_come : (has last : Bool) → comes (stage_after has last) ≡ false
-after_has_come true last = refl
-after_has_come false true = refl
-after_has_come false false = refl
-
--- whatever happens to a caller whose request is answered, it is answered
-pub has_come_still : (c : CallerRecord) (x : Deed) (d : CallerRecord) → comes c.stage ≡ false → IsDone c x d → comes d.stage ≡ false
-has_come_still c (came bytes) d behind_it feeds = ap (λ (e : CallerRecord). comes e.stage) (fed_behind c bytes d behind_it feeds) ∙ behind_it
-has_come_still c (wrote bytes) d behind_it (n, first, is) = ap (λ (e : CallerRecord). comes e.stage) is ∙ behind_it
-has_come_still c (heeded true m) d behind_it (t, asking, says, (frames, met, is)) =
-    ap (λ (e : CallerRecord). comes e.stage) is ∙ after_has_come (is_some m.handed) (is_the_last (left_after c.left t) t)
-has_come_still c (heeded false m) d behind_it (none, same, is, more) = ap (λ (e : CallerRecord). comes e.stage) is ∙ behind_it
-has_come_still c (failed m) d behind_it (inl (none, same, is)) = ap (λ (e : CallerRecord). comes e.stage) is ∙ behind_it
-has_come_still c (failed m) d behind_it (inr (t, asking, says, (un, is))) = ap (λ (e : CallerRecord). comes e.stage) is
-has_come_still c (was_pinged true) d behind_it (asked, pings) = ap (λ (e : CallerRecord). comes e.stage) (ping_put c d true asked pings) ∙ behind_it
-has_come_still c (was_pinged false) d behind_it (asked, pings) = ap (λ (e : CallerRecord). comes e.stage) (ping_put c d false asked pings) ∙ behind_it
-has_come_still c (was_sent_away true code) d behind_it (asked, closes) = ap (λ (e : CallerRecord). comes e.stage) (close_put c d true code asked closes)
-has_come_still c (was_sent_away false code) d behind_it (asked, closes) = ap (λ (e : CallerRecord). comes e.stage) (close_put c d false code asked closes) ∙ behind_it
 
 pub goes_on : (c : CallerRecord) (deeds : List Deed) (d : CallerRecord) → comes c.stage ≡ false → Runs c deeds d → GoesOn c deeds d
 goes_on c [] d behind_it is = subst (λ (e : CallerRecord). GoesOn c [] e) (sym is) (nothing_done c)

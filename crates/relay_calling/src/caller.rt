@@ -11,15 +11,13 @@ ghost use Rattle.relay_hall.specs.Talk.{are_none};
 ghost use Rattle.relay_calling.specs.Calling.{Answers, AnswersInFull, AnswersNot, Fails, Heeds, Meets, MeetsNot, after_write, apology, breach_frames, farewell, fault_frame, is_the_last, left_after, newcomer, stage_after, with_due};
 ghost use Rattle.relay_calling.specs.Coming.{Feeds};
 ghost use Rattle.relay_calling.specs.declared.stage.Stage.TheVariants.{Leaves};
-ghost use Rattle.relay_calling.specs.declared.output.TheConstants.{MOST_OUTPUT};
+ghost use Rattle.relay_frames.specs.declared.output.TheConstants.{MOST_OUTPUT};
 
 mod coming;
 mod unasked;
 
-use crate::output::Output;
-use crate::progress::Progress;
 use crate::stage::Stage;
-use relay_frames::{Breach, Code, Event, Peer};
+use relay_frames::{Breach, Code, Event, Output, Peer, Progress};
 use relay_hall::{Hall, Handed, Owner};
 use relay_pushing::Conn;
 use std::alloc::{AllocError, Global};

@@ -5,10 +5,7 @@
 mod caller;
 mod key;
 pub mod laws;
-mod output;
-mod progress;
 mod stage;
 
 pub use caller::{Caller, MOST_MESSAGES};
-pub use output::MOST_OUTPUT;
 pub use stage::Stage;

@@ -1,5 +1,6 @@
 pub mod lemmas
 mod Accepted
+mod Dues
 mod Ends
 mod Heads
 mod Moves

@@ -79,7 +79,7 @@ module _ (s : FloorState) (boards : List (List ℕ)) where
 
   -- nothing was handed out before
   module _ (empty : s.handed ≡ None) (now : List (List ℕ)) (t : FloorState) where
-    made : (step : Step) (reply : Reply) → StateMakes s step reply t → Makes s.floor s.speaker step reply t.handed t.floor
+    pub made : (step : Step) (reply : Reply) → StateMakes s step reply t → Makes s.floor s.speaker step reply t.handed t.floor
     made step reply m = subst (λ (h : Option Handed). Makes s.floor s.speaker step reply h t.floor) (sym (m.latest ∙ by m.handed)) m.makes
       where
         by : (h : Option Handed) → latest h s.handed ≡ h

@@ -13,9 +13,11 @@ use Rattle.c960_game.specs.Positions.{position_at}
 use Rattle.relay_core.specs.Name.{same_name}
 use Rattle.live_board.specs.Seats.{FollowerSeat}
 use Rattle.relay_hall.specs.declared.handed.Handed.{Handed}
+use Rattle.relay_hall.specs.declared.holders.Holder.{Holder}
 use Rattle.relay_hall.specs.declared.owner.Owner.{Owner}
 use Rattle.relay_hall.specs.declared.presence.Presence.{Presence}
 use Rattle.relay_hall.specs.declared.presence.Presence.TheVariants.{Here, Waits}
+use Rattle.relay_hall.specs.Holders.{presence_of}
 use Rattle.relay_hall.specs.Keys.{is_owner, same_key}
 use Rattle.relay_hall.specs.Owning.{is_left_by}
 use Rattle.relay_hall.specs.Record.{FloorRecord, HallBoard, HallRecord, nobody_yet}
@@ -139,6 +141,21 @@ abbrev pub count_after : (List ℕ → ℕ) → HallEvent → List ℕ → ℕ
 count_after count (Comes key) q = cond (same_key q key) (count q + 1) (count q)
 count_after count (Goes who) q = cond (is_owner (Some q) who.key) (count q - 1) (count q)
 count_after count _ q = count q
+
+-- and after all of these
+abbrev pub counts_after : (List ℕ → ℕ) → List HallEvent → List ℕ → ℕ
+counts_after count [] = count
+counts_after count (e ∷ es) = counts_after (count_after count e) es
+
+-- how many connections a presence counts
+abbrev pub present : Option Presence → ℕ
+present None = 0
+present (Some (Here n)) = n
+present (Some (Waits until)) = 0
+
+-- as many hold each key as are counted
+abbrev pub AreCounted : (List ℕ → ℕ) → List Holder → Type 0
+AreCounted count keys = (q : List ℕ) → present (presence_of q keys) ≡ count q
 
 abbrev pub SaysWhileThere : (List ℕ → ℕ) → HallEvent → Type 0
 SaysWhileThere count (Says speaker step) = (key : List ℕ) → speaker.key ≡ Some key → 0 < count key

@@ -11,7 +11,7 @@ ghost use Rattle.live_board.specs.Accounts.{account_of};
 ghost use Rattle.relay_hall.specs.Keys.{is_owner};
 ghost use Rattle.relay_hall.specs.Meeting.{Meets};
 ghost use Rattle.relay_hall.specs.Reading.{place_of, shown_at};
-ghost use Rattle.relay_hall.specs.Steps.{StateMakes, in_full, reply_to_end, reply_to_play};
+ghost use Rattle.relay_hall.specs.Steps.{Makes, StateMakes, in_full, reply_to_end, reply_to_play};
 ghost use Rattle.relay_hall.specs.Talk.{IsAnsweredBy, IsRepliedBy, IsUnansweredBy, IsUnmade};
 ghost use Rattle.relay_hall.specs.Times.{swept_floor};
 
@@ -230,6 +230,15 @@ impl Floor {
     {
         self.speaker = *speaker;
         conn.answer_with(decoder, text, self)
+    }
+
+    /// Makes a step for this one, who then speaks.
+    pub(crate) fn step_of(&mut self, owner: &Owner, step: &Step) -> Reply
+        requires empty { self.old.handed ≡ None }
+        ensures { Makes self.old.floor owner.now step.now result self.new.handed self.new.floor }
+    {
+        self.speaker = *owner;
+        self.make(step)
     }
 
     /// Replies to a step of a connection, for this speaker. With `is_full` a follow that may be made is refused, and no slot is looked at.

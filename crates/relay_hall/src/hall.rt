@@ -13,7 +13,7 @@ ghost use Rattle.relay_hall.specs.Holders.{AllRunOut, IsNextDue, is_waiting, pre
 ghost use Rattle.relay_hall.specs.Reading.{place_of, shown_at};
 ghost use Rattle.relay_hall.specs.Record.{nobody_yet};
 ghost use Rattle.relay_hall.specs.Runs.{IsReached};
-ghost use Rattle.relay_hall.specs.Steps.{in_full, tells_of};
+ghost use Rattle.relay_hall.specs.Steps.{Makes, in_full, tells_of};
 ghost use Rattle.relay_hall.specs.Talk.{IsAnsweredBy, IsRepliedBy, IsUnansweredBy};
 ghost use Rattle.relay_hall.specs.Times.{Came, Shut, Timed, WentBy, WentWith, has_waited, swept, swept_floor, waits_until};
 
@@ -27,7 +27,7 @@ use crate::reply::HallReply;
 use crate::shown::Shown;
 use c960_game::{Limits, Outcome};
 use live_board::Follower;
-use relay_core::{Account, BoardName, Step};
+use relay_core::{Account, BoardName, Reply, Step};
 use relay_messages::{Decoder, MessageFault};
 use relay_pushing::Conn;
 use std::alloc::{AllocError, Global};
@@ -135,6 +135,17 @@ impl Hall {
         (heard, self.floor.take_handed())
     }
 
+    /// Makes a step for this speaker. Whether a connection may make it is for whoever asks to know. Returns the reply, and the follower that
+    /// was handed out if a follow was accepted, with the name of its board.
+    pub fn step(&mut self, speaker: &Owner, step: &Step) -> (Reply, Option<Handed>)
+        ensures made { Makes self.old.floor speaker.now step.now result.0 result.1 self.new.floor }
+        ensures rest { self.new ≡ record self.old { floor = self.new.floor } }
+        ensures reached { IsReached self.old × IsReached self.new }
+    {
+        let reply = self.floor.step_of(speaker, step);
+        (reply, self.floor.take_handed())
+    }
+
     /// Replies to a step of a connection, for its owner: what `hear` does between reading a text and writing its answer. Returns the reply,
     /// and the follower that was handed out if a follow was accepted, with the name of its board. `is_full` says that whoever asks knows of
     /// no vacant slot of the board that a follow names: then the follow is refused, and no slot is looked at.
@@ -160,8 +171,8 @@ impl Hall {
     }
 
     /// The board of this name and a follower that was handed out of it compare what they know. The follower sees the board's length and
-    /// outcome, and its closing if it was closed. Returns the account that it would get if it left now, and the outcome; or None if there is
-    /// no such board. Nothing of what a hall shows changes.
+    /// outcome, and its closing if it was closed. Returns the account that it would get if it left now, and the outcome; or None without
+    /// such a board. Nothing of what a hall shows changes.
     pub fn meet_at(
         &mut self,
         board: &BoardName,

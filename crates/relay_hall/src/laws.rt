@@ -14,7 +14,7 @@ ghost use Rattle.relay_hall.specs.Holders.{presence_of};
 ghost use Rattle.relay_hall.specs.Meeting.{BoardsStay};
 ghost use Rattle.relay_hall.specs.Record.{HallBoard, HallRecord, nobody_yet, plain_of};
 ghost use Rattle.relay_hall.specs.Talk.{IsAnsweredBy, IsRepliedBy, IsUnansweredBy};
-ghost use Rattle.relay_hall.specs.Runs.{AllSayWhileThere, HallEvent, HallTold, HallRuns, HallStep, IsForsaken, IsHandedOf, IsInTime, IsOneStep, IsOrderly, Replied, Says, Silent, has_gone};
+ghost use Rattle.relay_hall.specs.Runs.{AllSayWhileThere, AreCounted, HallEvent, HallTold, HallRuns, HallStep, IsForsaken, IsHandedOf, IsInTime, IsOneStep, IsOrderly, Replied, Says, Silent, counts_after, has_gone};
 
 use relay_core::laws::histories::logs_are_legal_games;
 use relay_core::{Reply, Step};
@@ -25,6 +25,7 @@ use relay_core::{Reply, Step};
 /// - each board's log is the moves of the accepted submits to that name, a legal game from the start of its accepted open (`games`);
 /// - a game that goes on has somebody: its connection, if that has no key, has not gone (`there`); with a key, a connection has the key, or
 ///   the boards wait until a time that has not come, and somebody can come back (`held`);
+/// - each key is held by as many connections as came with it and did not go (`counted`);
 /// - an event that is no step ends a game only if nobody has the board any more, its grace is over, nobody can come back, or all games are
 ///   ended (`kept`);
 /// - a follower that is handed out is at the table of the board of that name, with that board's moves up to its place (`handed`).
@@ -43,6 +44,8 @@ pub fn whatever_happens()
         → HallRuns (nobody_yet limits grace) [] es ts h l → AllSayWhileThere (λ key. 0) es
         → (name : List ℕ) (b : HallBoard) → lookup (same_name name) l.floor.boards ≡ Some b → (key : List ℕ) → b.owner.key ≡ Some key
         → b.game.outcome ≡ None → IsInTime l.time l.shut (presence_of key l.keys) }
+    ensures counted { (limits : LimitNumbers) (grace : ℕ) (es : List HallEvent) (ts : List HallTold) (h : History) (l : HallRecord)
+        → HallRuns (nobody_yet limits grace) [] es ts h l → AreCounted (counts_after (λ key. 0) es) l.keys }
     ensures kept { (k : HallRecord) (e : HallEvent) (l : HallRecord) → HallStep k e Silent l
         → (name : List ℕ) (b c : HallBoard) → lookup (same_name name) k.floor.boards ≡ Some b → lookup (same_name name) l.floor.boards ≡ Some c
         → is_some b.game.outcome ≡ false → is_some c.game.outcome ≡ true → IsForsaken k e l b.owner }

@@ -1,13 +1,21 @@
-//! Sessions of a relay over WebSocket (RFC 6455), a thread for each connection that answers commands: the program serves by them with
-//! `--threads`, or if the system lacks what `main_port` takes. Those that follow move to loops (`relay_loops`).
+//! The plain server: a thread for each connection, all boards behind one lock, `tungstenite`'s own handshake and frames. No program runs it.
+//! It stands as what the server of the program is compared with: `relay_server_tests` takes the same sessions through both. It is written to
+//! be read against the rules of a session, and has no keys, no grace, no log and no bound on how long a peer may take.
 #![tactic(auto)]
 
+mod ends;
+mod event_count;
+mod follower_source;
+mod gates;
+mod outlet;
+mod registry;
 mod serving;
 mod sessions;
+mod shared_keeper;
 
-pub use relay_loops::{ServeEnd, SessionEnd, Staff, Told, read_input_to_end};
+pub use ends::{ServeEnd, SessionEnd};
+pub use gates::OpenGate;
+pub use registry::Registry;
 pub use relay_pushing::{Bell, Conn, Gate, Keeper, Outlet, PushEnd, SendFault, Source, push_all};
-pub use relay_registry::{Lookout, Registry, Shown};
-pub use relay_streams::Stream;
-pub use serving::{OpenGate, serve};
+pub use serving::serve;
 pub use sessions::session;

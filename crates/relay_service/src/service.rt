@@ -1,303 +1,133 @@
 //! A hall and all connections, as one value.
 
-use crate::follower::FollowerConnection;
-use crate::stage::Stage;
+ghost use Rattle.std.specs.Prelude.{◌≡◌, ◌+◌, ℕ, List, [], Some, None, IfOk, OnErr, OnOk, false};
+ghost use Rattle.std.specs.Map.{lookup};
+ghost use Rattle.c960_game.specs.Game960.{Game960};
+ghost use Rattle.relay_core.specs.Name.{same_name};
+ghost use Rattle.relay_hall.specs.Holders.{presence_of};
+ghost use Rattle.relay_hall.specs.Record.{HallBoard};
+ghost use Rattle.relay_hall.specs.Runs.{IsInTime, present};
+ghost use Rattle.relay_calling.specs.Crowd.{deeds_of};
+ghost use Rattle.relay_service.specs.Calls.{Replaces};
+ghost use Rattle.relay_service.specs.Record.{begun, opened};
+ghost use Rattle.relay_service.specs.Runs.{IsOrderlyService, has_left, holders_after};
+
+mod answering;
+mod following;
+mod leaving;
+mod looking;
+mod passing;
+mod receiving;
+mod sending;
+
+use crate::connection::Connection;
+use crate::turns::Turns;
 use c960_game::Limits;
 use indexmap::IndexMap;
-use relay_calling::{Caller, Stage as Course};
-use relay_frames::Code;
-use relay_hall::{Hall, Owner};
+use relay_hall::laws::whatever_happens;
+use relay_hall::Hall;
 use relay_pushing::LastText;
 use std::alloc::{AllocError, Global};
+use std::marker::Model;
+use std::snapshot::Snapshot;
 
-#[derive(Drop)]
-enum Connection {
-    Operator(Caller, bool),
-    Follower(FollowerConnection, Owner, bool),
-}
-
+/// All boards and all connections. Contracts see a `ServiceRecord`, which has all turns so far: each call says which turn it adds.
 #[derive(Drop)]
 pub struct Service {
     alloc: Global,
     hall: Hall,
     connections: IndexMap<u64, Connection>,
+    /// The number of the next connection.
     next: u64,
+    /// Whether requests may name keys.
     takes_keys: bool,
-    last: LastText,
+    /// Whether the end of all was called.
     is_ending: bool,
+    /// The text of a move or an end that was made last, for all that follow.
+    last: LastText,
+    limits: Snapshot<Limits>,
+    grace: Snapshot<u64>,
+    turns: Turns,
+}
+
+impl Model for Service {
+    ghost use Rattle.relay_service.specs.Record.{ServiceRecord};
+
+    ghost Value = { ServiceRecord };
+
+    ghost use Rattle.relay_service.specs.Inner.{IsService, service_of};
+
+    ghost view = { service_of };
+
+    ghost invariant = { IsService };
 }
 
 impl Service {
+    /// A service without boards and connections. Boards of a key wait `grace` milliseconds for a connection with it.
+    ///
+    /// # Errors
+    ///
+    /// There was no memory.
     pub fn new(
         alloc: Global,
         limits: Limits,
         grace: u64,
         takes_keys: bool,
-    ) -> Result<Service, AllocError> {
+    ) -> Result<Service, AllocError>
+        ensures { IfOk result (λ s. s ≡ begun limits grace takes_keys) }
+    {
         Ok(Service {
             alloc,
             hall: Hall::new(alloc, limits, grace)?,
             connections: IndexMap::new(alloc),
             next: 0,
             takes_keys,
-            last: LastText::new(alloc),
             is_ending: false,
+            last: LastText::new(alloc),
+            limits: Snapshot::of(&limits),
+            grace: Snapshot::of(&grace),
+            turns: Turns::new(),
         })
     }
 
-    pub fn hall(&self) -> &Hall {
-        &self.hall
-    }
-
-    pub fn connect(&mut self) -> Result<u64, AllocError> {
+    /// A connection has come, of which nothing was read yet. Returns its number, which was never used before.
+    ///
+    /// # Errors
+    ///
+    /// There was no memory, or no number is left. Nothing has changed.
+    pub fn connect(&mut self) -> Result<u64, AllocError>
+        ensures number { IfOk result (λ number. number ≡ self.old.next) }
+        ensures fresh { IfOk result (λ number. deeds_of number self.old.turns ≡ []) }
+        ensures there { IfOk result (λ number. Replaces number (Some (opened number self.old.takes_keys)) self.old.connections self.new.connections) }
+        ensures rest { OnOk result (self.new ≡ record self.old { connections = self.new.connections; next = self.old.next + 1 }) }
+        ensures unchanged { OnErr result (self.new ≡ self.old) }
+    {
         let number = self.next;
         let Some(next) = number.checked_add(1) else {
             return Err(AllocError);
         };
-        let caller = Caller::new(self.alloc, number, self.takes_keys);
-        if self
-            .connections
-            .insert(number, Connection::Operator(caller, true))
-            .is_err()
-        {
+        let connection = Connection::new(self.alloc, number, self.takes_keys);
+        if self.connections.insert(number, connection).is_err() {
             return Err(AllocError);
         }
         self.next = next;
         Ok(number)
     }
 
-    pub fn receive(&mut self, number: u64, bytes: &[u8]) -> Result<(), AllocError> {
-        match self.connections.get_mut(&number) {
-            Some(Connection::Operator(caller, true)) => {
-                let was = caller.stage();
-                caller.feed(bytes)?;
-                if was == Course::Comes && caller.stage() == Course::Asks {
-                    if let Some(key) = caller.owner().key {
-                        if self.hall.arrive(&key).is_err() {
-                            let _ = self.connections.swap_remove(&number);
-                            return Err(AllocError);
-                        }
-                    }
-                }
-                Ok(())
-            }
-            Some(Connection::Follower(follower, _, true)) => follower.feed(bytes),
-            _ => Ok(()),
-        }
-    }
-
-    pub fn answer(&mut self, number: u64) -> Result<bool, AllocError> {
-        let (answered, handed) = match self.connections.get_mut(&number) {
-            Some(Connection::Operator(caller, true)) => caller.heed(&mut self.hall),
-            Some(Connection::Follower(follower, _, true)) => return follower.answer(),
-            _ => return Ok(false),
-        };
-        let Some(handed) = handed else {
-            return answered;
-        };
-        let at = self.hall.place_of(&handed.board).unwrap_or(usize::MAX);
-        let Some(Connection::Operator(caller, _)) = self.connections.swap_remove(&number) else {
-            let _ = handed.follower.leave();
-            return answered;
-        };
-        let who = *caller.owner();
-        if answered.is_err() {
-            let _ = handed.follower.leave();
-            let _ = self
-                .connections
-                .insert(number, Connection::Operator(caller, true));
-            return answered;
-        }
-        let (peer, due) = caller.into_parts();
-        let follower = FollowerConnection::new(handed, at, peer, due);
-        let _ = self
-            .connections
-            .insert(number, Connection::Follower(follower, who, true));
-        answered
-    }
-
-    pub fn push(&mut self, number: u64) -> Result<bool, AllocError> {
-        self.push_while(number, 16384)
-    }
-
-    pub fn push_all(&mut self, number: u64) -> Result<bool, AllocError> {
-        self.push_while(number, usize::MAX)
-    }
-
-    fn push_while(&mut self, number: u64, most: usize) -> Result<bool, AllocError> {
-        match self.connections.get_mut(&number) {
-            Some(Connection::Follower(follower, _, true)) => {
-                follower.push(&mut self.hall, &mut self.last, most, self.is_ending)
-            }
-            _ => Ok(false),
-        }
-    }
-
-    pub fn output(&self, number: u64) -> &[u8] {
-        match self.connections.get(&number) {
-            Some(Connection::Operator(caller, _)) => caller.due(),
-            Some(Connection::Follower(follower, _, _)) => follower.output(),
-            None => &[],
-        }
-    }
-
-    pub fn sent(&mut self, number: u64, n: usize) {
-        match self.connections.get_mut(&number) {
-            Some(Connection::Operator(caller, _)) => caller.wrote(n),
-            Some(Connection::Follower(follower, _, _)) => follower.sent(n),
-            None => {}
-        }
-    }
-
-    pub fn is_full(&self, number: u64) -> bool {
-        match self.connections.get(&number) {
-            Some(Connection::Operator(caller, _)) => caller.is_full(),
-            Some(Connection::Follower(follower, _, _)) => follower.is_full(),
-            None => false,
-        }
-    }
-
-    pub fn ping(&mut self, number: u64) -> Result<(), AllocError> {
-        match self.connections.get_mut(&number) {
-            Some(Connection::Operator(caller, true)) => caller.ping(),
-            Some(Connection::Follower(follower, _, true)) => follower.ping(),
-            _ => Ok(()),
-        }
-    }
-
-    pub fn close(&mut self, number: u64, code: Code) -> Result<(), AllocError> {
-        match self.connections.get_mut(&number) {
-            Some(Connection::Operator(caller, true)) => caller.send_away(code),
-            Some(Connection::Follower(follower, _, true)) => {
-                if follower.stage() == Stage::Follows {
-                    follower.put_close(Some(code))
-                } else {
-                    Ok(())
-                }
-            }
-            _ => Ok(()),
-        }
-    }
-
-    pub fn leave(&mut self, number: u64) {
-        match self.connections.get_mut(&number) {
-            Some(Connection::Operator(caller, is_present)) => {
-                if *is_present {
-                    *is_present = false;
-                    self.hall.leave(caller.owner());
-                }
-            }
-            Some(Connection::Follower(follower, who, is_present)) => {
-                follower.leave();
-                if *is_present {
-                    *is_present = false;
-                    self.hall.leave(who);
-                }
-            }
-            None => {}
-        }
-    }
-
-    pub fn disconnect(&mut self, number: u64) {
-        self.leave(number);
-        let _ = self.connections.swap_remove(&number);
-    }
-
-    pub fn tick(&mut self, millis: u64) {
-        self.hall.tick(millis);
-    }
-
-    pub fn shut(&mut self) {
-        self.hall.shut();
-    }
-
-    pub fn end_all(&mut self) {
-        self.is_ending = true;
-        self.hall.end_all();
-    }
-
-    pub fn stage(&self, number: u64) -> Option<Stage> {
-        match self.connections.get(&number)? {
-            Connection::Operator(caller, is_present) => Some(match caller.stage() {
-                _ if !*is_present => Stage::Leaves,
-                Course::Comes => Stage::Comes,
-                Course::Asks => Stage::Asks,
-                Course::HandsOver | Course::Leaves => Stage::Leaves,
-            }),
-            Connection::Follower(follower, _, _) => Some(follower.stage()),
-        }
-    }
-
-    pub fn place(&self, number: u64) -> Option<usize> {
-        match self.connections.get(&number)? {
-            Connection::Follower(follower, _, _) if follower.stage() == Stage::Follows => {
-                Some(follower.at)
-            }
-            _ => None,
-        }
-    }
-
-    pub fn next(&self, number: u64) -> Option<u64> {
-        match self.connections.get(&number)? {
-            Connection::Follower(follower, _, _) => follower.next(),
-            _ => None,
-        }
-    }
-
-    pub fn was_cut(&self, number: u64) -> bool {
-        match self.connections.get(&number) {
-            Some(Connection::Follower(follower, _, _)) => follower.was_cut,
-            _ => false,
-        }
-    }
-
-    pub fn owner(&self, number: u64) -> Option<Owner> {
-        match self.connections.get(&number)? {
-            Connection::Operator(caller, true) => Some(*caller.owner()),
-            Connection::Follower(_, who, true) => Some(*who),
-            _ => None,
-        }
-    }
-
-    pub fn is_owner(&self, number: u64) -> bool {
-        match self.connections.get(&number) {
-            Some(Connection::Operator(caller, true)) => caller.is_owner(&self.hall),
-            _ => false,
-        }
-    }
-
-    pub fn is_midway(&self, number: u64) -> bool {
-        match self.connections.get(&number) {
-            Some(Connection::Operator(caller, _)) => caller.is_midway(),
-            Some(Connection::Follower(follower, _, _)) => follower.is_midway(),
-            None => false,
-        }
-    }
-
-    pub fn take_said(&mut self, number: u64) -> bool {
-        match self.connections.get_mut(&number) {
-            Some(Connection::Operator(caller, _)) => caller.take_said(),
-            _ => false,
-        }
-    }
-
-    pub fn take_whole(&mut self, number: u64) -> bool {
-        match self.connections.get_mut(&number) {
-            Some(Connection::Operator(caller, _)) => caller.take_whole(),
-            Some(Connection::Follower(follower, _, _)) => follower.take_whole(),
-            None => false,
-        }
-    }
-
-    pub fn take_rung(&mut self) -> Option<usize> {
-        self.hall.take_rung()
-    }
-
-    pub fn take_turned_away(&mut self) -> bool {
-        self.hall.take_turned_away()
-    }
-
-    pub fn knows_full(&mut self, at: usize, is_full: bool) {
-        self.hall.knows_full(at, is_full);
+    /// The hall, to be looked at. It is what the turns so far make of an empty hall, in an orderly run: so each of its games is legal, and
+    /// one that goes on has somebody: its opener has not gone, or its key is held or in time. As many hold a key as came with it by the
+    /// turns and have not gone.
+    pub fn hall(&self) -> &Hall
+        ensures hall { result.now ≡ self.now.hall }
+        ensures run { IsOrderlyService self.now }
+        ensures games { (name : List ℕ) (b : HallBoard) → lookup (same_name name) self.now.hall.floor.boards ≡ Some b → Game960 b.game.start b.game.log }
+        ensures there { (name : List ℕ) (b : HallBoard) → lookup (same_name name) self.now.hall.floor.boards ≡ Some b
+            → b.owner.key ≡ None → b.game.outcome ≡ None → has_left b.owner.opener self.now.turns ≡ false }
+        ensures held { (name : List ℕ) (b : HallBoard) → lookup (same_name name) self.now.hall.floor.boards ≡ Some b → (key : List ℕ) → b.owner.key ≡ Some key
+            → b.game.outcome ≡ None → IsInTime self.now.hall.time self.now.hall.shut (presence_of key self.now.hall.keys) }
+        ensures counted { (key : List ℕ) → present (presence_of key self.now.hall.keys) ≡ holders_after (λ q. 0) self.now.turns key }
+    {
+        whatever_happens();
+        &self.hall
     }
 }

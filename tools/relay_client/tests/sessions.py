@@ -1,17 +1,12 @@
 """What the tests of sessions share: an owner and a guest of a board, and a long game."""
 
 import contextlib
-import pathlib
-import resource
-import time
 
 from relay_client.connection import Connection
 from relay_client.server import Server
 from relay_client.texts import OPENED, following, follows, moved, opens, over, played, submits
 
 ABANDONED = over("abandoned")
-# The three standard streams, the listener, the one in reserve, and one fewer than a loop takes.
-NO_LOOPS = 6
 
 
 @contextlib.contextmanager
@@ -27,24 +22,6 @@ def watch_port(_count):
     """The port of a server for those who only watch. It counts no connections."""
     with Server("--forever", watch=True) as server:
         yield server.watch_port
-
-
-def sleeps(server):
-    """Whether its first thread waits for something."""
-    return pathlib.Path(f"/proc/{server.process.pid}/stat").read_text().rpartition(")")[2].split()[0] == "S"
-
-
-def without_loops(*words):
-    """A server that had no descriptors left for its loops when it started. Those who follow are told by threads of their own. It has all
-    descriptors as soon as it waits for newcomers, and so has given its loops up."""
-    server = Server(*words, before=["sh", "-c", f'ulimit -S -n {NO_LOOPS} && exec "$@"', "sh"])
-    while not sleeps(server):
-        time.sleep(0.01)
-    threads = list(pathlib.Path(f"/proc/{server.process.pid}/task").iterdir())
-    assert len(threads) == 1, threads
-    _, most = resource.prlimit(server.process.pid, resource.RLIMIT_NOFILE)
-    resource.prlimit(server.process.pid, resource.RLIMIT_NOFILE, (most, most))
-    return server
 
 
 def owner_of(server, board="b1", **options):

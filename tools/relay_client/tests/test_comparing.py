@@ -1,6 +1,6 @@
 """Whether comparing keys takes as long wherever they differ. No contract speaks of time, and a clock shows it by luck. So valgrind counts
-the instructions that the built program runs for a stranger, whose key differs from those of the boards in the first, a middle or the last
-byte."""
+the instructions that the built program runs to compare the key of a stranger with those of all boards, from which it differs in the first,
+a middle or the last byte."""
 
 import concurrent.futures
 import pathlib
@@ -11,7 +11,6 @@ import tempfile
 import unittest
 
 from relay_client.connection import Connection
-from relay_client.program import BY_LOOP
 from relay_client.server import Server
 from relay_client.tests.sessions import owner_of
 from relay_client.texts import NO_BOARD, follows, refused, submits
@@ -22,6 +21,8 @@ PLACES = 0, len(KEY) // 2, len(KEY) - 1
 BOARDS, FEWER = 24, 12
 ASKED = 150  # Each time its key is compared with that of every board.
 LEAST = 16  # Instructions at least for comparing two keys of 64 bytes, as many at a time as the processor takes.
+# The function that compares a key with those of all boards (relay_hall: boards.rt).
+COMPARES = "relay_hall::boards::owns_any"
 NOT_YOURS = refused(13, "NotYourBoard")
 
 
@@ -31,18 +32,11 @@ def keys_that_differ(place, count):
     return [KEY[:place] + it + KEY[place + 1:] for it in others[:count]]
 
 
-def instructions(folder):
-    """What each thread ran, by its number."""
-    counts = {}
-    for path in folder.glob("counts-*"):
-        counts[int(path.name.rpartition("-")[2])] = int(re.search(r"^(?:totals|summary): (\d+)", path.read_text(), re.M)[1])
-    return counts
-
-
 def instructions_of_a_stranger(place, boards):
-    """How many instructions the server runs for one whose key is that of no board."""
+    """How many instructions the server runs to compare the key of one, which is that of no board, with those of its boards."""
     with tempfile.TemporaryDirectory() as name:
-        counted = ["valgrind", "--tool=callgrind", "--separate-threads=yes", f"--callgrind-out-file={name}/counts"]
+        counts = pathlib.Path(name, "counts")
+        counted = ["valgrind", "--tool=callgrind", f"--toggle-collect={COMPARES}", f"--callgrind-out-file={counts}"]
         with Server("--grace", "60", "--boards", str(boards), "--connections", str(boards + 1), before=counted) as server:
             owners = [owner_of(server, f"b{at}", key=key) for at, key in enumerate(keys_that_differ(place, boards))]
             stranger = Connection(server.port, key=KEY)
@@ -53,19 +47,15 @@ def instructions_of_a_stranger(place, boards):
             for connection in stranger, *owners:
                 connection.close()
             assert server.ended()[2] == 0
-        counts = instructions(pathlib.Path(name))
-    # Its thread is the one that was started last, since all others are still there.
-    return counts[max(counts)]
+        return int(re.search(r"^(?:totals|summary): (\d+)", counts.read_text(), re.M)[1])
 
 
 class Comparing(unittest.TestCase):
-    @unittest.skipIf(BY_LOOP, "no stranger has a thread whose instructions could be counted")
     def test_a_strangers_key_takes_as_long_wherever_it_differs(self):
-        """Less than an instruction for each two keys that are compared, where any other number of bytes would take more. That they are
-        compared at all is seen by how many instructions more boards take."""
+        """Not an instruction more. That keys are compared at all is seen by how many instructions more boards take."""
         if not shutil.which("valgrind"):
             self.skipTest("valgrind is missing: that comparing keys takes as long wherever they differ is not tried")
         with concurrent.futures.ThreadPoolExecutor() as pool:
             *counts, fewer = pool.map(instructions_of_a_stranger, [*PLACES, 0], [BOARDS] * len(PLACES) + [FEWER])
-        self.assertGreater(min(counts) - fewer, LEAST * ASKED * (BOARDS - FEWER), (counts, fewer))
-        self.assertLess(max(counts) - min(counts), ASKED * BOARDS, counts)
+        self.assertGreater(counts[0] - fewer, LEAST * ASKED * (BOARDS - FEWER), (counts, fewer))
+        self.assertEqual(len(set(counts)), 1, counts)

@@ -2,7 +2,6 @@
 
 import errno
 import pathlib
-import re
 import resource
 import signal
 import socket
@@ -14,24 +13,19 @@ import unittest
 from relay_client.connection import Connection
 from relay_client.faults import port_fault
 from relay_client.frames import request
-from relay_client.program import BY_LOOP, PATIENCE, PROGRAM
-from relay_client.server import Server, last_has_come
+from relay_client.ports import free_port
+from relay_client.program import PATIENCE, PROGRAM
+from relay_client.server import NotListening, Server
 from relay_client.texts import NOT_OBJECT
 from relay_client.waiting import is_readable
 
 WAITING = 300  # Newcomers that wait to be accepted.
+NO_LOOP = 6  # Descriptors: the three standard streams, the listener, and one fewer than its loop takes.
 BACKLOG = 4096
 # Linux, sock_diag(7): the question for all sockets of TCP that listen, and where an answer has the port and the backlog.
 SOCK_DIAG, BY_FAMILY, ASKS_FOR_ALL, DONE, LISTENING = 4, 20, 0x301, 3, 1 << 10
 QUESTION = struct.pack("=IHHIIBBxxI48x", 72, BY_FAMILY, ASKS_FOR_ALL, 0, 0, socket.AF_INET, socket.IPPROTO_TCP, LISTENING)
 PORT_AT, BACKLOG_AT = 20, 76
-UNBOUNDED = (resource.RLIM_INFINITY, resource.RLIM_INFINITY)
-
-
-def mapped_bytes(server):
-    """How much memory it has mapped."""
-    status = pathlib.Path(f"/proc/{server.process.pid}/status").read_text()
-    return 1024 * int(re.search(r"^VmSize:\s+(\d+) kB$", status, re.M)[1])
 
 
 def somaxconn():
@@ -66,15 +60,21 @@ class Connections(unittest.TestCase):
             Connection(server.port).close()
             server.has_served(1)
 
-    def test_130_connections_at_once_are_all_served_and_take_less_than_800_kib_each(self):
-        """None has ended. What they map counts, stacks of 512 KiB among it."""
+    def test_a_server_that_cannot_have_its_loop_says_so_and_why(self):
+        port = free_port()
+        with self.assertRaises(NotListening) as ended:
+            Server(port=port, before=["sh", "-c", f'ulimit -S -n {NO_LOOP} && exec "$@"', "sh"])
+        self.assertEqual(ended.exception.args, (b"", port_fault(f"127.0.0.1:{port}", errno.EMFILE), 3))
+
+    def test_130_connections_at_once_are_all_served_and_take_less_than_4_kib_each(self):
+        """None has ended. What they map counts."""
         with Server("--connections", "131") as server:
             connections = [Connection(server.port)]
             first = server.data_kibibytes()
             connections += [Connection(server.port) for _ in range(130)]
             for connection in connections:
                 connection.asks("[]", NOT_OBJECT)
-            self.assertLess(server.data_kibibytes() - first, 130 * 800)
+            self.assertLess(server.data_kibibytes() - first, 130 * 4)
             for connection in connections:
                 connection.close()
             server.has_served(131)
@@ -101,8 +101,8 @@ class Connections(unittest.TestCase):
         with Server("--connections", "1") as server:
             self.assertEqual(backlog(server.port), min(BACKLOG, somaxconn()))
 
-    def test_threads_that_have_ended_are_joined(self):
-        """After 500 short connections the process maps little more memory than after none: a thread that is not joined keeps two maps."""
+    def test_connections_that_have_gone_keep_no_memory_mapped(self):
+        """After 500 short connections the process maps little more memory than after none."""
         with Server("--connections", "501") as server:
             first = server.maps()
             for _ in range(500):
@@ -125,23 +125,3 @@ class Connections(unittest.TestCase):
                 peer.close()
             time.sleep(0.5)
             Connection(server.port).asks("[]", NOT_OBJECT)
-
-    @unittest.skipIf(BY_LOOP, "no newcomer has a thread there")
-    def test_a_newcomer_without_a_thread_is_told_so_and_later_ones_are_served(self):
-        """There is memory for all but the thread's stack. Who is connected stays, and standard error has one line. Before, the connection
-        ended without a word, and there was no line."""
-        with Server("--connections", "4") as server:
-            peer = Connection(server.port)
-            peer.asks("[]", NOT_OBJECT)
-            resource.prlimit(server.process.pid, resource.RLIMIT_AS, (mapped_bytes(server) + 256 * 1024, resource.RLIM_INFINITY))
-            for _ in range(2):
-                with socket.create_connection(("127.0.0.1", server.port), timeout=PATIENCE) as newcomer:
-                    self.assertEqual(newcomer.recv(13), b"HTTP/1.1 503 ")
-            peer.asks("[]", NOT_OBJECT)
-            resource.prlimit(server.process.pid, resource.RLIMIT_AS, UNBOUNDED)
-            later = Connection(server.port)
-            later.asks("[]", NOT_OBJECT)
-            for connection in peer, later:
-                connection.close()
-            complaint = b"no descriptor or thread for a connection: turned away\n"
-            self.assertEqual(server.ended(), (b"", complaint + last_has_come(4).encode() + b"served 2, failed 2\n", 0))

@@ -1,5 +1,4 @@
-"""Conversations of a few clients with a server. Its followers are told by its loops; or by threads of their own, if it had no descriptors
-left for loops when it started."""
+"""Conversations of a few clients with a server."""
 
 import time
 import unittest
@@ -7,7 +6,7 @@ import unittest
 from relay_client.connection import Connection
 from relay_client.frames import PING, frame, masked
 from relay_client.server import Server
-from relay_client.tests.sessions import ABANDONED, guest_of, owner_of, without_loops
+from relay_client.tests.sessions import ABANDONED, guest_of, owner_of
 from relay_client.tests.test_spectators import FREE, FULL, close_all, seconds_until_followed
 from relay_client.tests.test_watching_loops import LONG, SLOW, Stopped, long_game
 from relay_client.texts import (CUT, NO_BOARD, OPENED, ended, ends, following, follows, moved, opens, over, played, refused, submits, takes)
@@ -31,10 +30,8 @@ def hears_behind_pongs(guest, *texts):
 
 
 class Conversations(unittest.TestCase):
-    server = staticmethod(Server)
-
     def loopback(self):
-        with self.server("--connections", "3") as server:
+        with Server("--connections", "3") as server:
             owner, guest = owner_of(server), guest_of(server)
             owner.asks(submits("b1", "e2e4"), played(0))
             owner.asks(follows("b1"), WRONG_MODE)
@@ -50,7 +47,7 @@ class Conversations(unittest.TestCase):
     def follow_from(self):
         """The follower asks for moves that were played before. Then the board's owner goes without a close, and its game is abandoned."""
         moves = ["e2e4", "e7e5", "g1f3"]
-        with self.server("--connections", "2") as server:
+        with Server("--connections", "2") as server:
             owner, guest = owner_of(server), Connection(server.port)
             for place, move in enumerate(moves):
                 owner.asks(submits("b1", move), played(place))
@@ -64,7 +61,7 @@ class Conversations(unittest.TestCase):
 
     def two_boards(self):
         """The moves of both boards come in one piece while their followers sleep, so that the wakes are postponed."""
-        with self.server("--connections", "3") as server:
+        with Server("--connections", "3") as server:
             owner = owner_of(server)
             owner.asks(opens("b2"), OPENED)
             first, second = guest_of(server), guest_of(server, "b2")
@@ -82,7 +79,7 @@ class Conversations(unittest.TestCase):
     def a_follower_that_sends(self):
         """The server has closed when the follower reads on, and a reset would have destroyed its texts. Its pings are answered between
         them, if a loop tells it."""
-        with self.server("--connections", "2") as server:
+        with Server("--connections", "2") as server:
             owner, guest = owner_of(server), guest_of(server)
             guest.stream.sendall(masked(PING, bytes(100)) * PINGS)
             owner.asks(submits("b1", "e2e4"), played(0))
@@ -100,7 +97,7 @@ class Conversations(unittest.TestCase):
     def test_two_at_once(self):
         """The first connection has half of its command on its way until the second is answered. A server that serves one after the other
         would not answer the second, and would have given up the first. Then both open one name at once, and one of them succeeds."""
-        with self.server("--connections", "2", "--boards", str(2 + ROUNDS)) as server:
+        with Server("--connections", "2", "--boards", str(2 + ROUNDS)) as server:
             first, opening = Connection(server.port), frame(opens("b1"))
             first.stream.sendall(opening[:9])
             second = owner_of(server, "b2", patience=BEFORE_A_PING)
@@ -118,7 +115,7 @@ class Conversations(unittest.TestCase):
     def test_all_who_sleep_are_woken(self):
         """One wake is for all of them. After its last text a follower is told at once that no more will come, although it has not
         closed."""
-        with self.server("--connections", "4") as server:
+        with Server("--connections", "4") as server:
             owner, guests = owner_of(server), [guest_of(server) for _ in range(3)]
             for guest in guests:
                 guest.stream.settimeout(BEFORE_A_PING)
@@ -142,7 +139,7 @@ class Conversations(unittest.TestCase):
         """Its connection takes no more than some hundreds of moves, so it is still being sent a move that it was told of before the others
         were played and the game ended. Nobody wakes it behind that."""
         moves = long_game(LONG)
-        with self.server("--connections", "2", "--capacity", "1024", "--plies", "1500") as server:
+        with Server("--connections", "2", "--capacity", "1024", "--plies", "1500") as server:
             owner, guest = owner_of(server), guest_of(server, **SLOW)
             for start in range(0, LONG, 10):
                 owner.send(*(submits("b1", move) for move in moves[start:start + 10]))
@@ -157,7 +154,7 @@ class Conversations(unittest.TestCase):
         """The follower's connection takes no more than some hundreds of moves. It is cut off, and the server goes on until it has read
         all."""
         moves = long_game(LONG)
-        with self.server("--connections", "2", "--capacity", "2", "--plies", "1500") as server:
+        with Server("--connections", "2", "--capacity", "2", "--plies", "1500") as server:
             owner, guest = owner_of(server), guest_of(server, **SLOW)
             for start in range(0, LONG, 10):
                 owner.send(*(submits("b1", move) for move in moves[start:start + 10]))
@@ -175,7 +172,7 @@ class Conversations(unittest.TestCase):
             server.has_served(2)
 
     def test_a_full_board_refuses_in_order(self):
-        with self.server("--connections", "3", "--followers", "1", "--capacity", "2") as server:
+        with Server("--connections", "3", "--followers", "1", "--capacity", "2") as server:
             owner, guest, other = owner_of(server), guest_of(server), Connection(server.port)
             # Its follower gets each move before the next one is made. If a queue of two held three, it would be cut, and its place free.
             for place, move in enumerate(["e2e4", "e7e5", "g1f3"]):
@@ -187,7 +184,7 @@ class Conversations(unittest.TestCase):
             server.has_served(3)
 
     def test_a_place_is_free_once_its_follower_has_left(self):
-        with self.server("--connections", str(1 + ROUNDS), "--followers", "1", "--capacity", "2") as server:
+        with Server("--connections", str(1 + ROUNDS), "--followers", "1", "--capacity", "2") as server:
             owner = owner_of(server)
             owner.asks(ends("b1", "agreed"), ended("agreed"))
             for _ in range(ROUNDS):
@@ -198,10 +195,6 @@ class Conversations(unittest.TestCase):
                 guest.close()
             owner.close()
             server.has_served(1 + ROUNDS)
-
-
-class ConversationsWithoutLoops(Conversations):
-    server = staticmethod(without_loops)
 
 
 if __name__ == "__main__":

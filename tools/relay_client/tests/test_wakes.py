@@ -8,7 +8,7 @@ import unittest
 from relay_client.connection import Connection
 from relay_client.frames import frame
 from relay_client.server import Server
-from relay_client.tests.sessions import guest_of, moves_without_a_draw, owner_of, without_loops
+from relay_client.tests.sessions import guest_of, moves_without_a_draw, owner_of
 from relay_client.texts import OPENED, follows, moved, opens, played, submits
 
 SO_TIMESTAMPNS = 35  # Linux, asm-generic/socket.h: what is received comes with the time at which the system had it.
@@ -48,8 +48,6 @@ def moves_until_it_stops(server):
 
 
 class Wakes(unittest.TestCase):
-    server = staticmethod(Server)
-
     def is_early(self, owner, guests, *burst):
         """Plays moves in one piece while all sleep, and says whether the system had a follower's text before the operator's answers. Each
         is a board, a place and a move, and the followers are those of b1."""
@@ -65,7 +63,7 @@ class Wakes(unittest.TestCase):
         """Before, the followers were woken first, and the answer came late at each of 20 moves. A follower that does not sleep yet
         may have its move at once: so a few may come early."""
         count = FOLLOWERS + 1
-        with self.server("--connections", str(count), "--followers", str(FOLLOWERS), *words) as server:
+        with Server("--connections", str(count), "--followers", str(FOLLOWERS), *words) as server:
             owner = noted(owner_of(server))
             owner.asks(opens("b2"), OPENED)
             guests = [noted(guest_of(server)) for _ in range(FOLLOWERS)]
@@ -89,17 +87,11 @@ class Wakes(unittest.TestCase):
         self.few_are_early([[(board, place, move) for board in ("b1", "b2")] for place, move in moves])
 
 
-class WakesWithoutLoops(Wakes):
-    server = staticmethod(without_loops)
-
-
 class Unread(unittest.TestCase):
-    server = staticmethod(Server)
-
     def test_an_operator_that_reads_no_answers_does_not_hold_up_its_followers(self):
         """They have all its moves within ten seconds, while the server tries for thirty to write the answers. Each piece that the server
         reads has a move, and so does the one whose answers it cannot write."""
-        with self.server("--forever", "--capacity", "1024") as server:
+        with Server("--forever", "--capacity", "1024") as server:
             owner, guest = owner_of(server, room=4096, segment=536), guest_of(server)
             moves = list(moves_without_a_draw())
             owner.stream.sendall(b"".join(frame(submits("b1", move)) + frame("[") * 300 for move in moves))
@@ -109,7 +101,3 @@ class Unread(unittest.TestCase):
             guest.hears(*(moved(move, place) for place, move in enumerate(moves[:made])))
             owner.close()
             guest.close()
-
-
-class UnreadWithoutLoops(Unread):
-    server = staticmethod(without_loops)

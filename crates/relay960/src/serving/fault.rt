@@ -1,7 +1,7 @@
 //! Why nothing was served.
 
 ghost use Rattle.std.specs.Prelude.{◌≡◌};
-ghost use Rattle.relay960.specs.ServeFaults.{serve_fault_code, serve_fault_name};
+ghost use Rattle.relay960.specs.ServeFaults.{serve_fault_code, serve_fault_failure, serve_fault_name};
 
 use crate::failure::{Device, Failure};
 use std::net::SocketAddr;
@@ -20,7 +20,9 @@ pub enum ServeFault {
 
 impl ServeFault {
     /// The server cannot listen at this address, for this reason.
-    pub fn at(address: SocketAddr, reason: io::Error) -> ServeFault {
+    pub fn at(address: SocketAddr, reason: io::Error) -> ServeFault
+        ensures { result ≡ ServeFault.Device (record { device = Device.Port address; reason = reason }) }
+    {
         ServeFault::Device(Failure {
             device: Device::Port(address),
             reason,
@@ -28,7 +30,9 @@ impl ServeFault {
     }
 
     /// What failed, if it is known.
-    pub fn failure(&self) -> Option<Failure> {
+    pub fn failure(&self) -> Option<Failure>
+        ensures { result ≡ serve_fault_failure self.now }
+    {
         match self {
             ServeFault::Device(failure) | ServeFault::Write(failure) => Some(*failure),
             ServeFault::OutOfMemory => None,
@@ -59,6 +63,11 @@ impl ServeFault {
 }
 
 impl fmt::Display for ServeFault {
+    ghost use Rattle.std.specs.Prelude.{Some};
+    ghost use Rattle.relay960.specs.ServeFaults.{serve_fault_text};
+
+    ghost output = { λ fault. Some (serve_fault_text fault) };
+
     fn fmt<W: fmt::Write>(&self, f: &mut fmt::Formatter<W>) -> fmt::Result {
         write!(f, "fault {} {}", self.code(), self.name())
     }

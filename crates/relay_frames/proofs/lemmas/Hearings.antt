@@ -1,5 +1,6 @@
 -- The events of a peer do not depend on how its bytes are cut into pieces, and end with the last event.
 use Rattle.std.proofs.Common.{◌≡◌, ℕ, zero, suc, ◌<◌, Bool, true, false, cond, List, [], ◌∷◌, ◌++◌, length, fold, Option, None, Some, refl, sym, ◌∙◌, ap, arith, append-nil, append_assoc}
+use Rattle.std.proofs.lemmas.Option.{none-some}
 use Rattle.std.specs.List.{concat}
 use Rattle.websocket.specs.FrameHeader.{decode_header}
 use Rattle.relay_frames.specs.Events.{Told, is_last}
@@ -15,6 +16,14 @@ hear_told n r t next is = rw is refl
 pub hear_waited : (n : ℕ) (r : Reading) → next_step r ≡ waits r → hear_times (suc n) r ≡ silence r
 unfolding hear_times
 hear_waited n r is = rw is refl
+
+-- there is no event, and nothing is different
+pub hear_none : (r : Reading) → (next_step r).told ≡ None → (next_step r).then ≡ r
+hear_none r says =
+    elim (steps r) [
+      | waited is small ↦ ap (λ s. s.then) is
+      | told u next is f ↦ absurd (none-some u (sym says ∙ ap (λ s. s.told) is))
+    ]
 
 -- more times than there are bytes are enough
 pub hear_enough : (n m : ℕ) (r : Reading) → length r.unread < n → length r.unread < m → hear_times n r ≡ hear_times m r

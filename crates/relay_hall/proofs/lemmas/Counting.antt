@@ -10,19 +10,9 @@ use Rattle.relay_hall.specs.Holders.{has_run_out, presence_of, with_newcomer, wi
 use Rattle.relay_hall.specs.Holding.{waiting}
 use Rattle.relay_hall.specs.Keys.{is_owner, same_key}
 use Rattle.relay_hall.specs.Record.{HallRecord}
-use Rattle.relay_hall.specs.Runs.{HallEvent, Comes, Says, Goes, Time, Shuts, Ends, HallTold, Replied, Silent, AllSayWhileThere, HallRuns, HallStep, Passes, SaysWhileThere, count_after, history_after}
+use Rattle.relay_hall.specs.Runs.{AreCounted, HallEvent, Comes, Says, Goes, Time, Shuts, Ends, HallTold, Replied, Silent, AllSayWhileThere, HallRuns, HallStep, Passes, SaysWhileThere, count_after, counts_after, history_after, present}
 use Rattle.relay_hall.specs.Times.{WentBy, waits_until}
 use Rattle.relay_hall.proofs.lemmas.Holding.{AllMay, MayHappen}
-
--- how many connections a presence counts
-abbrev present : Option Presence → ℕ
-present None = 0
-present (Some (Here n)) = n
-present (Some (Waits until)) = 0
-
--- as many hold each key as are counted
-abbrev AreCounted : (List ℕ → ℕ) → List Holder → Type 0
-AreCounted count keys = (q : List ℕ) → present (presence_of q keys) ≡ count q
 
 -- ---- One presence.
 
@@ -120,3 +110,10 @@ all_may k h count are [] (t ∷ ts) g l r there = tt
 all_may k h count are (e ∷ es) [] g l r there = tt
 all_may k h count are (e ∷ es) (t ∷ ts) g l r there =
     (may_happen k count are e there.0, all_may r.0 (history_after k e t r.0 h) (count_after count e) (step_counted k r.0 count are e t r.1) es ts g l r.2 there.1)
+
+pub all_counted : (k : HallRecord) (h : History) (count : List ℕ → ℕ) → AreCounted count k.keys → (es : List HallEvent) (ts : List HallTold) (g : History) (l : HallRecord) → HallRuns k h es ts g l → AreCounted (counts_after count es) l.keys
+all_counted k h count are [] [] g l (g-is, l-is) = as_before k l count are (ap (λ (x : HallRecord). x.keys) l-is)
+all_counted k h count are [] (t ∷ ts) g l r = absurd r
+all_counted k h count are (e ∷ es) [] g l r = absurd r
+all_counted k h count are (e ∷ es) (t ∷ ts) g l (mid, first, r) =
+    all_counted mid (history_after k e t mid h) (count_after count e) (step_counted k mid count are e t first) es ts g l r

@@ -2,11 +2,12 @@
 
 mod drips;
 mod failing;
-mod frames;
+pub mod frames;
 mod gates;
 mod journal;
 mod nested;
 mod order;
+pub mod peers;
 mod refusals;
-mod rows;
+pub mod rows;
 mod texts;

@@ -13,7 +13,6 @@ returns c =
     let grace : rule_of c.number_option-3.result ≡ option_rule (codes "grace") 0 3600 (codes "0") = search rules in
     let idle : rule_of c.number_option-4.result ≡ option_rule (codes "idle") 0 86400 (codes "600") = search rules in
     let log : rule_of c.flag_option-3.result ≡ flag_rule (codes "log") = search rules in
-    let by_threads : rule_of c.flag_option-4.result ≡ flag_rule (codes "threads") = search rules in
     let watch : rule_of c.text_option.result ≡ text_rule (codes "watch") = search rules in
     let threads : rule_of c.number_option-5.result ≡ option_rule (codes "watch-threads") 1 64 (codes "2") = search rules in
     let most : rule_of c.number_option-6.result ≡ option_rule (codes "watch-most") 1 1000000 (codes "100000") = search rules in
@@ -24,7 +23,6 @@ returns c =
     let five = c.in_ok-arg-5.ensures.shape c.number_option-3.ensures.local ∙ ap₂ with_rule four grace in
     let six = c.in_ok-arg-6.ensures.shape c.number_option-4.ensures.local ∙ ap₂ with_rule five idle in
     let seven = c.in_ok-arg-7.ensures.shape c.flag_option-3.ensures.local ∙ ap₂ with_rule six log in
-    let eight = c.in_ok-arg-8.ensures.shape c.flag_option-4.ensures.local ∙ ap₂ with_rule seven by_threads in
-    let nine = c.in_ok-arg-9.ensures.shape c.text_option.ensures.local ∙ ap₂ with_rule eight watch in
-    let ten = c.in_ok-arg-10.ensures.shape c.number_option-5.ensures.local ∙ ap₂ with_rule nine threads in
-    IfOk-weaker c.arg-11.result _ _ (λ r added. added.shape c.number_option-6.ensures.local ∙ ap₂ with_rule ten most) c.arg-11.ensures
+    let eight = c.in_ok-arg-8.ensures.shape c.text_option.ensures.local ∙ ap₂ with_rule seven watch in
+    let nine = c.in_ok-arg-9.ensures.shape c.number_option-5.ensures.local ∙ ap₂ with_rule eight threads in
+    IfOk-weaker c.arg-10.result _ _ (λ r added. added.shape c.number_option-6.ensures.local ∙ ap₂ with_rule nine most) c.arg-10.ensures

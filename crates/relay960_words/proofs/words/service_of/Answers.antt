@@ -16,7 +16,6 @@ returns c =
       grace = number_read f (codes "grace") c.in_ok-value_of-2.field-0 g.0 g.1 g.2.0.0.0 g.2.0.1;
       idle = number_read f (codes "idle") c.in_ok-value_of-3.field-0 i.0 i.1 i.2.0.0.0 i.2.0.1;
       log = c.in_ok-flag_of-2.ensures;
-      by_threads = c.in_ok-flag_of-3.ensures;
       limits = c.in_ok-limits_of.ensures;
       watch = c.in_ok-watch_of.ensures;
     }

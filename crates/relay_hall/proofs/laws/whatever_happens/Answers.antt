@@ -7,7 +7,7 @@ use Rattle.relay_hall.specs.Record.{nobody_yet}
 use Rattle.relay_hall.specs.Owning.{is_left_by}
 use Rattle.relay_hall.proofs.lemmas.Runs.{known, nobody, runs, stand}
 use Rattle.std.proofs.lemmas.Option.{none-some}
-use Rattle.relay_hall.proofs.lemmas.Counting.{all_may}
+use Rattle.relay_hall.proofs.lemmas.Counting.{all_counted, all_may}
 use Rattle.relay_hall.proofs.lemmas.Holding.{handed_of, left_only, runs_held}
 use Rattle.relay_hall.proofs.lemmas.Leaving.{over_at_last}
 use Rattle.relay_hall.proofs.lemmas.InTime.{in_time, runs_in_time}
@@ -43,6 +43,9 @@ returns-clause-held c = λ limits grace es ts h l r here name b there key has on
     in_time l (runs_in_time (nobody_yet limits grace) _ (λ q until waits. absurd (none-some _ waits)) es ts h l r) key
     (runs_held (nobody_yet limits grace) _ (λ q x at. absurd (none-some x at)) es ts h l r
     (all_may (nobody_yet limits grace) _ (λ q. 0) (λ q. refl) es ts h l r here) name b there key has (ap is_some on))
+
+pub returns-clause-counted : goal.returns-clause-counted
+returns-clause-counted c = λ limits grace es ts h l r. all_counted (nobody_yet limits grace) _ (λ q. 0) (λ q. refl) es ts h l r
 
 pub returns-clause-kept : goal.returns-clause-kept
 returns-clause-kept c = left_only

@@ -3,7 +3,8 @@
 use crate::tests::calling::frames::{CLOSE, PING, TEXT, asked, tell};
 use crate::tests::calling::scene::Scene;
 use crate::tests::holds;
-use relay_calling::{MOST_OUTPUT, Stage};
+use relay_calling::Stage;
+use relay_frames::MOST_OUTPUT;
 use std::alloc::Global;
 use std::process::Abort;
 

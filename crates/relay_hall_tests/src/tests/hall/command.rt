@@ -81,6 +81,16 @@ fn endings() -> &'static [(Outcome, &'static str)] {
     &ENDINGS
 }
 
+/// What is answered to whoever ends a game so, if anybody can.
+pub fn answer_of(outcome: Outcome) -> Option<&'static str> {
+    for (its_outcome, answer) in endings() {
+        if *its_outcome == outcome {
+            return Some(*answer);
+        }
+    }
+    None
+}
+
 /// The outcome and the answer of the ending of this index.
 pub fn ending(which: usize) -> Option<(Outcome, &'static str)> {
     endings().get(which).copied()

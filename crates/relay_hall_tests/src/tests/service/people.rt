@@ -3,7 +3,6 @@
 use crate::tests::hall::command::Command;
 use crate::tests::hall::plain::{KEYS, Speaker};
 use crate::tests::hall::room::room;
-use live_board::Follower;
 use std::alloc::Global;
 use std::process::Abort;
 
@@ -22,8 +21,23 @@ pub enum Course {
     Closed,
     /// It has gone from the hall.
     Left,
-    /// It follows, and was handed over.
+    /// It follows a board.
     Follows,
+    /// It followed a board, which it has left, and has not gone from the hall.
+    Through,
+}
+
+/// What a connection says that follows.
+#[derive(Clone, Copy, PartialEq)]
+pub enum Saying {
+    Ping,
+    Pong,
+    /// A binary message of `MESSAGE` bytes.
+    Message,
+    /// A close with 1000.
+    Close,
+    /// A frame with a reserved bit (RFC 6455, section 5.2).
+    Breach,
 }
 
 /// A connection.
@@ -36,11 +50,15 @@ pub struct Person {
     /// What it has yet to send of its request or of a command.
     pub unsent: Vec<u8>,
     pub command: Option<Command>,
+    pub saying: Option<Saying>,
     /// What is due to it.
     pub due: Vec<u8>,
-    pub follower: Option<Follower>,
     /// The index of the board that it follows.
     pub board: usize,
+    /// The place of the move that it takes next.
+    pub next: u16,
+    /// How many bytes its messages have that nobody answers, with their heads.
+    pub unanswered: usize,
 }
 
 /// The connections of a scene. Nobody is there yet.
@@ -56,9 +74,11 @@ pub fn people(rt: &impl Abort, alloc: Global) -> Vec<Person> {
             },
             unsent: Vec::new(alloc),
             command: None,
+            saying: None,
             due: Vec::new(alloc),
-            follower: None,
             board: 0,
+            next: 0,
+            unanswered: 0,
         };
         all.push(person).expect(rt, "there is room");
     }
@@ -79,11 +99,23 @@ impl Person {
         self.speaker = Speaker { number, key };
         self.unsent.clear();
         self.command = None;
+        self.saying = None;
         self.due.clear();
+    }
+
+    /// It follows the board of this index from this place on.
+    pub fn follows(&mut self, board: usize, next: u16) {
+        self.course = Course::Follows;
+        self.board = board;
+        self.next = next;
+        self.unanswered = 0;
     }
 
     /// Whether it has shaken hands and not gone from the hall.
     pub fn is_in_the_hall(&self) -> bool {
-        matches!(self.course, Course::Asks | Course::Closed | Course::Follows)
+        matches!(
+            self.course,
+            Course::Asks | Course::Closed | Course::Follows | Course::Through
+        )
     }
 }

@@ -17,7 +17,7 @@ const SERVICES: u32 = 12;
 const EVENTS: u32 = 6000;
 
 /// What occurs with any grace.
-static WORDS: [&str; 16] = [
+static WORDS: [&str; 24] = [
     "played",
     "following",
     OPENED,
@@ -34,6 +34,14 @@ static WORDS: [&str; 16] = [
     WRONG_MODE,
     TOO_FAR_BACK,
     NOT_YET,
+    "over",
+    "over, as the server ends",
+    "cut",
+    "closes",
+    "breach",
+    "too many messages",
+    "closed",
+    "gone",
 ];
 
 /// What occurs if there is a grace.

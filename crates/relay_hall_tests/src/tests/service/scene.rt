@@ -1,6 +1,8 @@
 //! A service among its connections, and the hall's model beside it. What connections send comes in pieces of any size, and what is due to
 //! them is taken so.
 
+mod following;
+
 use crate::tests::calling::frames::{PING, TEXT, add, asked, tell};
 use crate::tests::calling::requests::{ACCEPTED, BEHIND_TARGET};
 use crate::tests::hall::chance::Dice;
@@ -9,11 +11,11 @@ use crate::tests::hall::comparing::{is_quiet, shows, was_rung_for};
 use crate::tests::hall::plain::{Answer, BOARDS, CAPACITY, FOLLOWERS, KEYS, PLIES, Plain};
 use crate::tests::hall::values::{Values, is_text_of, key_text};
 use crate::tests::holds;
-use crate::tests::service::people::{Course, PEOPLE, Person, remove_first};
+use crate::tests::service::frames::tell_close;
+use crate::tests::service::people::{Course, PEOPLE, Person, Saying, remove_first};
 use c960_game::Limits;
 use relay_frames::Code;
-use relay_hall::Handed;
-use relay_service::Service;
+use relay_service::{Service, Stage};
 use std::alloc::Global;
 use std::process::Abort;
 
@@ -21,9 +23,6 @@ use std::process::Abort;
 const EBB: u32 = 900;
 
 const FLOOD: u32 = 1500;
-
-/// A close with 1001 (RFC 6455, section 7.4.1).
-const CLOSE_FRAME: &[u8] = &[0x88, 2, 0x03, 0xe9];
 
 /// A service and its model.
 #[derive(Drop)]
@@ -34,6 +33,8 @@ pub struct Scene {
     pub plain: Plain,
     values: Values,
     events: u32,
+    /// Whether all games were ended.
+    is_ending: bool,
     /// How many connections there have been.
     numbers: u64,
 }
@@ -47,15 +48,6 @@ fn made(rt: &impl Abort, alloc: Global, grace: u64) -> Service {
     service
 }
 
-/// Whether a follower that was handed out follows from this place, if one is to be.
-fn follows_from(handed: &Option<Handed>, answer: Answer) -> bool {
-    match (handed, answer) {
-        (Some(handed), Answer::Joined(_, place)) => handed.follower.joined() == place,
-        (None, Answer::Joined(_, _)) | (Some(_), _) => false,
-        (None, _) => true,
-    }
-}
-
 /// Whether behind so many bytes these are the frame of the answer.
 fn is_answer(bytes: &[u8], due: usize, answer: Answer) -> bool {
     let (_, frame) = bytes.split_at(due.min(bytes.len()));
@@ -66,11 +58,14 @@ fn is_answer(bytes: &[u8], due: usize, answer: Answer) -> bool {
     head == [TEXT, (text.len() % 126) as u8].as_slice() && is_text_of(text, answer)
 }
 
-/// Whether a connection is handed over, with these bytes due to it.
-pub fn hands_over(service: &mut Service, number: u64, wanted: &[u8]) -> bool {
-    match service.hand_over(number) {
-        Some((_, due)) => due.as_slice() == wanted,
-        None => false,
+/// What a service shows of a connection that does this.
+fn stage_of(course: Course) -> Option<Stage> {
+    match course {
+        Course::Away => None,
+        Course::Comes => Some(Stage::Comes),
+        Course::Asks => Some(Stage::Asks),
+        Course::Follows => Some(Stage::Follows),
+        Course::Closed | Course::Left | Course::Through => Some(Stage::Leaves),
     }
 }
 
@@ -83,6 +78,7 @@ impl Scene {
             plain: Plain::new(rt, alloc, grace),
             values: Values::new(rt, alloc),
             events: 0,
+            is_ending: false,
             numbers: 1,
         }
     }
@@ -114,6 +110,7 @@ impl Scene {
             0 => {
                 self.service.end_all();
                 self.plain.end_all();
+                self.is_ending = true;
             }
             1 => {
                 self.service.shut();
@@ -166,10 +163,12 @@ impl Scene {
         add(rt, &mut person.unsent, BEHIND_TARGET);
     }
 
-    /// What is due to a connection is what the model says, and nothing else.
+    /// What is due to a connection is what the model says, and nothing else; and it does what the model says.
     fn assert_due(&self, rt: &impl Abort, person: &Person) {
         let is_due = self.service.output(person.number) == person.due.as_slice();
         holds(rt, is_due, "due");
+        let is_so = self.service.stage(person.number) == stage_of(person.course);
+        holds(rt, is_so && self.is_at(person), "what it does");
     }
 
     /// A connection sends something, takes something, is sent something unasked, or goes.
@@ -180,7 +179,8 @@ impl Scene {
             return;
         }
         match self.dice.below(40) {
-            0..=25 => self.sends(rt, person),
+            0..=21 => self.sends(rt, person),
+            22..=25 => self.is_pushed(rt, person),
             26..=36 => self.takes(person),
             37..=38 => self.is_pinged(rt, person),
             _ => self.is_closed_or_leaves(rt, person),
@@ -196,9 +196,10 @@ impl Scene {
             let text = command.spelt(rt, self.alloc);
             person.unsent = asked(rt, self.alloc, TEXT, text.as_str().as_bytes());
             person.command = Some(command);
+        } else if person.unsent.is_empty() && person.course == Course::Follows {
+            self.begins_to_say(rt, person);
         }
-        let size = (self.dice.below(90) as usize).wrapping_add(1);
-        let n = size.min(person.unsent.len());
+        let n = self.size(person).min(person.unsent.len());
         let (piece, _) = person.unsent.split_at(n.min(person.unsent.len()));
         holds(
             rt,
@@ -210,21 +211,23 @@ impl Scene {
         self.is_answered(rt, person, is_last);
     }
 
-    /// What a connection sent is answered if it was the last piece of a command, and otherwise nothing is.
+    /// How many bytes the next piece has: few, or as many as there are. A breach comes whole, since its first byte is one.
+    fn size(&mut self, person: &Person) -> usize {
+        let few = (self.dice.below(90) as usize).wrapping_add(1);
+        let is_whole = self.dice.below(3) == 0 || person.saying == Some(Saying::Breach);
+        if is_whole { usize::MAX } else { few }
+    }
+
+    /// What a connection sent is answered if it was the last piece of a command, or of what it says that follows, and otherwise nothing is.
     fn is_answered(&mut self, rt: &impl Abort, person: &mut Person, is_last: bool) {
-        let (answered, handed) = self.service.answer(person.number);
-        let some = answered.expect(rt, "memory");
-        match person.command {
-            Some(command) if is_last && person.course == Course::Asks => {
-                holds(rt, some, "answered");
-                self.steps(rt, person, command, handed);
-            }
-            _ => {
-                holds(rt, !some && handed.is_none(), "not answered");
-                if is_last && person.course == Course::Comes {
-                    self.is_accepted(rt, person);
-                }
-            }
+        let some = self.service.answer(person.number).expect(rt, "memory");
+        let is_heard = is_last && matches!(person.course, Course::Asks | Course::Follows);
+        holds(rt, some == is_heard, "answered");
+        match (person.course, person.command) {
+            (Course::Asks, Some(command)) if is_last => self.steps(rt, person, command),
+            (Course::Follows, _) if is_last => self.is_heard(rt, person),
+            (Course::Comes, _) if is_last => self.is_accepted(rt, person),
+            _ => {}
         }
     }
 
@@ -238,16 +241,9 @@ impl Scene {
     }
 
     /// The model makes the step of a connection. What is due behind what was due is the frame of its answer.
-    fn steps(
-        &mut self,
-        rt: &impl Abort,
-        person: &mut Person,
-        command: Command,
-        handed: Option<Handed>,
-    ) {
+    fn steps(&mut self, rt: &impl Abort, person: &mut Person, command: Command) {
         let answer = self.plain.step(person.speaker, command);
         person.command = None;
-        holds(rt, follows_from(&handed, answer), "handed out");
         let output = self.service.output(person.number);
         holds(rt, output.starts_with(person.due.as_slice()), "due before");
         holds(
@@ -257,19 +253,9 @@ impl Scene {
         );
         person.due.clear();
         add(rt, &mut person.due, output);
-        if let (Some(handed), Answer::Joined(at, _)) = (handed, answer) {
-            person.board = at;
-            person.follower = Some(handed.follower);
-            self.is_handed_over(rt, person);
+        if let Answer::Joined(board, place) = answer {
+            person.follows(board, place);
         }
-    }
-
-    /// A connection that follows is handed over with what is due to it.
-    fn is_handed_over(&mut self, rt: &impl Abort, person: &mut Person) {
-        let is_over = hands_over(&mut self.service, person.number, person.due.as_slice());
-        holds(rt, is_over, "handed over");
-        person.due.clear();
-        person.course = Course::Follows;
     }
 
     // ---- What it takes, and is sent unasked.
@@ -281,55 +267,59 @@ impl Scene {
         remove_first(&mut person.due, n);
     }
 
-    /// A connection is pinged, which does nothing to one that does not ask.
+    /// A connection is pinged, which does nothing to one that neither asks nor follows.
     fn is_pinged(&mut self, rt: &impl Abort, person: &mut Person) {
         holds(rt, self.service.ping(person.number).is_ok(), "memory");
-        if person.course == Course::Asks {
+        if matches!(person.course, Course::Asks | Course::Follows) {
             tell(rt, &mut person.due, PING, b"");
         }
     }
 
-    /// A connection is closed, which does nothing to one that does not ask; or it goes from the hall.
+    /// A connection is closed with 1001, or it goes from the hall.
     fn is_closed_or_leaves(&mut self, rt: &impl Abort, person: &mut Person) {
         if self.dice.below(2) == 0 {
-            let code = Code::new(1001).expect(rt, "a code");
-            holds(
-                rt,
-                self.service.close(person.number, code).is_ok(),
-                "memory",
-            );
-            if person.course == Course::Asks {
-                add(rt, &mut person.due, CLOSE_FRAME);
-                person.course = Course::Closed;
-            }
+            self.is_closed(rt, person);
         } else {
             self.service.leave(person.number);
-            if person.course != Course::Follows {
-                self.has_left(person);
-                person.course = Course::Left;
+            self.has_left(person);
+            person.course = Course::Left;
+        }
+    }
+
+    /// A connection is closed with 1001, which does nothing to one that neither asks nor follows.
+    fn is_closed(&mut self, rt: &impl Abort, person: &mut Person) {
+        let code = Code::new(1001).expect(rt, "a code");
+        let is_closed = self.service.close(person.number, code).is_ok();
+        holds(rt, is_closed, "memory");
+        match person.course {
+            Course::Asks => {
+                tell_close(rt, &mut person.due, 1001);
+                person.course = Course::Closed;
             }
+            Course::Follows => self.is_through(rt, person, 1001, "closed"),
+            _ => {}
         }
     }
 
     // ---- How it goes.
 
-    /// The model's hall learns that a connection has gone, if it had come.
-    fn has_left(&mut self, person: &Person) {
-        if person.is_in_the_hall() {
+    /// The model's hall learns that a connection has gone, if it had come. One that follows leaves its board.
+    fn has_left(&mut self, person: &mut Person) {
+        let is_in_the_hall = person.is_in_the_hall();
+        if person.course == Course::Follows {
+            self.leaves_board(person, "gone");
+        }
+        if is_in_the_hall {
             self.plain.leave(person.speaker);
         }
     }
 
-    /// A connection goes. One that follows leaves its board.
+    /// A connection goes.
     fn goes(&mut self, rt: &impl Abort, person: &mut Person) {
         self.service.disconnect(person.number);
         self.has_left(person);
-        if let Some(follower) = person.follower.take() {
-            let _ = follower.leave();
-            self.plain.unfollow(person.board);
-        }
         person.course = Course::Away;
         person.due.clear();
-        holds(rt, self.service.caller(person.number).is_none(), "gone");
+        holds(rt, self.service.stage(person.number).is_none(), "gone");
     }
 }

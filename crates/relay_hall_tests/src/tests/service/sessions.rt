@@ -1,50 +1,11 @@
 //! Sessions as tables: what happens to a service, by bytes, and what is due then. The texts are those of docs/PROTOCOL.md.
 
-use crate::tests::calling::frames::{TEXT, add, asked, tell};
-use crate::tests::calling::requests::{ACCEPTED, BEHIND_TARGET};
-use crate::tests::hall::answers::{GAME_OVER, NOT_YOUR_BOARD, OPENED};
-use crate::tests::holds;
-use crate::tests::service::scene::hands_over;
-use crate::tests::service::sessions::Deed::{
-    Closes, Comes, Drops, Due, Ends, Follows, Goes, IsAbandoned, Leaves, Pings, Says, Shuts, Time,
+use crate::tests::hall::answers::{AGREED, GAME_OVER, NOT_YOUR_BOARD, OPENED};
+use crate::tests::service::deeds::Deed::{
+    Breaks, Closes, Comes, Drops, Due, Ends, Follows, Gets, Goes, IsAbandoned, IsPinged, Leaves,
+    Passes, Pings, Says, Shuts, Time,
 };
-use c960_game::{Limits, Outcome};
-use relay_frames::Code;
-use relay_hall::Handed;
-use relay_service::Service;
-use std::alloc::{AllocError, Global};
-use std::process::Abort;
-
-/// What happens. Connections are known by their numbers.
-#[derive(Clone, Copy)]
-enum Deed {
-    /// A connection with this target comes, gets this number, and is accepted.
-    Comes(u64, &'static str),
-    /// It sends this text, and gets this answer.
-    Says(u64, &'static str, &'static str),
-    /// It sends this text, follows, gets this answer and is handed over.
-    Follows(u64, &'static str, &'static str),
-    /// It is pinged.
-    Pings(u64),
-    /// It is closed with 1001.
-    Closes(u64),
-    /// It goes from the hall, while a ping is due to it.
-    Leaves(u64),
-    /// It sends this text, and gets nothing.
-    Drops(u64, &'static str),
-    /// It goes.
-    Goes(u64),
-    /// It is this time.
-    Time(u64),
-    /// The next boards are to be ended at this time, or none are.
-    Due(Option<u64>),
-    /// Nobody can come back any more.
-    Shuts,
-    /// All games are ended.
-    Ends,
-    /// Whether the game of the first board is abandoned.
-    IsAbandoned(bool),
-}
+use crate::tests::service::deeds::{Deed, happens};
 
 const KEY: &str = "/?key=H4gTq0Zr7_xWm2Kd-9aB";
 
@@ -58,19 +19,47 @@ const E7E5: &str = "{\"cmd\":\"submit\",\"board\":\"b1\",\"move\":\"e7e5\"}";
 
 const G1F3: &str = "{\"cmd\":\"submit\",\"board\":\"b1\",\"move\":\"g1f3\"}";
 
+const B8C6: &str = "{\"cmd\":\"submit\",\"board\":\"b1\",\"move\":\"b8c6\"}";
+
+const F1C4: &str = "{\"cmd\":\"submit\",\"board\":\"b1\",\"move\":\"f1c4\"}";
+
 const FOLLOW: &str = "{\"cmd\":\"follow\",\"board\":\"b1\",\"spectator\":1}";
 
 const PLAYED_0: &str = "{\"outcome\":null,\"place\":0,\"reply\":\"played\"}";
 
+const END: &str = "{\"cmd\":\"end\",\"board\":\"b1\",\"how\":\"agreed\"}";
+
 const PLAYED_1: &str = "{\"outcome\":null,\"place\":1,\"reply\":\"played\"}";
+
+const PLAYED_2: &str = "{\"outcome\":null,\"place\":2,\"reply\":\"played\"}";
+
+const PLAYED_3: &str = "{\"outcome\":null,\"place\":3,\"reply\":\"played\"}";
+
+const PLAYED_4: &str = "{\"outcome\":null,\"place\":4,\"reply\":\"played\"}";
 
 const FOLLOWING: &str =
     "{\"fen\":\"rnbqkbnr/pppppppp/8/8/8/8/PPPPPPPP/RNBQKBNR w HAha - 0 1\",\"joined\":0,\"reply\":\"following\"}";
 
-/// A frame of a ping, and of a close with 1001 (RFC 6455, sections 5.5.2 and 7.4.1).
-const PING_FRAME: &[u8] = &[0x89, 0];
+const FOLLOWING_5: &str =
+    "{\"fen\":\"r1bqkbnr/pppp1ppp/2n5/4p3/2B1P3/5N2/PPPP1PPP/RNBQK2R b HAha - 3 3\",\"joined\":5,\"reply\":\"following\"}";
 
-const CLOSE_FRAME: &[u8] = &[0x88, 2, 0x03, 0xe9];
+/// What those that follow are told.
+static ABANDONED: [&str; 1] = ["{\"outcome\":\"abandoned\",\"reply\":\"over\"}"];
+
+static FIRST_MOVE: [&str; 1] = ["{\"move\":\"e2e4\",\"place\":0,\"reply\":\"move\"}"];
+
+static SECOND_MOVE_AND_END: [&str; 2] = [
+    "{\"move\":\"e7e5\",\"place\":1,\"reply\":\"move\"}",
+    "{\"outcome\":\"agreed\",\"reply\":\"over\"}",
+];
+
+static FOUR_MOVES_AND_CUT: [&str; 5] = [
+    "{\"move\":\"e2e4\",\"place\":0,\"reply\":\"move\"}",
+    "{\"move\":\"e7e5\",\"place\":1,\"reply\":\"move\"}",
+    "{\"move\":\"g1f3\",\"place\":2,\"reply\":\"move\"}",
+    "{\"move\":\"b8c6\",\"place\":3,\"reply\":\"move\"}",
+    "{\"reply\":\"cut\"}",
+];
 
 /// Two connections have one key. The second goes on with the board of the first, which waits once both are gone, until its time has come.
 static SHARED_KEY: [Deed; 13] = [
@@ -102,13 +91,14 @@ static NO_KEY: [Deed; 9] = [
     Drops(0, E2E4),
 ];
 
-/// A connection that was handed over is present until it goes: until then the board of its key does not wait.
-static HANDED_OVER: [Deed; 16] = [
+/// One that follows is present until it goes: until then the board of its key does not wait. What it says besides is not answered.
+static FOLLOWING_ON: [Deed; 19] = [
     Comes(0, "/"),
     Says(0, OPEN, OPENED),
     Comes(1, KEY),
     Follows(1, FOLLOW, FOLLOWING),
-    Drops(1, E2E4),
+    Passes(1, E2E4),
+    IsPinged(1, b"there?"),
     Comes(2, KEY),
     Says(2, OPEN_B2, OPENED),
     Goes(2),
@@ -118,8 +108,48 @@ static HANDED_OVER: [Deed; 16] = [
     Pings(0),
     Ends,
     Says(0, E2E4, GAME_OVER),
-    Shuts,
-    Due(None),
+    Comes(3, "/"),
+    Follows(3, FOLLOW, FOLLOWING),
+    Gets(3, &ABANDONED, 1001),
+    Drops(3, E2E4),
+];
+
+/// It gets each move once, and in the end that the game has ended, and a close.
+static TO_THE_END: [Deed; 11] = [
+    Comes(0, "/"),
+    Says(0, OPEN, OPENED),
+    Comes(1, "/"),
+    Follows(1, FOLLOW, FOLLOWING),
+    Gets(1, &[], 0),
+    Says(0, E2E4, PLAYED_0),
+    Gets(1, &FIRST_MOVE, 0),
+    Gets(1, &[], 0),
+    Says(0, E7E5, PLAYED_1),
+    Says(0, END, AGREED),
+    Gets(1, &SECOND_MOVE_AND_END, 1000),
+];
+
+/// One whose queue of four moves was full at a move gets these four, is told that it was cut off, and is closed. Then its place is free,
+/// and another takes it, which breaks the protocol, and then a third one, which closes. The going of none ends the board.
+static CUT_OFF: [Deed; 18] = [
+    Comes(0, "/"),
+    Says(0, OPEN, OPENED),
+    Comes(1, "/"),
+    Follows(1, FOLLOW, FOLLOWING),
+    Says(0, E2E4, PLAYED_0),
+    Says(0, E7E5, PLAYED_1),
+    Says(0, G1F3, PLAYED_2),
+    Says(0, B8C6, PLAYED_3),
+    Says(0, F1C4, PLAYED_4),
+    Gets(1, &FOUR_MOVES_AND_CUT, 4001),
+    Comes(2, "/"),
+    Follows(2, FOLLOW, FOLLOWING_5),
+    Breaks(2, &[0xc1, 0x80, 0, 0, 0, 0], 1002),
+    Comes(3, "/"),
+    Follows(3, FOLLOW, FOLLOWING_5),
+    Breaks(3, &[0x88, 0x82, 0, 0, 0, 0, 0x03, 0xe8], 1000),
+    Goes(1),
+    IsAbandoned(false),
 ];
 
 /// One that is closed says no more, and its board goes on until it goes.
@@ -141,177 +171,20 @@ fn no_key() -> &'static [Deed] {
     &NO_KEY
 }
 
-fn handed_over() -> &'static [Deed] {
-    &HANDED_OVER
+fn following_on() -> &'static [Deed] {
+    &FOLLOWING_ON
+}
+
+fn to_the_end() -> &'static [Deed] {
+    &TO_THE_END
+}
+
+fn cut_off() -> &'static [Deed] {
+    &CUT_OFF
 }
 
 fn closed() -> &'static [Deed] {
     &CLOSED
-}
-
-/// A service with this much room, in which boards of a key wait for a second.
-fn service(rt: &impl Abort, alloc: Global) -> Service {
-    let limits = Limits::new(4, 4, 4, 64).expect(rt, "limits");
-    Service::new(alloc, limits, 1000, true).expect(rt, "memory")
-}
-
-/// A follower that was handed out leaves its board. Returns whether there is one.
-fn leaves(handed: Option<Handed>) -> bool {
-    match handed {
-        Some(handed) => {
-            let _ = handed.follower.leave();
-            true
-        }
-        None => false,
-    }
-}
-
-/// Whether there was memory, and something was said exactly if `some`.
-fn is_so(answered: Result<bool, AllocError>, some: bool) -> bool {
-    match answered {
-        Ok(has_said) => has_said == some,
-        Err(AllocError) => false,
-    }
-}
-
-/// Whether these bytes, in two pieces, say something exactly if `some`, and hand out a follower exactly if `follows`.
-fn is_heard(service: &mut Service, number: u64, bytes: &[u8], some: bool, follows: bool) -> bool {
-    let (first, second) = bytes.split_at(bytes.len() / 2);
-    if service.receive(number, first).is_err() {
-        return false;
-    }
-    let (early, none) = service.answer(number);
-    if leaves(none) || !is_so(early, false) || service.receive(number, second).is_err() {
-        return false;
-    }
-    let (answered, handed) = service.answer(number);
-    leaves(handed) == follows && is_so(answered, some)
-}
-
-/// Whether these bytes are due, and are taken in two pieces, of which the first is a byte.
-fn is_taken(service: &mut Service, number: u64, wanted: &[u8]) -> bool {
-    if service.output(number) != wanted {
-        return false;
-    }
-    service.sent(number, 1);
-    let (_, rest) = wanted.split_at(1.min(wanted.len()));
-    if service.output(number) != rest {
-        return false;
-    }
-    service.sent(number, rest.len());
-    service.output(number).is_empty()
-}
-
-/// Whether a connection comes with this target and is accepted.
-fn comes(rt: &impl Abort, alloc: Global, service: &mut Service, number: u64, target: &str) -> bool {
-    let mut request = Vec::new(alloc);
-    add(rt, &mut request, b"GET ");
-    add(rt, &mut request, target.as_bytes());
-    add(rt, &mut request, BEHIND_TARGET);
-    matches!(service.connect(), Ok(its_number) if its_number == number)
-        && is_heard(service, number, request.as_slice(), false, false)
-        && is_taken(service, number, ACCEPTED)
-}
-
-/// Whether a text is answered by this one; by a follow it follows.
-fn says(
-    rt: &impl Abort,
-    alloc: Global,
-    service: &mut Service,
-    deed: (u64, &str, &str),
-    follows: bool,
-) -> bool {
-    let (number, text, answer) = deed;
-    let frame = asked(rt, alloc, TEXT, text.as_bytes());
-    let mut wanted = Vec::new(alloc);
-    tell(rt, &mut wanted, TEXT, answer.as_bytes());
-    if !is_heard(service, number, frame.as_slice(), true, follows) {
-        return false;
-    }
-    if follows {
-        return is_handed_over(service, number, wanted.as_slice());
-    }
-    is_taken(service, number, wanted.as_slice())
-}
-
-/// Whether a connection is handed over with these bytes, and nothing more is due to it.
-fn is_handed_over(service: &mut Service, number: u64, wanted: &[u8]) -> bool {
-    hands_over(service, number, wanted) && service.output(number).is_empty()
-}
-
-/// Whether a text is dropped.
-fn drops(rt: &impl Abort, alloc: Global, service: &mut Service, number: u64, text: &str) -> bool {
-    let frame = asked(rt, alloc, TEXT, text.as_bytes());
-    is_heard(service, number, frame.as_slice(), false, false) && service.output(number).is_empty()
-}
-
-/// Whether a ping is due to a connection that leaves the hall, and is taken.
-fn leaves_hall(service: &mut Service, number: u64) -> bool {
-    if service.ping(number).is_err() {
-        return false;
-    }
-    service.leave(number);
-    service.ping(number).is_ok() && is_taken(service, number, PING_FRAME)
-}
-
-/// Whether a connection goes, and is not there any more.
-fn goes(service: &mut Service, number: u64) -> bool {
-    service.disconnect(number);
-    service.caller(number).is_none() && service.output(number).is_empty()
-}
-
-/// Whether a connection is closed with 1001.
-fn closes(service: &mut Service, number: u64) -> bool {
-    match Code::new(1001) {
-        Some(code) => {
-            service.close(number, code).is_ok() && is_taken(service, number, CLOSE_FRAME)
-        }
-        None => false,
-    }
-}
-
-/// Whether the game of the first board is abandoned.
-fn is_abandoned(service: &Service) -> bool {
-    match service.hall().board(0) {
-        Some(shown) => shown.outcome() == Some(Outcome::Abandoned),
-        None => false,
-    }
-}
-
-/// Whether this happens as told.
-fn is_done(rt: &impl Abort, alloc: Global, service: &mut Service, deed: Deed) -> bool {
-    match deed {
-        Comes(number, target) => comes(rt, alloc, service, number, target),
-        Says(number, text, answer) => says(rt, alloc, service, (number, text, answer), false),
-        Follows(number, text, answer) => says(rt, alloc, service, (number, text, answer), true),
-        Pings(number) => { service.ping(number).is_ok() && is_taken(service, number, PING_FRAME) }
-        Closes(number) => closes(service, number),
-        Leaves(number) => leaves_hall(service, number),
-        Drops(number, text) => drops(rt, alloc, service, number, text),
-        Goes(number) => goes(service, number),
-        Due(until) => service.hall().next_due() == until,
-        IsAbandoned(is) => is_abandoned(service) == is,
-        Time(_) | Shuts | Ends => passes(service, deed),
-    }
-}
-
-/// What passes in the hall.
-fn passes(service: &mut Service, deed: Deed) -> bool {
-    match deed {
-        Time(millis) => service.tick(millis),
-        Shuts => service.shut(),
-        Ends => service.end_all(),
-        _ => {}
-    }
-    true
-}
-
-/// All of it happens as told.
-fn happens(rt: &impl Abort, alloc: Global, deeds: &'static [Deed]) {
-    let mut service = service(rt, alloc);
-    for deed in deeds {
-        holds(rt, is_done(rt, alloc, &mut service, *deed), "a deed");
-    }
 }
 
 #[test]
@@ -325,8 +198,18 @@ fn a_board_without_a_key_ends_with_its_connection(rt: HostRuntime) {
 }
 
 #[test]
-fn one_that_follows_is_handed_over_and_stays(rt: HostRuntime) {
-    happens(&rt, rt.alloc(), handed_over());
+fn one_that_follows_is_present_until_it_goes(rt: HostRuntime) {
+    happens(&rt, rt.alloc(), following_on());
+}
+
+#[test]
+fn one_that_follows_gets_each_move_and_the_end(rt: HostRuntime) {
+    happens(&rt, rt.alloc(), to_the_end());
+}
+
+#[test]
+fn one_that_is_too_slow_is_cut_off_and_its_place_is_free(rt: HostRuntime) {
+    happens(&rt, rt.alloc(), cut_off());
 }
 
 #[test]

@@ -9,18 +9,22 @@ use std::io;
 use std::io::{ErrorKind, Read, Write};
 use std::sync::Wait;
 use std::test::Fail;
-use std::time::Clock;
 use tungstenite::Duplex;
 
-/// A reader that gives these bytes, one a read, and then fails, or ends if there is no failure.
+/// A reader that gives a request, or what there is of one, in one piece, and these bytes one a read, and then fails, or ends if there is no
+/// failure.
 #[derive(Drop)]
 struct FailingReader<'a> {
+    request: &'a [u8],
     left: &'a [u8],
     failure: Option<ErrorKind>,
 }
 
 impl Read for FailingReader<'_> {
     fn read(&mut self, buf: &mut [u8]) -> io::Result<usize> {
+        if !self.request.is_empty() {
+            return self.request.read(buf);
+        }
         match (self.left.split_first(), buf.first_mut()) {
             (Some((byte, rest)), Some(place)) => {
                 *place = *byte;
@@ -76,7 +80,7 @@ const DEVICE: [ErrorKind; 4] = [
 ];
 
 /// How the session of an owner ends if its reads give this many bytes of what it sends and then fail in this way, or end.
-fn end_of_owner<R: Wait + Clock, W: Write + Drop>(
+fn end_of_owner<R: Wait, W: Write + Drop>(
     rt: &R,
     alloc: Global,
     registry: &Registry,
@@ -85,7 +89,8 @@ fn end_of_owner<R: Wait + Clock, W: Write + Drop>(
 ) -> Result<SessionEnd, AllocError> {
     let bytes = input(alloc, owner_frames())?;
     let reader = FailingReader {
-        left: &bytes.as_slice()[..until.min(bytes.len())],
+        request: &REQUEST[..until.min(REQUEST.len())],
+        left: &bytes.as_slice()[..until.saturating_sub(REQUEST.len()).min(bytes.len())],
         failure,
     };
     let stream = Duplex { reader, writer };
@@ -93,7 +98,7 @@ fn end_of_owner<R: Wait + Clock, W: Write + Drop>(
 }
 
 /// How a session ends whose reads give this many bytes of an owner and then fail in this way, or end.
-fn end_of_reading<R: Wait + Clock>(
+fn end_of_reading<R: Wait>(
     rt: &R,
     alloc: Global,
     until: usize,
@@ -127,11 +132,7 @@ fn a_read_that_fails_ends_the_handshake_or_the_session(rt: HostRuntime) -> Resul
 }
 
 /// What a guest of board b1 is told once its owner's session is over.
-fn told_of_b1<R: Wait + Clock>(
-    rt: &R,
-    alloc: Global,
-    registry: &Registry,
-) -> Result<Vec<u8>, AllocError> {
+fn told_of_b1<R: Wait>(rt: &R, alloc: Global, registry: &Registry) -> Result<Vec<u8>, AllocError> {
     let follow = [(TEXT, FOLLOW_B1)];
     let (_, told) = talked(rt, alloc, registry, 2, &follow, &OpenGate)?;
     Ok(told)
@@ -141,22 +142,22 @@ const NO_BOARD: &[u8] = b"{\"code\":1,\"name\":\"NoSuchBoard\",\"reply\":\"refus
 
 const ABANDONED: &[u8] = b"{\"outcome\":\"abandoned\",\"reply\":\"over\"}\nclose 1000\n";
 
-/// How many bytes are written before a write fails, and whether the board was opened by then. They are a part of the response; all of it; a
-/// part of the first answer, all of it, and a part of the second.
-const WRITES: [(usize, bool); 5] = [
-    (100, false),
-    (129, true),
-    (140, true),
-    (149, true),
-    (160, true),
+/// How many bytes are written before a write fails, and how the session ends then: they are a part of the response; all of it; a part of the
+/// first answer, all of it, and a part of the second. Behind the response the board was opened by then.
+const WRITES: [(usize, SessionEnd); 5] = [
+    (100, SessionEnd::NoHandshake),
+    (129, SessionEnd::Failed),
+    (140, SessionEnd::Failed),
+    (149, SessionEnd::Failed),
+    (160, SessionEnd::Failed),
 ];
 
-/// Whether a session whose writes take this many bytes and then fail in this way fails and writes no more, and its board is over if it was
+/// Whether a session whose writes take this many bytes and then fail in this way ends so and writes no more, and its board is over if it was
 /// opened.
-fn fails_for_good<R: Wait + Clock>(
+fn fails_for_good<R: Wait>(
     rt: &R,
     alloc: Global,
-    (room, is_opened): (usize, bool),
+    (room, wanted): (usize, SessionEnd),
     kind: ErrorKind,
 ) -> Result<bool, AllocError> {
     let shared = registry(alloc)?;
@@ -169,12 +170,12 @@ fn fails_for_good<R: Wait + Clock>(
     };
     let end = end_of_owner(rt, alloc, &shared, (usize::MAX, Some(kind)), writer)?;
     let told = told_of_b1(rt, alloc, &shared)?;
-    let is_told = if is_opened {
+    let is_told = if wanted == SessionEnd::Failed {
         told.as_slice().ends_with(ABANDONED)
     } else {
         told.as_slice() == NO_BOARD
     };
-    Ok(end == SessionEnd::Failed && sent.len() == room && is_told)
+    Ok(end == wanted && sent.len() == room && is_told)
 }
 
 #[test]

@@ -6,8 +6,8 @@ use std::alloc::{AllocError, Global};
 pub const REQUEST: &[u8] =
     b"GET / HTTP/1.1\r\nHost: a\r\nConnection: upgrade\r\nUpgrade: websocket\r\nSec-WebSocket-Version: 13\r\nSec-WebSocket-Key: dGhlIHNhbXBsZSBub25jZQ==\r\n\r\n";
 
-/// How many bytes the head of the response has.
-pub const RESPONSE_BYTES: usize = 129;
+/// The end of the head of a request or of a response.
+const HEAD_END: &[u8] = b"\r\n\r\n";
 
 /// The first byte of a whole text, a whole binary message, a close, a ping; of a text's first part, and of its last.
 pub const TEXT: u8 = 0x81;
@@ -17,6 +17,8 @@ pub const BINARY: u8 = 0x82;
 pub const CLOSE: u8 = 0x88;
 
 pub const PING: u8 = 0x89;
+
+pub const PONG: u8 = 0x8a;
 
 pub const FIRST_PART: u8 = 0x01;
 
@@ -39,6 +41,16 @@ pub fn frame(alloc: Global, first: u8, payload: &[u8]) -> Result<Vec<u8>, AllocE
     bytes.extend_from_slice(&[0; 4])?;
     bytes.extend_from_slice(payload)?;
     Ok(bytes)
+}
+
+/// What a server sent behind the head of its response.
+pub fn behind_head(sent: &[u8]) -> &[u8] {
+    for at in 0..sent.len() {
+        if sent[at..].starts_with(HEAD_END) {
+            return sent.get(at + HEAD_END.len()..).unwrap_or(&[]);
+        }
+    }
+    &[]
 }
 
 /// What a server sent, frame by frame, as lines: a text as it is, a close as `close` and its code, anything else as its opcode.

@@ -1,11 +1,10 @@
 //! A stream and a gate in memory that note in one journal what they are asked.
 
-use relay_server::{Gate, Stream};
+use relay_server::Gate;
 use std::alloc::{AllocError, Global};
 use std::cell::RefCell;
 use std::io;
 use std::io::{Read, Write};
-use std::time::Duration;
 
 /// What was asked, one line each.
 #[derive(Drop)]
@@ -74,25 +73,6 @@ impl Write for NotedStream<'_> {
     }
 
     fn flush(&mut self) -> io::Result<()> {
-        Ok(())
-    }
-}
-
-impl Stream for NotedStream<'_> {
-    fn bound_reads(&mut self, most: Option<Duration>) -> io::Result<()> {
-        match most {
-            Some(most) if most <= Duration::from_secs(10) => self.journal.note("bounded"),
-            Some(most) if most == Duration::from_secs(30) => {
-                self.journal.note("bounded by half a minute");
-            }
-            Some(_) => self.journal.note("bounded otherwise"),
-            None => self.journal.note("unbounded"),
-        }
-        Ok(())
-    }
-
-    fn end_output(&mut self) -> io::Result<()> {
-        self.journal.note("ended");
         Ok(())
     }
 }

@@ -8,7 +8,6 @@ use std::alloc::{AllocError, Global};
 use std::cell::Cell;
 use std::sync::Wait;
 use std::test::Fail;
-use std::time::Clock;
 
 const FRAMES: &[Frame] = &[(TEXT, OPEN_B1), (CLOSE, NORMAL)];
 
@@ -17,11 +16,7 @@ const OPENED: &[u8] = b"{\"reply\":\"opened\"}\nclose 1000\n";
 const EXISTS: &[u8] = b"{\"code\":2,\"name\":\"BoardExists\",\"reply\":\"refused\"}\nclose 1000\n";
 
 /// Whether a session that opens b1, and then closes, gets this answer.
-fn opens_b1<R: Wait + Clock>(
-    rt: &R,
-    alloc: Global,
-    registry: &Registry,
-) -> Result<bool, AllocError> {
+fn opens_b1<R: Wait>(rt: &R, alloc: Global, registry: &Registry) -> Result<bool, AllocError> {
     let (end, told) = talked(rt, alloc, registry, 2, FRAMES, &OpenGate)?;
     Ok(end == SessionEnd::Closed && told.as_slice() == OPENED)
 }
@@ -35,7 +30,7 @@ struct Overtaken<'a, R> {
     was_opened: Cell<bool>,
 }
 
-impl<R: Wait + Clock> Gate for Overtaken<'_, R> {
+impl<R: Wait> Gate for Overtaken<'_, R> {
     fn before(&self, _connection: u32) {
         let opened = opens_b1(self.rt, self.alloc, self.registry);
         self.was_opened.set(matches!(opened, Ok(true)));

@@ -1,7 +1,8 @@
 //! Lack of memory. If one allocation is refused, each in turn, a session says so or ends, its boards are ended, and later sessions
 //! find the registry in order.
 
-use crate::tests::sessions::frames::{CLOSE, NORMAL, RESPONSE_BYTES, TEXT, lines};
+use crate::tests::sessions::frames::{CLOSE, NORMAL, TEXT, behind_head, lines};
+use crate::tests::sessions::peers::Peer;
 use crate::tests::sessions::rows::{Frame, input};
 use crate::tests::sessions::texts::{OPEN_B1, owner_frames};
 use c960_game::Limits;
@@ -9,7 +10,6 @@ use relay_server::{OpenGate, Registry, SessionEnd, session};
 use std::alloc::{AllocError, Global};
 use std::process::Abort;
 use std::sync::Wait;
-use std::time::Clock;
 use tungstenite::Duplex;
 
 /// What a call makes, which is made again if there was no memory for it.
@@ -40,7 +40,7 @@ fn peer(rt: &impl Abort, alloc: Global) -> Vec<u8> {
 }
 
 /// How a session over these frames ends, and the lines of what it sends after the response.
-fn talk<R: Wait + Clock + Abort>(
+fn talk<R: Wait + Abort>(
     rt: &R,
     alloc: Global,
     registry: &Registry,
@@ -50,11 +50,11 @@ fn talk<R: Wait + Clock + Abort>(
     let bytes = again(rt, || input(alloc, frames));
     let mut sent = peer(rt, alloc);
     let stream = Duplex {
-        reader: bytes.as_slice(),
+        reader: Peer::new(bytes.as_slice()),
         writer: &mut sent,
     };
     let end = session(rt, alloc, registry, connection, stream, &OpenGate);
-    let texts = sent.as_slice().get(RESPONSE_BYTES..).unwrap_or(&[]);
+    let texts = behind_head(sent.as_slice());
     (end, again(rt, || lines(alloc, texts)))
 }
 
@@ -85,12 +85,7 @@ fn no_such_board() -> &'static [u8] {
 }
 
 /// How many guests, one after another, are told this.
-fn guests_told<R: Wait + Clock + Abort>(
-    rt: &R,
-    alloc: Global,
-    registry: &Registry,
-    wanted: &[u8],
-) -> u32 {
+fn guests_told<R: Wait + Abort>(rt: &R, alloc: Global, registry: &Registry, wanted: &[u8]) -> u32 {
     let mut count: u32 = 0;
     for connection in 2..5 {
         let (_, told) = talk(rt, alloc, registry, connection, guest_frames());

@@ -1,13 +1,13 @@
 //! What peers send over a stream in memory, and how their sessions end.
 
 use crate::tests::sessions::frames::{
-    BINARY, CLOSE, FIRST_PART, LAST_PART, NORMAL, PING, REQUEST, RESPONSE_BYTES, TEXT, frame, lines,
+    BINARY, CLOSE, FIRST_PART, LAST_PART, NORMAL, PING, TEXT, behind_head, frame, lines,
 };
+use crate::tests::sessions::peers::Peer;
 use c960_game::Limits;
 use relay_server::{Gate, Registry, SessionEnd, session};
 use std::alloc::{AllocError, Global};
 use std::sync::Wait;
-use std::time::Clock;
 use tungstenite::Duplex;
 
 const OPEN_B1: &[u8] = b"{\"board\":\"b1\",\"cmd\":\"open\",\"start\":518}";
@@ -111,10 +111,9 @@ pub fn registry(alloc: Global) -> Result<Registry, AllocError> {
     }
 }
 
-/// The request, and then these frames.
+/// These frames, as bytes.
 pub fn input(alloc: Global, frames: &[Frame]) -> Result<Vec<u8>, AllocError> {
     let mut bytes = Vec::new(alloc);
-    bytes.extend_from_slice(REQUEST)?;
     for (first, payload) in frames {
         bytes.extend_from_slice(frame(alloc, *first, payload)?.as_slice())?;
     }
@@ -122,7 +121,7 @@ pub fn input(alloc: Global, frames: &[Frame]) -> Result<Vec<u8>, AllocError> {
 }
 
 /// How the session of a peer that sends these frames ends, and what it answers, as lines.
-pub fn talked<R: Wait + Clock, G: Gate>(
+pub fn talked<R: Wait, G: Gate>(
     rt: &R,
     alloc: Global,
     registry: &Registry,
@@ -133,10 +132,9 @@ pub fn talked<R: Wait + Clock, G: Gate>(
     let bytes = input(alloc, frames)?;
     let mut sent = Vec::new(alloc);
     let stream = Duplex {
-        reader: bytes.as_slice(),
+        reader: Peer::new(bytes.as_slice()),
         writer: &mut sent,
     };
     let end = session(rt, alloc, registry, connection, stream, gate);
-    let answers = sent.as_slice().get(RESPONSE_BYTES..).unwrap_or(&[]);
-    Ok((end, lines(alloc, answers)?))
+    Ok((end, lines(alloc, behind_head(sent.as_slice()))?))
 }

@@ -1,0 +1,4 @@
+pub mod Hearing
+pub mod Pushes
+pub mod Served
+pub mod lemmas

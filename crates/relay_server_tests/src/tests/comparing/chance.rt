@@ -1,0 +1,27 @@
+//! Random numbers.
+
+/// Random numbers, the same in each run.
+#[derive(Drop)]
+pub struct Dice {
+    pub seed: u32,
+}
+
+impl Dice {
+    /// A number below this one, which is at most 65,536.
+    pub fn below(&mut self, count: u32) -> u32 {
+        self.seed = self.seed.wrapping_mul(1664525).wrapping_add(1013904223);
+        if count == 0 {
+            0
+        } else {
+            (self.seed >> 16) % count
+        }
+    }
+
+    /// One of these.
+    pub fn any(&mut self, texts: &'static [&'static str]) -> &'static str {
+        match texts.get(self.below(texts.len() as u32) as usize) {
+            Some(text) => *text,
+            None => "",
+        }
+    }
+}

@@ -1,0 +1,107 @@
+//! A client, which writes and reads WebSocket frames byte by byte.
+
+use crate::tests::sessions::frames::{CLOSE, NORMAL, REQUEST, TEXT, frame};
+use std::alloc::Global;
+use std::io;
+use std::io::{Read, Write};
+use std::net::{Net, SocketAddr, TcpStream};
+use std::process::Abort;
+use std::time::Duration;
+
+/// How many seconds a server may take over anything.
+const PATIENCE: u64 = 20;
+
+/// A connection that has shaken hands.
+#[derive(Drop)]
+pub struct Client {
+    alloc: Global,
+    stream: TcpStream,
+}
+
+/// Reads a head, byte by byte, up to the empty line.
+fn read_head(stream: &mut TcpStream) -> io::Result<()> {
+    let mut last = [0; 4];
+    for _ in 0..1000 {
+        let mut byte = [0; 1];
+        stream.read_exact(&mut byte)?;
+        last = [last[1], last[2], last[3], byte[0]];
+        if last == *b"\r\n\r\n" {
+            break;
+        }
+    }
+    Ok(())
+}
+
+/// Connects and asks for a WebSocket.
+fn connected<R: Net<Stream = TcpStream>>(rt: &R, address: SocketAddr) -> io::Result<TcpStream> {
+    let mut stream = TcpStream::connect(rt, address)?;
+    stream.set_nodelay(true)?;
+    stream.set_read_timeout(Some(Duration::from_secs(PATIENCE)))?;
+    stream.write_all(REQUEST)?;
+    read_head(&mut stream)?;
+    Ok(stream)
+}
+
+impl Client {
+    /// A connection to this address.
+    pub fn new<R: Net<Stream = TcpStream> + Abort>(
+        rt: &R,
+        alloc: Global,
+        address: SocketAddr,
+    ) -> Client {
+        Client {
+            alloc,
+            stream: connected(rt, address).expect(rt, "a connection"),
+        }
+    }
+
+    /// Sends a frame.
+    fn sends(&mut self, rt: &impl Abort, first: u8, payload: &[u8]) {
+        let bytes = frame(self.alloc, first, payload).expect(rt, "memory");
+        self.stream.write_all(bytes.as_slice()).expect(rt, "sent");
+    }
+
+    /// Sends a text.
+    pub fn says(&mut self, rt: &impl Abort, text: &[u8]) {
+        self.sends(rt, TEXT, text);
+    }
+
+    /// The payload of the next frame, with its first byte before it.
+    fn next(&mut self) -> io::Result<Vec<u8>> {
+        let mut head = [0; 2];
+        self.stream.read_exact(&mut head)?;
+        let len = usize::from(head[1] & 0x7f);
+        let mut bytes = vec![in self.alloc; 0; len + 1]?;
+        bytes[0] = head[0];
+        self.stream.read_exact(&mut bytes[1..])?;
+        Ok(bytes)
+    }
+
+    /// The next frame begins with this byte and has this payload.
+    fn hears_frame(&mut self, rt: &impl Abort, first: u8, payload: &[u8]) {
+        let heard = self.next().expect(rt, "a frame");
+        assert!(rt; heard.as_slice().split_first() == Some((&first, payload)));
+    }
+
+    /// The next frame is this text.
+    pub fn hears(&mut self, rt: &impl Abort, text: &[u8]) {
+        self.hears_frame(rt, TEXT, text);
+    }
+
+    /// The next frame is a close with this code.
+    pub fn is_closed(&mut self, rt: &impl Abort, code: u16) {
+        self.hears_frame(rt, CLOSE, &[(code / 256) as u8, (code % 256) as u8]);
+    }
+
+    /// Sends a text, and hears this one next.
+    pub fn asks(&mut self, rt: &impl Abort, text: &[u8], answer: &[u8]) {
+        self.says(rt, text);
+        self.hears(rt, answer);
+    }
+
+    /// Closes, and is answered.
+    pub fn closes(mut self, rt: &impl Abort) {
+        self.sends(rt, CLOSE, NORMAL);
+        self.is_closed(rt, 1000);
+    }
+}

@@ -1,0 +1,14 @@
+mod Becoming
+mod Connections
+mod Doing
+mod Events
+mod Followers
+mod Here
+mod Joining
+mod Keeping
+mod Led
+mod Ordering
+mod Owners
+mod Rights
+mod Serving
+mod Taking

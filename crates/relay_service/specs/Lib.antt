@@ -1,0 +1,7 @@
+pub mod Calls
+pub mod Inner
+pub mod Looking
+pub mod Noting
+pub mod Record
+pub mod Rights
+pub mod Runs
