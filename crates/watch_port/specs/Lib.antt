@@ -1,1 +1,4 @@
+pub mod Copies
+pub mod Inner
+pub mod Telling
 pub mod Visits
