@@ -1,10 +1,14 @@
 //! Where newcomers come in, and how many were met.
 
+ghost use Rattle.std.specs.Prelude.{◌≡◌, false, true, not};
+ghost use Rattle.main_port.specs.Meeting.{OnlyMeets, failed_one, is_full, met_by, met_one, none_met};
+
 use crate::clients::Clients;
 use crate::settings::Settings;
 use crate::tally::Tally;
 use crate::watchers::Watchers;
 use server_loop::{Arrival, Listener, Log, LogLine};
+use std::marker::Model;
 use std::sync::Wait;
 use std::sync::atomic::{AtomicBool, Ordering};
 use std::time::Clock;
@@ -36,6 +40,18 @@ pub(crate) struct Acceptor<'a> {
     is_short: bool,
 }
 
+impl<'a> Model for Acceptor<'a> {
+    ghost use Rattle.main_port.specs.Meeting.{AcceptorRecord};
+
+    ghost Value = { AcceptorRecord };
+
+    ghost use Rattle.main_port.specs.Inner.{IsAcceptor, acceptor_of};
+
+    ghost view = { acceptor_of };
+
+    ghost invariant = { IsAcceptor };
+}
+
 impl<'a> Acceptor<'a> {
     /// Accepts at this listener as many as these settings say, or without that number as many as come.
     pub(crate) fn new(
@@ -43,7 +59,9 @@ impl<'a> Acceptor<'a> {
         settings: &Settings,
         has_input_ended: &'a AtomicBool,
         log: &'a Log,
-    ) -> Acceptor<'a> {
+    ) -> Acceptor<'a>
+        ensures { result ≡ record { tally = none_met settings.now.most; is_open = true; may_end = settings.now.until_input_ends } }
+    {
         Acceptor {
             listener: Some(listener),
             tally: Tally::new(settings.most),
@@ -72,7 +90,9 @@ impl<'a> Acceptor<'a> {
     }
 
     /// Newcomers may be waiting.
-    pub(crate) fn looks(&mut self) {
+    pub(crate) fn looks(&mut self)
+        ensures { self.new ≡ self.old }
+    {
         self.has_newcomers = true;
     }
 
@@ -81,7 +101,9 @@ impl<'a> Acceptor<'a> {
         &mut self,
         clients: &mut Clients<'_, R, W>,
         told: usize,
-    ) {
+    )
+        ensures { OnlyMeets self.old self.new }
+    {
         let until = clients.time_for_newcomers();
         for _ in 0..told.clamp(1, MOST_NEWCOMERS) {
             if self.accepts_in(clients.now()) != Some(0) {
@@ -95,7 +117,9 @@ impl<'a> Acceptor<'a> {
     }
 
     /// Accepts the next newcomer.
-    fn accept_one<R: Wait + Clock, W: Watchers>(&mut self, clients: &mut Clients<'_, R, W>) {
+    fn accept_one<R: Wait + Clock, W: Watchers>(&mut self, clients: &mut Clients<'_, R, W>)
+        ensures { OnlyMeets self.old self.new }
+    {
         let arrival = self.next();
         self.lets_in(arrival, clients);
     }
@@ -105,7 +129,10 @@ impl<'a> Acceptor<'a> {
         &mut self,
         arrival: Arrival,
         clients: &mut Clients<'_, R, W>,
-    ) {
+    )
+        ensures rest { OnlyMeets self.old self.new }
+        ensures met { self.new.tally.met ≡ met_by arrival self.old.tally }
+    {
         match arrival {
             Arrival::Newcomer(stream) => {
                 self.meets();
@@ -130,7 +157,9 @@ impl<'a> Acceptor<'a> {
     }
 
     /// The next newcomer, if any may come.
-    fn next(&mut self) -> Arrival {
+    fn next(&mut self) -> Arrival
+        ensures { self.new ≡ self.old }
+    {
         match &mut self.listener {
             Some(listener) => listener.accept(),
             None => Arrival::Nobody,
@@ -138,12 +167,16 @@ impl<'a> Acceptor<'a> {
     }
 
     /// One was met.
-    fn meets(&mut self) {
+    fn meets(&mut self)
+        ensures { self.new ≡ record self.old { tally = met_one self.old.tally } }
+    {
         self.tally.meet();
     }
 
     /// A newcomer was turned away. That is reported on standard error, unless the one before was, too.
-    fn fails<R: Wait>(&mut self, rt: &R) {
+    fn fails<R: Wait>(&mut self, rt: &R)
+        ensures { self.new ≡ record self.old { tally = failed_one self.old.tally } }
+    {
         self.tally.fail();
         if !self.is_short {
             self.log.note(rt, LogLine::NoRoom);
@@ -152,12 +185,18 @@ impl<'a> Acceptor<'a> {
     }
 
     /// Whether serving ends before the last has come.
-    pub(crate) fn is_ending(&self) -> bool {
+    pub(crate) fn is_ending(&self) -> bool
+        ensures { result ≡ true → self.now.may_end ≡ true }
+    {
         self.may_end && self.has_input_ended.load(Ordering::SeqCst)
     }
 
     /// Closes the listener if the last has come that may, or serving ends. Returns whether it is closed.
-    pub(crate) fn is_closed<R: Wait>(&mut self, rt: &R) -> bool {
+    pub(crate) fn is_closed<R: Wait>(&mut self, rt: &R) -> bool
+        ensures closed { result ≡ not self.new.is_open }
+        ensures rest { self.new ≡ record self.old { is_open = self.new.is_open } }
+        ensures full { is_full self.old.tally ≡ true → result ≡ true }
+    {
         if self.listener.is_none() {
             return true;
         }
@@ -169,12 +208,18 @@ impl<'a> Acceptor<'a> {
     }
 
     /// Whether the last has come that may, or serving ends.
-    fn is_over(&self) -> bool {
+    fn is_over(&self) -> bool
+        ensures over { result ≡ true → self.now.may_end ≡ false → is_full self.now.tally ≡ true }
+        ensures full { is_full self.now.tally ≡ true → result ≡ true }
+    {
         self.tally.is_full() || self.is_ending()
     }
 
     /// Closes the listener, and says so if that is because the last has come that may.
-    fn close<R: Wait>(&mut self, rt: &R) {
+    fn close<R: Wait>(&mut self, rt: &R)
+        requires { self.old.may_end ≡ false → is_full self.old.tally ≡ true }
+        ensures { self.new ≡ record self.old { is_open = false } }
+    {
         self.listener = None;
         if self.tally.is_full() {
             self.says_so(rt);
@@ -189,7 +234,10 @@ impl<'a> Acceptor<'a> {
     }
 
     /// Who was met.
-    pub(crate) fn end(self) -> Tally {
+    pub(crate) fn end(self) -> Tally
+        ensures tally { result ≡ self.tally }
+        ensures all { self.is_open ≡ false → self.may_end ≡ false → is_full result ≡ true }
+    {
         let Acceptor { tally, .. } = self;
         tally
     }

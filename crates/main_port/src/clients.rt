@@ -1,5 +1,8 @@
 //! All connections of the loop: how they come and go, and which are due a turn.
 
+ghost use Rattle.std.specs.Prelude.{◌≡◌};
+ghost use Rattle.main_port.specs.Others.{AllStay, OthersStay};
+
 mod changes;
 mod leaving;
 mod reading;
@@ -187,7 +190,9 @@ impl<'a, R: Wait + Clock, W: Watchers> Clients<'a, R, W> {
     }
 
     /// Registers a connection. Returns whether that succeeded.
-    fn is_registered(&mut self, number: u64) -> bool {
+    fn is_registered(&mut self, number: u64) -> bool
+        ensures { OthersStay number self.old.clients.entries self.new.clients.entries }
+    {
         let Some(client) = self.clients.get_mut(&number) else {
             return false;
         };
@@ -228,7 +233,9 @@ impl<'a, R: Wait + Clock, W: Watchers> Clients<'a, R, W> {
     }
 
     /// Gives a connection a turn, only once however much there is. Without memory for that it has its turn when it is looked at next.
-    fn stands_due(&mut self, number: u64) {
+    fn stands_due(&mut self, number: u64)
+        ensures { AllStay self.old.clients.entries self.new.clients.entries }
+    {
         let Some(client) = self.clients.get(&number) else {
             return;
         };
@@ -237,7 +244,9 @@ impl<'a, R: Wait + Clock, W: Watchers> Clients<'a, R, W> {
     }
 
     /// Gives a connection a turn of this rank.
-    fn stands_due_as(&mut self, number: u64, rank: Rank) {
+    fn stands_due_as(&mut self, number: u64, rank: Rank)
+        ensures { AllStay self.old.clients.entries self.new.clients.entries }
+    {
         let Some(client) = self.clients.get_mut(&number) else {
             return;
         };
@@ -286,6 +295,7 @@ impl<'a, R: Wait + Clock, W: Watchers> Clients<'a, R, W> {
                 break;
             };
             self.serve_if_due(number);
+            self.is_answered(number);
             if self.is_late(until) {
                 break;
             }
@@ -294,7 +304,9 @@ impl<'a, R: Wait + Clock, W: Watchers> Clients<'a, R, W> {
     }
 
     /// Gives a connection its turn, if it is still due one: it is sent what is due, and what it says is answered.
-    fn serve_if_due(&mut self, number: u64) {
+    fn serve_if_due(&mut self, number: u64)
+        ensures { OthersStay number self.old.clients.entries self.new.clients.entries }
+    {
         let Some(client) = self.clients.get_mut(&number) else {
             return;
         };
@@ -306,11 +318,12 @@ impl<'a, R: Wait + Clock, W: Watchers> Clients<'a, R, W> {
             self.send(number);
         }
         self.hear(number);
-        self.is_answered(number);
     }
 
     /// Until when a slice of this many microseconds lasts that begins now.
-    fn time_for(&mut self, micros: u64) -> Duration {
+    fn time_for(&mut self, micros: u64) -> Duration
+        ensures { self.new.clients ≡ self.old.clients }
+    {
         self.clock.look(self.rt);
         let passed = self.clock.passed();
         passed.saturating_add(Duration::from_micros(micros))
@@ -322,7 +335,9 @@ impl<'a, R: Wait + Clock, W: Watchers> Clients<'a, R, W> {
     }
 
     /// Whether it is this late.
-    pub(crate) fn is_late(&mut self, until: Duration) -> bool {
+    pub(crate) fn is_late(&mut self, until: Duration) -> bool
+        ensures { self.new.clients ≡ self.old.clients }
+    {
         self.clock.look(self.rt);
         self.clock.passed() >= until
     }

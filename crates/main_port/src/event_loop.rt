@@ -1,5 +1,8 @@
 //! The turns of the loop.
 
+ghost use Rattle.std.specs.Prelude.{◌≡◌, false, true};
+ghost use Rattle.main_port.specs.Meeting.{IsOfTheSame, is_full};
+
 use crate::acceptor::Acceptor;
 use crate::clients::Clients;
 use crate::tally::Tally;
@@ -50,7 +53,9 @@ impl<'a, R: Wait + Clock, W: Watchers> EventLoop<'a, R, W> {
         waker: &'a LoopWaker,
         clients: Clients<'a, R, W>,
         acceptor: Acceptor<'a>,
-    ) -> EventLoop<'a, R, W> {
+    ) -> EventLoop<'a, R, W>
+        ensures { result.acceptor ≡ acceptor }
+    {
         EventLoop {
             rt,
             waker,
@@ -90,7 +95,9 @@ impl<'a, R: Wait + Clock, W: Watchers> EventLoop<'a, R, W> {
     /// Tells the hall the time, once a second and when boards have waited long enough. Boards that begin to wait meanwhile do so for a
     /// second at least. However long the program was suspended, whoever came back in time is heard before, if that takes no longer than a
     /// second, and the time that is told is the one by which all has been heard.
-    fn tick(&mut self) {
+    fn tick(&mut self)
+        ensures { self.new.acceptor ≡ self.old.acceptor }
+    {
         let now = self.clients.now();
         if now < self.ticks_at {
             return;
@@ -121,7 +128,10 @@ impl<'a, R: Wait + Clock, W: Watchers> EventLoop<'a, R, W> {
     }
 
     /// Handles what the system reported, and what is due. Returns whether it was the last turn, which none is while newcomers come in.
-    pub(crate) fn take(&mut self, events: &Events) -> bool {
+    pub(crate) fn take(&mut self, events: &Events) -> bool
+        ensures same { IsOfTheSame self.old.acceptor self.new.acceptor }
+        ensures last { result ≡ true → self.new.acceptor.is_open ≡ false }
+    {
         let asked = self.clients.now();
         // This comes before looking: whoever wakes the loop from now on wakes it again.
         self.waker.reset();
@@ -151,7 +161,10 @@ impl<'a, R: Wait + Clock, W: Watchers> EventLoop<'a, R, W> {
     // ---- The end.
 
     /// Does what is due at the end. Returns whether that is over.
-    fn is_over(&mut self) -> bool {
+    fn is_over(&mut self) -> bool
+        ensures same { IsOfTheSame self.old.acceptor self.new.acceptor }
+        ensures over { result ≡ true → self.new.acceptor.is_open ≡ false }
+    {
         if !self.acceptor.is_closed(self.rt) {
             return false;
         }
@@ -167,7 +180,9 @@ impl<'a, R: Wait + Clock, W: Watchers> EventLoop<'a, R, W> {
     }
 
     /// Serving is to end. All boards are ended, connections are told, and then waited for. Returns whether this is over.
-    fn has_ended(&mut self) -> bool {
+    fn has_ended(&mut self) -> bool
+        ensures { self.new.acceptor ≡ self.old.acceptor }
+    {
         let now = self.clients.passed();
         let ends_at = match self.ends_at {
             Some(ends_at) => ends_at,
@@ -182,7 +197,10 @@ impl<'a, R: Wait + Clock, W: Watchers> EventLoop<'a, R, W> {
     }
 
     /// Who was met, and those who watch.
-    pub(crate) fn end(self) -> (Tally, W) {
+    pub(crate) fn end(self) -> (Tally, W)
+        ensures tally { result.0 ≡ self.acceptor.tally }
+        ensures all { self.acceptor.is_open ≡ false → self.acceptor.may_end ≡ false → is_full result.0 ≡ true }
+    {
         let EventLoop {
             acceptor, clients, ..
         } = self;

@@ -1,5 +1,8 @@
 //! Bytes on their way between the socket of a connection and the service.
 
+ghost use Rattle.main_port.specs.Others.{OthersStay, client_in};
+ghost use Rattle.main_port.specs.Passing.{IsReadFrom, IsSentTo};
+
 use crate::client::Client;
 use indexmap::IndexMap;
 use relay_service::Service;
@@ -16,7 +19,10 @@ pub(crate) fn receive_from(
     service: &mut Service,
     number: u64,
     piece: &mut [u8],
-) -> Result<Intake, AllocError> {
+) -> Result<Intake, AllocError>
+    ensures read { IsReadFrom (client_in clients.old.entries number) service.old number piece.new result service.new }
+    ensures others { OthersStay number clients.old.entries clients.new.entries }
+{
     let Some(client) = clients.get_mut(&number) else {
         return Ok(Intake::Failed);
     };
@@ -32,7 +38,9 @@ pub(crate) fn send_to(
     clients: &IndexMap<u64, Client>,
     service: &mut Service,
     number: u64,
-) -> Delivery {
+) -> Delivery
+    ensures { IsSentTo (client_in clients.now.entries number) service.old number result service.new }
+{
     let Some(client) = clients.get(&number) else {
         return Delivery::Failed;
     };

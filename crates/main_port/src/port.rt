@@ -1,6 +1,7 @@
 //! The main port, and how it is served.
 
-ghost use Rattle.std.specs.Prelude.{◌≡◌, ◌≤◌, ◌+◌, IfOk, IfSome, false};
+ghost use Rattle.std.specs.Prelude.{◌≡◌, ◌≤◌, ◌+◌, IfOk, IfSome, false, true};
+ghost use Rattle.main_port.specs.Meeting.{is_full};
 
 use crate::acceptor::Acceptor;
 use crate::clients::{Clients, Room};
@@ -107,6 +108,8 @@ impl MainPort {
     where
         R: Input<Reader = StdinLock<'static>> + Threads + Wait + Clock + Clone + Send + Drop + 'static,
         W: Watchers + Drop,
+        ensures most { result.0.most ≡ self.most }
+        ensures all { self.until_input_ends ≡ false → is_full result.0 ≡ true }
     {
         let MainPort {
             alloc,

@@ -26,8 +26,8 @@ IsEndOf b p Cut = p.closing ≡ Some (next_of p)
 IsEndOf b p Left = ⊤
 IsEndOf b p Failed = ⊤
 
--- The follower sits, or sat, at the table of this very board. What it has taken is the stretch of this board's log from where it joined to as
--- far as it has come.
+-- The follower sits, or sat, at the table of this very board. What it has taken is the stretch of this board's log from where it joined to
+-- as far as it has come.
 pub record IsOf (b : HallBoard) (f : FollowerSeat) (stage : Stage) : Type 0 where
   pub table : f.table ≡ b.table
   pub start : f.part.setup.start ≡ b.game.start

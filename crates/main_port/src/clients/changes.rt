@@ -1,9 +1,13 @@
 //! What changes at boards, and who is told of it: those who follow them, those who watch them, and the log.
 
+ghost use Rattle.std.specs.Prelude.{◌≡◌};
+ghost use Rattle.main_port.specs.Others.{AllStay, OthersStay};
+
 use super::Clients;
 use crate::client::Role;
 use crate::watchers::Watchers;
 use c960_game::MOST_BOARDS;
+use relay_service::Stage;
 use server_loop::Rank;
 use std::sync::Wait;
 use std::time::Clock;
@@ -13,7 +17,9 @@ impl<'a, R: Wait + Clock, W: Watchers> Clients<'a, R, W> {
 
     /// Notes what an event made of the boards, of which there were so many before. Returns whether a board is as far ahead of its followers
     /// as it may be.
-    pub(super) fn gather(&mut self, boards: usize) -> bool {
+    pub(super) fn gather(&mut self, boards: usize) -> bool
+        ensures { AllStay self.old.clients.entries self.new.clients.entries }
+    {
         let mut is_far_ahead = false;
         for _ in 0..MOST_BOARDS {
             let Some(at) = self.service.take_rung() else {
@@ -29,7 +35,9 @@ impl<'a, R: Wait + Clock, W: Watchers> Clients<'a, R, W> {
     }
 
     /// The game of a board has changed: those who follow it are due a turn. Returns whether it is as far ahead of them as it may be.
-    fn changes(&mut self, at: usize) -> bool {
+    fn changes(&mut self, at: usize) -> bool
+        ensures { AllStay self.old.clients.entries self.new.clients.entries }
+    {
         self.watchers.changed(at);
         self.log.ended(self.service.hall(), at);
         for index in 0..self.followers.count(at) {
@@ -41,7 +49,9 @@ impl<'a, R: Wait + Clock, W: Watchers> Clients<'a, R, W> {
     }
 
     /// The board that a connection follows has changed.
-    fn has_news(&mut self, number: u64) {
+    fn has_news(&mut self, number: u64)
+        ensures { AllStay self.old.clients.entries self.new.clients.entries }
+    {
         let Some(client) = self.clients.get(&number) else {
             return;
         };
@@ -83,7 +93,9 @@ impl<'a, R: Wait + Clock, W: Watchers> Clients<'a, R, W> {
     // ---- Those who follow.
 
     /// Notes what a connection is to boards, by the service: whether it owns one, or follows one.
-    pub(super) fn notes_role(&mut self, number: u64) {
+    pub(super) fn notes_role(&mut self, number: u64)
+        ensures { OthersStay number self.old.clients.entries self.new.clients.entries }
+    {
         let Some(client) = self.clients.get(&number) else {
             return;
         };
@@ -104,7 +116,9 @@ impl<'a, R: Wait + Clock, W: Watchers> Clients<'a, R, W> {
     }
 
     /// A connection is this to boards from now on.
-    fn is_now(&mut self, number: u64, role: Role) {
+    fn is_now(&mut self, number: u64, role: Role)
+        ensures { OthersStay number self.old.clients.entries self.new.clients.entries }
+    {
         if let Some(client) = self.clients.get_mut(&number) {
             client.role = role;
         }
@@ -112,15 +126,22 @@ impl<'a, R: Wait + Clock, W: Watchers> Clients<'a, R, W> {
 
     /// What a connection is to boards that was this before.
     fn role(&self, number: u64, was: Role) -> Role {
-        match self.service.place(number) {
-            Some(at) => Role::Follower(at),
-            None if was == Role::Owner || self.service.is_owner(number) => Role::Owner,
-            None => Role::Other,
+        if self.service.stage(number) == Some(Stage::Follows) {
+            if let Some(at) = self.service.place(number) {
+                return Role::Follower(at);
+            }
+        }
+        if was == Role::Owner || self.service.is_owner(number) {
+            Role::Owner
+        } else {
+            Role::Other
         }
     }
 
     /// A connection follows its board no more, if it did.
-    pub(super) fn leaves_board(&mut self, number: u64) {
+    pub(super) fn leaves_board(&mut self, number: u64)
+        ensures { OthersStay number self.old.clients.entries self.new.clients.entries }
+    {
         let Some(client) = self.clients.get(&number) else {
             return;
         };
@@ -135,14 +156,18 @@ impl<'a, R: Wait + Clock, W: Watchers> Clients<'a, R, W> {
     }
 
     /// A connection is not among those any more that follow a board.
-    pub(super) fn unfollows(&mut self, at: usize, number: u64) {
+    pub(super) fn unfollows(&mut self, at: usize, number: u64)
+        ensures { self.new.clients ≡ self.old.clients }
+    {
         self.followers.remove(at, number);
         self.counts_followers(at);
     }
 
     /// Tells the service whether a board has as many followers as it may have. Else each refused follow would look at all slots, each of
     /// which is its own word of memory.
-    fn counts_followers(&mut self, at: usize) {
+    fn counts_followers(&mut self, at: usize)
+        ensures { self.new.clients ≡ self.old.clients }
+    {
         let is_full = self.followers.is_full(at);
         self.service.knows_full(at, is_full);
     }

@@ -1,5 +1,8 @@
 //! How connections leave the hall, are let go, and go.
 
+ghost use Rattle.std.specs.Prelude.{◌≡◌, None};
+ghost use Rattle.main_port.specs.Others.{OthersStay, client_in};
+
 use super::Clients;
 use crate::client::{Role, State};
 use crate::passing::send_to;
@@ -17,7 +20,9 @@ impl<'a, R: Wait + Clock, W: Watchers> Clients<'a, R, W> {
     /// abandoned, or wait. Returns whether it has left. One with boards leaves only behind the next `tick` if other boards have waited long
     /// enough and have yet to be ended by that: whoever came back to these in time may not have been heard yet, and the time that comes
     /// with this connection would end them.
-    pub(super) fn leaves_hall(&mut self, number: u64) -> bool {
+    pub(super) fn leaves_hall(&mut self, number: u64) -> bool
+        ensures { OthersStay number self.old.clients.entries self.new.clients.entries }
+    {
         let Some(owner) = self.service.owner(number) else {
             return true;
         };
@@ -44,7 +49,9 @@ impl<'a, R: Wait + Clock, W: Watchers> Clients<'a, R, W> {
     }
 
     /// A connection has left the hall.
-    fn has_left(&mut self, number: u64, owner: &Owner) {
+    fn has_left(&mut self, number: u64, owner: &Owner)
+        ensures { OthersStay number self.old.clients.entries self.new.clients.entries }
+    {
         let boards = self.service.hall().len();
         self.gather(boards);
         self.leaves_board(number);
@@ -66,7 +73,9 @@ impl<'a, R: Wait + Clock, W: Watchers> Clients<'a, R, W> {
     // ---- From the loop.
 
     /// The output of a connection has ended. It goes, unless something has yet to be sent to it.
-    pub(super) fn is_closed_by_its_peer(&mut self, number: u64) {
+    pub(super) fn is_closed_by_its_peer(&mut self, number: u64)
+        ensures { OthersStay number self.old.clients.entries self.new.clients.entries }
+    {
         self.send(number);
         let is_served = self.service.output(number).is_empty();
         let Some(client) = self.clients.get_mut(&number) else {
@@ -84,7 +93,9 @@ impl<'a, R: Wait + Clock, W: Watchers> Clients<'a, R, W> {
     }
 
     /// A connection was sent everything, and is let go: it leaves the hall, and the output to it ends.
-    pub(super) fn lets_go(&mut self, number: u64) {
+    pub(super) fn lets_go(&mut self, number: u64)
+        ensures { OthersStay number self.old.clients.entries self.new.clients.entries }
+    {
         self.leaves_hall(number);
         let now = self.clock.millis();
         if let Some(client) = self.clients.get_mut(&number) {
@@ -94,13 +105,18 @@ impl<'a, R: Wait + Clock, W: Watchers> Clients<'a, R, W> {
     }
 
     /// There was no memory for a connection. What was due before is sent as far as it takes that, and it goes.
-    pub(super) fn fails(&mut self, number: u64) {
+    pub(super) fn fails(&mut self, number: u64)
+        ensures { OthersStay number self.old.clients.entries self.new.clients.entries }
+    {
         let _ = send_to(&self.clients, &mut self.service, number);
         self.remove(number);
     }
 
     /// A connection goes.
-    pub(super) fn remove(&mut self, number: u64) {
+    pub(super) fn remove(&mut self, number: u64)
+        ensures gone { client_in self.new.clients.entries number ≡ None }
+        ensures others { OthersStay number self.old.clients.entries self.new.clients.entries }
+    {
         let Some(client) = self.clients.swap_remove(&number) else {
             return;
         };
@@ -116,7 +132,9 @@ impl<'a, R: Wait + Clock, W: Watchers> Clients<'a, R, W> {
     }
 
     /// Closes a connection with a code.
-    pub(super) fn close(&mut self, number: u64, code: Code) {
+    pub(super) fn close(&mut self, number: u64, code: Code)
+        ensures { OthersStay number self.old.clients.entries self.new.clients.entries }
+    {
         if self.service.close(number, code).is_err() {
             self.remove(number);
         } else {

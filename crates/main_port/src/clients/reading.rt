@@ -1,5 +1,7 @@
 //! What is read from connections, and answered.
 
+ghost use Rattle.main_port.specs.Others.{OthersStay};
+
 use super::{Clients, MOST_ANSWERED_MICROS};
 use crate::client::{Input, Role, State};
 use crate::passing::receive_from;
@@ -32,7 +34,9 @@ enum Answered {
 
 impl<'a, R: Wait + Clock, W: Watchers> Clients<'a, R, W> {
     /// Answers what a connection said before, reads what it sends, for a while, and answers that.
-    pub(super) fn hear(&mut self, number: u64) {
+    pub(super) fn hear(&mut self, number: u64)
+        ensures { OthersStay number self.old.clients.entries self.new.clients.entries }
+    {
         if !self.is_heard(number) {
             return;
         }
@@ -56,7 +60,9 @@ impl<'a, R: Wait + Clock, W: Watchers> Clients<'a, R, W> {
 
     /// Whether a connection is read now. One that was refused to follow is not read for a moment: from now on, however long its answers
     /// took.
-    fn is_read(&mut self, number: u64) -> bool {
+    fn is_read(&mut self, number: u64) -> bool
+        ensures { OthersStay number self.old.clients.entries self.new.clients.entries }
+    {
         let Some(client) = self.clients.get_mut(&number) else {
             return false;
         };
@@ -73,7 +79,9 @@ impl<'a, R: Wait + Clock, W: Watchers> Clients<'a, R, W> {
     }
 
     /// Reads once from a connection, and answers what was read until this time. Returns whether it is read again in this turn.
-    fn read(&mut self, number: u64, until: Duration) -> bool {
+    fn read(&mut self, number: u64, until: Duration) -> bool
+        ensures { OthersStay number self.old.clients.entries self.new.clients.entries }
+    {
         let mut piece = [0; PIECE_BYTES];
         let Ok(intake) = receive_from(&mut self.clients, &mut self.service, number, &mut piece)
         else {
@@ -93,14 +101,18 @@ impl<'a, R: Wait + Clock, W: Watchers> Clients<'a, R, W> {
     }
 
     /// Nothing more has arrived from a connection.
-    fn is_read_to_the_end(&mut self, number: u64) {
+    fn is_read_to_the_end(&mut self, number: u64)
+        ensures { OthersStay number self.old.clients.entries self.new.clients.entries }
+    {
         if let Some(client) = self.clients.get_mut(&number) {
             client.input = Input::Nothing;
         }
     }
 
     /// So many bytes were read from a connection: they are answered. One to which everything was written has a bound on what is dropped.
-    fn has_read(&mut self, number: u64, n: usize, until: Duration) {
+    fn has_read(&mut self, number: u64, n: usize, until: Duration)
+        ensures { OthersStay number self.old.clients.entries self.new.clients.entries }
+    {
         let Some(client) = self.clients.get_mut(&number) else {
             return;
         };
@@ -116,7 +128,9 @@ impl<'a, R: Wait + Clock, W: Watchers> Clients<'a, R, W> {
     }
 
     /// If the request of a connection has come by now, it has shaken hands, or was refused.
-    fn shakes_hands(&mut self, number: u64) {
+    fn shakes_hands(&mut self, number: u64)
+        ensures { OthersStay number self.old.clients.entries self.new.clients.entries }
+    {
         let now = self.clock.millis();
         let Some(client) = self.clients.get_mut(&number) else {
             return;
@@ -135,7 +149,9 @@ impl<'a, R: Wait + Clock, W: Watchers> Clients<'a, R, W> {
     }
 
     /// Answers what a connection said that was not answered because its turn was over.
-    fn answer_rest(&mut self, number: u64, until: Duration) {
+    fn answer_rest(&mut self, number: u64, until: Duration)
+        ensures { OthersStay number self.old.clients.entries self.new.clients.entries }
+    {
         let Some(client) = self.clients.get_mut(&number) else {
             return;
         };
@@ -146,7 +162,9 @@ impl<'a, R: Wait + Clock, W: Watchers> Clients<'a, R, W> {
     }
 
     /// Answers what a connection said, as long as there is time for that, and some of it in any case: the rest has its turn later.
-    fn answer(&mut self, number: u64, until: Duration) {
+    fn answer(&mut self, number: u64, until: Duration)
+        ensures { OthersStay number self.old.clients.entries self.new.clients.entries }
+    {
         if self.state(number) != Some(State::Talks) {
             return;
         }
@@ -178,7 +196,9 @@ impl<'a, R: Wait + Clock, W: Watchers> Clients<'a, R, W> {
     }
 
     /// Answers the next event of a connection, and notes what that made of the boards.
-    fn answer_next(&mut self, number: u64) -> Answered {
+    fn answer_next(&mut self, number: u64) -> Answered
+        ensures { OthersStay number self.old.clients.entries self.new.clients.entries }
+    {
         if self.service.is_full(number) {
             return Answered::Full;
         }
@@ -197,7 +217,9 @@ impl<'a, R: Wait + Clock, W: Watchers> Clients<'a, R, W> {
     }
 
     /// A command of a connection to follow was refused.
-    fn is_refused(&mut self, number: u64) {
+    fn is_refused(&mut self, number: u64)
+        ensures { OthersStay number self.old.clients.entries self.new.clients.entries }
+    {
         if let Some(client) = self.clients.get_mut(&number) {
             client.refused = client.refused.saturating_add(1);
         }
@@ -205,7 +227,9 @@ impl<'a, R: Wait + Clock, W: Watchers> Clients<'a, R, W> {
 
     /// The turn of a connection was over before all was answered that it said: it has another one, after the others of its rank, or of
     /// this one.
-    fn is_interrupted(&mut self, number: u64, rank: Option<Rank>) {
+    fn is_interrupted(&mut self, number: u64, rank: Option<Rank>)
+        ensures { OthersStay number self.old.clients.entries self.new.clients.entries }
+    {
         let Some(client) = self.clients.get_mut(&number) else {
             return;
         };
@@ -216,7 +240,9 @@ impl<'a, R: Wait + Clock, W: Watchers> Clients<'a, R, W> {
 
     /// A connection is not answered before what is due is written. The rest of a message of one that follows is not waited for meanwhile:
     /// what is due to it is not its own doing.
-    fn is_full(&mut self, number: u64) {
+    fn is_full(&mut self, number: u64)
+        ensures { OthersStay number self.old.clients.entries self.new.clients.entries }
+    {
         if let Some(client) = self.clients.get_mut(&number) {
             client.state = State::Full;
             if let Role::Follower(_) = client.role {
@@ -226,7 +252,9 @@ impl<'a, R: Wait + Clock, W: Watchers> Clients<'a, R, W> {
     }
 
     /// Something came from a connection, and was answered.
-    fn has_heard(&mut self, number: u64) {
+    fn has_heard(&mut self, number: u64)
+        ensures { OthersStay number self.old.clients.entries self.new.clients.entries }
+    {
         let now = self.clock.millis();
         let has_said = self.service.take_said(number);
         let has_come_whole = self.service.take_whole(number);

@@ -1,5 +1,7 @@
 //! What is due as time passes.
 
+ghost use Rattle.main_port.specs.Others.{OthersStay};
+
 use super::Clients;
 use crate::client::{Input, Role, State};
 use crate::watchers::Watchers;
@@ -50,7 +52,9 @@ impl<'a, R: Wait + Clock, W: Watchers> Clients<'a, R, W> {
     }
 
     /// A connection has paused.
-    fn has_paused(&mut self, number: u64) {
+    fn has_paused(&mut self, number: u64)
+        ensures { OthersStay number self.old.clients.entries self.new.clients.entries }
+    {
         let Some(client) = self.clients.get_mut(&number) else {
             return;
         };
@@ -98,7 +102,9 @@ impl<'a, R: Wait + Clock, W: Watchers> Clients<'a, R, W> {
     }
 
     /// Does what is due for a connection.
-    fn look_at(&mut self, number: u64) {
+    fn look_at(&mut self, number: u64)
+        ensures { OthersStay number self.old.clients.entries self.new.clients.entries }
+    {
         let waited = self.waited(number);
         let now = self.looked_at;
         let Some(client) = self.clients.get_mut(&number) else {
@@ -143,7 +149,9 @@ impl<'a, R: Wait + Clock, W: Watchers> Clients<'a, R, W> {
     }
 
     /// Sends a connection a ping.
-    fn ping(&mut self, number: u64) {
+    fn ping(&mut self, number: u64)
+        ensures { OthersStay number self.old.clients.entries self.new.clients.entries }
+    {
         if self.service.ping(number).is_err() {
             self.remove(number);
         } else {
@@ -153,7 +161,9 @@ impl<'a, R: Wait + Clock, W: Watchers> Clients<'a, R, W> {
 
     /// A connection has sent no message for too long. It goes, unless a board belongs to it.
     #[tactic(auto, unfolding(relay_frames::specs::Codes::may_be_sent))]
-    fn is_idle(&mut self, number: u64) {
+    fn is_idle(&mut self, number: u64)
+        ensures { OthersStay number self.old.clients.entries self.new.clients.entries }
+    {
         let is_owner = self.service.is_owner(number);
         let now = self.looked_at;
         let Some(client) = self.clients.get_mut(&number) else {
@@ -170,7 +180,9 @@ impl<'a, R: Wait + Clock, W: Watchers> Clients<'a, R, W> {
     /// Gives a connection the turn for which there was no memory when it became due, if that is so: something has come from it, or it is
     /// behind its board. One that follows whose connection takes nothing takes no moves, and so does not learn that it was cut off: if it
     /// must have been, it takes everything that is left to it, and its slot on the board is free.
-    fn is_not_forgotten(&mut self, number: u64) {
+    fn is_not_forgotten(&mut self, number: u64)
+        ensures { OthersStay number self.old.clients.entries self.new.clients.entries }
+    {
         let Some(client) = self.clients.get(&number) else {
             return;
         };
@@ -199,7 +211,9 @@ impl<'a, R: Wait + Clock, W: Watchers> Clients<'a, R, W> {
     }
 
     /// A connection takes everything that its board has for it, however much is due to it already.
-    fn takes_all(&mut self, number: u64) {
+    fn takes_all(&mut self, number: u64)
+        ensures { OthersStay number self.old.clients.entries self.new.clients.entries }
+    {
         if self.service.push_all(number).is_err() {
             self.fails(number);
         } else {
@@ -223,7 +237,9 @@ impl<'a, R: Wait + Clock, W: Watchers> Clients<'a, R, W> {
 
     /// Tells a connection that serving ends.
     #[tactic(auto, unfolding(relay_frames::specs::Codes::may_be_sent))]
-    fn is_told_of_the_end(&mut self, number: u64) {
+    fn is_told_of_the_end(&mut self, number: u64)
+        ensures { OthersStay number self.old.clients.entries self.new.clients.entries }
+    {
         match self.waited(number) {
             Waited::Comes => self.remove(number),
             Waited::Asks => self.close(number, Code::AWAY),

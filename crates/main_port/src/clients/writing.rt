@@ -1,7 +1,9 @@
 //! What connections are sent: answers, and the moves of the boards that they follow.
 
+ghost use Rattle.main_port.specs.Others.{OthersStay};
+
 use super::{Clients, MOST_UNSENT};
-use crate::client::State;
+use crate::client::{Role, State};
 use crate::passing::send_to;
 use crate::watchers::Watchers;
 use relay_service::Stage;
@@ -36,24 +38,39 @@ impl<'a, R: Wait + Clock, W: Watchers> Clients<'a, R, W> {
 
     /// Sends a connection what is due, and before that puts the moves of its board behind it, if it follows. If there are more moves, it
     /// has another turn, after the others.
-    fn deliver(&mut self, number: u64) {
-        let has_more = self.takes_moves(number) && self.push(number);
+    fn deliver(&mut self, number: u64)
+        ensures { OthersStay number self.old.clients.entries self.new.clients.entries }
+    {
+        if self.is_blocked(number) {
+            return;
+        }
+        let has_more = self.follows(number) && self.push(number);
         self.send(number);
-        if has_more && self.takes_moves(number) {
+        if has_more && !self.is_blocked(number) {
             self.stands_due(number);
         }
     }
 
-    /// Whether a connection follows and takes what it is sent.
-    fn takes_moves(&self, number: u64) -> bool {
+    /// Whether a connection has gone, or takes no more now.
+    fn is_blocked(&self, number: u64) -> bool {
         match self.clients.get(&number) {
-            Some(client) => client.takes_moves(),
+            Some(client) => client.is_blocked(),
+            None => true,
+        }
+    }
+
+    /// Whether a connection follows a board.
+    fn follows(&self, number: u64) -> bool {
+        match self.clients.get(&number) {
+            Some(client) => matches!(client.role, Role::Follower(_)),
             None => false,
         }
     }
 
     /// Puts moves of the board that a connection follows behind what is due to it. Returns whether there are more.
-    fn push(&mut self, number: u64) -> bool {
+    fn push(&mut self, number: u64) -> bool
+        ensures { OthersStay number self.old.clients.entries self.new.clients.entries }
+    {
         let Ok(has_more) = self.service.push(number) else {
             self.fails(number);
             return false;
@@ -65,7 +82,9 @@ impl<'a, R: Wait + Clock, W: Watchers> Clients<'a, R, W> {
     // ---- Writing.
 
     /// Writes to a connection what is due, as far as it takes that.
-    pub(super) fn send(&mut self, number: u64) {
+    pub(super) fn send(&mut self, number: u64)
+        ensures { OthersStay number self.old.clients.entries self.new.clients.entries }
+    {
         match self.clients.get(&number) {
             Some(client) if !matches!(client.state, State::Drains(_)) => {}
             _ => return,
@@ -78,7 +97,9 @@ impl<'a, R: Wait + Clock, W: Watchers> Clients<'a, R, W> {
     }
 
     /// A connection took everything that was due. If it says no more, that was all; if it was not answered meanwhile, it is again.
-    fn is_served(&mut self, number: u64) {
+    fn is_served(&mut self, number: u64)
+        ensures { OthersStay number self.old.clients.entries self.new.clients.entries }
+    {
         let stage = self.service.stage(number);
         let Some(client) = self.clients.get_mut(&number) else {
             return;
@@ -96,7 +117,9 @@ impl<'a, R: Wait + Clock, W: Watchers> Clients<'a, R, W> {
     }
 
     /// A connection takes no more now. One that says no more leaves the hall meanwhile.
-    fn is_kept_waiting(&mut self, number: u64) {
+    fn is_kept_waiting(&mut self, number: u64)
+        ensures { OthersStay number self.old.clients.entries self.new.clients.entries }
+    {
         let now = self.clock.millis();
         let stage = self.service.stage(number);
         let Some(client) = self.clients.get_mut(&number) else {

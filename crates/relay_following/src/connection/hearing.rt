@@ -18,8 +18,8 @@ const HEAD_BYTES: u64 = 6;
 
 impl FollowerConnection {
     /// Answers what the bytes say next, while it follows and no more than 16,384 bytes are due: a ping by its pong, a close by a close with
-    /// its code or none, a breach by a close with that of the breach. A message is not answered; beyond 65,536 bytes of messages, each with a
-    /// head of 6, it is closed with 1008. Behind a close or a breach it follows no more, and its slot is free. Returns whether there was
+    /// its code or none, a breach by a close with that of the breach. A message is not answered; beyond 65,536 bytes of messages, each with
+    /// a head of 6, it is closed with 1008. Behind a close or a breach it follows no more, and its slot is free. Returns whether there was
     /// something to answer.
     ///
     /// # Errors

@@ -1,0 +1,4 @@
+pub mod Inner
+pub mod Meeting
+pub mod Others
+pub mod Passing
