@@ -1,7 +1,7 @@
 #!/usr/bin/env -S python3 -B
 """What a change needs, cheap things first: quick.py [BASE]
 
-First it says what it will do and about how long that takes. Then come the linters and the tests of the tools; the proofs of the program,
+First it says what it will do and about how long that takes. Then come the tests of the tools, with the linters; the proofs of the program,
 and the replays on it; the proofs of the other crates that differ from BASE and of all above them; and the tests of these crates. BASE is a
 commit, by default where this branch left main, or else the commit before the last.
 """
@@ -11,14 +11,12 @@ import time
 
 import build
 import change
-import lint
 from change import Step
 from crates import ROOT, SOURCES, Crates, minutes
 
 REPLAYS = ("./.ci/replay", "./crates/relay960/replays/all.py")
 # At least and at most.
-SECONDS_OF_LINTERS = (10, 20)
-SECONDS_OF_TOOLS = (10, 30)
+SECONDS_OF_TOOLS = (20, 50)
 SECONDS_OF_REPLAYS = (10, 40)
 
 
@@ -48,8 +46,7 @@ def changed(crates, base):
 def steps_of(crates, names):
     """All that a change of these crates needs, in the order of its cost, except that a proof comes before what depends on it."""
     python = [sys.executable, "-B"]
-    steps = [Step("the linters", ROOT, [*python, lint.__file__], *SECONDS_OF_LINTERS),
-             Step("the tests of the tools", ROOT, [*python, "-m", "unittest", "discover", "-s", "tools/tests"], *SECONDS_OF_TOOLS)]
+    steps = [Step("the tests of the tools", ROOT, [*python, "-m", "unittest", "discover", "-s", "tools/tests"], *SECONDS_OF_TOOLS)]
     of_program = [*crates.below(build.NAME), build.NAME]
     most = build.seconds_to_prove(crates, of_program)
     steps.append(Step("the proofs of the program and of all below it", ROOT, [*python, build.__file__, build.BY_RT], most // 2, most))

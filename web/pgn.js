@@ -21,7 +21,10 @@ const Pgn = (() => {
     return colour === Position.WHITE ? letter : letter.toLowerCase();
   }
 
-  /** The FEN of a position as most programs read it: rights as KQkq, and a file only where that is ambiguous. */
+  /**
+   * The FEN of a position as most programs read it: rights as KQkq, and a file only where that is ambiguous. With the files of the rooks
+   * pgn-extract would take the wrong rook and refuse some castlings.
+   */
   function fen(position) {
     const fields = Position.write(position).split(" ");
     const letters = (colour) => [...position.rights[colour]].sort((a, b) => b - a).map((it) => right(position, colour, it));

@@ -31,6 +31,8 @@ PRESENT = {
     "followers": "Followers of boards at the main port, by the log.",
     "spectators": "Connections of the watch port, by the log.",
 }
+UP = "Whether the watch port answers; if not, the figures of boards are those of its last report."
+REFUSED = "Connections turned away for want of a descriptor, the first of several in a row, and followers cut off, by the log."
 
 
 class Unusable(Exception):
@@ -45,14 +47,14 @@ class Collector:
 
     def collect(self):
         known = self.figures
-        yield GaugeMetricFamily("relay960_up", "Whether the watch port answers.", value=int(known.is_up))
+        yield GaugeMetricFamily("relay960_up", UP, value=int(known.is_up))
         yield GaugeMetricFamily("relay960_boards", "Boards opened in this run of the relay.", value=len(known.boards))
         yield GaugeMetricFamily("relay960_boards_live", "Boards whose game goes on.", value=known.live())
         yield CounterMetricFamily("relay960_moves", "Moves on all boards in this run of the relay.", value=known.moves())
         yield labelled("relay960_ended", "Ended games by outcome.", "outcome", known.ended())
         for name, value in known.present.items():
             yield GaugeMetricFamily(f"relay960_{name}", PRESENT[name], value=value)
-        yield labelled("relay960_refused", "Connections turned away and followers cut off, by the log.", "why", known.refused)
+        yield labelled("relay960_refused", REFUSED, "why", known.refused)
         yield CounterMetricFamily("relay960_log_lines_left_out", "Lines that the relay's log left out.", value=known.left_out)
 
 

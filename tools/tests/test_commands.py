@@ -350,12 +350,10 @@ class Planted(Commands):
 
 
 class Quick(Commands):
-    """With stand-ins for the linters and the replays too, in its own repository."""
+    """With stand-ins for the replays too, in its own repository."""
 
     def setUp(self):
         super().setUp()
-        for linter in ("rattle", "flake8", "shellcheck", "node"):
-            write(self.state / "bin" / linter, "#!/bin/sh\n", 0o755)
         shutil.rmtree(self.top / "tools/tests")
         write(self.top / "tools/tests/test_one.py",
               "import unittest\nclass One(unittest.TestCase):\n    def test_it(self):\n        pass\n")

@@ -2,6 +2,7 @@
 
 from relay_client.texts import (CUT, GAME_OVER, NO_BOARD, NO_FOLLOWER, NOTHING, OPENED, START_518, ended, ends, following, follows, leaves,
                                 left, moved, opens, over, played, refused, submits, takes)
+from games import FIVEFOLD
 from runs import Run, lines
 
 START_0 = "bbqnnrkr/pppppppp/8/8/8/8/PPPPPPPP/BBQNNRKR w HFhf - 0 1"
@@ -207,10 +208,21 @@ A_THIRD_APPEARANCE_IS_GRANTED_TO_THE_SIDE_ON_MOVE = [
     *plays("b1", KNIGHTS_OUT_AND_HOME, 5),
     (follows("b1", 1), following(9, "rnbqkbnr/pppppppp/8/8/4P3/8/PPPP1PPP/RNBQKBNR b HAha - 8 5")),
     (ends("b1", "threefold", "white"), refused(8, "ClaimRefused")),
+    (ends("b1", "fifty", "black"), refused(8, "ClaimRefused")),
     (takes(1), NOTHING),
     (ends("b1", "threefold", "black"), ended("threefold")),
     (takes(1), over("threefold")),
     (submits("b1", "e7e5"), GAME_OVER),
+]
+
+A_FIFTH_APPEARANCE_ENDS_THE_GAME = [
+    (opens("b1", 518), OPENED),
+    (follows("b1", 1), following(0, START_518)),
+    *plays("b1", " ".join(FIVEFOLD[:-1]), 0),
+    (submits("b1", FIVEFOLD[-1]), played(15, "fivefold")),
+    (submits("b1", "e2e4"), GAME_OVER),
+    *[(takes(1), moved(move, place)) for place, move in enumerate(FIVEFOLD)],
+    (takes(1), over("fivefold")),
 ]
 
 TOO_FAR_BACK_COMES_BEFORE_TOO_MANY_FOLLOWERS = [
@@ -334,6 +346,7 @@ RUNS = [
     case(A_GAME_ENDS_AS_ITS_PLAYERS_SAY_AND_ONCE),
     case(A_GAME_ENDS_AS_ITS_ARBITER_SAYS_WHOEVER_IS_ON_MOVE_AND_ONCE),
     case(A_THIRD_APPEARANCE_IS_GRANTED_TO_THE_SIDE_ON_MOVE),
+    case(A_FIFTH_APPEARANCE_ENDS_THE_GAME),
     case(TOO_FAR_BACK_COMES_BEFORE_TOO_MANY_FOLLOWERS, followers=1, capacity=2),
     case(A_WHOLE_CAPACITY_BACK_STAYS_OPEN_AFTER_A_TAKE, capacity=2),
     case(A_REFUSED_SUBMIT_CLOSES_NOBODY_A_WHOLE_CAPACITY_BACK, capacity=1),

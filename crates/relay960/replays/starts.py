@@ -14,6 +14,10 @@ STARTS = [
      b"rkrnnqbb/pppppppp/8/8/4P3/8/PPPP1PPP/RKRNNQBB b CAca e3 0 1\n"),
 ]
 
+# A number may have a sign and leading zeros.
+SPELLED = [("+5", b"qnbbnrkr/pppppppp/8/8/8/8/PPPPPPPP/QNBBNRKR w HFhf - 0 1\n"),
+           ("007", b"qnbnrkrb/pppppppp/8/8/8/8/PPPPPPPP/QNBNRKRB w GEge - 0 1\n")]
+
 PROMOTION = "8/P6k/8/8/8/8/8/K7 w - - 0 1"
 PROMOTION_LINES = b"a1b1 a1a2 a1b2 a7a8n a7a8b a7a8r a7a8q\ngoing\n"
 UNLAWFUL = "4k3/4R3/8/8/8/8/8/4K3 w - - 0 1"
@@ -42,6 +46,7 @@ REFUSED = [
 
 RUNS = [
     *[Run(("start", number), prints=start) for number, start, _ in STARTS],
+    *[Run(("start", number), prints=start) for number, start in SPELLED],
     *[Run(("play", number), reads=b"e2e4\n", prints=after) for number, _, after in STARTS],
     *[Run((job, number), prints=BAD_START, status=1) for job in ("start", "play") for number in ("960", "961", "65535")],
     *[Run(("moves", text), prints=printed) for text, printed in LAWFUL],

@@ -125,6 +125,7 @@ TEXTS = [
     (("moves",), missing("moves", "FEN")),
     (("play",), missing("play", "N")),
     (("start", "x"), no_number("x", "<N>")),
+    (("start", "0x5"), no_number("0x5", "<N>")),
     (("play", "x"), no_number("x", "<N>")),
     (("start", "65536"), out_of_range(65536, "<N>", 0, 65535)),
     (("play", "65536"), out_of_range(65536, "<N>", 0, 65535)),

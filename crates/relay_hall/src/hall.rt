@@ -160,8 +160,8 @@ impl Hall {
     }
 
     /// The board of this name and a follower that was handed out of it compare what they know. The follower sees the board's length and
-    /// outcome, and its closing if it was closed. Returns the account that it would get if it left now, and the outcome; or None if there is
-    /// no such board. Nothing of what a hall shows changes.
+    /// outcome, and its closing if it was closed. Returns the account that it would get if it left now, and the outcome; or None without
+    /// such a board. Nothing of what a hall shows changes.
     pub fn meet_at(
         &mut self,
         board: &BoardName,

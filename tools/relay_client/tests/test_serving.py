@@ -81,7 +81,7 @@ class HowLong(unittest.TestCase):
             for peer in owner, guest:
                 peer.close()
             self.assertEqual(server.ended(), (b"", b"served 2, failed 0\n", 0))
-        self.assertIn(f"`{last_has_come(5).strip()}`", TOP.joinpath("docs/PROTOCOL.md").read_text())
+        self.assertIn(f"`{last_has_come(5).strip()}`", TOP.joinpath("docs/DEPLOYMENT.md").read_text())
 
     def test_a_server_for_ever_says_of_no_connection_that_it_is_the_last(self):
         with Server("--forever", "--until-input-ends", stdin=subprocess.PIPE) as server:
