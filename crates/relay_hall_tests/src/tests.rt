@@ -1,9 +1,7 @@
-//! The tests, a module for each crate that is tested: `hall` of `relay_hall`, `registry` of `relay_registry`, `calling` of `relay_calling`,
-//! `service` of `relay_service`.
+//! The tests, a module for each crate that is tested: `hall` of `relay_hall`, `calling` of `relay_calling`, `service` of `relay_service`.
 
 mod calling;
 mod hall;
-mod registry;
 mod service;
 
 use std::process::Abort;

@@ -6,7 +6,7 @@ use Rattle.relay_hall.proofs.floor.Floor.step_of.Goals as goal
 
 pub returns : goal.returns
 returns c =
-    let s : FloorState = record (state_of c.self.inside) { speaker = c.args.speaker.now } in
+    let s : FloorState = record (state_of c.self.inside) { speaker = c.args.owner.now } in
     let empty : s.handed ≡ None = ap (λ (x : FloorState). x.handed) c.self.view_is ∙ c.requires.empty in
     rw (← c.self.view_is)
     (made s [] empty [] c.make.new.self c.args.step.now c.make.result c.make.ensures)
