@@ -1,5 +1,5 @@
 -- What is kept true of what a connection has been sent, by each call.
-use Rattle.std.proofs.Common.{◌≡◌, ◌+◌, ◌≤◌, ℕ, Bool, true, false, cond, List, [], ◌∷◌, ◌++◌, length, take, drop, Option, Result, Ok, Err, inl, inr, refl, sym, ap, ◌∙◌, subst, append_assoc, append-nil, length-append, arith}
+use Rattle.std.proofs.Common.{◌≡◌, ◌+◌, ℕ, Bool, true, false, cond, List, [], ◌∷◌, ◌++◌, length, take, drop, Option, Result, Ok, Err, inl, inr, refl, sym, ap, ◌∙◌, subst, append_assoc, append-nil, arith}
 use Rattle.std.specs.Prelude.{IfOk, OnErr, OnOk}
 use Rattle.std.specs.declared.alloc.AllocError.{AllocError}
 use Rattle.std.proofs.lemmas.List.{take-append-drop}
@@ -8,7 +8,7 @@ use Rattle.c960_game.specs.Positions.{last_position}
 use Rattle.relay_core.proofs.lemmas.Stretches.{placed-append}
 use Rattle.relay_core.specs.Stretch.{placed}
 use Rattle.relay_core.specs.declared.reply.Reply.TheVariants.{Following}
-use Rattle.relay_frames.specs.Frames.{close_frame, text_frame}
+use Rattle.relay_frames.specs.Frames.{text_frame}
 use Rattle.relay_messages.specs.Answers.{answer_text}
 use Rattle.relay_messages.specs.declared.answer.Answer.TheVariants.{Reply}
 use Rattle.live_board.specs.declared.view.Part.{Part}

@@ -1,7 +1,6 @@
 -- How a connection relates to the board of a hall that it follows.
-use Rattle.std.specs.Prelude.{◌≡◌, ◌≤◌, ℕ, List, length, take, IfSome, Option, None, Some, ⊤, unwrap_or}
+use Rattle.std.specs.Prelude.{◌≡◌, ◌≤◌, ℕ, length, take, IfSome, None, Some, ⊤, unwrap_or}
 use Rattle.std.specs.Map.{lookup}
-use Rattle.c960_game.specs.declared.outcome.Outcome.{Outcome}
 use Rattle.relay_core.specs.Following.{stretch}
 use Rattle.relay_core.specs.Name.{same_name}
 use Rattle.live_board.specs.declared.view.Part.{Part}

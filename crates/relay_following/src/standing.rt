@@ -1,6 +1,6 @@
 //! How a connection relates to its board: by its follower while it follows, and then by what remains of that.
 
-ghost use Rattle.std.specs.Prelude.{◌≡◌, ◌<◌, true, false, cond, IfSome, MatchOption, None, Some};
+ghost use Rattle.std.specs.Prelude.{◌≡◌, cond, IfSome, MatchOption, None, Some};
 ghost use Rattle.std.specs.Map.{lookup};
 ghost use Rattle.relay_core.specs.Name.{same_name};
 ghost use Rattle.live_board.specs.Accounts.{account_of};

@@ -86,15 +86,15 @@ played_start m b = by (is_ok (play_answer b.game m))
 
 start_kept : (plies at : ℕ) (xs : List News) (bs : List BoardCopy) (b c : BoardCopy) → slice_get bs at ≡ Some b → slice_get (copied_from plies bs xs) at ≡ Some c
     → c.game.start ≡ b.game.start
-start_kept plies at [] bs b c there then = ap (λ (x : BoardCopy). x.game.start) (same_Some c b (sym then ∙ there))
-start_kept plies at (Opened name start ∷ xs) bs b c there then =
-    start_kept plies at xs (bs ++ copy_of plies name start ∷ []) b c (get_before bs (copy_of plies name start ∷ []) at b there) then
-start_kept plies at (Played q m ∷ xs) bs b c there then =
+start_kept plies at [] bs b c there after = ap (λ (x : BoardCopy). x.game.start) (same_Some c b (sym after ∙ there))
+start_kept plies at (Opened name start ∷ xs) bs b c there after =
+    start_kept plies at xs (bs ++ copy_of plies name start ∷ []) b c (get_before bs (copy_of plies name start ∷ []) at b there) after
+start_kept plies at (Played q m ∷ xs) bs b c there after =
     let step = changed_at_any (λ x y. y.game.start ≡ x.game.start) (λ _. refl) (played_by m) bs q at b there (played_start m b) in
-    start_kept plies at xs (changed_at (played_by m) q bs) step.0 c step.1.0 then ∙ step.1.1
-start_kept plies at (Ended q outcome ∷ xs) bs b c there then =
+    start_kept plies at xs (changed_at (played_by m) q bs) step.0 c step.1.0 after ∙ step.1.1
+start_kept plies at (Ended q outcome ∷ xs) bs b c there after =
     let step = changed_at_any (λ x y. y.game.start ≡ x.game.start) (λ _. refl) (ended_by outcome) bs q at b there refl in
-    start_kept plies at xs (changed_at (ended_by outcome) q bs) step.0 c step.1.0 then ∙ step.1.1
+    start_kept plies at xs (changed_at (ended_by outcome) q bs) step.0 c step.1.0 after ∙ step.1.1
 
 -- ---- One board of them.
 
@@ -113,29 +113,32 @@ module _ (plies n : ℕ) (l : List Triple) (at : ℕ) (game : Game960 n l) (fits
   goes_on (Played q m ∷ xs) bs b before rest k len there is whole = by (q == at) refl
     where
       more = moves_from at k xs
+
       inside : nat_lt at k ≡ true
       inside = let low : at < length bs = slice_get_within bs at b there in grind (arith, nat_tests, len)
+
       regroup : (ys : List Triple) → before ++ m ∷ ys ≡ (before ++ m ∷ []) ++ ys
       regroup ys = sym (append_assoc before (m ∷ []) ys)
+
       by : (t : Bool) → (q == at) ≡ t → (c : BoardCopy) × (slice_get (copied_from plies (changed_at (played_by m) q bs) xs) at ≡ Some c)
           × (c.game ≡ played_to n plies (before ++ moves_from at k (Played q m ∷ xs)))
       by true e =
           let here : q ≡ at = grind (arith, nat_tests) in
           let told : moves_from at k (Played q m ∷ xs) ≡ m ∷ more = ap (λ t. cond t (m ∷ more) more) (ap (λ t. t && nat_lt at k) e ∙ inside) in
           let there2 : slice_get (changed_at (played_by m) q bs) at ≡ Some (played_by m b) =
-              subst (λ j. slice_get (changed_at (played_by m) j bs) at ≡ Some (played_by m b)) (sym here) (changed_here (played_by m) bs at b there) in
+          subst (λ j. slice_get (changed_at (played_by m) j bs) at ≡ Some (played_by m b)) (sym here) (changed_here (played_by m) bs at b there) in
           let whole2 : l ≡ before ++ m ∷ (more ++ rest) = whole ∙ ap (λ t. before ++ (t ++ rest)) told in
           let ok = plays n plies before m (more ++ rest) (subst (Game960 n) whole2 game) (subst (λ t. length t ≤ plies) whole2 fits) in
           let moved : (played_by m b).game ≡ played_to n plies (before ++ m ∷ []) =
-              ap (λ g. if is_ok (play_answer g m) then with_move g m else g) is
-              ∙ ap (λ t. if t then with_move (played_to n plies before) m else played_to n plies before) ok in
+          ap (λ g. if is_ok (play_answer g m) then with_move g m else g) is
+          ∙ ap (λ t. if t then with_move (played_to n plies before) m else played_to n plies before) ok in
           let rec = goes_on xs (changed_at (played_by m) q bs) (played_by m b) (before ++ m ∷ []) rest k (changed_length (played_by m) bs q ∙ len) there2 moved
-              (whole2 ∙ regroup (more ++ rest)) in
+          (whole2 ∙ regroup (more ++ rest)) in
           (rec.0, rec.1.0, rec.1.1 ∙ ap (played_to n plies) (sym (regroup more) ∙ ap (λ t. before ++ t) (sym told)))
       by false e =
           let told : moves_from at k (Played q m ∷ xs) ≡ more = ap (λ t. cond t (m ∷ more) more) (ap (λ t. t && nat_lt at k) e) in
           let rec = goes_on xs (changed_at (played_by m) q bs) b before rest k (changed_length (played_by m) bs q ∙ len)
-              (changed_elsewhere (played_by m) bs q at e ∙ there) is (whole ∙ ap (λ t. before ++ (t ++ rest)) told) in
+          (changed_elsewhere (played_by m) bs q at e ∙ there) is (whole ∙ ap (λ t. before ++ (t ++ rest)) told) in
           (rec.0, rec.1.0, rec.1.1 ∙ ap (λ t. played_to n plies (before ++ t)) (sym told))
 
   -- before it was
@@ -147,7 +150,7 @@ module _ (plies n : ℕ) (l : List Triple) (at : ℕ) (game : Game960 n l) (fits
   comes (Played q m ∷ xs) bs rest k len low whole c there start =
       let outside : nat_lt at k ≡ false = grind (arith, nat_tests) in
       let told : moves_from at k (Played q m ∷ xs) ≡ moves_from at k xs =
-          ap (λ t. cond t (m ∷ moves_from at k xs) (moves_from at k xs)) (ap (λ t. (q == at) && t) outside ∙ and_false (q == at)) in
+      ap (λ t. cond t (m ∷ moves_from at k xs) (moves_from at k xs)) (ap (λ t. (q == at) && t) outside ∙ and_false (q == at)) in
       comes xs (changed_at (played_by m) q bs) rest k (changed_length (played_by m) bs q ∙ len) low (whole ∙ ap (λ t. t ++ rest) told) c there start
       ∙ ap (played_to n plies) (sym told)
     where
@@ -157,15 +160,17 @@ module _ (plies n : ℕ) (l : List Triple) (at : ℕ) (game : Game960 n l) (fits
   comes (Opened name start ∷ xs) bs rest k len low whole c there is = by (k == at) refl
     where
       copy = copy_of plies name start
+
       longer : length (bs ++ copy ∷ []) ≡ suc k
       longer = omega (arith, length-append bs (copy ∷ []), len)
+
       by : (t : Bool) → (k == at) ≡ t → c.game ≡ played_to n plies (moves_from at (suc k) xs)
       by true e =
           let here : length bs ≡ at = grind (arith, nat_tests) in
           let first : slice_get (bs ++ copy ∷ []) at ≡ Some copy = subst (λ j. slice_get (bs ++ copy ∷ []) j ≡ Some copy) here (get_last bs copy) in
           let its : start ≡ n = sym (start_kept plies at xs (bs ++ copy ∷ []) copy c first there) ∙ is in
           let begun : copy.game ≡ played_to n plies [] =
-              ap (λ s. opened s plies) its ∙ ap (λ (o : Option Outcome). record { start = n; plies = plies; log = []; outcome = o }) (sym (start_goes_on n game.numbered)) in
+          ap (λ s. opened s plies) its ∙ ap (λ (o : Option Outcome). record { start = n; plies = plies; log = []; outcome = o }) (sym (start_goes_on n game.numbered)) in
           let rec = goes_on xs (bs ++ copy ∷ []) copy [] rest (suc k) longer first begun whole in
           ap (λ (x : BoardCopy). x.game) (same_Some c rec.0 (sym there ∙ rec.1.0)) ∙ rec.1.1
       by false e =

@@ -1,5 +1,5 @@
 -- What a loop shows of boards: a function of what it was told, in order.
-use Rattle.std.specs.Prelude.{◌≡◌, ℕ, zero, suc, List, [], ◌∷◌, ◌++◌, map, length, drop, Option, Some, None, is_ok, if◌then◌else◌}
+use Rattle.std.specs.Prelude.{◌≡◌, ℕ, zero, suc, List, [], ◌∷◌, ◌++◌, length, Option, Some, None, is_ok, if◌then◌else◌}
 use Rattle.c960_board.specs.Moves.{Triple}
 use Rattle.c960_game.specs.declared.outcome.Outcome.{Outcome}
 use Rattle.c960_game.specs.Positions.{last_position}
@@ -40,9 +40,6 @@ summary_of b = record {
   plies = length b.game.log;
   outcome = b.outcome;
 }
-
-abbrev pub names_of : List BoardCopy → List (List ℕ)
-names_of boards = map (λ (b : BoardCopy). b.name) boards
 
 -- ---- All boards of a loop, whose logs may have so many moves.
 

@@ -144,10 +144,11 @@ fn put_moves_on(tape: &mut Tape, board: &BoardCopy) -> Result<(), AllocError>
     ensures going { tape.new.outcome ≡ None }
     ensures goes_on { GoesOn tape.old tape.new }
 {
+    let plies = board.len();
     let Ok(from) = u16::try_from(tape.len()) else {
         return Ok(());
     };
-    for place in from..board.len() {
+    for place in from..plies {
         let Some(m) = board.move_at(place) else {
             unreachable!();
         };

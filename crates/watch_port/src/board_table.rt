@@ -6,7 +6,7 @@ ghost use Rattle.c960_game.specs.Positions.{last_position, position_at};
 ghost use Rattle.relay_core.specs.Name.{same_name};
 ghost use Rattle.relay_hall.specs.Reading.{last_of};
 ghost use Rattle.rtrb.specs.Ring.{received};
-ghost use Rattle.watch_port.specs.Copies.{HasTaken, changed_at, copied_after, copy_of, ended_by, names_of, nothing_told, played_by, shown_by, summary_of};
+ghost use Rattle.watch_port.specs.Copies.{HasTaken, changed_at, copied_after, copy_of, ended_by, nothing_told, played_by, shown_by, summary_of};
 
 use crate::news::News;
 use c960_board::{Move, Position};
@@ -94,6 +94,13 @@ impl BoardCopy {
     {
         let _ = self.game.play(m);
     }
+
+    /// The game has ended.
+    fn end(&mut self, outcome: Outcome)
+        ensures { self.new ≡ ended_by outcome self.old }
+    {
+        self.outcome = Some(outcome);
+    }
 }
 
 /// How far a game has come.
@@ -107,20 +114,18 @@ pub(crate) struct Progress {
 fn play_at(boards: &mut Vec<BoardCopy>, at: usize, m: Move)
     ensures { boards.new.items ≡ changed_at (played_by m) at boards.old.items }
 {
-    let Some(board) = boards.get_mut(at) else {
-        return;
-    };
-    board.play(m);
+    if at < boards.len() {
+        boards[at].play(m);
+    }
 }
 
 /// The game of the board of this index has ended.
 fn end_at(boards: &mut Vec<BoardCopy>, at: usize, outcome: Outcome)
     ensures { boards.new.items ≡ changed_at (ended_by outcome) at boards.old.items }
 {
-    let Some(board) = boards.get_mut(at) else {
-        return;
-    };
-    board.outcome = Some(outcome);
+    if at < boards.len() {
+        boards[at].end(outcome);
+    }
 }
 
 /// Opens the next board.
@@ -171,6 +176,13 @@ fn apply(
     Ok(())
 }
 
+/// The index of the board of this name.
+fn find(boards: &[BoardCopy], name: &BoardName) -> Option<usize>
+    ensures { result ≡ position (λ b. same_name b.name name.now) boards.now }
+{
+    boards.iter().position(|board| board.name == *name)
+}
+
 /// The boards of a loop, in the order of opening, and the ring by which it is told of them. Contracts see what it was told, of which its
 /// boards are a function.
 #[derive(Drop)]
@@ -213,6 +225,7 @@ impl BoardTable {
     /// # Errors
     ///
     /// There was no memory.
+    #[tactic(auto, using(crate::proofs::Copying::taken_none, crate::proofs::Copying::taken_more))]
     pub fn take_in(&mut self) -> Result<(), AllocError>
         ensures { HasTaken self.old self.new }
     {
@@ -260,8 +273,8 @@ impl BoardTable {
 
     /// The index of the board of this name.
     pub fn find(&self, name: &BoardName) -> Option<usize>
-        ensures { result ≡ position (same_name name.now) (names_of (shown_by self.now)) }
+        ensures { result ≡ position (λ b. same_name b.name name.now) (shown_by self.now) }
     {
-        self.boards.iter().position(|board| board.name == *name)
+        find(self.boards.as_slice(), name)
     }
 }

@@ -26,6 +26,22 @@ pub struct Told {
     pub is_over: bool,
 }
 
+impl Told {
+    /// One more of its moves was told.
+    fn adds_move(&mut self)
+        ensures { self.new ≡ one_more self.old }
+    {
+        self.moves = self.moves.saturating_add(1);
+    }
+
+    /// The end was told.
+    fn ends(&mut self)
+        ensures { self.new ≡ over self.old }
+    {
+        self.is_over = true;
+    }
+}
+
 /// A board of which loops are to be told.
 #[derive(Clone, Copy)]
 pub(crate) struct NewsOfBoard<'a> {
@@ -83,7 +99,7 @@ fn note_move(told: &mut Vec<Told>, at: usize)
     ensures { told.new.items ≡ changed_at one_more at told.old.items }
 {
     if at < told.len() {
-        told[at].moves = told[at].moves.saturating_add(1);
+        told[at].adds_move();
     }
 }
 
@@ -92,7 +108,7 @@ fn note_end(told: &mut Vec<Told>, at: usize)
     ensures { told.new.items ≡ changed_at over at told.old.items }
 {
     if at < told.len() {
-        told[at].is_over = true;
+        told[at].ends();
     }
 }
 
@@ -196,9 +212,12 @@ impl Feed {
         ensures put { IsTrue result → self.new ≡ self.old ++ news ∷ [] }
         ensures full { IsFalse result → self.new ≡ self.old }
     {
-        if self.told.reserve(1).is_err() || self.ring.push(news).is_err() {
+        if self.told.reserve(1).is_err() {
             return false;
         }
+        let Ok(()) = self.ring.push(news) else {
+            return false;
+        };
         note(&mut self.told, &news);
         self.is_fresh = true;
         true

@@ -1,9 +1,8 @@
 //! What the peer of a connection that follows says, and the answers to that.
 
-ghost use Rattle.std.specs.Prelude.{◌≡◌, IfOk, OnErr, OnOk, length, true};
-ghost use Rattle.relay_frames.specs.Events.{number_of, told};
-ghost use Rattle.relay_following.specs.Calls.{Answers, Fails, answered, closes, delivers, is_heard, left as left_as, passes_over, puts};
-ghost use Rattle.relay_following.specs.Pieces.{a_pong};
+ghost use Rattle.std.specs.Prelude.{◌≡◌, IfOk, OnErr, OnOk, true};
+ghost use Rattle.relay_frames.specs.Events.{told};
+ghost use Rattle.relay_following.specs.Calls.{Answers, Fails, answered, delivers, is_heard, left as left_as, passes_over};
 ghost use Rattle.relay_following.specs.declared.stage.Stage.TheVariants.{Follows, Left};
 
 use crate::connection::FollowerConnection;

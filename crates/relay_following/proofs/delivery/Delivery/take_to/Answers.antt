@@ -1,4 +1,4 @@
-use Rattle.std.proofs.Common.{rules, ◌∙◌, sym, ap, arith}
+use Rattle.std.proofs.Common.{rules, arith}
 use Rattle.relay_following.proofs.Pushes.{err_of, lost_then, stops_then, takes_then}
 use Rattle.relay_following.proofs.delivery.Delivery.take_to.Goals as goal
 
