@@ -2,7 +2,7 @@
 """Lets an evening of games pass on the main port of one server: each is told all that is due, once and in order, and nothing else.
 
     bench/evening.py                                              an hour, 16 boards, 40 followers of each
-    bench/evening.py --seconds 120 --pace 2 -- --threads          further words are those of `serve`
+    bench/evening.py --seconds 120 --pace 2 -- --idle 60         further words are those of `serve`
 
 Half of the operators have a key. From time to time such a one loses its connection, by a close, an end of its bytes or a reset, comes back
 within the grace and plays on. A game is ended as agreed after a random number of moves, and its operator opens a board of another name.
