@@ -1,4 +1,4 @@
-pub mod Hearing
-pub mod Pushes
-pub mod Served
+mod Hearing
+mod Pushes
+mod Served
 pub mod lemmas
