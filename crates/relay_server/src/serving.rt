@@ -35,7 +35,7 @@ where
 {
     let mut sessions = Vec::new(alloc);
     let mut failed = 0;
-    for _ in 0..connections {
+    for met in 0..connections {
         let begun = match listener.accept() {
             Ok((stream, _)) => begin(rt, alloc, registry, gate, &mut sessions, stream),
             Err(_) => None,

@@ -132,7 +132,7 @@ impl<R: Wait, S: Read + Write + Drop, G: Gate> Talk<'_, '_, R, S, G> {
     ///
     /// The answer could not be made or sent.
     fn answer(&mut self, text: Option<&[u8]>) -> Result<(), SendFault>
-        ensures { OnOk result (IsAnswered S.contents (option_map (λ t. t.now) text) self.old.conn self.old.keeper self.old.outlet.socket self.new.conn self.new.keeper self.new.outlet.socket) }
+        ensures { OnOk result (IsAnswered S.contents (option_map (λ t. t.now) text.entry) self.old.conn self.old.keeper self.old.outlet.socket self.new.conn self.new.keeper self.new.outlet.socket) }
     {
         match self.answer_of(text) {
             Ok(answer) => self.outlet.say(answer.as_str()),
@@ -146,7 +146,7 @@ impl<R: Wait, S: Read + Write + Drop, G: Gate> Talk<'_, '_, R, S, G> {
     ///
     /// There was no memory.
     fn answer_of(&mut self, text: Option<&[u8]>) -> Result<String, AllocError>
-        ensures answer { IfOk result (λ s. IsAnswer (option_map (λ t. t.now) text) self.old.conn self.old.keeper (string_bytes s) self.new.conn self.new.keeper) }
+        ensures answer { IfOk result (λ s. IsAnswer (option_map (λ t. t.now) text.entry) self.old.conn self.old.keeper (string_bytes s) self.new.conn self.new.keeper) }
         ensures outlet { self.new.outlet ≡ self.old.outlet }
     {
         match text {

@@ -19,9 +19,15 @@ impl Dice {
 
     /// One of these.
     pub fn any(&mut self, texts: &'static [&'static str]) -> &'static str {
-        match texts.get(self.below(texts.len() as u32) as usize) {
-            Some(text) => *text,
-            None => "",
-        }
+        let count = u32::try_from(texts.len()).unwrap_or(0);
+        text_at(texts, self.below(count) as usize)
+    }
+}
+
+/// The text of this index, or none.
+pub fn text_at(texts: &'static [&'static str], at: usize) -> &'static str {
+    match texts.get(at) {
+        Some(text) => *text,
+        None => "",
     }
 }

@@ -1,6 +1,6 @@
 //! What a connection says, drawn by chance, as bytes.
 
-use crate::tests::comparing::chance::Dice;
+use crate::tests::comparing::chance::{Dice, text_at};
 use crate::tests::sessions::frames::{
     BINARY, CLOSE, FIRST_PART, LAST_PART, NORMAL, PING, PONG, TEXT, frame,
 };
@@ -51,6 +51,30 @@ const FOLLOWS: u32 = 19;
 /// A text that is too long.
 const TOO_LONG: [u8; 1025] = [b' '; 1025];
 
+fn names() -> &'static [&'static str] {
+    &NAMES
+}
+
+fn starts() -> &'static [&'static str] {
+    &STARTS
+}
+
+fn moves() -> &'static [&'static str] {
+    &MOVES
+}
+
+fn endings() -> &'static [&'static str] {
+    &ENDINGS
+}
+
+fn places() -> &'static [&'static str] {
+    &FROM
+}
+
+fn others() -> &'static [&'static str] {
+    &OTHERS
+}
+
 /// Whether the game of the board of this name goes on.
 fn is_live(hall: &Hall, name: &str) -> bool {
     let Some(name) = BoardName::new(name.as_bytes()) else {
@@ -67,7 +91,7 @@ fn is_live(hall: &Hall, name: &str) -> bool {
 
 /// A follow of this board. Of one whose game goes on it would not end by itself: then it is a command that nobody may make.
 fn follow(alloc: Global, dice: &mut Dice, hall: &Hall, name: &str) -> Result<String, AllocError> {
-    let from = dice.any(&FROM);
+    let from = dice.any(places());
     if is_live(hall, name) {
         return format!(in alloc; "{{\"cmd\":\"take\",\"spectator\":1}}");
     }
@@ -87,7 +111,7 @@ pub struct Speaker {
 impl Speaker {
     pub fn new(dice: &mut Dice) -> Speaker {
         Speaker {
-            board: dice.any(&NAMES),
+            board: dice.any(names()),
             is_guest: dice.below(3) == 0,
             has_spoken: false,
             plies: 0,
@@ -97,7 +121,7 @@ impl Speaker {
     /// The board of which it speaks next.
     fn name(&self, dice: &mut Dice) -> &'static str {
         match dice.below(6) {
-            0 => dice.any(&NAMES),
+            0 => dice.any(names()),
             _ => self.board,
         }
     }
@@ -117,9 +141,9 @@ impl Speaker {
     /// Its next move: mostly the next one of the cycle.
     fn played(&mut self, dice: &mut Dice) -> &'static str {
         if dice.below(8) == 0 {
-            return dice.any(&MOVES);
+            return dice.any(moves());
         }
-        let next = MOVES[self.plies % 4];
+        let next = text_at(moves(), self.plies % 4);
         self.plies = self.plies.wrapping_add(1);
         next
     }
@@ -135,7 +159,7 @@ fn text(
     let name = speaker.name(dice);
     match speaker.kind(dice) {
         OPENS..=5 => {
-            let start = dice.any(&STARTS);
+            let start = dice.any(starts());
             format!(in alloc; "{{\"cmd\":\"open\",\"board\":\"{name}\",\"start\":{start}}}")
         }
         6..=16 => {
@@ -143,12 +167,12 @@ fn text(
             format!(in alloc; "{{\"cmd\":\"submit\",\"board\":\"{name}\",\"move\":\"{played}\"}}")
         }
         17..=18 => {
-            let how = dice.any(&ENDINGS);
+            let how = dice.any(endings());
             format!(in alloc; "{{\"cmd\":\"end\",\"board\":\"{name}\",{how}}}")
         }
         FOLLOWS..=20 => follow(alloc, dice, hall, name),
         _ => {
-            let other = dice.any(&OTHERS);
+            let other = dice.any(others());
             format!(in alloc; "{other}")
         }
     }

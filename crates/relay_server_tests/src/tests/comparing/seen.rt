@@ -43,7 +43,12 @@ fn words() -> &'static [&'static [u8]] {
 
 /// Whether these bytes occur among those.
 fn occurs(word: &[u8], among: &[u8]) -> bool {
-    (0..among.len()).any(|at| among[at..].starts_with(word))
+    for at in 0..among.len() {
+        if among[at..].starts_with(word) {
+            return true;
+        }
+    }
+    false
 }
 
 impl Seen {

@@ -66,21 +66,19 @@ impl Client {
         self.sends(rt, TEXT, text);
     }
 
-    /// The payload of the next frame, with its first byte before it.
-    fn next(&mut self) -> io::Result<Vec<u8>> {
+    /// The first byte of the next frame, and its payload, which has fewer than 126 bytes.
+    fn next(&mut self) -> io::Result<(u8, Vec<u8>)> {
         let mut head = [0; 2];
         self.stream.read_exact(&mut head)?;
-        let len = usize::from(head[1] & 0x7f);
-        let mut bytes = vec![in self.alloc; 0; len + 1]?;
-        bytes[0] = head[0];
-        self.stream.read_exact(&mut bytes[1..])?;
-        Ok(bytes)
+        let mut payload = vec![in self.alloc; 0; usize::from(head[1])]?;
+        self.stream.read_exact(payload.as_mut_slice())?;
+        Ok((head[0], payload))
     }
 
     /// The next frame begins with this byte and has this payload.
     fn hears_frame(&mut self, rt: &impl Abort, first: u8, payload: &[u8]) {
         let heard = self.next().expect(rt, "a frame");
-        assert!(rt; heard.as_slice().split_first() == Some((&first, payload)));
+        assert!(rt; heard.0 == first && heard.1.as_slice() == payload);
     }
 
     /// The next frame is this text.

@@ -46,8 +46,9 @@ pub fn frame(alloc: Global, first: u8, payload: &[u8]) -> Result<Vec<u8>, AllocE
 /// What a server sent behind the head of its response.
 pub fn behind_head(sent: &[u8]) -> &[u8] {
     for at in 0..sent.len() {
-        if sent[at..].starts_with(HEAD_END) {
-            return sent.get(at + HEAD_END.len()..).unwrap_or(&[]);
+        let left = &sent[at..];
+        if left.starts_with(HEAD_END) {
+            return left.get(HEAD_END.len()..).unwrap_or(&[]);
         }
     }
     &[]

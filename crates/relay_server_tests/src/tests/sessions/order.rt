@@ -121,7 +121,7 @@ fn each_call_comes_in_its_turn_at_a_breach(rt: HostRuntime) -> Result<(), Fail> 
 }
 
 /// A pong without payload, as a client sends it.
-const PONG_FRAME: &[u8] = &[PONG, 0x80, 0, 0, 0, 0];
+const PONG_FRAME: [u8; 6] = [PONG, 0x80, 0, 0, 0, 0];
 
 /// A peer that sends its request, and then pongs without end, as many in each read as it has room for.
 #[derive(Drop)]
@@ -136,10 +136,9 @@ impl Read for Endless {
             let mut request = REQUEST;
             return request.read(buf);
         }
-        let mut len = 0;
-        for pong in buf.chunks_exact_mut(PONG_FRAME.len()) {
-            pong.copy_from_slice(PONG_FRAME);
-            len += PONG_FRAME.len();
+        let len = buf.len() - buf.len() % PONG_FRAME.len();
+        for (at, byte) in buf[..len].iter_mut().enumerate() {
+            *byte = PONG_FRAME[at % PONG_FRAME.len()];
         }
         Ok(len)
     }
