@@ -2,7 +2,7 @@
 """How much memory of the server a connection takes that rests: resting.py [CONNECTIONS [WORDS..]]. So many shake hands and say nothing.
 What is resident is compared, and divided by their number.
 
-A few come first, so that what all share is there. The words are further ones of `serve`. The program is the built one,
+A few come first, so that what all share is there. The words are further ones of `serve`, such as --idle. The program is the built one,
 or that of the environment's RELAY960.
 """
 import pathlib

@@ -242,7 +242,7 @@ class Proved(unittest.TestCase):
             for name in code(part):
                 if re.fullmatch(r"[A-Za-z_][\w:]*(\{[\w, ]+\})?", name) and name not in CRATES:
                     for word in re.findall(r"\w+", name):
-                        self.assertIn(word, there, f"{crate}: {name}")
+                        self.assertTrue(word in there, f"{crate}: {name}")
                         count += 1
         self.assertGreater(count, 500)
 
@@ -253,7 +253,7 @@ class Terms(unittest.TestCase):
         self.assertEqual(sorted(terms), sorted(set(terms)))
 
     def test_what_the_documents_speak_of_is_explained(self):
-        wanted = ("place, ply, capacity, closing, seat, view, note, bell, tape, visitor, crowd, lookout, watch port, main port, spectator, "
+        wanted = ("place, ply, capacity, closing, seat, view, note, bell, tape, visitor, service, driver, watch port, main port, spectator, "
                   "follower, owner, operator, limit, queue, cut, channel, feed, beat, key, grace, kit, crate, clause, headline, gate")
         self.assertLessEqual(set(wanted.split(", ")), {term for terms, _ in self.items() for term in terms})
 

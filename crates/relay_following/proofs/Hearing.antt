@@ -1,5 +1,5 @@
 -- What a connection becomes by what its peer says.
-use Rattle.std.proofs.Common.{◌≡◌, Bool, true, false, List, Option, None, Some, option_map, inl, inr, refl, sym, ap, ◌∙◌, subst, Result, Ok, Err}
+use Rattle.std.proofs.Common.{◌≡◌, Bool, true, false, Option, None, Some, option_map, inr, sym, ap, ◌∙◌, subst, Result, Ok, Err}
 use Rattle.std.specs.Prelude.{IfOk, OnErr}
 use Rattle.std.specs.declared.alloc.AllocError.{AllocError}
 use Rattle.relay_frames.proofs.lemmas.Hearings.{hear_none}
@@ -7,7 +7,7 @@ use Rattle.relay_frames.specs.declared.event.Event.{Event}
 use Rattle.relay_frames.specs.Events.{told}
 use Rattle.relay_frames.specs.Reading.{Reading, next_step}
 use Rattle.relay_following.specs.declared.stage.Stage.TheVariants.{Left}
-use Rattle.relay_following.specs.Calls.{Answers, Fails, answered, delivers, is_heard, left, moved_on}
+use Rattle.relay_following.specs.Calls.{Answers, Fails, answered, delivers, is_heard, left}
 use Rattle.relay_following.specs.Record.{ConnectionRecord}
 
 module _ (c d : ConnectionRecord) (event : Event) (found : Option Event) (then : Reading) (heard : is_heard c.delivery ≡ true)

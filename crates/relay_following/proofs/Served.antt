@@ -1,5 +1,5 @@
 -- What is kept true of what a connection has been sent, by each call.
-use Rattle.std.proofs.Common.{◌≡◌, ◌+◌, ◌≤◌, ℕ, Bool, true, false, cond, List, [], ◌∷◌, ◌++◌, length, take, drop, Option, Result, Ok, Err, inl, inr, refl, sym, ap, ◌∙◌, subst, append_assoc, append-nil, length-append, arith}
+use Rattle.std.proofs.Common.{◌≡◌, ◌+◌, ℕ, Bool, true, false, cond, List, [], ◌∷◌, ◌++◌, length, take, drop, Option, Result, Ok, Err, inl, inr, refl, sym, ap, ◌∙◌, subst, append_assoc, append-nil, arith}
 use Rattle.std.specs.Prelude.{IfOk, OnErr, OnOk}
 use Rattle.std.specs.declared.alloc.AllocError.{AllocError}
 use Rattle.std.proofs.lemmas.List.{take-append-drop}
@@ -8,7 +8,7 @@ use Rattle.c960_game.specs.Positions.{last_position}
 use Rattle.relay_core.proofs.lemmas.Stretches.{placed-append}
 use Rattle.relay_core.specs.Stretch.{placed}
 use Rattle.relay_core.specs.declared.reply.Reply.TheVariants.{Following}
-use Rattle.relay_frames.specs.Frames.{close_frame, text_frame}
+use Rattle.relay_frames.specs.Frames.{text_frame}
 use Rattle.relay_messages.specs.Answers.{answer_text}
 use Rattle.relay_messages.specs.declared.answer.Answer.TheVariants.{Reply}
 use Rattle.live_board.specs.declared.view.Part.{Part}
@@ -51,8 +51,8 @@ module _ (c d : DeliveryRecord) (s : IsServed c) (follows : c.stage ≡ Follows)
   all_before : c.pieces ≡ s.before
   all_before = s.pieces_are ∙ ap (λ l. s.before ++ l) no_last ∙ append-nil s.before
 
-  -- More was put behind all pieces of one that follows: some that go on, and a last one or none. The moves among them are those that it took,
-  -- but for those lost.
+  -- More was put behind all pieces of one that follows: some that go on, and a last one or none. The moves among them are those that it
+  -- took, but for those lost.
   pub served_on : (plain last : List Piece) (ms lost : List Triple)
       → d.follower.part.setup ≡ c.follower.part.setup → d.follower.part.joined ≡ c.follower.part.joined → d.follower.part.before ≡ c.follower.part.before
       → d.opening ≡ c.opening → d.sent ≡ c.sent
@@ -84,8 +84,8 @@ module _ (c d : DeliveryRecord) (s : IsServed c) (follows : c.stage ≡ Follows)
   }
 
   -- a push
-  pub served_by : (lost : List Triple) (ends : List Piece) → Delivers c d lost ends → IsLost d.stage lost → IsLast d.stage ends → IsServed d
-  served_by lost ends x few ended =
+  pub served_by : (most : ℕ) (lost : List Triple) (ends : List Piece) → Delivers most c d lost ends → IsLost d.stage lost → IsLast d.stage ends → IsServed d
+  served_by most lost ends x few ended =
       let place = next_of c.follower.part in
       served_on (move_pieces place x.moves) ends x.moves lost x.stays.setup x.stays.joined x.stays.before x.stays.opening x.stays.sent x.taken few
       (moves_go_on place x.moves) (moves_of_moves place x.moves) ended x.pieces x.due
@@ -154,10 +154,10 @@ no_end_last Cut x = absurd x
 no_end_last Left x = absurd x
 no_end_last Failed x = refl
 
-pub served_push : (f : FloorRecord) (is_ending : Bool) (c d : DeliveryRecord) → IsServed c → c.stage ≡ Follows
-    → (r : Result Bool AllocError) → IfOk r (λ more. Pushes f is_ending c d more) → OnErr r (PushFails c d) → IsServed d
-served_push f is_ending c d s follows (Ok more) ok err = served_by c d s follows [] (end_pieces is_ending d.stage) ok.delivers (none_lost_at d.stage) (ends_last is_ending d.stage)
-served_push f is_ending c d s follows (Err error) ok err = served_by c d s follows err.lost [] err.delivers err.few (no_end_last d.stage err.stands)
+pub served_push : (f : FloorRecord) (most : ℕ) (is_ending : Bool) (c d : DeliveryRecord) → IsServed c → c.stage ≡ Follows
+    → (r : Result Bool AllocError) → IfOk r (λ more. Pushes f most is_ending c d more) → OnErr r (PushFails most c d) → IsServed d
+served_push f most is_ending c d s follows (Ok more) ok err = served_by c d s follows most [] (end_pieces is_ending d.stage) ok.delivers (none_lost_at d.stage) (ends_last is_ending d.stage)
+served_push f most is_ending c d s follows (Err error) ok err = served_by c d s follows most err.lost [] err.delivers err.few (no_end_last d.stage err.stands)
 
 -- ---- The other calls.
 

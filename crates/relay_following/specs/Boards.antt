@@ -1,7 +1,6 @@
 -- How a connection relates to the board of a hall that it follows.
-use Rattle.std.specs.Prelude.{◌≡◌, ◌≤◌, ℕ, List, length, take, IfSome, Option, None, Some, ⊤, unwrap_or}
+use Rattle.std.specs.Prelude.{◌≡◌, ◌≤◌, ℕ, length, take, IfSome, None, Some, ⊤, unwrap_or}
 use Rattle.std.specs.Map.{lookup}
-use Rattle.c960_game.specs.declared.outcome.Outcome.{Outcome}
 use Rattle.relay_core.specs.Following.{stretch}
 use Rattle.relay_core.specs.Name.{same_name}
 use Rattle.live_board.specs.declared.view.Part.{Part}
@@ -26,8 +25,8 @@ IsEndOf b p Cut = p.closing ≡ Some (next_of p)
 IsEndOf b p Left = ⊤
 IsEndOf b p Failed = ⊤
 
--- The follower sits, or sat, at the table of this very board. What it has taken is the stretch of this board's log from where it joined to as
--- far as it has come.
+-- The follower sits, or sat, at the table of this very board. What it has taken is the stretch of this board's log from where it joined to
+-- as far as it has come.
 pub record IsOf (b : HallBoard) (f : FollowerSeat) (stage : Stage) : Type 0 where
   pub table : f.table ≡ b.table
   pub start : f.part.setup.start ≡ b.game.start

@@ -53,8 +53,8 @@ passes_over c size =
     cond (nat_lt 65536 (c.unanswered + size + 6)) (delivers c (closes c.delivery (Some 1008)))
     (record c { unanswered = c.unanswered + size + 6 })
 
--- An event is answered: a ping by a pong with its bytes, a close by one with its code, a breach by a close with that of the breach (RFC 6455,
--- sections 5.5.1 to 5.5.3 and 7.1.7).
+-- An event is answered: a ping by a pong with its bytes, a close by one with its code, a breach by a close with that of the breach (RFC
+-- 6455, sections 5.5.1 to 5.5.3 and 7.1.7).
 abbrev pub answered : Told → ConnectionRecord → ConnectionRecord
 answered fragment c = c
 answered (text bytes) c = passes_over c (length bytes)

@@ -10,7 +10,6 @@ use Rattle.relay_core.specs.declared.reply.Account.{Account}
 use Rattle.live_board.specs.Accounts.{account_of}
 use Rattle.live_board.specs.Takes.{HasSeenNoLess}
 use Rattle.live_board.specs.Views.{next_of}
-use Rattle.relay_frames.specs.declared.output.TheConstants.{MOST_OUTPUT}
 use Rattle.relay_hall.specs.Meeting.{Meets}
 use Rattle.relay_hall.specs.Record.{FloorRecord, HallBoard}
 use Rattle.relay_following.specs.declared.stage.Stage.{Stage}
@@ -33,17 +32,18 @@ pub record StaysWith (c d : DeliveryRecord) : Type 0 where
   pub opening : d.opening ≡ c.opening
   pub sent : d.sent ≡ c.sent
 
--- the last of these moves, if there is one, was taken while little was due: these bytes, and the frames of the moves before it
-abbrev pub WhileLittle : List ℕ → ℕ → List Triple → Type 0
-WhileLittle due place moves =
+-- the last of these moves, if there is one, was taken while less than `most` was due: these bytes, and the frames of the moves before it
+abbrev pub WhileLittle : ℕ → List ℕ → ℕ → List Triple → Type 0
+WhileLittle most due place moves =
     (moves ≡ [])
-    ⊎ ((earlier : List Triple) × (last : Triple) × (moves ≡ earlier ++ last ∷ []) × (length (due ++ frames_of (move_pieces place earlier)) < MOST_OUTPUT))
+    ⊎ ((earlier : List Triple) × (last : Triple) × (moves ≡ earlier ++ last ∷ []) × (length (due ++ frames_of (move_pieces place earlier)) < most))
 
--- Its follower took moves while little was due. All but those lost were put, each once and in order, with the places from its next one on; and then this.
-pub record Delivers (c d : DeliveryRecord) (lost : List Triple) (ends : List Piece) : Type 0 where
+-- Its follower took moves while less than `most` was due. All but those lost were put, each once and in order, with the places from its
+-- next one on; and then this.
+pub record Delivers (most : ℕ) (c d : DeliveryRecord) (lost : List Triple) (ends : List Piece) : Type 0 where
   pub stays : StaysWith c d
   pub moves : List Triple
-  pub little : WhileLittle c.due (next_of c.follower.part) (moves ++ lost)
+  pub little : WhileLittle most c.due (next_of c.follower.part) (moves ++ lost)
   pub taken : d.follower.part.taken ≡ c.follower.part.taken ++ (moves ++ lost)
   pub pieces : d.pieces ≡ c.pieces ++ (move_pieces (next_of c.follower.part) moves ++ ends)
   pub due : d.due ≡ c.due ++ frames_of (move_pieces (next_of c.follower.part) moves ++ ends)
@@ -62,18 +62,18 @@ stage_behind true outcome = Cut
 stage_behind false (Some outcome) = Over outcome
 stage_behind false None = Follows
 
--- More can be taken: then much is due, and it still follows. Or all moves were taken, to its closing or to the present, and its end was put if
--- there is one.
-abbrev pub HasReached : HallBoard → DeliveryRecord → Bool → Type 0
-HasReached b d true = (MOST_OUTPUT ≤ length d.due) × (d.stage ≡ Follows)
-HasReached b d false = (next_of d.follower.part ≡ end_of b d.follower.part) × (d.stage ≡ stage_behind (is_some d.follower.part.closing) b.game.outcome)
+-- More can be taken: then much is due, and it still follows. Or all moves were taken, to its closing or to the present, and its end was put
+-- if there is one.
+abbrev pub HasReached : ℕ → HallBoard → DeliveryRecord → Bool → Type 0
+HasReached most b d true = (most ≤ length d.due) × (d.stage ≡ Follows)
+HasReached most b d false = (next_of d.follower.part ≡ end_of b d.follower.part) × (d.stage ≡ stage_behind (is_some d.follower.part.closing) b.game.outcome)
 
 -- All that was taken was put, and it has reached its end or what may be due, by the board of its name in this hall.
-pub record Pushes (f : FloorRecord) (is_ending : Bool) (c d : DeliveryRecord) (more : Bool) : Type 0 where
+pub record Pushes (f : FloorRecord) (most : ℕ) (is_ending : Bool) (c d : DeliveryRecord) (more : Bool) : Type 0 where
   pub board : HallBoard
   pub found : lookup (same_name c.board) f.boards ≡ Some board
-  pub delivers : Delivers c d [] (end_pieces is_ending d.stage)
-  pub reached : HasReached board d more
+  pub delivers : Delivers most c d [] (end_pieces is_ending d.stage)
+  pub reached : HasReached most board d more
 
 -- it still follows, or there was no memory for a move
 abbrev pub HasNoEnd : Stage → Type 0
@@ -84,10 +84,10 @@ HasNoEnd Left = ⊥
 HasNoEnd Failed = ⊤
 
 -- There was no memory. It still follows, and all that was taken was put; or a move was taken and not put, and it follows no more.
-pub record PushFails (c d : DeliveryRecord) : Type 0 where
+pub record PushFails (most : ℕ) (c d : DeliveryRecord) : Type 0 where
   pub lost : List Triple
   pub few : IsLost d.stage lost
-  pub delivers : Delivers c d lost []
+  pub delivers : Delivers most c d lost []
   pub stands : HasNoEnd d.stage
 
 -- what was put of a take: a move, and then there may be more; or nothing
@@ -100,18 +100,20 @@ PutAs takes.Cut some c d = (some ≡ false) × (d ≡ c)
 -- ---- The parts of a push.
 
 -- a move was taken and not put, or none
-abbrev pub DeliversLost : DeliveryRecord → DeliveryRecord → Type 0
-DeliversLost c d = (lost : List Triple) × (length lost ≤ 1) × Delivers c d lost []
+abbrev pub DeliversLost : ℕ → DeliveryRecord → DeliveryRecord → Type 0
+DeliversLost most c d = (lost : List Triple) × (length lost ≤ 1) × Delivers most c d lost []
 
--- One move was taken and put. Or there was none: all that was seen had been taken, or it stands at its closing.
-abbrev pub TakesOne : Bool → DeliveryRecord → DeliveryRecord → Type 0
-TakesOne true c d = Delivers c d [] [] × (next_of d.follower.part ≡ next_of c.follower.part + 1)
-TakesOne false c d = Delivers c d [] [] × ((c.follower.part.seen ≤ next_of d.follower.part) ⊎ (d.follower.part.closing ≡ Some (next_of d.follower.part)))
+-- One move was taken and put. Or none was: much is due, all that was seen had been taken, or it stands at its closing.
+abbrev pub TakesOne : ℕ → Bool → DeliveryRecord → DeliveryRecord → Type 0
+TakesOne most true c d = Delivers most c d [] [] × (next_of d.follower.part ≡ next_of c.follower.part + 1)
+TakesOne most false c d =
+    Delivers most c d [] []
+    × ((most ≤ length d.due) ⊎ ((c.follower.part.seen ≤ next_of d.follower.part) ⊎ (d.follower.part.closing ≡ Some (next_of d.follower.part))))
 
 -- why no more was taken: much is due; this place is reached; all that was seen was taken; or it stands at its closing
-abbrev pub StopsAt : ℕ → DeliveryRecord → DeliveryRecord → Type 0
-StopsAt limit c d =
-    (MOST_OUTPUT ≤ length d.due)
+abbrev pub StopsAt : ℕ → ℕ → DeliveryRecord → DeliveryRecord → Type 0
+StopsAt most limit c d =
+    (most ≤ length d.due)
     ⊎ ((limit ≤ next_of d.follower.part)
     ⊎ ((c.follower.part.seen ≤ next_of d.follower.part) ⊎ (d.follower.part.closing ≡ Some (next_of d.follower.part))))
 
@@ -136,29 +138,29 @@ pub record IsMet (f : FloorRecord) (c : DeliveryRecord) (round : Round) : Type 0
   pub outcome : round.outcome ≡ board.game.outcome
 
 -- It took moves to this place and met its board.
-pub record GoesOn (f : FloorRecord) (limit : ℕ) (c d : DeliveryRecord) (round : Round) : Type 0 where
+pub record GoesOn (f : FloorRecord) (most limit : ℕ) (c d : DeliveryRecord) (round : Round) : Type 0 where
   pub met : IsMet f d round
   pub lost : List Triple
   pub few : length lost ≤ 1
-  pub delivers : Delivers c d lost []
-  pub whole : round.is_put ≡ true → (lost ≡ []) × StopsAt limit c d
+  pub delivers : Delivers most c d lost []
+  pub whole : round.is_put ≡ true → (lost ≡ []) × StopsAt most limit c d
 
 -- all is taken, to the closing or to the present
 abbrev pub is_through : Round → Bool
 is_through round = round.account.joined + round.account.taken == round.account.limit
 
 -- It took what was left in a round. Then much is due, or all is taken.
-pub record CaughtUp (f : FloorRecord) (c d : DeliveryRecord) (round : Round) : Type 0 where
+pub record CaughtUp (f : FloorRecord) (most : ℕ) (c d : DeliveryRecord) (round : Round) : Type 0 where
   pub met : IsMet f d round
   pub lost : List Triple
   pub few : length lost ≤ 1
-  pub delivers : Delivers c d lost []
-  pub whole : round.is_put ≡ true → (lost ≡ []) × (is_through round ≡ false → MOST_OUTPUT ≤ length d.due)
+  pub delivers : Delivers most c d lost []
+  pub whole : round.is_put ≡ true → (lost ≡ []) × (is_through round ≡ false → most ≤ length d.due)
 
 -- if there was memory in that round; if not, nothing has changed
-abbrev pub CatchesUp : Bool → FloorRecord → Round → DeliveryRecord → DeliveryRecord → Round → Type 0
-CatchesUp true f before c d after = CaughtUp f c d after
-CatchesUp false f before c d after = (d ≡ c) × (after ≡ before)
+abbrev pub CatchesUp : Bool → FloorRecord → ℕ → Round → DeliveryRecord → DeliveryRecord → Round → Type 0
+CatchesUp true f most before c d after = CaughtUp f most c d after
+CatchesUp false f most before c d after = (d ≡ c) × (after ≡ before)
 
 -- the end that there is was put, if there is one
 abbrev pub EndsBy : Bool → Stage → DeliveryRecord → DeliveryRecord → Type 0

@@ -7,8 +7,8 @@ use Rattle.relay_following.specs.declared.stage.Stage.{Stage}
 use Rattle.relay_following.specs.declared.stage.Stage.TheVariants.{Follows, Over, Cut, Left, Failed}
 use Rattle.relay_following.specs.Pieces.{Piece}
 
--- The name of its board; its follower, or what that had when it left; how far it has come; all that was put before the first piece; the bytes
--- that were sent, and those that are due; and the pieces that were put, the first one first.
+-- The name of its board; its follower, or what that had when it left; how far it has come; all that was put before the first piece; the
+-- bytes that were sent, and those that are due; and the pieces that were put, the first one first.
 pub record DeliveryRecord : Type 0 where
   pub board : List ℕ
   pub follower : FollowerSeat
@@ -18,8 +18,8 @@ pub record DeliveryRecord : Type 0 where
   pub due : List ℕ
   pub pieces : List Piece
 
--- What is delivered to it; what was read of its peer; and how many bytes the messages have that it sent and nobody answers, each with a head
--- of 6.
+-- What is delivered to it; what was read of its peer; and how many bytes the messages have that it sent and nobody answers, each with a
+-- head of 6.
 pub record ConnectionRecord : Type 0 where
   pub delivery : DeliveryRecord
   pub reading : Reading

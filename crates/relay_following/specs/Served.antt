@@ -14,8 +14,8 @@ use Rattle.relay_following.specs.declared.stage.Stage.TheVariants.{Follows, Over
 use Rattle.relay_following.specs.Pieces.{AllGoOn, Piece, a_close, an_end, frames_of, moves_in}
 use Rattle.relay_following.specs.Record.{DeliveryRecord}
 
--- the last of these bytes are the frame of the reply that tells where a connection joined: this place, and the position after these moves of a
--- game from this start
+-- the last of these bytes are the frame of the reply that tells where a connection joined: this place, and the position after these moves
+-- of a game from this start
 pub record EndsInJoining (bytes : List ℕ) (joined start : ℕ) (before : List Triple) : Type 0 where
   pub earlier : List ℕ
   pub told : bytes ≡ earlier ++ text_frame (answer_text (Reply (Following joined (last_position start before))))
@@ -41,8 +41,8 @@ IsLast Cut last = last ≡ an_end takes.Cut 4001 ∷ []
 IsLast Left last = (last ≡ []) ⊎ ((number : Option ℕ) × (last ≡ a_close number ∷ []))
 IsLast Failed last = last ≡ []
 
--- What was sent and then what is due: the opening, which tells where its follower joined, and the frames of the pieces. The moves among these
--- are those that its follower has taken from there on, each once and in order. Behind the end or a close there is nothing.
+-- What was sent and then what is due: the opening, which tells where its follower joined, and the frames of the pieces. The moves among
+-- these are those that its follower has taken from there on, each once and in order. Behind the end or a close there is nothing.
 pub record IsServed (c : DeliveryRecord) : Type 0 where
   pub told : IsOpening c.opening c.follower.part
   pub bytes : c.sent ++ c.due ≡ c.opening ++ frames_of c.pieces

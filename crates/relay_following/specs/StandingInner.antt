@@ -1,5 +1,5 @@
 -- What shows how a connection relates to its board, and what is kept true of it.
-use Rattle.std.specs.Prelude.{◌≡◌, ℕ, List, [], ◌∷◌, Option, None, Some, IsSomeAnd, unwrap_or}
+use Rattle.std.specs.Prelude.{◌≡◌, ℕ, [], ◌∷◌, Option, None, Some, IsSomeAnd, unwrap_or}
 use Rattle.live_board.specs.Seats.{BoardSeat, FollowerSeat}
 use Rattle.live_board.specs.Views.{learns, sees}
 use Rattle.relay_following.specs.declared.standing.Standing.TheInside.{Inside}

@@ -21,8 +21,8 @@ use relay_pushing::LastText;
 use std::alloc::AllocError;
 use std::marker::Model;
 
-/// A connection that follows a board, from the bytes on that told it so. It is fed the bytes that came from its peer, answers what they say,
-/// is pushed the moves of its board, and offers the bytes that are due. Contracts see a `ConnectionRecord`.
+/// A connection that follows a board, from the bytes on that told it so. It is fed the bytes that came from its peer, answers what they
+/// say, is pushed the moves of its board, and offers the bytes that are due. Contracts see a `ConnectionRecord`.
 #[derive(Drop)]
 pub struct FollowerConnection {
     delivery: Delivery,
@@ -45,8 +45,8 @@ impl Model for FollowerConnection {
 }
 
 impl FollowerConnection {
-    /// A connection to which this was handed out, of whose peer so much was read, and which is to be sent these bytes first. The last of them
-    /// tell where its follower joined.
+    /// A connection to which this was handed out, of whose peer so much was read, and which is to be sent these bytes first. The last of
+    /// them tell where its follower joined.
     pub fn new(handed: Handed, peer: Peer, opening: Vec<u8>) -> FollowerConnection
         requires untaken { handed.follower.part.taken ≡ [] }
         requires told { IsOpening opening.items handed.follower.part }
@@ -105,8 +105,8 @@ impl FollowerConnection {
         self.delivery.is_full()
     }
 
-    /// Offers the bytes that are due. With what was sent before they are its opening and the frames of its pieces, of which the moves are those
-    /// that its follower has taken.
+    /// Offers the bytes that are due. With what was sent before they are its opening and the frames of its pieces, of which the moves are
+    /// those that its follower has taken.
     pub fn output(&self) -> &[u8]
         ensures due { result.now ≡ self.now.delivery.due }
         ensures served { IsServed self.now.delivery }
@@ -139,24 +139,25 @@ impl FollowerConnection {
         }
     }
 
-    /// Puts the moves of the board of its name in this hall, as far as they were not put before, while less than 16,384 bytes are due. Behind
-    /// the last one it puts the end if there is one, and then it follows no more: that the game has ended, closed with 1000, or with 1001 if
-    /// the server is ending; or that it was cut off, closed with 4001. Returns whether more can be put once what is due is sent. Nothing is
-    /// done to one that follows no more.
+    /// Puts the moves of the board of its name in this hall, as far as they were not put before, while less than `most` bytes are due.
+    /// Behind the last one it puts the end if there is one, and then it follows no more: that the game has ended, closed with 1000, or with
+    /// 1001 if the server is ending; or that it was cut off, closed with 4001. Returns whether more can be put once what is due is sent.
+    /// Nothing is done to one that follows no more.
     ///
     /// # Errors
     ///
-    /// There was no memory. All that was put is due. Either it still follows, and nothing that was taken is missing; or one move was taken and
-    /// not put, and it follows no more.
+    /// There was no memory. All that was put is due. Either it still follows, and nothing that was taken is missing; or one move was taken
+    /// and not put, and it follows no more.
     pub fn push(
         &mut self,
         hall: &mut Hall,
         last: &mut LastText,
+        most: usize,
         is_ending: bool,
     ) -> Result<bool, AllocError>
         requires is_in { IsIn hall.old.floor self.old.delivery }
-        ensures ok { self.old.delivery.stage ≡ Follows → IfOk result (λ more. Pushes hall.old.floor is_ending self.old.delivery self.new.delivery more) }
-        ensures err { OnErr result ((self.old.delivery.stage ≡ Follows) × PushFails self.old.delivery self.new.delivery) }
+        ensures ok { self.old.delivery.stage ≡ Follows → IfOk result (λ more. Pushes hall.old.floor most is_ending self.old.delivery self.new.delivery more) }
+        ensures err { OnErr result ((self.old.delivery.stage ≡ Follows) × PushFails most self.old.delivery self.new.delivery) }
         ensures gone { follows self.old.delivery.stage ≡ false → (self.new ≡ self.old) × IfOk result (λ more. more ≡ false) }
         ensures rest { self.new ≡ delivers self.old self.new.delivery }
         ensures is_in { IsIn hall.new.floor self.new.delivery }
@@ -165,7 +166,7 @@ impl FollowerConnection {
         if !self.delivery.follows() {
             return Ok(false);
         }
-        self.delivery.push(hall, last, is_ending)
+        self.delivery.push(hall, last, most, is_ending)
     }
 
     /// Puts a ping behind what is due, if it follows: by its pong a silent peer shows that it is there (RFC 6455, section 5.5.2).

@@ -18,8 +18,9 @@ ghost use Rattle.relay_following.specs.Record.{ConnectionRecord, DeliveryRecord,
 ghost use Rattle.relay_following.specs.Served.{IsOpening, IsServed};
 ghost use Rattle.relay_following.specs.Shown.{IsShown};
 
-/// What a hall hands out is a follower of the board of its name in that hall, which has taken nothing (`handed`, `untaken`). Bytes of which the
-/// last are the frame of the reply that told of it are an opening of its connection (`told`), and that follows the board of its name (`is_in`).
+/// What a hall hands out is a follower of the board of its name in that hall, which has taken nothing (`handed`, `untaken`). Bytes of which
+/// the last are the frame of the reply that told of it are an opening of its connection (`told`), and that follows the board of its name
+/// (`is_in`).
 pub fn what_is_handed_out_may_follow()
     ensures handed { (k l : HallRecord) (speaker : Owner) (h : Handed) → IsOneStep k speaker (Some h) l → IsHandedIn l.floor h }
     ensures untaken { (f : FloorRecord) (h : Handed) → IsHandedIn f h → h.follower.part.taken ≡ [] }

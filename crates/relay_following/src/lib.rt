@@ -1,5 +1,5 @@
-//! Connections that follow a board of a hall, one at a time. Bytes come in, bytes go out. A connection takes no lock, opens no socket, reads
-//! no clock and waits for nobody: its owner lends it the hall for a push.
+//! Connections that follow a board of a hall, one at a time. Bytes come in, bytes go out. A connection takes no lock, opens no socket,
+//! reads no clock and waits for nobody: its owner lends it the hall for a push.
 #![tactic(auto)]
 
 mod bytes;

@@ -1,6 +1,6 @@
 //! How a connection relates to its board: by its follower while it follows, and then by what remains of that.
 
-ghost use Rattle.std.specs.Prelude.{◌≡◌, ◌<◌, true, false, cond, IfSome, MatchOption, None, Some};
+ghost use Rattle.std.specs.Prelude.{◌≡◌, cond, IfSome, MatchOption, None, Some};
 ghost use Rattle.std.specs.Map.{lookup};
 ghost use Rattle.relay_core.specs.Name.{same_name};
 ghost use Rattle.live_board.specs.Accounts.{account_of};
@@ -19,8 +19,8 @@ use relay_hall::Hall;
 use std::marker::Model;
 use std::snapshot::Snapshot;
 
-/// How a connection relates to its board. A follower that is only dropped keeps its slot: so what remains of one that left is kept, by which
-/// its slot is known to be free. Contracts see a `StandingRecord`.
+/// How a connection relates to its board. A follower that is only dropped keeps its slot: so what remains of one that left is kept, by
+/// which its slot is known to be free. Contracts see a `StandingRecord`.
 #[derive(Drop)]
 pub(crate) struct Standing {
     /// What its follower had when it left.

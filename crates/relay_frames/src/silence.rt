@@ -7,8 +7,7 @@ ghost use Rattle.relay_frames.specs.declared.silence.TheConstants.{MOST_HALF_SEC
 pub const MOST_HALF_SECONDS: u64 = 10;
 
 /// After how many seconds of silence a peer is sent a ping, and then another one. Peers are looked at once a second, so with 30 a vanished
-/// peer would be noticed only after more than 90. A peer that a session's thread reads is waited for elsewhere (`relay_streams`:
-/// `hearing.rt`).
+/// peer would be noticed only after more than 90.
 pub const MOST_SILENT_SECONDS: u64 = 29;
 
 /// How many pings in a row are sent to a peer that stays silent.

@@ -110,25 +110,6 @@ module _ (s : FloorState) (boards : List (List ℕ)) where
 
 -- ---- The calls.
 
--- a follow opens no board
-none_opened : (boards : List (List ℕ)) (who : ℕ) (name : List ℕ) (from : Option ℕ) (reply : Reply) → conn.opened_after boards (Follow who name from) reply ≡ boards
-none_opened boards who name from reply = by (is_accepted reply)
-  where
-    by : (t : Bool) → cond t (boards ++ []) boards ≡ boards
-    by true = append-nil boards
-    by false = refl
-
-module _ (s : FloorState) (empty : s.handed ≡ None) (boards now : List (List ℕ)) (t : FloorState) where
-  -- a follow that the connection may make
-  pub joined : (who : ℕ) (name : List ℕ) (from : Option ℕ) (reply : Reply) → conn.MayMake (Tells s) boards (Follow who name from) → StateMakes s (Follow who name from) reply t → now ≡ boards
-      → IsRepliedBy s.floor s.speaker boards (Follow who name from) reply t.handed t.floor now
-  joined who name from reply may makes same = replied s boards empty now t (Follow who name from) reply
-      (inl (record { may = may; made = makes; boards_are = same ∙ sym (none_opened boards who name from reply) }))
-
-  -- a step that is refused to it
-  pub barred : (step : Step) (refusal : Refusal) → conn.Bars (Tells s) boards step refusal → conn.IsUnmoved boards s now t → IsRepliedBy s.floor s.speaker boards step (Refused refusal) t.handed t.floor now
-  barred step refusal bars unmoved = replied s boards empty now t step (Refused refusal) (inr (record { refusal = refusal; bars = bars; reply_is = refl; unmoved = unmoved }))
-
 module _ (s : FloorState) (empty : s.handed ≡ None) (boards : List (List ℕ)) (text : List ℕ) (now : List (List ℕ)) (t : FloorState) where
   pub answered : (bytes : List ℕ) → conn.Answered (Tells s) MadeBy boards s text bytes now t → IsAnsweredBy s.floor s.speaker boards text bytes t.handed t.floor now
   answered bytes a = (a.0, a.2, led s boards empty now t text a.0 a.1)

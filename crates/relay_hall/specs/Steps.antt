@@ -27,8 +27,6 @@ use Rattle.live_board.specs.Sound.{IsSoundPart}
 use Rattle.relay_pushing.specs.Connections.{Question, Knows, Owns, OwnsAny}
 use Rattle.relay_hall.specs.declared.handed.Handed.{Handed}
 use Rattle.relay_hall.specs.declared.owner.Owner.{Owner}
-use Rattle.relay_hall.specs.declared.reply.HallReply.{HallReply}
-use Rattle.relay_hall.specs.declared.reply.HallReply.TheVariants.{Said, Joins}
 use Rattle.relay_hall.specs.Keys.{is_owner}
 use Rattle.relay_hall.specs.Record.{FloorRecord, FloorState, HallBoard, games_of}
 
@@ -55,11 +53,6 @@ reply_to_play answer = reply_of (λ played. Played played.0 played.1) answer
 
 abbrev pub reply_to_end : Result Outcome Refusal → Reply
 reply_to_end answer = reply_of Ended answer
-
--- a reply as it is told, with its position worked out
-abbrev pub in_full : HallReply → Reply
-in_full (Said reply) = reply
-in_full (Joins joined position) = Following joined position
 
 abbrev pub answer_to_open : FloorRecord → List ℕ → ℕ → Result Unit Refusal
 answer_to_open f name start =

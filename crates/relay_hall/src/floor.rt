@@ -11,8 +11,8 @@ ghost use Rattle.live_board.specs.Accounts.{account_of};
 ghost use Rattle.relay_hall.specs.Keys.{is_owner};
 ghost use Rattle.relay_hall.specs.Meeting.{Meets};
 ghost use Rattle.relay_hall.specs.Reading.{place_of, shown_at};
-ghost use Rattle.relay_hall.specs.Steps.{Makes, StateMakes, in_full, reply_to_end, reply_to_play};
-ghost use Rattle.relay_hall.specs.Talk.{IsAnsweredBy, IsRepliedBy, IsUnansweredBy, IsUnmade};
+ghost use Rattle.relay_hall.specs.Steps.{Makes, StateMakes, reply_to_end, reply_to_play};
+ghost use Rattle.relay_hall.specs.Talk.{IsAnsweredBy, IsUnansweredBy};
 ghost use Rattle.relay_hall.specs.Times.{swept_floor};
 
 use crate::boards::{end, end_where, hand_out, meet_at, owns_any, play, ring_for, turn_away};
@@ -21,7 +21,6 @@ use crate::handed::Handed;
 use crate::hosted::Hosted;
 use crate::leaver::Leaver;
 use crate::owner::Owner;
-use crate::reply::HallReply;
 use crate::rung::Rung;
 use crate::shown::Shown;
 use c960_board::Move;
@@ -161,36 +160,39 @@ impl Floor {
     /// Hands out a follower of a board, from a place of its log or from its length. Refused: `NoSuchBoard`, `NotYet`, `TooFarBack`,
     /// `TooManyFollowers`, `OutOfMemory`.
     #[inline(never)]
-    fn joins(&mut self, board: BoardName, from: Option<u16>) -> HallReply
-        ensures { (who : ℕ) → StateMakes self.old (Follow who board from) (in_full result) self.new }
+    fn joins(&mut self, board: BoardName, from: Option<u16>) -> Reply
+        ensures { (who : ℕ) → StateMakes self.old (Follow who board from) result self.new }
     {
         match hand_out(&mut self.boards, BoardKey::of(board), from) {
             Ok((follower, replaying)) => {
                 let joined = follower.joined();
                 self.handed = Some(Handed { board, follower });
-                HallReply::Joins { joined, replaying }
+                Reply::Following {
+                    joined,
+                    position: replaying.position(),
+                }
             }
             Err(refusal) => {
                 self.has_turned_away = true;
-                HallReply::Said(Reply::Refused(refusal))
+                Reply::Refused(refusal)
             }
         }
     }
 
     /// Refuses a follow of a board of which no slot is vacant. None is looked for. Refused: `NoSuchBoard`, `NotYet`, `TooFarBack`,
     /// `TooManyFollowers`.
-    fn turns_away(&mut self, board: BoardName, from: Option<u16>) -> HallReply
-        ensures makes { (who : ℕ) → StateMakes self.old (Follow who board from) (in_full result) self.new }
+    fn turns_away(&mut self, board: BoardName, from: Option<u16>) -> Reply
+        ensures makes { (who : ℕ) → StateMakes self.old (Follow who board from) result self.new }
         ensures unchanged { self.new ≡ self.old }
     {
         let refusal = turn_away(&self.boards, BoardKey::of(board), from);
         self.has_turned_away = true;
-        HallReply::Said(Reply::Refused(refusal))
+        Reply::Refused(refusal)
     }
 
     /// Hands out a follower of a board, unless the board is known to have no vacant slot: then none is looked for. Refused as by `joins`.
-    fn follows(&mut self, board: BoardName, from: Option<u16>) -> HallReply
-        ensures { (who : ℕ) → StateMakes self.old (Follow who board from) (in_full result) self.new }
+    fn follows(&mut self, board: BoardName, from: Option<u16>) -> Reply
+        ensures { (who : ℕ) → StateMakes self.old (Follow who board from) result self.new }
     {
         match self.place_of(&board) {
             Some(at) if self.full.has(at) => self.turns_away(board, from),
@@ -206,7 +208,7 @@ impl Floor {
             Step::Open(board, start) => self.open(BoardKey::of(board), start),
             Step::Submit(board, m) => self.submit(BoardKey::of(board), m),
             Step::End(board, ending) => self.end(BoardKey::of(board), ending),
-            Step::Follow(_, board, from) => self.follows(board, from).reply(),
+            Step::Follow(_, board, from) => self.follows(board, from),
             // A connection does not ask for what it is sent unasked.
             Step::Take(_) | Step::Leave(_) => Reply::Refused(Refusal::WrongMode),
         }
@@ -239,34 +241,6 @@ impl Floor {
     {
         self.speaker = *owner;
         self.make(step)
-    }
-
-    /// Replies to a step of a connection, for this speaker. With `is_full` a follow that may be made is refused, and no slot is looked at.
-    ///
-    /// # Errors
-    ///
-    /// There was no memory. Nothing was made.
-    pub(crate) fn reply(
-        &mut self,
-        conn: &mut Conn,
-        who: &Owner,
-        step: &Step,
-        is_full: bool,
-    ) -> Result<HallReply, AllocError>
-        requires empty { self.old.handed ≡ None }
-        ensures ok { IfOk result (λ r. IsRepliedBy self.old.floor who.now conn.old step.now (in_full r) self.new.handed self.new.floor conn.new) }
-        ensures err { OnErr result (IsUnmade self.old.floor conn.old self.new.handed self.new.floor conn.new) }
-        ensures full { is_full ≡ true → self.new.handed ≡ None }
-    {
-        self.speaker = *who;
-        let Step::Follow(_, board, from) = *step else {
-            return Ok(HallReply::Said(conn.reply(step, self)?));
-        };
-        match conn.refusal(step, self) {
-            Some(refusal) => Ok(HallReply::Said(Reply::Refused(refusal))),
-            None if is_full => Ok(self.turns_away(board, from)),
-            None => Ok(self.joins(board, from)),
-        }
     }
 
     /// The board of this name and a follower at its table compare what they know. None if there is no such board.

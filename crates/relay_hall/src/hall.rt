@@ -13,8 +13,8 @@ ghost use Rattle.relay_hall.specs.Holders.{AllRunOut, IsNextDue, is_waiting, pre
 ghost use Rattle.relay_hall.specs.Reading.{place_of, shown_at};
 ghost use Rattle.relay_hall.specs.Record.{nobody_yet};
 ghost use Rattle.relay_hall.specs.Runs.{IsReached};
-ghost use Rattle.relay_hall.specs.Steps.{Makes, in_full, tells_of};
-ghost use Rattle.relay_hall.specs.Talk.{IsAnsweredBy, IsRepliedBy, IsUnansweredBy};
+ghost use Rattle.relay_hall.specs.Steps.{Makes, tells_of};
+ghost use Rattle.relay_hall.specs.Talk.{IsAnsweredBy, IsUnansweredBy};
 ghost use Rattle.relay_hall.specs.Times.{Came, Shut, Timed, WentBy, WentWith, has_waited, swept, swept_floor, waits_until};
 
 use crate::floor::Floor;
@@ -23,7 +23,6 @@ use crate::holders::Holders;
 use crate::key::Key;
 use crate::leaver::{Everybody, KeyOwner, Keyless, RunOut};
 use crate::owner::Owner;
-use crate::reply::HallReply;
 use crate::shown::Shown;
 use c960_game::{Limits, Outcome};
 use live_board::Follower;
@@ -144,30 +143,6 @@ impl Hall {
     {
         let reply = self.floor.step_of(speaker, step);
         (reply, self.floor.take_handed())
-    }
-
-    /// Replies to a step of a connection, for its owner: what `hear` does between reading a text and writing its answer. Returns the reply,
-    /// and the follower that was handed out if a follow was accepted, with the name of its board. `is_full` says that whoever asks knows of
-    /// no vacant slot of the board that a follow names: then the follow is refused, and no slot is looked at.
-    ///
-    /// # Errors
-    ///
-    /// There was no memory. Nothing was made.
-    pub fn reply(
-        &mut self,
-        conn: &mut Conn,
-        who: &Owner,
-        step: &Step,
-        is_full: bool,
-    ) -> (Result<HallReply, AllocError>, Option<Handed>)
-        ensures ok { IfOk result.0 (λ r. IsRepliedBy self.old.floor who.now conn.old step.now (in_full r) result.1 self.new.floor conn.new) }
-        ensures err { OnErr result.0 ((result.1 ≡ None) × (self.new ≡ self.old) × (conn.new ≡ conn.old)) }
-        ensures full { is_full ≡ true → result.1 ≡ None }
-        ensures rest { self.new ≡ record self.old { floor = self.new.floor } }
-        ensures reached { IsReached self.old × IsReached self.new }
-    {
-        let replied = self.floor.reply(conn, who, step, is_full);
-        (replied, self.floor.take_handed())
     }
 
     /// The board of this name and a follower that was handed out of it compare what they know. The follower sees the board's length and

@@ -15,7 +15,6 @@ pub mod laws;
 mod leaver;
 mod owner;
 mod presence;
-mod reply;
 mod rung;
 mod shown;
 
@@ -23,5 +22,4 @@ pub use hall::Hall;
 pub use handed::Handed;
 pub use key::Key;
 pub use owner::Owner;
-pub use reply::HallReply;
 pub use shown::Shown;

@@ -1,10 +1,9 @@
-//! The tests, a module for each crate that is tested: `hall` of `relay_hall`, `registry` of `relay_registry`, `calling` of `relay_calling`,
-//! `service` of `relay_service`, `feeds` of those of `watch_port`.
+//! The tests, a module for each crate that is tested: `hall` of `relay_hall`, `calling` of `relay_calling`, `service` of `relay_service`,
+//! `feeds` of the feeds of `watch_port`.
 
 mod calling;
 mod feeds;
 mod hall;
-mod registry;
 mod service;
 
 use std::process::Abort;

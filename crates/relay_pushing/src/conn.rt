@@ -63,29 +63,16 @@ impl Conn {
     }
 
     /// Whether some board belongs to the connection: it opened one, or the keeper says so.
-    pub fn is_owner<K: Keeper>(&self, keeper: &K) -> bool
+    fn is_owner<K: Keeper>(&self, keeper: &K) -> bool
         ensures some { result ≡ true → OwnsSome (K.tells keeper.now) self.now }
         ensures none { result ≡ false → OwnsNone (K.tells keeper.now) self.now }
     {
         self.has_opened_any() || keeper.owns_any()
     }
 
-    /// The step that a text asks for. No keeper is asked, and the boards that were opened stay as they are: a caller that holds the keeper
-    /// under a lock reads without the lock, and then calls `reply`.
-    ///
-    /// # Errors
-    ///
-    /// The fault of the text, or there was no memory to read it (`OutOfMemory`).
-    pub fn read(&mut self, text: &[u8]) -> Result<Step, MessageFault>
-        ensures read { IsDecoding text.now result }
-        ensures unchanged { self.new ≡ self.old }
-    {
-        decode(self.alloc, text)
-    }
-
     /// Why the connection may not make the step, if it may not: `WrongMode` for a Take or a Leave, and for a Follow if some board belongs
     /// to it; for a Submit or an End `NotYourBoard`, or `NoSuchBoard` if the keeper knows no such board, unless that board belongs to it.
-    pub fn refusal<K: Keeper>(&self, step: &Step, keeper: &K) -> Option<Refusal>
+    fn refusal<K: Keeper>(&self, step: &Step, keeper: &K) -> Option<Refusal>
         ensures some { IfSome result (λ refusal. Bars (K.tells keeper.now) self.now step.now refusal) }
         ensures none { IfNone result (MayMake (K.tells keeper.now) self.now step.now) }
     {
@@ -116,7 +103,7 @@ impl Conn {
     /// # Errors
     ///
     /// There was no memory for one more opened board. It is reserved before the step is made, so none was made.
-    pub fn reply<K: Keeper>(&mut self, step: &Step, keeper: &mut K) -> Result<Reply, AllocError>
+    fn reply<K: Keeper>(&mut self, step: &Step, keeper: &mut K) -> Result<Reply, AllocError>
         ensures ok { IfOk result (λ reply. Replied (K.tells keeper.old) K.makes self.old keeper.old step.now reply self.new keeper.new) }
         ensures err { OnErr result (IsUnmoved self.old keeper.old self.new keeper.new) }
     {
@@ -196,14 +183,5 @@ impl Conn {
         for board in self.opened.iter() {
             let _ = keeper.step(Step::End(*board, Ending::Abandoned));
         }
-    }
-
-    /// Gives up the connection when its boards are to outlive it: they are returned, in the order of opening. No step is made, since
-    /// no keeper is asked.
-    pub fn part(self) -> Vec<BoardName>
-        ensures { result.items ≡ self }
-    {
-        let Conn { opened, .. } = self;
-        opened
     }
 }

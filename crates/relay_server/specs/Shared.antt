@@ -11,18 +11,33 @@ use Rattle.relay_hall.specs.Record.{HallRecord}
 use Rattle.relay_hall.specs.Runs.{IsReached}
 use Rattle.relay_hall.specs.Steps.{Makes, latest}
 
--- Whether there is a board of the name is as that hall has it. Nothing belongs to a connection but what it opened, since it has no key.
+-- the keeper of a connection: who it is, and the follower that was handed out to it and not taken yet
+pub record KeeperState : Type 0 where
+  pub speaker : Owner
+  pub handed : Option Handed
+
+-- whether there is a board of this name, in some hall
+pub record IsKnown (name : List ℕ) (answer : Bool) : Type 0 where
+  pub hall : HallRecord
+  pub reached : IsReached hall
+  pub answer_is : answer ≡ is_some (lookup (same_name name) hall.floor.boards)
+
+-- Nothing belongs to a connection but what it opened, since it has no key.
 abbrev pub Tells : Question → Bool → Type 0
-Tells (Knows name) answer = (k : HallRecord) × IsReached k × (answer ≡ is_some (lookup (same_name name) k.floor.boards))
+Tells (Knows name) answer = IsKnown name answer
 Tells (Owns name) answer = answer ≡ false
 Tells OwnsAny answer = answer ≡ false
 
--- the step is made in that hall, for the same speaker, and what it hands out is kept
-pub record MakesBehind (speaker : Owner) (handed : Option Handed) (step : Step) (reply : Reply) (speaker_then : Owner) (handed_then : Option Handed) : Type 0 where
+-- the step is made in some hall, which it leads to another one
+pub record IsMade (speaker : Owner) (step : Step) (reply : Reply) (handed : Option Handed) : Type 0 where
   pub before : HallRecord
   pub after : HallRecord
   pub reached : IsReached before × IsReached after
-  pub out : Option Handed
-  pub makes : Makes before.floor speaker step reply out after.floor
-  pub same : speaker_then ≡ speaker
-  pub kept : handed_then ≡ latest out handed
+  pub makes : Makes before.floor speaker step reply handed after.floor
+
+-- the same by a keeper: what is handed out is kept
+pub record KeeperMakes (s : KeeperState) (step : Step) (reply : Reply) (t : KeeperState) : Type 0 where
+  pub handed : Option Handed
+  pub made : IsMade s.speaker step reply handed
+  pub speaker : t.speaker ≡ s.speaker
+  pub kept : t.handed ≡ latest handed s.handed

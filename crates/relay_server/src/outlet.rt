@@ -1,5 +1,11 @@
 //! A WebSocket as an outlet.
 
+ghost use Rattle.std.specs.Prelude.{◌≡◌, ◌≤◌, IsOk, OnOk};
+ghost use Rattle.relay_pushing.specs.Sending.{Counts, IsCounted};
+ghost use Rattle.tungstenite.specs.Connection.{write_step};
+ghost use Rattle.tungstenite.specs.Content.{text as text_of};
+ghost use Rattle.tungstenite.specs.Socket.{Writes};
+
 use relay_pushing::{Outlet, SendFault};
 use std::alloc::Global;
 use std::io::{ErrorKind, Read, Write};
@@ -13,10 +19,10 @@ pub(crate) struct SocketOutlet<S> {
     failures: u64,
 }
 
-/// Whether the call is to be made again: it was interrupted, for example since the process was stopped and goes on.
-fn was_interrupted(error: &Error) -> bool {
-    match error {
-        Error::Io(error) => error.kind() == ErrorKind::Interrupted,
+/// Whether the read is to be done again: it was interrupted, for example since the process was stopped and goes on.
+fn was_interrupted(done: &Result<Message, Error>) -> bool {
+    match done {
+        Err(Error::Io(error)) => error.kind() == ErrorKind::Interrupted,
         _ => false,
     }
 }
@@ -38,16 +44,25 @@ impl<S: Read + Write + Drop> SocketOutlet<S> {
     /// The stream failed or ended, the peer broke the protocol, or there was no memory.
     pub(crate) fn read(&mut self) -> Result<Message, Error> {
         for _ in 0..u64::MAX {
-            match self.socket.read() {
-                Err(error) if was_interrupted(&error) => {}
-                done => return done,
+            let done = self.read_once();
+            if !was_interrupted(&done) {
+                return done;
             }
         }
         Err(Error::AlreadyClosed)
     }
 
+    /// The next message, unless the read was interrupted.
+    fn read_once(&mut self) -> Result<Message, Error> {
+        self.socket.read()
+    }
+
     /// The fault of a call that ended so. A failure of the stream is counted.
-    fn fault_of(&mut self, error: &Error) -> SendFault {
+    fn fault_of(&mut self, error: &Error) -> SendFault
+        ensures kept { self.old.failures ≤ self.new.failures }
+        ensures counted { IsCounted self.old.failures self.new.failures result }
+        ensures rest { self.new ≡ record self.old { failures = self.new.failures } }
+    {
         if matches!(error, Error::OutOfMemory) {
             return SendFault::OutOfMemory;
         }
@@ -56,11 +71,43 @@ impl<S: Read + Write + Drop> SocketOutlet<S> {
     }
 
     /// What came of a call that sends.
-    fn sent(&mut self, done: Result<(), Error>) -> Result<(), SendFault> {
+    fn sent(&mut self, done: Result<(), Error>) -> Result<(), SendFault>
+        ensures ok { OnOk result (IsOk done) }
+        ensures counts { Counts self.old.failures self.new.failures result }
+        ensures rest { self.new ≡ record self.old { failures = self.new.failures } }
+    {
         match done {
             Ok(()) => Ok(()),
             Err(error) => Err(self.fault_of(&error)),
         }
+    }
+
+    /// Writes a text.
+    ///
+    /// # Errors
+    ///
+    /// As those of the socket, or there was no memory.
+    fn write(&mut self, text: &str) -> Result<(), Error>
+        ensures written { OnOk result (Writes S.contents self.old.socket self.new.socket (write_step self.old.socket.conn (text_of text.now))) }
+        ensures rest { self.new ≡ record self.old { socket = self.new.socket } }
+    {
+        match Message::text(self.alloc, text) {
+            Ok(message) => self.socket.send(message),
+            Err(_) => Err(Error::OutOfMemory),
+        }
+    }
+
+    /// Sends a text.
+    ///
+    /// # Errors
+    ///
+    /// The device failed, or there was no memory.
+    pub(crate) fn say(&mut self, text: &str) -> Result<(), SendFault>
+        ensures written { OnOk result (Writes S.contents self.old.socket self.new.socket (write_step self.old.socket.conn (text_of text.now))) }
+        ensures counts { Counts self.old.failures self.new.failures result }
+    {
+        let done = self.write(text);
+        self.sent(done)
     }
 }
 
@@ -68,11 +115,7 @@ impl<S: Read + Write + Drop> Outlet for SocketOutlet<S> {
     ghost failures = { λ o. o.failures };
 
     fn send(&mut self, text: &str) -> Result<(), SendFault> {
-        let done = match Message::text(self.alloc, text) {
-            Ok(message) => self.socket.send(message),
-            Err(_) => Err(Error::OutOfMemory),
-        };
-        self.sent(done)
+        self.say(text)
     }
 
     fn flush(&mut self) -> Result<(), SendFault> {

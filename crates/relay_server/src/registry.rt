@@ -1,5 +1,7 @@
 //! The boards of a server, which all connections share.
 
+ghost use Rattle.relay_server.specs.Shared.{IsKnown, IsMade};
+
 use crate::event_count::EventCount;
 use c960_game::Limits;
 use relay_core::{BoardName, Reply, Step};
@@ -34,7 +36,9 @@ impl Registry {
     }
 
     /// Whether a board of this name was opened.
-    pub(crate) fn knows<R: Wait>(&self, rt: &R, board: &BoardName) -> bool {
+    pub(crate) fn knows<R: Wait>(&self, rt: &R, board: &BoardName) -> bool
+        ensures { IsKnown board.now result }
+    {
         self.hall.lock(rt).place_of(board).is_some()
     }
 
@@ -44,7 +48,9 @@ impl Registry {
         rt: &R,
         speaker: &Owner,
         step: &Step,
-    ) -> (Reply, Option<Handed>) {
+    ) -> (Reply, Option<Handed>)
+        ensures { IsMade speaker.now step.now result.0 result.1 }
+    {
         let mut hall = self.hall.lock(rt);
         let made = hall.step(speaker, step);
         if let Some(at) = hall.take_rung() {

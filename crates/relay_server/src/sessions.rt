@@ -1,5 +1,8 @@
 //! Sessions: one connection from its handshake to its end.
 
+ghost use Rattle.std.specs.Prelude.{◌≡◌, IfOk, OnOk, option_map, string_bytes};
+ghost use Rattle.relay_server.specs.Talking.{IsAnswer, IsAnswered, IsPushed, session_end};
+
 use crate::ends::SessionEnd;
 use crate::event_count::BoardBell;
 use crate::follower_source::FollowerSource;
@@ -119,7 +122,7 @@ impl<R: Wait, S: Read + Write + Drop, G: Gate> Talk<'_, '_, R, S, G> {
         if is_first {
             self.gate.after(self.connection);
         }
-        let handed = self.keeper.handed.take()?;
+        let handed = self.keeper.take_handed()?;
         Some(self.follow(handed))
     }
 
@@ -128,14 +131,27 @@ impl<R: Wait, S: Read + Write + Drop, G: Gate> Talk<'_, '_, R, S, G> {
     /// # Errors
     ///
     /// The answer could not be made or sent.
-    fn answer(&mut self, text: Option<&[u8]>) -> Result<(), SendFault> {
-        let answer = match text {
+    fn answer(&mut self, text: Option<&[u8]>) -> Result<(), SendFault>
+        ensures { OnOk result (IsAnswered S.contents (option_map (λ t. t.now) text) self.old.conn self.old.keeper self.old.outlet.socket self.new.conn self.new.keeper self.new.outlet.socket) }
+    {
+        match self.answer_of(text) {
+            Ok(answer) => self.outlet.say(answer.as_str()),
+            Err(AllocError) => Err(SendFault::OutOfMemory),
+        }
+    }
+
+    /// The answer to a text, or to a message that is none.
+    ///
+    /// # Errors
+    ///
+    /// There was no memory.
+    fn answer_of(&mut self, text: Option<&[u8]>) -> Result<String, AllocError>
+        ensures answer { IfOk result (λ s. IsAnswer (option_map (λ t. t.now) text) self.old.conn self.old.keeper (string_bytes s) self.new.conn self.new.keeper) }
+        ensures outlet { self.new.outlet ≡ self.old.outlet }
+    {
+        match text {
             Some(text) => self.conn.answer(text, &mut self.keeper),
             None => encode(self.alloc, &Answer::Fault(MessageFault::NotJson)),
-        };
-        match answer {
-            Ok(answer) => self.outlet.send(answer.as_str()),
-            Err(AllocError) => Err(SendFault::OutOfMemory),
         }
     }
 
@@ -144,18 +160,29 @@ impl<R: Wait, S: Read + Write + Drop, G: Gate> Talk<'_, '_, R, S, G> {
         let Handed { board, follower } = handed;
         let rt = self.keeper.rt;
         let registry = self.keeper.registry;
-        let Some(count) = registry.bell_of(rt, &board) else {
-            return SessionEnd::Failed;
-        };
-        let bell = BoardBell { rt, count };
         let mut source = FollowerSource { follower };
-        let end = push_all(rt, self.alloc, &mut self.outlet, &mut source, &bell);
+        let end = match registry.bell_of(rt, &board) {
+            Some(count) => self.push(&mut source, &BoardBell { rt, count }),
+            // Each board has a bell.
+            None => SessionEnd::Failed,
+        };
         let _ = source.follower.leave();
+        end
+    }
+
+    /// Pushes what a source gives to the connection until that ends, then closes it.
+    fn push(&mut self, source: &mut FollowerSource, bell: &BoardBell<'_, R>) -> SessionEnd
+        ensures { IsPushed source.old result }
+    {
+        let rt = self.keeper.rt;
+        let end = push_all(rt, self.alloc, &mut self.outlet, source, bell);
         self.close_after(end)
     }
 
     /// Closes the connection after pushing that has ended so.
-    fn close_after(&mut self, end: PushEnd) -> SessionEnd {
+    fn close_after(&mut self, end: PushEnd) -> SessionEnd
+        ensures { result ≡ session_end end }
+    {
         match end {
             PushEnd::Over(_) => {
                 let _ = self.outlet.close(NORMAL);
@@ -176,7 +203,7 @@ impl<R: Wait, S: Read + Write + Drop, G: Gate> Talk<'_, '_, R, S, G> {
             mut keeper,
             ..
         } = self;
-        if let Some(handed) = keeper.handed.take() {
+        if let Some(handed) = keeper.take_handed() {
             let _ = handed.follower.leave();
         }
         conn.finish(&mut keeper);

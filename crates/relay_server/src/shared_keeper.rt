@@ -1,20 +1,31 @@
 //! The keeper of a session, which asks the registry.
 
+ghost use Rattle.std.specs.Prelude.{◌≡◌, None};
+
 use crate::registry::Registry;
 use relay_core::{BoardName, Reply, Step};
 use relay_hall::{Handed, Owner};
 use relay_pushing::Keeper;
+use std::marker::Model;
 use std::sync::Wait;
 
 /// A registry as the keeper of one connection, which has no key: what it opened belongs to it, and nothing else does. It keeps what was handed
-/// out to the connection until that is taken.
+/// out to the connection until that is taken. Contracts see a `KeeperState`.
 #[derive(Drop)]
 pub(crate) struct SharedKeeper<'a, R> {
     pub(crate) rt: &'a R,
     pub(crate) registry: &'a Registry,
-    pub(crate) speaker: Owner,
+    speaker: Owner,
     /// The follower of the last accepted follow, until it is taken.
-    pub(crate) handed: Option<Handed>,
+    handed: Option<Handed>,
+}
+
+impl<'a, R> Model for SharedKeeper<'a, R> {
+    ghost use Rattle.relay_server.specs.Shared.{KeeperState};
+
+    ghost Value = { KeeperState };
+
+    ghost view = { λ k. record { speaker = k.speaker; handed = k.handed } };
 }
 
 impl<'a, R: Wait> SharedKeeper<'a, R> {
@@ -30,14 +41,22 @@ impl<'a, R: Wait> SharedKeeper<'a, R> {
             handed: None,
         }
     }
+
+    /// Takes the follower that was handed out, if it was not taken yet.
+    pub(crate) fn take_handed(&mut self) -> Option<Handed>
+        ensures taken { result ≡ self.old.handed }
+        ensures rest { self.new ≡ record self.old { handed = None } }
+    {
+        self.handed.take()
+    }
 }
 
 impl<R: Wait> Keeper for SharedKeeper<'_, R> {
-    ghost use Rattle.relay_server.specs.Shared.{Tells, MakesBehind};
+    ghost use Rattle.relay_server.specs.Shared.{KeeperMakes, Tells};
 
     ghost tells = { λ s question answer. Tells question answer };
 
-    ghost makes = { λ s step reply t. MakesBehind s.speaker s.handed step reply t.speaker t.handed };
+    ghost makes = { λ s step reply t. KeeperMakes s step reply t };
 
     fn knows(&self, board: &BoardName) -> bool {
         self.registry.knows(self.rt, board)

@@ -1,3 +1,4 @@
+pub mod lemmas
 mod Becoming
 mod Connections
 mod Doing

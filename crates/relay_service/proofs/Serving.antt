@@ -4,7 +4,6 @@ use Rattle.std.proofs.lemmas.Option.{same_Some}
 use Rattle.relay_hall.proofs.lemmas.Staying.{same_stay}
 use Rattle.relay_following.specs.Boards.{IsIn}
 use Rattle.relay_following.specs.Record.{ConnectionRecord}
-use Rattle.relay_service.specs.declared.connection.Connection.{Connection}
 use Rattle.relay_service.specs.declared.connection.Connection.TheVariants.{Follower}
 use Rattle.relay_service.specs.Calls.{Serves}
 use Rattle.relay_service.specs.Inner.{IsCallerOf, IsJoined, NamesNoneYet, OwnsOpened}

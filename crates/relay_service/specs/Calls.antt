@@ -40,6 +40,10 @@ becomes (wrote bytes) d here = Operator d here
 becomes (was_pinged some) d here = Operator d here
 becomes (was_sent_away some code) d here = Operator d here
 
+-- the connections of all other numbers are as before
+abbrev pub OthersStay : ServiceRecord → ℕ → ServiceRecord → Type 0
+OthersStay s number t = (q : ℕ) → nat_eq number q ≡ false → connection_at t q ≡ connection_at s q
+
 -- This was done to a connection, which is an operator's.
 pub record DoesTo (before : Connection) (x : Deed) (after : Connection) : Type 0 where
   pub caller : CallerRecord
@@ -167,10 +171,10 @@ PushesAt s number most more t =
     (λ f. Serves s number (λ f g. PushesTo (follows f.delivery.stage) s.hall.floor most s.is_ending more f g) t)
 
 -- there was no memory
-abbrev pub PushFailsAt : ServiceRecord → ℕ → ServiceRecord → Type 0
-PushFailsAt s number t =
+abbrev pub PushFailsAt : ServiceRecord → ℕ → ℕ → ServiceRecord → Type 0
+PushFailsAt s number most t =
     MatchOption (follower_at s number) ⊥
-    (λ f. Serves s number (λ f g. (follows f.delivery.stage ≡ true) × (g ≡ following.delivers f g.delivery) × PushFails f.delivery g.delivery) t)
+    (λ f. Serves s number (λ f g. (follows f.delivery.stage ≡ true) × (g ≡ following.delivers f g.delivery) × PushFails most f.delivery g.delivery) t)
 
 -- ---- What is sent.
 
@@ -197,6 +201,9 @@ abbrev pub SendsIn : Option Connection → ServiceRecord → ℕ → ℕ → Ser
 SendsIn None s number n t = t ≡ s
 SendsIn (Some (Operator c here)) s number n t = Does s number (wrote (take n c.due)) t
 SendsIn (Some (Follower f who here)) s number n t = Serves s number (λ f g. g ≡ following.delivers f (following.wrote f.delivery n)) t
+
+abbrev pub SendsAt : ServiceRecord → ℕ → ℕ → ServiceRecord → Type 0
+SendsAt s number n t = SendsIn (connection_at s number) s number n t
 
 -- a frame is put behind what is due to it, if it asks or follows
 abbrev pub PutsAt : ServiceRecord → ℕ → (Bool → Deed) → (ConnectionRecord → ConnectionRecord) → ServiceRecord → Type 0

@@ -2,7 +2,7 @@
 use Rattle.std.specs.Prelude.{◌||◌, ℕ, Bool, cond, false, true, length, nat_lt, not, option_map, Option, None, Some}
 use Rattle.live_board.specs.Views.{next_of}
 use Rattle.relay_frames.specs.Reading.{is_midway}
-use Rattle.relay_calling.specs.declared.output.TheConstants.{MOST_OUTPUT}
+use Rattle.relay_frames.specs.declared.output.TheConstants.{MOST_OUTPUT}
 use Rattle.relay_pushing.specs.Connections.{OwnsAny}
 use Rattle.relay_hall.specs.Reading.{place_of}
 use Rattle.relay_hall.specs.Record.{FloorRecord}

@@ -353,7 +353,7 @@ impl Connection {
     {
         match self {
             Connection::Operator { caller, .. } => caller.take_whole(),
-            Connection::Follower { .. } => false,
+            Connection::Follower { connection, .. } => connection.take_whole(),
         }
     }
 }

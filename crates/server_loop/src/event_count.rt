@@ -9,14 +9,14 @@ use std::time::Duration;
 /// A count of events, and how many threads sleep on it. Counting and waking are two calls, so that the waking, which costs far more, can
 /// be postponed.
 #[derive(Drop)]
-pub struct EventCount {
+pub(crate) struct EventCount {
     count: AtomicU64,
     sleepers: AtomicU64,
 }
 
 impl EventCount {
     /// Nothing has happened yet.
-    pub fn new() -> EventCount {
+    pub(crate) fn new() -> EventCount {
         EventCount {
             count: AtomicU64::new(0),
             sleepers: AtomicU64::new(0),
@@ -24,25 +24,25 @@ impl EventCount {
     }
 
     /// How many events there were, wrapping.
-    pub fn count(&self) -> u64 {
+    pub(crate) fn count(&self) -> u64 {
         self.count.load(Ordering::SeqCst)
     }
 
     /// One more. Those who sleep on the count stay asleep until `wake_all`.
-    pub fn advance(&self) {
+    pub(crate) fn advance(&self) {
         self.count.fetch_add(1, Ordering::SeqCst);
     }
 
     /// Wakes all who sleep on it. A sleeper counts itself before the system compares the count of events and puts it to sleep; whoever
     /// advances the count does so before it looks for sleepers here. So nobody sleeps through an event and the wake after it.
-    pub fn wake_all(&self) {
+    pub(crate) fn wake_all(&self) {
         if self.sleepers.load(Ordering::SeqCst) != 0 {
             self.count.wake_all();
         }
     }
 
     /// Waits until the count is not `seen`, and returns it.
-    pub fn wait<R: Wait>(&self, rt: &R, seen: u64) -> u64
+    pub(crate) fn wait<R: Wait>(&self, rt: &R, seen: u64) -> u64
         ensures { result ≢ seen }
     {
         for _ in rt.forever() {
@@ -58,7 +58,7 @@ impl EventCount {
     }
 
     /// Sleeps while the count is `seen`, but no longer than `most`, and perhaps less.
-    pub fn doze<R: Wait>(&self, rt: &R, seen: u64, most: Duration) {
+    pub(crate) fn doze<R: Wait>(&self, rt: &R, seen: u64, most: Duration) {
         self.sleepers.fetch_add(1, Ordering::SeqCst);
         self.count
             .park_timeout(rt, (seen & 0xffff_ffff) as u32, most);

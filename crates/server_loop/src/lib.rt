@@ -18,7 +18,6 @@ mod waker;
 pub use backoff::{Backoff, Pause, end_of_pause, start_of_pause};
 pub use clock::LoopClock;
 pub use deadlines::{Deadlines, SlowReader, Stage, Times, Verdict};
-pub use event_count::EventCount;
 pub use input::watch_input;
 pub use listener::{Arrival, Listener, Reserve};
 pub use log_line::LogLine;

@@ -11,7 +11,7 @@ use std::sync::{Arc, Mutex, Wait};
 use std::thread::{Builder, JoinHandle, Threads};
 use std::time::{Clock, Duration, Instant};
 
-/// How many lines may wait to be written. Anything beyond that is counted and left out.
+/// How many lines of the log may wait to be written. Anything beyond that is counted and left out.
 const MOST_LINES: usize = 4096;
 
 /// How many seconds pass between two lines of counts.
@@ -54,15 +54,16 @@ impl Lines {
         }
     }
 
-    /// Adds a line, or counts it if there is no room. Returns whether there was.
+    /// Adds a line, or counts it if there is no room. What is reported in any case does not want for room. Returns whether it was added.
     fn add(&mut self, line: LogLine) -> bool {
-        let has_room = self.kept.len() < MOST_LINES && self.kept.reserve(1).is_ok();
-        if has_room {
+        let has_room = self.kept.len() < MOST_LINES || !line.is_of_log();
+        let is_added = has_room && self.kept.reserve(1).is_ok();
+        if is_added {
             self.kept.push_reserved(line);
         } else {
             self.left_out = self.left_out.saturating_add(1);
         }
-        has_room
+        is_added
     }
 }
 

@@ -1,5 +1,13 @@
 //! The boards that a loop shows: its own, as far as it was told of them.
 
+ghost use Rattle.std.specs.Prelude.{◌≡◌, ◌+◌, ◌∷◌, ◌++◌, [], length, slice_get, IfOk, OnErr, OnOk, true, false, IsTrue, option_map, Some, is_some};
+ghost use Rattle.std.specs.List.{position};
+ghost use Rattle.c960_game.specs.Positions.{last_position, position_at};
+ghost use Rattle.relay_core.specs.Name.{same_name};
+ghost use Rattle.relay_hall.specs.Reading.{last_of};
+ghost use Rattle.rtrb.specs.Ring.{received};
+ghost use Rattle.watch_port.specs.Copies.{HasTaken, changed_at, copied_after, copy_of, ended_by, nothing_told, played_by, shown_by, summary_of};
+
 use crate::news::News;
 use c960_board::{Move, Position};
 use c960_game::{Game, Limits, Outcome};
@@ -7,6 +15,7 @@ use relay_core::BoardName;
 use relay_messages::BoardSummary;
 use rtrb::Consumer;
 use std::alloc::{AllocError, Global};
+use std::marker::Model;
 
 /// How many news are taken in at a time.
 const MOST_NEWS: u32 = 65536;
@@ -14,51 +23,83 @@ const MOST_NEWS: u32 = 65536;
 /// A board of a loop, as far as the loop was told of it.
 #[derive(Drop)]
 pub struct BoardCopy {
+    /// Its name.
     pub name: BoardName,
     /// Its game, but for an end that its moves do not make.
-    game: Game,
+    pub game: Game,
     /// How its game ended, once it has.
     pub outcome: Option<Outcome>,
 }
 
 impl BoardCopy {
     /// How many moves were made.
-    pub fn len(&self) -> u16 {
+    pub fn len(&self) -> u16
+        ensures { result ≡ length self.now.game.log }
+    {
         self.game.len()
     }
 
     /// The move at a place of its log.
-    pub fn move_at(&self, place: u16) -> Option<Move> {
+    pub fn move_at(&self, place: u16) -> Option<Move>
+        ensures { result ≡ slice_get self.now.game.log place }
+    {
         self.game.move_at(place)
     }
 
     /// The position at a place of its log, if the log has reached it.
-    pub fn position_at(&self, place: u16) -> Option<Position> {
+    pub fn position_at(&self, place: u16) -> Option<Position>
+        ensures { result ≡ position_at self.now.game.start self.now.game.log place }
+    {
         self.game.position_at(place)
     }
 
     /// How far its game has come: it has changed if this has.
-    pub(crate) fn progress(&self) -> Progress {
+    pub(crate) fn progress(&self) -> Progress
+        ensures moves { result.moves ≡ length self.now.game.log }
+        ensures over { result.is_over ≡ is_some self.now.outcome }
+    {
         Progress {
             moves: self.game.len(),
             is_over: self.outcome.is_some(),
         }
     }
 
+    /// Its last move.
+    fn last(&self) -> Option<Move>
+        ensures { result ≡ last_of self.now.game.log }
+    {
+        match self.game.len() {
+            0 => None,
+            plies => self.game.move_at(plies - 1),
+        }
+    }
+
     /// Its present state.
-    pub fn summary(&self) -> BoardSummary {
-        let plies = self.game.len();
+    pub fn summary(&self) -> BoardSummary
+        ensures { result ≡ summary_of self.now }
+    {
         BoardSummary {
             board: self.name,
             start: self.game.start(),
             position: self.game.position(),
-            last: match plies {
-                0 => None,
-                plies => self.game.move_at(plies - 1),
-            },
-            plies,
+            last: self.last(),
+            plies: self.game.len(),
             outcome: self.outcome,
         }
+    }
+
+    /// This move was made. One that is not legal is none: no board has one.
+    fn play(&mut self, m: Move)
+        ensures { self.new ≡ played_by m self.old }
+    {
+        let _ = self.game.play(m);
+    }
+
+    /// The game has ended.
+    fn end(&mut self, outcome: Outcome)
+        ensures { self.new ≡ ended_by outcome self.old }
+    {
+        self.outcome = Some(outcome);
     }
 }
 
@@ -69,7 +110,81 @@ pub(crate) struct Progress {
     pub(crate) is_over: bool,
 }
 
-/// The boards of a loop, in the order of opening, and the ring by which it is told of them.
+/// This move was made on the board of this index.
+fn play_at(boards: &mut Vec<BoardCopy>, at: usize, m: Move)
+    ensures { boards.new.items ≡ changed_at (played_by m) at boards.old.items }
+{
+    if at < boards.len() {
+        boards[at].play(m);
+    }
+}
+
+/// The game of the board of this index has ended.
+fn end_at(boards: &mut Vec<BoardCopy>, at: usize, outcome: Outcome)
+    ensures { boards.new.items ≡ changed_at (ended_by outcome) at boards.old.items }
+{
+    if at < boards.len() {
+        boards[at].end(outcome);
+    }
+}
+
+/// Opens the next board.
+///
+/// # Errors
+///
+/// There was no memory. Nothing has changed.
+fn open(
+    alloc: Global,
+    limits: &Limits,
+    boards: &mut Vec<BoardCopy>,
+    name: BoardName,
+    start: u16,
+) -> Result<(), AllocError>
+    ensures ok { OnOk result (boards.new.items ≡ boards.old.items ++ copy_of limits.now.plies name start ∷ []) }
+    ensures err { OnErr result (boards.new.items ≡ boards.old.items) }
+{
+    let Ok(game) = Game::open(alloc, start, limits.plies()) else {
+        return Err(AllocError);
+    };
+    boards.push(BoardCopy {
+        name,
+        game,
+        outcome: None,
+    })?;
+    Ok(())
+}
+
+/// Does with boards what was told.
+///
+/// # Errors
+///
+/// There was no memory. Nothing has changed.
+fn apply(
+    alloc: Global,
+    limits: &Limits,
+    boards: &mut Vec<BoardCopy>,
+    news: News,
+) -> Result<(), AllocError>
+    ensures ok { OnOk result (boards.new.items ≡ copied_after limits.now.plies boards.old.items news) }
+    ensures err { OnErr result (boards.new.items ≡ boards.old.items) }
+{
+    match news {
+        News::Opened(name, start) => return open(alloc, limits, boards, name, start),
+        News::Played(at, m) => play_at(boards, usize::from(at), m),
+        News::Ended(at, outcome) => end_at(boards, usize::from(at), outcome),
+    }
+    Ok(())
+}
+
+/// The index of the board of this name.
+fn find(boards: &[BoardCopy], name: &BoardName) -> Option<usize>
+    ensures { result ≡ position (λ b. same_name b.name name.now) boards.now }
+{
+    boards.iter().position(|board| board.name == *name)
+}
+
+/// The boards of a loop, in the order of opening, and the ring by which it is told of them. Contracts see what it was told, of which its
+/// boards are a function.
 #[derive(Drop)]
 pub struct BoardTable {
     alloc: Global,
@@ -79,9 +194,24 @@ pub struct BoardTable {
     boards: Vec<BoardCopy>,
 }
 
+impl Model for BoardTable {
+    ghost use Rattle.watch_port.specs.Copies.{TableRecord};
+
+    ghost Value = { TableRecord };
+
+    ghost use Rattle.watch_port.specs.Inner.{IsTable, table_of};
+
+    ghost view = { table_of };
+
+    ghost invariant = { IsTable };
+}
+
 impl BoardTable {
     /// No boards yet. What is told of them comes by this ring, and these are their limits.
-    pub(crate) fn new(alloc: Global, ring: Consumer<News, Global>, limits: Limits) -> BoardTable {
+    pub(crate) fn new(alloc: Global, ring: Consumer<News, Global>, limits: Limits) -> BoardTable
+        requires { received ring ≡ [] }
+        ensures { result ≡ nothing_told limits.plies }
+    {
         BoardTable {
             alloc,
             ring,
@@ -95,69 +225,56 @@ impl BoardTable {
     /// # Errors
     ///
     /// There was no memory.
-    pub fn take_in(&mut self) -> Result<(), AllocError> {
+    #[tactic(auto, using(crate::proofs::Copying::taken_none, crate::proofs::Copying::taken_more))]
+    pub fn take_in(&mut self) -> Result<(), AllocError>
+        ensures { HasTaken self.old self.new }
+    {
         for _ in 0..MOST_NEWS {
-            if self.ring.is_empty() {
+            if !self.take_one()? {
                 return Ok(());
             }
-            let news = *self.ring.peek_known();
-            self.apply(&news)?;
-            let _ = self.ring.pop_known();
         }
         Ok(())
     }
 
-    /// Does with its boards what was told.
+    /// Takes in the next of what the loop was told. Returns whether there was any.
     ///
     /// # Errors
     ///
     /// There was no memory. Nothing has changed.
-    fn apply(&mut self, news: &News) -> Result<(), AllocError> {
-        match *news {
-            News::Opened(name, start) => return self.open(name, start),
-            News::Played(at, m) => {
-                if let Some(board) = self.boards.get_mut(usize::from(at)) {
-                    let _ = board.game.play(m);
-                }
-            }
-            News::Ended(at, outcome) => {
-                if let Some(board) = self.boards.get_mut(usize::from(at)) {
-                    board.outcome = Some(outcome);
-                }
-            }
+    fn take_one(&mut self) -> Result<bool, AllocError>
+        ensures taken { HasTaken self.old self.new }
+        ensures one { IfOk result (λ some. some ≡ true → length self.new.told ≡ length self.old.told + 1) }
+        ensures none { IfOk result (λ some. some ≡ false → self.new ≡ self.old) }
+        ensures unchanged { OnErr result (self.new ≡ self.old) }
+    {
+        if self.ring.is_empty() {
+            return Ok(false);
         }
-        Ok(())
-    }
-
-    /// Opens the next board.
-    ///
-    /// # Errors
-    ///
-    /// There was no memory. Nothing has changed.
-    fn open(&mut self, name: BoardName, start: u16) -> Result<(), AllocError> {
-        let Ok(game) = Game::open(self.alloc, start, self.limits.plies()) else {
-            return Err(AllocError);
-        };
-        self.boards.push(BoardCopy {
-            name,
-            game,
-            outcome: None,
-        })?;
-        Ok(())
+        let news = *self.ring.peek_known();
+        apply(self.alloc, &self.limits, &mut self.boards, news)?;
+        let _ = self.ring.pop_known();
+        Ok(true)
     }
 
     /// How many boards there are.
-    pub fn len(&self) -> usize {
+    pub fn len(&self) -> usize
+        ensures { result ≡ length (shown_by self.now) }
+    {
         self.boards.len()
     }
 
     /// The board of this index.
-    pub fn board(&self, at: usize) -> Option<&BoardCopy> {
+    pub fn board(&self, at: usize) -> Option<&BoardCopy>
+        ensures { option_map (λ b. b.now) result ≡ slice_get (shown_by self.now) at }
+    {
         self.boards.get(at)
     }
 
     /// The index of the board of this name.
-    pub fn find(&self, name: &BoardName) -> Option<usize> {
-        self.boards.iter().position(|board| board.name == *name)
+    pub fn find(&self, name: &BoardName) -> Option<usize>
+        ensures { result ≡ position (λ b. same_name b.name name.now) (shown_by self.now) }
+    {
+        find(self.boards.as_slice(), name)
     }
 }

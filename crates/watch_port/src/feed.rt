@@ -1,5 +1,9 @@
 //! What one loop is told of boards: by a ring of its own, so that nobody waits for it.
 
+ghost use Rattle.std.specs.Prelude.{◌≡◌, ◌<◌, ◌∷◌, ◌++◌, [], length, vec_len, vec_capacity, IfOk, IsTrue, IsFalse, true};
+ghost use Rattle.watch_port.specs.Copies.{changed_at, nothing_told};
+ghost use Rattle.watch_port.specs.Telling.{IsPut, end_of, is_told_of_the_end, missing, moves_told, one_more, opening_of, over, told_after, told_by, untold_of};
+
 use crate::board_table::BoardTable;
 use crate::news::News;
 use c960_board::Move;
@@ -7,6 +11,7 @@ use c960_game::{Limits, Outcome};
 use relay_core::BoardName;
 use rtrb::{Producer, RingBuffer};
 use std::alloc::{AllocError, Global};
+use std::marker::Model;
 use std::mem;
 
 /// How many news a loop may have yet to take in. What is beyond that it is told later.
@@ -14,21 +19,27 @@ const MOST_NEWS: usize = 4096;
 
 /// How far a loop was told of a board.
 #[derive(Clone, Copy)]
-struct Told {
+pub struct Told {
     /// How many of its moves.
-    moves: u16,
+    pub moves: u16,
     /// Whether it was told of the end.
-    is_over: bool,
+    pub is_over: bool,
 }
 
-/// What one loop is told. A ring that is full is no loss: what it does not take is told later, from where the loop is.
-#[derive(Drop)]
-pub struct Feed {
-    ring: Producer<News, Global>,
-    /// How far, of each board that it was told of.
-    told: Vec<Told>,
-    /// Whether the loop has yet to be woken.
-    is_fresh: bool,
+impl Told {
+    /// One more of its moves was told.
+    fn adds_move(&mut self)
+        ensures { self.new ≡ one_more self.old }
+    {
+        self.moves = self.moves.saturating_add(1);
+    }
+
+    /// The end was told.
+    fn ends(&mut self)
+        ensures { self.new ≡ over self.old }
+    {
+        self.is_over = true;
+    }
 }
 
 /// A board of which loops are to be told.
@@ -44,13 +55,72 @@ pub(crate) struct NewsOfBoard<'a> {
     pub(crate) outcome: Option<Outcome>,
 }
 
+/// What one loop is told. A ring that is full is no loss: what it does not take is told later, from where the loop is. Contracts see all
+/// that the loop was told.
+#[derive(Drop)]
+pub struct Feed {
+    ring: Producer<News, Global>,
+    /// How far, of each board that it was told of.
+    told: Vec<Told>,
+    /// Whether the loop has yet to be woken.
+    is_fresh: bool,
+}
+
+impl Model for Feed {
+    ghost use Rattle.std.specs.Prelude.{List};
+    ghost use Rattle.watch_port.specs.declared.news.News.{News};
+
+    ghost Value = { List News };
+
+    ghost use Rattle.watch_port.specs.Inner.{IsFeed, sent_by};
+
+    ghost view = { sent_by };
+
+    ghost invariant = { IsFeed };
+}
+
+/// Notes what was put into a ring.
+fn note(told: &mut Vec<Told>, news: &News)
+    requires { vec_len told.old < vec_capacity told.old }
+    ensures { told.new.items ≡ told_after told.old.items news.now }
+{
+    match *news {
+        News::Opened(_, _) => told.push_reserved(Told {
+            moves: 0,
+            is_over: false,
+        }),
+        News::Played(at, _) => note_move(told, usize::from(at)),
+        News::Ended(at, _) => note_end(told, usize::from(at)),
+    }
+}
+
+/// Notes that a move was told of the board of this index.
+fn note_move(told: &mut Vec<Told>, at: usize)
+    ensures { told.new.items ≡ changed_at one_more at told.old.items }
+{
+    if at < told.len() {
+        told[at].adds_move();
+    }
+}
+
+/// Notes that the end was told of the board of this index.
+fn note_end(told: &mut Vec<Told>, at: usize)
+    ensures { told.new.items ≡ changed_at over at told.old.items }
+{
+    if at < told.len() {
+        told[at].ends();
+    }
+}
+
 impl Feed {
     /// A feed, and the boards of the loop that is told by it, with these limits.
     ///
     /// # Errors
     ///
     /// There was no memory.
-    pub fn new(alloc: Global, limits: Limits) -> Result<(Feed, BoardTable), AllocError> {
+    pub fn new(alloc: Global, limits: Limits) -> Result<(Feed, BoardTable), AllocError>
+        ensures { IfOk result (λ made. (made.0 ≡ []) × (made.1 ≡ nothing_told limits.plies)) }
+    {
         let (sender, receiver) = RingBuffer::new(alloc, MOST_NEWS)?;
         let feed = Feed {
             ring: sender,
@@ -61,34 +131,61 @@ impl Feed {
     }
 
     /// How many moves of the board of this index the loop was told.
-    pub(crate) fn moves_told(&self, at: u16) -> u16 {
+    pub(crate) fn moves_told(&self, at: u16) -> u16
+        ensures { result ≡ moves_told self.now at }
+    {
         match self.told.get(usize::from(at)) {
             Some(told) => told.moves,
             None => 0,
         }
     }
 
+    /// Whether the loop was told how the game of the board of this index ended.
+    fn is_told_of_the_end(&self, at: u16) -> bool
+        ensures { result ≡ is_told_of_the_end self.now at }
+    {
+        match self.told.get(usize::from(at)) {
+            Some(told) => told.is_over,
+            None => false,
+        }
+    }
+
+    /// Of how many boards the loop was told.
+    fn boards_told(&self) -> usize
+        ensures { result ≡ length (told_by self.now) }
+    {
+        self.told.len()
+    }
+
     /// Whether the loop was told anything since the last such call.
-    pub(crate) fn take_fresh(&mut self) -> bool {
+    pub(crate) fn take_fresh(&mut self) -> bool
+        ensures { self.new ≡ self.old }
+    {
         mem::replace(&mut self.is_fresh, false)
     }
 
-    /// Tells the loop of a board what it has not been told, as far as there is room. Returns whether that is all.
-    pub(crate) fn tell(&mut self, board: &NewsOfBoard<'_>) -> bool {
+    /// Tells the loop of a board what it has not been told, in order, as far as there is room. Returns whether that is all.
+    pub(crate) fn tell(&mut self, board: &NewsOfBoard<'_>) -> bool
+        ensures { IsPut self.old (missing self.old board.now) result self.new }
+    {
         self.tell_opened(board) && self.tell_moves(board) && self.tell_end(board)
     }
 
     /// Tells the loop that a board was opened, once it knows of those before.
-    fn tell_opened(&mut self, board: &NewsOfBoard<'_>) -> bool {
+    fn tell_opened(&mut self, board: &NewsOfBoard<'_>) -> bool
+        ensures put { IsPut self.old (opening_of self.old board.now) result self.new }
+    {
         let at = usize::from(board.at);
-        if at != self.told.len() {
-            return at < self.told.len();
+        if at != self.boards_told() {
+            return at < self.boards_told();
         }
-        self.told.reserve(1).is_ok() && self.put(News::Opened(board.name, board.start))
+        self.put(News::Opened(board.name, board.start))
     }
 
     /// Tells the loop of the moves of which it has not been told.
-    fn tell_moves(&mut self, board: &NewsOfBoard<'_>) -> bool {
+    fn tell_moves(&mut self, board: &NewsOfBoard<'_>) -> bool
+        ensures put { IsPut self.old (untold_of self.old board.now) result self.new }
+    {
         let told = self.moves_told(board.at).saturating_sub(board.from);
         for at in usize::from(told)..board.moves.len() {
             if !self.put(News::Played(board.at, board.moves[at])) {
@@ -99,7 +196,9 @@ impl Feed {
     }
 
     /// Tells the loop how the game ended, once it has, and only once.
-    fn tell_end(&mut self, board: &NewsOfBoard<'_>) -> bool {
+    fn tell_end(&mut self, board: &NewsOfBoard<'_>) -> bool
+        ensures put { IsPut self.old (end_of self.old board.now) result self.new }
+    {
         match board.outcome {
             Some(outcome) if !self.is_told_of_the_end(board.at) => {
                 self.put(News::Ended(board.at, outcome))
@@ -108,41 +207,19 @@ impl Feed {
         }
     }
 
-    /// Whether the loop was told how the game of the board of this index ended.
-    fn is_told_of_the_end(&self, at: u16) -> bool {
-        match self.told.get(usize::from(at)) {
-            Some(told) => told.is_over,
-            None => false,
-        }
-    }
-
     /// Puts this into the ring, and notes it. Returns whether there was room.
-    fn put(&mut self, news: News) -> bool {
-        if self.ring.push(news).is_err() {
+    fn put(&mut self, news: News) -> bool
+        ensures put { IsTrue result → self.new ≡ self.old ++ news ∷ [] }
+        ensures full { IsFalse result → self.new ≡ self.old }
+    {
+        if self.told.reserve(1).is_err() {
             return false;
         }
+        let Ok(()) = self.ring.push(news) else {
+            return false;
+        };
+        note(&mut self.told, &news);
         self.is_fresh = true;
-        self.note(&news);
         true
-    }
-
-    /// Notes what was put into the ring.
-    fn note(&mut self, news: &News) {
-        match *news {
-            News::Opened(_, _) => self.told.push_reserved(Told {
-                moves: 0,
-                is_over: false,
-            }),
-            News::Played(at, _) => {
-                if let Some(told) = self.told.get_mut(usize::from(at)) {
-                    told.moves = told.moves.saturating_add(1);
-                }
-            }
-            News::Ended(at, _) => {
-                if let Some(told) = self.told.get_mut(usize::from(at)) {
-                    told.is_over = true;
-                }
-            }
-        }
     }
 }

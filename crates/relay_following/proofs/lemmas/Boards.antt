@@ -1,12 +1,10 @@
 -- A connection stays at the board of its name, whatever happens in the hall and to itself.
-use Rattle.std.proofs.Common.{◌≡◌, ◌+◌, ◌≤◌, ℕ, Bool, true, cond, is_some, List, [], ◌++◌, length, length-append, take, drop, Option, None, Some, IfSome, refl, sym, ap, ◌∙◌, subst, arith}
+use Rattle.std.proofs.Common.{◌≡◌, ◌+◌, ◌≤◌, ℕ, is_some, List, [], length, length-append, take, drop, Option, None, Some, IfSome, sym, ap, ◌∙◌, subst, arith}
 use Rattle.std.proofs.lemmas.List.{take-append-le}
-use Rattle.std.specs.Map.{lookup}
 use Rattle.c960_board.specs.Moves.{Triple}
 use Rattle.c960_game.specs.GameRecord.{GameRecord}
 use Rattle.relay_core.proofs.lemmas.Stretches.{empty_here}
 use Rattle.relay_core.specs.Following.{stretch}
-use Rattle.relay_core.specs.Name.{same_name}
 use Rattle.live_board.specs.declared.view.Part.{Part}
 use Rattle.live_board.specs.Seats.{FollowerSeat}
 use Rattle.live_board.specs.Views.{next_of}

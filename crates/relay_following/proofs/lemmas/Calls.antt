@@ -1,14 +1,14 @@
 -- Whatever a connection says and is sent, it stays at its board.
-use Rattle.std.proofs.Common.{◌≡◌, ◌+◌, ℕ, nat_lt, Bool, true, false, cond, length, List, Option, Some, inl, inr, sym, ap, subst}
+use Rattle.std.proofs.Common.{◌+◌, ℕ, nat_lt, Bool, true, false, cond, length, Option, Some, inl, inr, sym, subst}
 use Rattle.relay_frames.specs.Breaches.{code_of}
 use Rattle.relay_frames.specs.Events.{Told, fragment, text, binary, ping, pong, closed, broken}
 use Rattle.relay_hall.specs.Record.{FloorRecord}
 use Rattle.relay_following.specs.declared.stage.Stage.TheVariants.{Left}
 use Rattle.relay_following.specs.Boards.{IsIn}
-use Rattle.relay_following.specs.Calls.{Answers, Fails, answered, closed_by, closes, delivers, gone, if_follows, left, moved_on, passes_over, pinged, puts, wrote}
+use Rattle.relay_following.specs.Calls.{Answers, Fails, answered, closed_by, closes, delivers, gone, if_follows, left, moved_on, passes_over, pinged, puts}
 use Rattle.relay_following.specs.Pieces.{a_close, a_ping, a_pong}
 use Rattle.relay_following.specs.Record.{ConnectionRecord, DeliveryRecord, follows}
-use Rattle.relay_following.proofs.lemmas.Boards.{in_left, in_puts, in_wrote}
+use Rattle.relay_following.proofs.lemmas.Boards.{in_left, in_puts}
 
 module _ (f : FloorRecord) where
   in_closes : (c : DeliveryRecord) (number : Option ℕ) → IsIn f c → IsIn f (closes c number)

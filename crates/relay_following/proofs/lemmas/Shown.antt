@@ -1,5 +1,5 @@
 -- The headline follows from what is kept true of a connection alone and of its board in the hall.
-use Rattle.std.proofs.Common.{◌≡◌, ◌+◌, ◌≤◌, ℕ, List, [], ◌++◌, length, take, drop, length-append, length-drop, Option, None, Some, IfSome, refl, sym, ap, ◌∙◌, subst, arith}
+use Rattle.std.proofs.Common.{◌≡◌, ◌+◌, ◌≤◌, ℕ, List, [], ◌++◌, length, take, drop, length-append, length-drop, Option, None, Some, IfSome, refl, sym, ap, ◌∙◌, arith}
 use Rattle.std.specs.Prelude.{unwrap_or}
 use Rattle.std.proofs.Math.Seq.{take-append_seam}
 use Rattle.std.proofs.lemmas.List.{drop-append-le, length-take-le, take-append-drop, take-append-le}
@@ -16,7 +16,7 @@ use Rattle.live_board.specs.Views.{next_of}
 use Rattle.relay_hall.specs.Record.{FloorRecord}
 use Rattle.relay_following.specs.declared.stage.Stage.{Stage}
 use Rattle.relay_following.specs.declared.stage.Stage.TheVariants.{Follows, Over, Cut, Left, Failed}
-use Rattle.relay_following.specs.Boards.{IsIn, end_of}
+use Rattle.relay_following.specs.Boards.{IsIn}
 use Rattle.relay_following.specs.Record.{DeliveryRecord}
 use Rattle.relay_following.specs.Served.{IsLost, IsServed}
 use Rattle.relay_following.specs.Shown.{IsPut, IsShown}

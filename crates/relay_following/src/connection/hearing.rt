@@ -1,9 +1,8 @@
 //! What the peer of a connection that follows says, and the answers to that.
 
-ghost use Rattle.std.specs.Prelude.{◌≡◌, IfOk, OnErr, OnOk, length, true};
-ghost use Rattle.relay_frames.specs.Events.{number_of, told};
-ghost use Rattle.relay_following.specs.Calls.{Answers, Fails, answered, closes, delivers, is_heard, left as left_as, passes_over, puts};
-ghost use Rattle.relay_following.specs.Pieces.{a_pong};
+ghost use Rattle.std.specs.Prelude.{◌≡◌, IfOk, OnErr, OnOk, true};
+ghost use Rattle.relay_frames.specs.Events.{told};
+ghost use Rattle.relay_following.specs.Calls.{Answers, Fails, answered, delivers, is_heard, left as left_as, passes_over};
 ghost use Rattle.relay_following.specs.declared.stage.Stage.TheVariants.{Follows, Left};
 
 use crate::connection::FollowerConnection;
@@ -18,8 +17,8 @@ const HEAD_BYTES: u64 = 6;
 
 impl FollowerConnection {
     /// Answers what the bytes say next, while it follows and no more than 16,384 bytes are due: a ping by its pong, a close by a close with
-    /// its code or none, a breach by a close with that of the breach. A message is not answered; beyond 65,536 bytes of messages, each with a
-    /// head of 6, it is closed with 1008. Behind a close or a breach it follows no more, and its slot is free. Returns whether there was
+    /// its code or none, a breach by a close with that of the breach. A message is not answered; beyond 65,536 bytes of messages, each with
+    /// a head of 6, it is closed with 1008. Behind a close or a breach it follows no more, and its slot is free. Returns whether there was
     /// something to answer.
     ///
     /// # Errors

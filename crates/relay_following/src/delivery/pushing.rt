@@ -1,9 +1,9 @@
-//! A push: the moves that the follower takes are put while little is due, and then the end, if there is one. First it takes what it sees. Then
-//! it meets its board in the hall, by which all that it took is known to be that board's. If that shows that something was left, it takes that,
-//! and meets its board again. What a meeting told alone decides on the end: so it is told behind the whole log, or at the closing.
+//! A push: the moves that the follower takes are put while little is due, and then the end, if there is one. First it takes what it sees.
+//! Then it meets its board in the hall, by which all that it took is known to be that board's. If that shows that something was left, it
+//! takes that, and meets its board again. What a meeting told alone decides on the end: so it is told behind the whole log, or at the
+//! closing.
 
-ghost use Rattle.std.specs.Prelude.{◌≡◌, ◌&&◌, [], length, cond, nat_le, not, false, IfOk, OnErr, OnOk};
-ghost use Rattle.relay_frames.specs.declared.output.TheConstants.{MOST_OUTPUT};
+ghost use Rattle.std.specs.Prelude.{◌≡◌, ◌&&◌, [], length, cond, nat_le, not, IfOk, OnErr, OnOk};
 ghost use Rattle.relay_following.specs.Boards.{IsIn};
 ghost use Rattle.relay_following.specs.Calls.{left as left_as, puts};
 ghost use Rattle.relay_following.specs.Pieces.{an_end};
@@ -14,7 +14,7 @@ use crate::delivery::Delivery;
 use crate::stage::Stage;
 use c960_game::Outcome;
 use relay_core::{Account, Taken};
-use relay_frames::{Code, MOST_OUTPUT};
+use relay_frames::Code;
 use relay_hall::Hall;
 use relay_pushing::LastText;
 use std::alloc::AllocError;
@@ -61,9 +61,9 @@ fn end_code(is_ending: bool) -> Code
 }
 
 impl Delivery {
-    /// Puts the moves that its follower takes of the board of its name in this hall while little is due, and then its end if there is one: the
-    /// game's, closed with 1001 if the server is ending, or that it was cut off. Then it follows no more. Returns whether more can be taken
-    /// once what is due is sent.
+    /// Puts the moves that its follower takes of the board of its name in this hall while little is due, and then its end if there is one:
+    /// the game's, closed with 1001 if the server is ending, or that it was cut off. Then it follows no more. Returns whether more can be
+    /// taken once what is due is sent.
     ///
     /// # Errors
     ///
@@ -72,48 +72,49 @@ impl Delivery {
         &mut self,
         hall: &mut Hall,
         last: &mut LastText,
+        most: usize,
         is_ending: bool,
     ) -> Result<bool, AllocError>
         requires is_in { IsIn hall.old.floor self.old }
         requires follows { self.old.stage ≡ Follows }
-        ensures ok { IfOk result (λ more. Pushes hall.old.floor is_ending self.old self.new more) }
-        ensures err { OnErr result (PushFails self.old self.new) }
+        ensures ok { IfOk result (λ more. Pushes hall.old.floor most is_ending self.old self.new more) }
+        ensures err { OnErr result (PushFails most self.old self.new) }
         ensures is_in { IsIn hall.new.floor self.new }
         ensures hall { hall.new ≡ hall.old }
     {
-        let round = self.go_on(hall, last, u64::MAX);
-        let round = self.catch_up(hall, last, round);
+        let round = self.go_on(hall, last, most, u64::MAX);
+        let round = self.catch_up(hall, last, most, round);
         self.finish(last, &round, is_ending)
     }
 
     /// Takes what was left in a round, if something was, little is due, and there was memory.
-    fn catch_up(&mut self, hall: &mut Hall, last: &mut LastText, round: Round) -> Round
+    fn catch_up(&mut self, hall: &mut Hall, last: &mut LastText, most: usize, round: Round) -> Round
         requires met { IsMet hall.old.floor self.old round }
-        ensures caught_up { CatchesUp round.is_put hall.old.floor round self.old self.new result }
+        ensures caught_up { CatchesUp round.is_put hall.old.floor most round self.old self.new result }
         ensures hall { hall.new ≡ hall.old }
     {
-        if !self.may_go_on(&round) {
+        if !self.may_go_on(most, &round) {
             return round;
         }
         let limit = u64::from(round.account.limit);
-        self.go_on(hall, last, limit)
+        self.go_on(hall, last, most, limit)
     }
 
     /// Whether something is left behind a round that may be taken now.
-    fn may_go_on(&self, round: &Round) -> bool
-        ensures { result ≡ (round.now.is_put && (not (is_through round.now) && not (nat_le MOST_OUTPUT (length self.now.due)))) }
+    fn may_go_on(&self, most: usize, round: &Round) -> bool
+        ensures { result ≡ (round.now.is_put && (not (is_through round.now) && not (nat_le most (length self.now.due)))) }
     {
-        round.is_put && !round.is_through() && !self.is_much()
+        round.is_put && !round.is_through() && !self.is_much(most)
     }
 
     /// Takes moves to this place of the log, and meets its board then.
-    fn go_on(&mut self, hall: &mut Hall, last: &mut LastText, limit: u64) -> Round
+    fn go_on(&mut self, hall: &mut Hall, last: &mut LastText, most: usize, limit: u64) -> Round
         requires is_in { IsIn hall.old.floor self.old }
         requires follows { self.old.stage ≡ Follows }
-        ensures went { GoesOn hall.old.floor limit self.old self.new result }
+        ensures went { GoesOn hall.old.floor most limit self.old self.new result }
         ensures hall { hall.new ≡ hall.old }
     {
-        let is_put = self.take_to(last, limit).is_ok();
+        let is_put = self.take_to(last, most, limit).is_ok();
         let (account, outcome) = self.meet(hall);
         Round {
             is_put,
@@ -205,44 +206,43 @@ impl Delivery {
     /// # Errors
     ///
     /// There was no memory to put one of them.
-    fn take_to(&mut self, last: &mut LastText, limit: u64) -> Result<(), AllocError>
+    fn take_to(&mut self, last: &mut LastText, most: usize, limit: u64) -> Result<(), AllocError>
         requires follows { self.old.stage ≡ Follows }
-        ensures ok { OnOk result (Delivers self.old self.new [] [] × StopsAt limit self.old self.new) }
-        ensures err { OnErr result (DeliversLost self.old self.new) }
+        ensures ok { OnOk result (Delivers most self.old self.new [] [] × StopsAt most limit self.old self.new) }
+        ensures err { OnErr result (DeliversLost most self.old self.new) }
         ensures stage { self.new.stage ≡ Follows }
     {
         let next = self.next().unwrap_or(limit);
         for place in next..limit {
-            if self.is_much() {
-                return Ok(());
-            }
-            if !self.take_one(last)? {
+            if !self.take_one(last, most)? {
                 return Ok(());
             }
         }
         Ok(())
     }
 
-    /// Takes the next move and puts it. Returns whether there was one.
+    /// Takes the next move and puts it, if little is due. Returns whether it did.
     ///
     /// # Errors
     ///
     /// There was no memory to put it.
-    fn take_one(&mut self, last: &mut LastText) -> Result<bool, AllocError>
+    fn take_one(&mut self, last: &mut LastText, most: usize) -> Result<bool, AllocError>
         requires follows { self.old.stage ≡ Follows }
-        requires little { nat_le MOST_OUTPUT (length self.old.due) ≡ false }
-        ensures ok { IfOk result (λ some. TakesOne some self.old self.new) }
-        ensures err { OnErr result (DeliversLost self.old self.new) }
+        ensures ok { IfOk result (λ some. TakesOne most some self.old self.new) }
+        ensures err { OnErr result (DeliversLost most self.old self.new) }
         ensures stage { self.new.stage ≡ Follows }
     {
+        if self.is_much(most) {
+            return Ok(false);
+        }
         let taken = self.standing.take();
         self.put_taken(last, taken)
     }
 
     /// Whether so much is due that no more is taken.
-    fn is_much(&self) -> bool
-        ensures { result ≡ nat_le MOST_OUTPUT (length self.now.due) }
+    fn is_much(&self, most: usize) -> bool
+        ensures { result ≡ nat_le most (length self.now.due) }
     {
-        self.output.len() >= MOST_OUTPUT
+        self.output.len() >= most
     }
 }

@@ -17,9 +17,9 @@ use Rattle.relay_hall.specs.Holders.{OthersStay, presence_of, with_newcomer}
 use Rattle.relay_hall.specs.Record.{FloorRecord, HallRecord, nobody_yet}
 use Rattle.relay_hall.specs.Runs.{HallEvent, Comes, Says, Goes, Time, Shuts, Ends, HallTold, Replied, Silent, HallRuns, HallStep, IsOneStep, IsReached, Passes, history_after}
 use Rattle.relay_hall.specs.Steps.{Makes, OpensAs, after_end, after_submit, answer_to_end, answer_to_open, answer_to_submit}
-use Rattle.relay_hall.specs.Talk.{IsAnsweredBy, IsRepliedBy, IsUnansweredBy, IsUnmade}
+use Rattle.relay_hall.specs.Talk.{IsAnsweredBy, IsUnansweredBy}
 use Rattle.relay_hall.specs.Times.{WentBy}
-use Rattle.relay_hall.proofs.lemmas.OneStep.{answered_once, replied_once, unanswered_once}
+use Rattle.relay_hall.proofs.lemmas.OneStep.{answered_once, unanswered_once}
 
 -- ---- No event changes the limits or the grace.
 
@@ -102,11 +102,6 @@ pub heard : {S E : Type 0} (bytes : S → List ℕ) (k : HallRecord) (f : FloorR
     → IfOk answer (λ s. IsAnsweredBy k.floor speaker opened text (bytes s) handed f now) → OnErr answer (IsUnansweredBy k.floor speaker opened text handed f now) → IsReached (record k { floor = f })
 heard bytes k f speaker opened text handed now (Ok s) r ok err = heard_once k (record k { floor = f }) speaker handed r (answered_once k (record k { floor = f }) refl speaker opened handed now text (bytes s) ok)
 heard bytes k f speaker opened text handed now (Err e) r ok err = heard_once k (record k { floor = f }) speaker handed r (unanswered_once k (record k { floor = f }) refl speaker opened handed now text err)
-
-pub replied : {S E : Type 0} (full : S → Reply) (k : HallRecord) (f : FloorRecord) (speaker : Owner) (opened : List (List ℕ)) (step : Step) (handed : Option Handed) (now : List (List ℕ)) (answer : Result S E) → IsReached k
-    → IfOk answer (λ s. IsRepliedBy k.floor speaker opened step (full s) handed f now) → OnErr answer (IsUnmade k.floor opened handed f now) → IsReached (record k { floor = f })
-replied full k f speaker opened step handed now (Ok s) r ok err = heard_once k (record k { floor = f }) speaker handed r (replied_once k (record k { floor = f }) refl speaker opened handed now step (full s) ok)
-replied full k f speaker opened step handed now (Err e) r ok (none, is, now-is) = subst (λ (x : FloorRecord). IsReached (record k { floor = x })) (sym is) r
 
 pub arrived : {A E : Type 0} (k : HallRecord) (key : List ℕ) (keys : List Holder) (answer : Result A E) → IsReached k
     → OnOk answer (is_some (presence_of key keys) ≡ true) → OnOk answer (presence_of key keys ≡ with_newcomer (presence_of key k.keys)) → OthersStay key k.keys keys → OnErr answer (keys ≡ k.keys)

@@ -10,4 +10,5 @@ mod order;
 pub mod peers;
 mod refusals;
 pub mod rows;
+mod sharing;
 mod texts;

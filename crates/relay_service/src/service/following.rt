@@ -22,7 +22,7 @@ impl Service {
     /// board.
     pub fn push(&mut self, number: u64) -> Result<bool, AllocError>
         ensures ok { IfOk result (λ more. PushesAt self.old number MOST_OUTPUT more self.new) }
-        ensures err { OnErr result (PushFailsAt self.old number self.new) }
+        ensures err { OnErr result (PushFailsAt self.old number MOST_OUTPUT self.new) }
     {
         self.push_up_to(number, MOST_OUTPUT)
     }
@@ -35,7 +35,7 @@ impl Service {
     /// board.
     pub fn push_all(&mut self, number: u64) -> Result<bool, AllocError>
         ensures ok { IfOk result (λ more. PushesAt self.old number (2 ^ 64 - 1) more self.new) }
-        ensures err { OnErr result (PushFailsAt self.old number self.new) }
+        ensures err { OnErr result (PushFailsAt self.old number (2 ^ 64 - 1) self.new) }
     {
         self.push_up_to(number, usize::MAX)
     }
@@ -47,7 +47,7 @@ impl Service {
     /// There was no memory.
     fn push_up_to(&mut self, number: u64, most: usize) -> Result<bool, AllocError>
         ensures ok { IfOk result (λ more. PushesAt self.old number most more self.new) }
-        ensures err { OnErr result (PushFailsAt self.old number self.new) }
+        ensures err { OnErr result (PushFailsAt self.old number most self.new) }
     {
         if !self.follows(number) {
             return Ok(false);

@@ -3,8 +3,8 @@
 ghost use Rattle.std.specs.Prelude.{◌≡◌, OnErr, OnOk};
 ghost use Rattle.relay_calling.specs.Running.{was_pinged, was_sent_away};
 ghost use Rattle.relay_following.specs.Calls.{closed_by, pinged};
-ghost use Rattle.relay_service.specs.Calls.{IsServedAt, PutsAt, SendsIn};
-ghost use Rattle.relay_service.specs.Record.{connection_at, due_at};
+ghost use Rattle.relay_service.specs.Calls.{IsServedAt, PutsAt, SendsAt};
+ghost use Rattle.relay_service.specs.Record.{due_at};
 
 use crate::connection::Connection;
 use crate::service::Service;
@@ -31,7 +31,7 @@ impl Service {
 
     /// The first `n` of the bytes due to the connection of this number were sent, or all if they are fewer.
     pub fn sent(&mut self, number: u64, n: usize)
-        ensures { SendsIn (connection_at self.old number) self.old number n self.new }
+        ensures { SendsAt self.old number n self.new }
     {
         if self.follows(number) {
             self.sent_to_follower(number, n);

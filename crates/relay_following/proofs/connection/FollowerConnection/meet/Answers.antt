@@ -1,5 +1,4 @@
 use Rattle.std.proofs.Common.{Some, refl, ap, ◌∙◌}
-use Rattle.relay_frames.specs.Breaches.{code_of}
 use Rattle.relay_frames.specs.Events.{number_of}
 use Rattle.relay_following.specs.Calls.{closes, puts}
 use Rattle.relay_following.specs.Pieces.{a_pong}

@@ -5,4 +5,4 @@ use Rattle.relay_following.proofs.connection.FollowerConnection.push.Goals as go
 pub invariant_of-self : goal.invariant_of-self
 invariant_of-self c =
     let d = c.self.inside.delivery in
-    served_push c.args.hall.now.floor c.args.is_ending d c.push.new.self c.self.invariant (follows_is d.stage (search rules)) c.push.result c.push.ensures.ok c.push.ensures.err
+    served_push c.args.hall.now.floor c.args.most c.args.is_ending d c.push.new.self c.self.invariant (follows_is d.stage (search rules)) c.push.result c.push.ensures.ok c.push.ensures.err

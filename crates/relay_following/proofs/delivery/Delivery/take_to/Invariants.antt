@@ -6,4 +6,4 @@ use Rattle.relay_following.specs.declared.stage.Stage.TheVariants.{Follows}
 use Rattle.relay_following.proofs.delivery.Delivery.take_to.Given as goal
 
 abbrev pub invariant-loop-place : goal.invariant-loop-place
-invariant-loop-place l = record { delivers : Delivers l.fn.self l.self [] []; follows : l.self.stage ≡ Follows; at : l.place ≡ next_of l.self.follower.part }
+invariant-loop-place l = record { delivers : Delivers l.most l.fn.self l.self [] []; follows : l.self.stage ≡ Follows; at : l.place ≡ next_of l.self.follower.part }

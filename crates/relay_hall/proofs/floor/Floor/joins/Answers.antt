@@ -34,8 +34,8 @@ returns-in-Ok c who =
     let later : FloorState = record (showing (state_of a) c.hand_out.new.boards.entries) { handed = Some (record { board = c.args.board; follower = f }) } in
     rw (← c.self.view_is)
     (follow_makes (state_of a) a.boards.entries c.hand_out.new.boards.entries (spare a.boards) refl c.self.invariant same who c.args.board c.args.from
-    c.hand_out.result (Ok joined) hands c.in-Ok.is (Following c.joined-joined.result c.in-Ok.replaying)
-    (λ i. Following (c.joined-joined.ensures i) c.in-Ok.replaying) later refl)
+    c.hand_out.result (Ok joined) hands c.in-Ok.is (Following c.joined-joined.result c.position.result)
+    (λ i. Following (c.joined-joined.ensures i) (c.position.ensures i)) later refl)
 
 -- a follow that was refused: what was noted of the slots is not shown
 pub returns-in-Err : goal.returns-in-Err

@@ -1,3 +1,0 @@
-mod HandedOver
-mod Stretches
-mod Served

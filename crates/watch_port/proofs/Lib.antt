@@ -1,0 +1,4 @@
+pub mod Copying
+pub mod Putting
+pub mod Showing
+pub mod Taping
