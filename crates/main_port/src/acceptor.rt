@@ -235,8 +235,8 @@ impl<'a> Acceptor<'a> {
 
     /// Who was met.
     pub(crate) fn end(self) -> Tally
-        ensures tally { result ≡ self.tally }
-        ensures all { self.is_open ≡ false → self.may_end ≡ false → is_full result ≡ true }
+        ensures tally { result ≡ self.entry.tally }
+        ensures all { self.entry.is_open ≡ false → self.entry.may_end ≡ false → is_full result ≡ true }
     {
         let Acceptor { tally, .. } = self;
         tally

@@ -54,7 +54,7 @@ impl<'a, R: Wait + Clock, W: Watchers> EventLoop<'a, R, W> {
         clients: Clients<'a, R, W>,
         acceptor: Acceptor<'a>,
     ) -> EventLoop<'a, R, W>
-        ensures { result.acceptor ≡ acceptor }
+        ensures { result.acceptor ≡ acceptor.entry }
     {
         EventLoop {
             rt,
@@ -198,8 +198,8 @@ impl<'a, R: Wait + Clock, W: Watchers> EventLoop<'a, R, W> {
 
     /// Who was met, and those who watch.
     pub(crate) fn end(self) -> (Tally, W)
-        ensures tally { result.0 ≡ self.acceptor.tally }
-        ensures all { self.acceptor.is_open ≡ false → self.acceptor.may_end ≡ false → is_full result.0 ≡ true }
+        ensures tally { result.0 ≡ self.entry.acceptor.tally }
+        ensures all { self.entry.acceptor.is_open ≡ false → self.entry.acceptor.may_end ≡ false → is_full result.0 ≡ true }
     {
         let EventLoop {
             acceptor, clients, ..
