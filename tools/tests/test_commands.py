@@ -418,7 +418,7 @@ class Gate(Commands):
         called = self.called()
         called.remove("replay tools/refused.py")
         instructions = "replay bench/instructions"
-        self.assertEqual(called, [tests, replays, tables, "proofs ci", instructions, sessions, sessions, *4 * [refusals]])
+        self.assertEqual(called, [tests, replays, tables, "proofs ci", instructions, sessions, *4 * [refusals]])
 
     def test_replays_that_failed_beside_proofs_are_tried_again(self):
         write(self.state / "all.py", "")
