@@ -134,8 +134,8 @@ impl Hall {
         (heard, self.floor.take_handed())
     }
 
-    /// Makes a step for this speaker. Whether a connection may make it is for whoever asks to know. Returns the reply, and the follower that
-    /// was handed out if a follow was accepted, with the name of its board.
+    /// Makes a step for this speaker. Whether a connection may make it is for whoever asks to know. Returns the reply, and the follower
+    /// that was handed out if a follow was accepted, with the name of its board.
     pub fn step(&mut self, speaker: &Owner, step: &Step) -> (Reply, Option<Handed>)
         ensures made { Makes self.old.floor speaker.now step.now result.0 result.1 self.new.floor }
         ensures rest { self.new ≡ record self.old { floor = self.new.floor } }

@@ -27,9 +27,9 @@ const NORMAL: u16 = 1000;
 /// The close code after `Cut`: the server's own, from the range for private use (RFC 6455, section 7.4.2).
 const CUT_OFF: u16 = 4001;
 
-/// One connection from its handshake to its end. It answers each text and each binary message by one text. Once it follows a board, it is no
-/// longer read: it gets that board's moves, and at the end a close, 1000 after `Over` and 4001 after `Cut`. At most 1,000,000 messages are
-/// read. At its end its follower leaves, and each board that it opened is ended as abandoned, unless its game is over.
+/// One connection from its handshake to its end. It answers each text and each binary message by one text. Once it follows a board, it is
+/// no longer read: it gets that board's moves, and at the end a close, 1000 after `Over` and 4001 after `Cut`. At most 1,000,000 messages
+/// are read. At its end its follower leaves, and each board that it opened is ended as abandoned, unless its game is over.
 pub fn session<R: Wait, S: Read + Write + Drop, G: Gate>(
     rt: &R,
     alloc: Global,

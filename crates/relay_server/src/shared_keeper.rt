@@ -9,8 +9,8 @@ use relay_pushing::Keeper;
 use std::marker::Model;
 use std::sync::Wait;
 
-/// A registry as the keeper of one connection, which has no key: what it opened belongs to it, and nothing else does. It keeps what was handed
-/// out to the connection until that is taken. Contracts see a `KeeperState`.
+/// A registry as the keeper of one connection, which has no key: what it opened belongs to it, and nothing else does. It keeps what was
+/// handed out to the connection until that is taken. Contracts see a `KeeperState`.
 #[derive(Drop)]
 pub(crate) struct SharedKeeper<'a, R> {
     pub(crate) rt: &'a R,

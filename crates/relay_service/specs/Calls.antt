@@ -160,7 +160,8 @@ FailsAt s number t = ForEach (connection_at s number) ⊥ (λ c. FailsOperator s
 
 -- ---- What is pushed.
 
--- the moves of the board that it follows in this very hall while less than this is due, and the end if there is one; nothing once it has left
+-- the moves of the board that it follows in this very hall while less than this is due, and the end if there is one; nothing once it has
+-- left
 abbrev pub PushesTo : Bool → FloorRecord → ℕ → Bool → Bool → ConnectionRecord → ConnectionRecord → Type 0
 PushesTo true floor most is_ending more f g = (g ≡ following.delivers f g.delivery) × Pushes floor most is_ending f.delivery g.delivery more
 PushesTo false floor most is_ending more f g = (more ≡ false) × (g ≡ f)

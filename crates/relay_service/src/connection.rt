@@ -240,7 +240,8 @@ impl Connection {
         }
     }
 
-    /// If something was handed out to it and it was told so, it follows from now on; if it was not told, the follower leaves its board again.
+    /// If something was handed out to it and it was told so, it follows from now on; if it was not told, the follower leaves its board
+    /// again.
     fn take_up(&mut self, alloc: Global, is_told: bool, handed: Option<Handed>)
         requires told { is_told ≡ true → IfSome handed (λ h. IfOperator self.old (λ c here. IsOpening c.due h.follower.part)) }
         requires untaken { IfSome handed (λ h. h.follower.part.taken ≡ []) }

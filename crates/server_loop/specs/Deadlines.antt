@@ -45,8 +45,8 @@ ping_of t d now =
     cond (nat_le (steps_in (now - d.silence.heard_at) t.silent) d.silence.pings) Stays
     (cond (nat_le MOST_PINGS d.silence.pings) Gone (cond (is_some d.waits_since) Stays Ping))
 
--- One that may say something goes if half a message waits too long, and if output does, unless it is granted more. It is idle if it sends no
--- message for so long, or may be silent.
+-- One that may say something goes if half a message waits too long, and if output does, unless it is granted more. It is idle if it sends
+-- no message for so long, or may be silent.
 abbrev pub verdict_talking : Times → Deadlines → ℕ → Option ℕ → Verdict
 verdict_talking t d now most_idle =
     cond (has_lasted d.silence.midway_since now t.half) Gone

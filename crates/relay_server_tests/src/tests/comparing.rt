@@ -1,5 +1,5 @@
-//! The same sessions through the plain server and through the connections of the program's server, which a hall answers from bytes. All texts
-//! are the same, and the ends.
+//! The same sessions through the plain server and through the connections of the program's server, which a hall answers from bytes. All
+//! texts are the same, and the ends.
 
 mod chance;
 mod commands;

@@ -11,9 +11,9 @@ use relay_frames::{Code, MOST_OUTPUT};
 use std::alloc::AllocError;
 
 impl Service {
-    /// Puts what the connection of this number is sent next of the board that it follows, by this hall: the moves that it can take while less
-    /// than 16,384 bytes are due to it, and then the end and the close, if the game has ended or it was cut off. Returns whether more can be
-    /// taken once what is due is sent.
+    /// Puts what the connection of this number is sent next of the board that it follows, by this hall: the moves that it can take while
+    /// less than 16,384 bytes are due to it, and then the end and the close, if the game has ended or it was cut off. Returns whether more
+    /// can be taken once what is due is sent.
     ///
     /// # Errors
     ///

@@ -31,7 +31,8 @@ impl Service {
         self.turns = self.turns.and(&NewTurn::Goes(Snapshot::of(&who)));
     }
 
-    /// There is no connection of this number any more. It goes from the hall, if it is present there, and if it follows it leaves its board.
+    /// There is no connection of this number any more. It goes from the hall, if it is present there, and if it follows it leaves its
+    /// board.
     pub fn disconnect(&mut self, number: u64)
         ensures { DisconnectsAt self.old number self.new }
     {

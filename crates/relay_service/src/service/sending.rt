@@ -15,8 +15,8 @@ use std::alloc::AllocError;
 
 impl Service {
     /// Offers the bytes that are due to the connection of this number. With what was sent to it before, they are what its deeds among all
-    /// turns so far require; and of one that follows then the moves of the board of its name in this very hall, each once and in order, from
-    /// where it joined to as far as it has come, and the end.
+    /// turns so far require; and of one that follows then the moves of the board of its name in this very hall, each once and in order,
+    /// from where it joined to as far as it has come, and the end.
     pub fn output(&self, number: u64) -> &[u8]
         ensures due { result.now ≡ due_at self.now number }
         ensures served { IsServedAt self.now number }
@@ -71,8 +71,8 @@ impl Service {
         Ok(())
     }
 
-    /// Puts a close with this code behind what is due to the connection of this number, if it asks or follows. Then it says no more, and has
-    /// left the board that it followed.
+    /// Puts a close with this code behind what is due to the connection of this number, if it asks or follows. Then it says no more, and
+    /// has left the board that it followed.
     ///
     /// # Errors
     ///

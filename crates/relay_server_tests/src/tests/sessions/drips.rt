@@ -1,5 +1,5 @@
-//! Sessions whose bytes arrive one by one behind the request, and leave two by two, each after a call that was interrupted. They are the same
-//! as those whose bytes arrive in one piece.
+//! Sessions whose bytes arrive one by one behind the request, and leave two by two, each after a call that was interrupted. They are the
+//! same as those whose bytes arrive in one piece.
 
 use crate::tests::sessions::frames::{REQUEST, behind_head, lines};
 use crate::tests::sessions::gates::Counted;

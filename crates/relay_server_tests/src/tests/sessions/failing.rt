@@ -142,8 +142,8 @@ const NO_BOARD: &[u8] = b"{\"code\":1,\"name\":\"NoSuchBoard\",\"reply\":\"refus
 
 const ABANDONED: &[u8] = b"{\"outcome\":\"abandoned\",\"reply\":\"over\"}\nclose 1000\n";
 
-/// How many bytes are written before a write fails, and how the session ends then: they are a part of the response; all of it; a part of the
-/// first answer, all of it, and a part of the second. Behind the response the board was opened by then.
+/// How many bytes are written before a write fails, and how the session ends then: they are a part of the response; all of it; a part of
+/// the first answer, all of it, and a part of the second. Behind the response the board was opened by then.
 const WRITES: [(usize, SessionEnd); 5] = [
     (100, SessionEnd::NoHandshake),
     (129, SessionEnd::Failed),
@@ -152,8 +152,8 @@ const WRITES: [(usize, SessionEnd); 5] = [
     (160, SessionEnd::Failed),
 ];
 
-/// Whether a session whose writes take this many bytes and then fail in this way ends so and writes no more, and its board is over if it was
-/// opened.
+/// Whether a session whose writes take this many bytes and then fail in this way ends so and writes no more, and its board is over if it
+/// was opened.
 fn fails_for_good<R: Wait>(
     rt: &R,
     alloc: Global,

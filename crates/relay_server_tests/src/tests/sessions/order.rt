@@ -22,8 +22,8 @@ fn of_an_owner() -> &'static str {
     "read\nwritten 129\nread\nbefore 7\nwritten 20\nafter 7\nread\nwritten 45\nwritten 45\nread\nwritten 4\n"
 }
 
-/// A follower of that game sends its request and its command. The answer has 97 bytes, the two moves 40 each, the end of the game 38. Behind
-/// the answer nothing is read.
+/// A follower of that game sends its request and its command. The answer has 97 bytes, the two moves 40 each, the end of the game 38.
+/// Behind the answer nothing is read.
 fn of_a_follower() -> &'static str {
     "read\nwritten 129\nread\nbefore 7\nwritten 99\nafter 7\nwritten 42\nwritten 42\nwritten 40\nwritten 4\n"
 }
