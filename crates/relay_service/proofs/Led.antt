@@ -151,8 +151,9 @@ served_at s number l joined law delivered = by (connection_at s number) refl
     by : (o : Option Connection) → connection_at s number ≡ o → IsServedIn s number o
     by None at = tt
     by (Some (Follower f who here)) at =
-        let t = l.there number (Follower f who here) at in
-        (record { caller = l.callers number; served = served; handed = t.1; due = t.2 },
-        shown s.hall.floor f.delivery (delivered f (ap follower_in at)) (joined number (Follower f who here) at))
+        let t = l.there number (Follower f who here) at in (
+          record { caller = l.callers number; served = served; handed = t.1; due = t.2 },
+          shown s.hall.floor f.delivery (delivered f (ap follower_in at)) (joined number (Follower f who here) at),
+        )
     by (Some (Operator c here)) at =
         subst (λ (d : CallerRecord). IsServed number s.takes_keys (deeds_of number s.turns) d) (l.there number (Operator c here) at) served

@@ -25,7 +25,10 @@ use std::snapshot::Snapshot;
 #[derive(Drop)]
 pub enum Connection {
     /// An operator's, whose bytes are answered by the hall. Once it is not present there any more it says nothing, and is sent what is due.
-    Operator { caller: Caller, is_present: bool },
+    Operator {
+        caller: Caller,
+        is_present: bool,
+    },
     /// One that follows a board. It is present in the hall as who it was when it asked.
     Follower {
         connection: FollowerConnection,
@@ -64,10 +67,8 @@ fn stage_of_follower(stage: FollowerStage) -> Stage
 {
     match stage {
         FollowerStage::Follows => Stage::Follows,
-        FollowerStage::Over(_)
-        | FollowerStage::Cut
-        | FollowerStage::Left
-        | FollowerStage::Failed => Stage::Leaves,
+        FollowerStage::Over(_) | FollowerStage::Cut | FollowerStage::Left | FollowerStage::Failed =>
+            Stage::Leaves,
     }
 }
 
@@ -128,7 +129,9 @@ impl Connection {
         match self {
             Connection::Operator { caller, is_present } if *is_present => Some(*caller.owner()),
             Connection::Follower {
-                who, is_present, ..
+                who,
+                is_present,
+                ..
             } if *is_present => Some(*who),
             _ => None,
         }
