@@ -4,8 +4,8 @@ use crate::tests::calling::frames::{PING, PONG, TEXT, add, asked, tell};
 use crate::tests::calling::requests::{ACCEPTED, BEHIND_TARGET};
 use crate::tests::holds;
 use crate::tests::service::deeds::Deed::{
-    Breaks, Closes, Comes, Drops, Due, Ended, Ends, Follows, Gets, Goes, IsAbandoned, IsPinged, Leaves,
-    Passes, Pings, Says, Shuts, Time,
+    Breaks, Closes, Comes, Drops, Due, Ended, Ends, Follows, Gets, Goes, IsAbandoned, IsPinged,
+    Leaves, Passes, Pings, Says, Shuts, Time,
 };
 use crate::tests::service::frames::tell_close;
 use c960_game::{Limits, Outcome};

@@ -2,8 +2,8 @@
 
 use crate::tests::hall::answers::{AGREED, GAME_OVER, NOT_YOUR_BOARD, OPENED};
 use crate::tests::service::deeds::Deed::{
-    Breaks, Closes, Comes, Drops, Due, Ended, Ends, Follows, Gets, Goes, IsAbandoned, IsPinged, Leaves,
-    Passes, Pings, Says, Shuts, Time,
+    Breaks, Closes, Comes, Drops, Due, Ended, Ends, Follows, Gets, Goes, IsAbandoned, IsPinged,
+    Leaves, Passes, Pings, Says, Shuts, Time,
 };
 use crate::tests::service::deeds::{Deed, happens};
 

@@ -100,7 +100,11 @@ impl Scene {
             self.leaves_board(person, "cut");
         } else if let Some(outcome) = row.outcome {
             tell_over(rt, self.alloc, &mut person.due, outcome, self.is_ending);
-            let word = if self.is_ending { "over, as the server ends" } else { "over" };
+            let word = if self.is_ending {
+                "over, as the server ends"
+            } else {
+                "over"
+            };
             self.leaves_board(person, word);
         }
     }
