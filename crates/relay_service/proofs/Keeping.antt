@@ -9,7 +9,7 @@ use Rattle.relay_hall.specs.Record.{FloorRecord, HallRecord}
 use Rattle.relay_hall.specs.Runs.{Comes, Goes, HallEvent, HallStep, IsOneStep, SaysWhileThere, Silent, count_after, goes_now, says_now}
 use Rattle.relay_calling.specs.Calling.{CallerRecord, after_write, asks}
 use Rattle.relay_calling.specs.Crowd.{LeadsHall, Turn, happens, passes}
-use Rattle.relay_calling.specs.Running.{Deed, IsDone, Moment, came, failed, heeded, wrote}
+use Rattle.relay_calling.specs.Running.{Deed, IsDone, Moment, came, failed, heeded, was_pinged, was_sent_away, wrote}
 use Rattle.relay_hall.specs.Meeting.{BoardsStay}
 use Rattle.relay_hall.proofs.lemmas.Staying.{once_stays, same_stay, step_stays}
 use Rattle.relay_following.specs.Record.{ConnectionRecord}

@@ -33,7 +33,7 @@ heard : TellsOf → (c : CallerRecord) (some : Bool) (k : HallRecord) (h : Hande
 heard law c true k h l mid (d, heeds, is) =
     let t = law c k h l d heeds in
     subst (IsTellOf h) (sym is) (subst (λ (due : List ℕ). IsOpening due h.follower.part) (sym t.2) (told_of h.follower t.0 c.due t.1))
-heard law c false k h l mid (d, (none, more), is) = absurd (none-some h (sym none))
+heard law c false k h l mid (d, (none, same, stays, more), is) = absurd (none-some h (sym none))
 
 pub tells_opening : TellsOf → (before mid : Connection) (answered : Result Bool AllocError) (handed : Option Handed) (k l : HallRecord)
     → IfOk answered (λ some. IfPresent before (λ c. HeedsTo c some k handed l mid)) → (caller_in (Some before) ≡ None → handed ≡ None)

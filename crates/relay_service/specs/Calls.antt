@@ -171,10 +171,11 @@ PushesAt s number most more t =
     (λ f. Serves s number (λ f g. PushesTo (follows f.delivery.stage) s.hall.floor most s.is_ending more f g) t)
 
 -- there was no memory
+abbrev pub PushFailsTo : ℕ → ConnectionRecord → ConnectionRecord → Type 0
+PushFailsTo most f g = (follows f.delivery.stage ≡ true) × (g ≡ following.delivers f g.delivery) × PushFails most f.delivery g.delivery
+
 abbrev pub PushFailsAt : ServiceRecord → ℕ → ℕ → ServiceRecord → Type 0
-PushFailsAt s number most t =
-    MatchOption (follower_at s number) ⊥
-    (λ f. Serves s number (λ f g. (follows f.delivery.stage ≡ true) × (g ≡ following.delivers f g.delivery) × PushFails most f.delivery g.delivery) t)
+PushFailsAt s number most t = MatchOption (follower_at s number) ⊥ (λ f. Serves s number (PushFailsTo most) t)
 
 -- ---- What is sent.
 

@@ -1,12 +1,14 @@
 //! A connection of a service, by what it does.
 
-ghost use Rattle.std.specs.Prelude.{◌≡◌, Some, IfOk, OnErr, false, is_some, option_map, take, true};
+ghost use Rattle.std.specs.Prelude.{◌≡◌, [], None, Some, IfOk, IfSome, OnErr, false, is_some, option_map, take, true};
 ghost use Rattle.relay_calling.specs.Calling.{after_write, asks, pinged, sent_away};
 ghost use Rattle.relay_service.specs.declared.connection.Connection.TheVariants.{Operator, Follower};
 ghost use Rattle.relay_following.specs.Served.{IsOpening};
 ghost use Rattle.relay_service.specs.Calls.{AnswersTo, FailsTo, FeedsTo, HeedsTo, IfOperator, IfPresent, LeftAs, arrival_at, heard_as, taken_up};
 ghost use Rattle.relay_service.specs.Looking.{is_full_in, is_midway_in, stage_of, stage_of_caller, stage_of_follower, was_cut_in};
 ghost use Rattle.relay_service.specs.Record.{caller_in, follower_in, opened, operator_in, owner_in};
+
+mod following;
 
 use crate::bytes::Bytes;
 use crate::stage::Stage;

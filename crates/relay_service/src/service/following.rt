@@ -6,7 +6,6 @@ ghost use Rattle.relay_frames.specs.declared.output.TheConstants.{MOST_OUTPUT};
 ghost use Rattle.relay_service.specs.Calls.{PushFailsAt, PushesAt, Serves};
 ghost use Rattle.relay_service.specs.Record.{follower_at};
 
-use crate::connection::Connection;
 use crate::service::Service;
 use relay_frames::{Code, MOST_OUTPUT};
 use std::alloc::AllocError;
@@ -52,8 +51,7 @@ impl Service {
         if !self.follows(number) {
             return Ok(false);
         }
-        let Some(Connection::Follower { connection, .. }) = self.connections.get_mut(&number)
-        else {
+        let Some(connection) = self.connections.get_mut(&number) else {
             unreachable!();
         };
         connection.push(&mut self.hall, &mut self.last, most, self.is_ending)
@@ -64,16 +62,16 @@ impl Service {
     /// # Errors
     ///
     /// There was no memory. Nothing has changed.
+    #[tactic(auto, using(std::proofs::lemmas::Map::Steps::set_value_same))]
     pub(crate) fn feed_follower(&mut self, number: u64, bytes: &[u8]) -> Result<(), AllocError>
         requires follows { is_some (follower_at self.old number) ≡ true }
         ensures ok { OnOk result (Serves self.old number (λ f g. g ≡ after_feed f bytes.now) self.new) }
         ensures err { OnErr result (self.new ≡ self.old) }
     {
-        let Some(Connection::Follower { connection, .. }) = self.connections.get_mut(&number)
-        else {
+        let Some(connection) = self.connections.get_mut(&number) else {
             unreachable!();
         };
-        connection.feed(bytes)
+        connection.feed_follower(bytes)
     }
 
     /// Answers what a connection says next that follows. Returns whether it said anything.
@@ -86,11 +84,10 @@ impl Service {
         ensures ok { IfOk result (λ some. Serves self.old number (Answers some) self.new) }
         ensures err { OnErr result (Serves self.old number Fails self.new) }
     {
-        let Some(Connection::Follower { connection, .. }) = self.connections.get_mut(&number)
-        else {
+        let Some(connection) = self.connections.get_mut(&number) else {
             unreachable!();
         };
-        connection.answer()
+        connection.answer_follower()
     }
 
     /// The first `n` of the bytes due to a connection that follows were sent, or all if they are fewer.
@@ -98,11 +95,10 @@ impl Service {
         requires follows { is_some (follower_at self.old number) ≡ true }
         ensures { Serves self.old number (λ f g. g ≡ delivers f (wrote f.delivery n)) self.new }
     {
-        let Some(Connection::Follower { connection, .. }) = self.connections.get_mut(&number)
-        else {
+        let Some(connection) = self.connections.get_mut(&number) else {
             unreachable!();
         };
-        connection.sent(n);
+        connection.sent_to_follower(n);
     }
 
     /// Puts a ping behind what is due to a connection that follows.
@@ -110,16 +106,16 @@ impl Service {
     /// # Errors
     ///
     /// There was no memory. Nothing has changed.
+    #[tactic(auto, using(std::proofs::lemmas::Map::Steps::set_value_same))]
     pub(crate) fn ping_follower(&mut self, number: u64) -> Result<(), AllocError>
         requires follows { is_some (follower_at self.old number) ≡ true }
         ensures ok { OnOk result (Serves self.old number (λ f g. g ≡ pinged f) self.new) }
         ensures err { OnErr result (self.new ≡ self.old) }
     {
-        let Some(Connection::Follower { connection, .. }) = self.connections.get_mut(&number)
-        else {
+        let Some(connection) = self.connections.get_mut(&number) else {
             unreachable!();
         };
-        connection.ping()
+        connection.ping_follower()
     }
 
     /// Puts a close with this code behind what is due to a connection that follows, which leaves its board.
@@ -127,15 +123,15 @@ impl Service {
     /// # Errors
     ///
     /// There was no memory. Nothing has changed.
+    #[tactic(auto, using(std::proofs::lemmas::Map::Steps::set_value_same))]
     pub(crate) fn close_follower(&mut self, number: u64, code: Code) -> Result<(), AllocError>
         requires follows { is_some (follower_at self.old number) ≡ true }
         ensures ok { OnOk result (Serves self.old number (λ f g. g ≡ closed_by f code.number) self.new) }
         ensures err { OnErr result (self.new ≡ self.old) }
     {
-        let Some(Connection::Follower { connection, .. }) = self.connections.get_mut(&number)
-        else {
+        let Some(connection) = self.connections.get_mut(&number) else {
             unreachable!();
         };
-        connection.close(code)
+        connection.close_follower(code)
     }
 }

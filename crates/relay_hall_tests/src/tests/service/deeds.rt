@@ -4,7 +4,7 @@ use crate::tests::calling::frames::{PING, PONG, TEXT, add, asked, tell};
 use crate::tests::calling::requests::{ACCEPTED, BEHIND_TARGET};
 use crate::tests::holds;
 use crate::tests::service::deeds::Deed::{
-    Breaks, Closes, Comes, Drops, Due, Ends, Follows, Gets, Goes, IsAbandoned, IsPinged, Leaves,
+    Breaks, Closes, Comes, Drops, Due, Ended, Ends, Follows, Gets, Goes, IsAbandoned, IsPinged, Leaves,
     Passes, Pings, Says, Shuts, Time,
 };
 use crate::tests::service::frames::tell_close;
@@ -23,8 +23,10 @@ pub enum Deed {
     Says(u64, &'static str, &'static str),
     /// It sends this text, gets this answer and follows the first board.
     Follows(u64, &'static str, &'static str),
-    /// It gets these texts of the board that it follows, and behind them a close with this code, unless that is 0.
-    Gets(u64, &'static [&'static str], u16),
+    /// It gets these moves of the board that it follows, a line each, the first with this place, and follows on.
+    Gets(u64, u16, &'static str),
+    /// The same, and behind them this text and a close with this code.
+    Ended(u64, u16, &'static str, &'static str, u16),
     /// It sends a ping with these bytes, and gets its pong.
     IsPinged(u64, &'static [u8]),
     /// It sends this frame, and gets a close with this code.
@@ -136,25 +138,43 @@ fn drops(
     is_heard(service, number, frame.as_slice(), some) && service.output(number).is_empty()
 }
 
-/// Whether a connection that follows gets these texts, and behind them a close with this code, unless that is 0.
-fn gets(
+/// The frames of these moves, a line each, the first with this place.
+fn frames(rt: &impl Abort, alloc: Global, place: u16, moves: &str) -> Vec<u8> {
+    let mut all = Vec::new(alloc);
+    let mut digit = b'0'.wrapping_add((place & 7) as u8);
+    for one in moves.lines() {
+        let mut text = Vec::new(alloc);
+        add(rt, &mut text, b"{\"move\":\"");
+        add(rt, &mut text, one.as_bytes());
+        add(rt, &mut text, b"\",\"place\":");
+        add(rt, &mut text, &[digit]);
+        add(rt, &mut text, b",\"reply\":\"move\"}");
+        tell(rt, &mut all, TEXT, text.as_slice());
+        digit = digit.wrapping_add(1);
+    }
+    all
+}
+
+/// Whether a connection that follows gets these bytes, and does this then.
+fn gets(service: &mut Service, number: u64, wanted: &[u8], stage: Stage) -> bool {
+    matches!(service.push(number), Ok(false))
+        && is_taken(service, number, wanted)
+        && service.stage(number) == Some(stage)
+}
+
+/// Whether a connection that follows gets these moves, this text, and a close with this code.
+fn ends(
     rt: &impl Abort,
-    alloc: Global,
     service: &mut Service,
     number: u64,
-    texts: &'static [&'static str],
+    moves: Vec<u8>,
+    last: &str,
     code: u16,
 ) -> bool {
-    let mut wanted = Vec::new(alloc);
-    for text in texts {
-        tell(rt, &mut wanted, TEXT, text.as_bytes());
-    }
-    if code != 0 {
-        tell_close(rt, &mut wanted, code);
-    }
-    matches!(service.push(number), Ok(false))
-        && is_taken(service, number, wanted.as_slice())
-        && (service.stage(number) == Some(Stage::Leaves)) == (code != 0)
+    let mut wanted = moves;
+    tell(rt, &mut wanted, TEXT, last.as_bytes());
+    tell_close(rt, &mut wanted, code);
+    gets(service, number, wanted.as_slice(), Stage::Leaves)
 }
 
 /// Whether a ping with these bytes is answered by its pong.
@@ -232,7 +252,14 @@ fn is_done(rt: &impl Abort, alloc: Global, service: &mut Service, deed: Deed) ->
         Follows(number, text, answer) => {
             says(rt, alloc, service, (number, text, answer), Stage::Follows)
         }
-        Gets(number, texts, code) => gets(rt, alloc, service, number, texts, code),
+        Gets(number, place, moves) => {
+            let wanted = frames(rt, alloc, place, moves);
+            gets(service, number, wanted.as_slice(), Stage::Follows)
+        }
+        Ended(number, place, moves, last, code) => {
+            let wanted = frames(rt, alloc, place, moves);
+            ends(rt, service, number, wanted, last, code)
+        }
         IsPinged(number, payload) => is_pinged(rt, alloc, service, number, payload),
         Breaks(number, frame, code) => breaks(rt, alloc, service, number, frame, code),
         Passes(number, text) => drops(rt, alloc, service, (number, text), true),

@@ -2,7 +2,7 @@
 
 use crate::tests::hall::answers::{AGREED, GAME_OVER, NOT_YOUR_BOARD, OPENED};
 use crate::tests::service::deeds::Deed::{
-    Breaks, Closes, Comes, Drops, Due, Ends, Follows, Gets, Goes, IsAbandoned, IsPinged, Leaves,
+    Breaks, Closes, Comes, Drops, Due, Ended, Ends, Follows, Gets, Goes, IsAbandoned, IsPinged, Leaves,
     Passes, Pings, Says, Shuts, Time,
 };
 use crate::tests::service::deeds::{Deed, happens};
@@ -43,23 +43,12 @@ const FOLLOWING: &str =
 const FOLLOWING_5: &str =
     "{\"fen\":\"r1bqkbnr/pppp1ppp/2n5/4p3/2B1P3/5N2/PPPP1PPP/RNBQK2R b HAha - 3 3\",\"joined\":5,\"reply\":\"following\"}";
 
-/// What those that follow are told.
-static ABANDONED: [&str; 1] = ["{\"outcome\":\"abandoned\",\"reply\":\"over\"}"];
+/// What those that follow are told last.
+const ABANDONED: &str = "{\"outcome\":\"abandoned\",\"reply\":\"over\"}";
 
-static FIRST_MOVE: [&str; 1] = ["{\"move\":\"e2e4\",\"place\":0,\"reply\":\"move\"}"];
+const OVER: &str = "{\"outcome\":\"agreed\",\"reply\":\"over\"}";
 
-static SECOND_MOVE_AND_END: [&str; 2] = [
-    "{\"move\":\"e7e5\",\"place\":1,\"reply\":\"move\"}",
-    "{\"outcome\":\"agreed\",\"reply\":\"over\"}",
-];
-
-static FOUR_MOVES_AND_CUT: [&str; 5] = [
-    "{\"move\":\"e2e4\",\"place\":0,\"reply\":\"move\"}",
-    "{\"move\":\"e7e5\",\"place\":1,\"reply\":\"move\"}",
-    "{\"move\":\"g1f3\",\"place\":2,\"reply\":\"move\"}",
-    "{\"move\":\"b8c6\",\"place\":3,\"reply\":\"move\"}",
-    "{\"reply\":\"cut\"}",
-];
+const CUT: &str = "{\"reply\":\"cut\"}";
 
 /// Two connections have one key. The second goes on with the board of the first, which waits once both are gone, until its time has come.
 static SHARED_KEY: [Deed; 13] = [
@@ -110,7 +99,7 @@ static FOLLOWING_ON: [Deed; 19] = [
     Says(0, E2E4, GAME_OVER),
     Comes(3, "/"),
     Follows(3, FOLLOW, FOLLOWING),
-    Gets(3, &ABANDONED, 1001),
+    Ended(3, 0, "", ABANDONED, 1001),
     Drops(3, E2E4),
 ];
 
@@ -120,13 +109,13 @@ static TO_THE_END: [Deed; 11] = [
     Says(0, OPEN, OPENED),
     Comes(1, "/"),
     Follows(1, FOLLOW, FOLLOWING),
-    Gets(1, &[], 0),
+    Gets(1, 0, ""),
     Says(0, E2E4, PLAYED_0),
-    Gets(1, &FIRST_MOVE, 0),
-    Gets(1, &[], 0),
+    Gets(1, 0, "e2e4"),
+    Gets(1, 1, ""),
     Says(0, E7E5, PLAYED_1),
     Says(0, END, AGREED),
-    Gets(1, &SECOND_MOVE_AND_END, 1000),
+    Ended(1, 1, "e7e5", OVER, 1000),
 ];
 
 /// One whose queue of four moves was full at a move gets these four, is told that it was cut off, and is closed. Then its place is free,
@@ -141,13 +130,13 @@ static CUT_OFF: [Deed; 18] = [
     Says(0, G1F3, PLAYED_2),
     Says(0, B8C6, PLAYED_3),
     Says(0, F1C4, PLAYED_4),
-    Gets(1, &FOUR_MOVES_AND_CUT, 4001),
+    Ended(1, 0, "e2e4\ne7e5\ng1f3\nb8c6", CUT, 4001),
     Comes(2, "/"),
     Follows(2, FOLLOW, FOLLOWING_5),
-    Breaks(2, &[0xc1, 0x80, 0, 0, 0, 0], 1002),
+    Breaks(2, b"\xc1\x80\0\0\0\0", 1002),
     Comes(3, "/"),
     Follows(3, FOLLOW, FOLLOWING_5),
-    Breaks(3, &[0x88, 0x82, 0, 0, 0, 0, 0x03, 0xe8], 1000),
+    Breaks(3, b"\x88\x82\0\0\0\0\x03\xe8", 1000),
     Goes(1),
     IsAbandoned(false),
 ];

@@ -22,5 +22,5 @@ returns-clause-ok c =
     let s : ServiceRecord = service_of c.self.inside in
     let t : ServiceRecord = record s { connections = (c.get_mut.follows.lender c.close.new.self).entries; turns = c.and-self-inside.result.items } in
     rw (← c.self.view_is)
-    (put_at (λ some. was_sent_away some c.args.code.number) (λ d. sent_away d c.args.code.number) (λ d some is. (is, refl)) (λ some. tt) (λ some. tt) (λ some. refl) (λ k some. refl) (λ number some. refl) s c.args.number c.in-Some.connection.now c.close.new.self c.in_ok-close.field-0 t
-    (kept c.self.inside c.self.invariant) (search rules) (search rules) c.in_ok-close.ensures.ok (search rules) (search rules)).1 _
+    ((put_at (λ some. was_sent_away some c.args.code.number) (λ d. sent_away d c.args.code.number) (λ d some is. (is, refl)) (λ some. tt) (λ some. tt) (λ some. refl) (λ k some. refl) (λ number some. refl) s c.args.number c.in-Some.connection.now c.close.new.self c.in_ok-close.field-0 t
+    (kept c.self.inside c.self.invariant) (search rules) (search rules) c.in_ok-close.ensures.ok (search rules) (search rules)).1 _)

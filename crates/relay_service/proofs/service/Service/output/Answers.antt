@@ -1,8 +1,5 @@
-use Rattle.std.proofs.Common.{rules, ◌≡◌, Some, refl, sym, ap, ◌∙◌, subst}
-use Rattle.relay_following.specs.Record.{ConnectionRecord}
-use Rattle.relay_following.specs.Served.{IsServed as IsDelivered}
+use Rattle.std.proofs.Common.{rules}
 use Rattle.relay_service.specs.Inner.{service_of}
-use Rattle.relay_service.specs.Record.{follower_at}
 use Rattle.relay_service.proofs.Led.{no_follower, one_follower, served_at}
 use Rattle.relay_service.proofs.service.Service.output.Goals as goal
 
@@ -14,4 +11,4 @@ returns-in-Some-Operator-clause-served c =
 pub returns-in-Some-Follower-clause-served : goal.returns-in-Some-Follower-clause-served
 returns-in-Some-Follower-clause-served c =
     rw (← c.self.view_is)
-    (served_at (service_of c.self.inside) c.args.number c.self.invariant.led c.self.invariant.joined c.however_many_there_are.ensures (one_follower _ _ (search rules) c.output.ensures.served))
+    (served_at (service_of c.self.inside) c.args.number c.self.invariant.led c.self.invariant.joined c.however_many_there_are.ensures (one_follower _ c.in-Some-Follower.connection (search rules) c.output.ensures.served))

@@ -22,5 +22,5 @@ returns-clause-ok c =
     let s : ServiceRecord = service_of c.self.inside in
     let t : ServiceRecord = record s { connections = (c.get_mut.follows.lender c.ping.new.self).entries; turns = c.and-self-inside.result.items } in
     rw (← c.self.view_is)
-    (put_at was_pinged pinged (λ d some is. (is, refl)) (λ some. tt) (λ some. tt) (λ some. refl) (λ k some. refl) (λ number some. refl) s c.args.number c.in-Some.connection.now c.ping.new.self c.in_ok-ping.field-0 t
-    (kept c.self.inside c.self.invariant) (search rules) (search rules) c.in_ok-ping.ensures.ok (search rules) (search rules)).1 _
+    ((put_at was_pinged pinged (λ d some is. (is, refl)) (λ some. tt) (λ some. tt) (λ some. refl) (λ k some. refl) (λ number some. refl) s c.args.number c.in-Some.connection.now c.ping.new.self c.in_ok-ping.field-0 t
+    (kept c.self.inside c.self.invariant) (search rules) (search rules) c.in_ok-ping.ensures.ok (search rules) (search rules)).1 _)
