@@ -202,7 +202,9 @@ impl<'a, R: Wait + Clock, W: Watchers> EventLoop<'a, R, W> {
         ensures all { self.entry.acceptor.is_open ≡ false → self.entry.acceptor.may_end ≡ false → is_full result.0 ≡ true }
     {
         let EventLoop {
-            acceptor, clients, ..
+            acceptor,
+            clients,
+            ..
         } = self;
         (acceptor.end(), clients.end())
     }

@@ -93,7 +93,14 @@ impl MainPort {
     /// have not had, the other peers are told by the close code 1001, and four seconds later it stops waiting for anybody.
     pub fn attend<R, W>(self, rt: &R, service: Service, watchers: W, log: Log) -> (ServeEnd, W)
     where
-        R: Input<Reader = StdinLock<'static>> + Threads + Wait + Clock + Clone + Send + Drop + 'static,
+        R: Input<Reader = StdinLock<'static>>
+            + Threads
+            + Wait
+            + Clock
+            + Clone
+            + Send
+            + Drop
+            + 'static,
         W: Watchers + Drop,
         ensures most { IfSome self.most (λ n. result.0.served + result.0.failed ≤ n) }
         ensures all { self.until_input_ends ≡ false → IfSome self.most (λ n. result.0.served + result.0.failed ≡ n) }
@@ -106,7 +113,14 @@ impl MainPort {
     /// The same, but the log goes on. Returns who was met.
     fn serve<R, W>(self, rt: &R, service: Service, watchers: W, log: &Log) -> (Tally, W)
     where
-        R: Input<Reader = StdinLock<'static>> + Threads + Wait + Clock + Clone + Send + Drop + 'static,
+        R: Input<Reader = StdinLock<'static>>
+            + Threads
+            + Wait
+            + Clock
+            + Clone
+            + Send
+            + Drop
+            + 'static,
         W: Watchers + Drop,
         ensures most { result.0.most ≡ self.most }
         ensures all { self.until_input_ends ≡ false → is_full result.0 ≡ true }

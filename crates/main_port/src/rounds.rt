@@ -13,8 +13,8 @@ struct Round {
 }
 
 /// How far each board is ahead of those of its followers whose connections take all. Those have their turns in the order in which they
-/// became due. An owner that makes moves faster than all of them have their turns waits for them: else they would be cut off for the slowness
-/// of the server.
+/// became due. An owner that makes moves faster than all of them have their turns waits for them: else they would be cut off for the
+/// slowness of the server.
 #[derive(Drop)]
 pub(crate) struct Rounds {
     each: Vec<Round>,

@@ -117,6 +117,10 @@ impl<'a, R: Wait + Clock, W: Watchers> Clients<'a, R, W> {
         ensures gone { client_in self.new.clients.entries number ≡ None }
         ensures others { OthersStay number self.old.clients.entries self.new.clients.entries }
     {
+        if !self.clients.contains_key(&number) {
+            return;
+        }
+        let has_left = self.leaves_hall(number);
         let Some(client) = self.clients.swap_remove(&number) else {
             return;
         };
@@ -126,7 +130,7 @@ impl<'a, R: Wait + Clock, W: Watchers> Clients<'a, R, W> {
         if let Role::Follower(at) = client.role {
             self.unfollows(at, number);
         }
-        if self.leaves_hall(number) {
+        if has_left {
             self.service.disconnect(number);
         }
     }

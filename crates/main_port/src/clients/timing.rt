@@ -79,8 +79,11 @@ impl<'a, R: Wait + Clock, W: Watchers> Clients<'a, R, W> {
         if begins {
             self.looked_at = now;
             self.unlooked = self.clients.len();
-            self.log
-                .counts(self.clients.len(), self.followers.total(), self.service.hall().len());
+            self.log.counts(
+                self.clients.len(),
+                self.followers.total(),
+                self.service.hall().len(),
+            );
         }
         for _ in 0..MOST_LOOKED_AT {
             if !self.is_looking() {

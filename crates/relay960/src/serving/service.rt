@@ -1,6 +1,7 @@
 //! Serving.
 
-ghost use Rattle.std.specs.Prelude.{IfOk};
+ghost use Rattle.std.specs.Prelude.{◌≡◌, ◌*◌, nat_lt, IfOk};
+ghost use Rattle.relay_service.specs.Record.{begun};
 ghost use Rattle.relay960.specs.Serving.{MeetsWith};
 
 use crate::failure::{Device, Failure};
@@ -43,8 +44,12 @@ where
         + 'static,
     ensures { IfOk result (MeetsWith service.now.connections service.now.until_input_ends) }
 {
+    let most = match service.connections {
+        Connections::Count(most) => Some(most),
+        Connections::Forever => None,
+    };
     let watch = open_watch(rt, alloc, service)?;
-    let port = open_port(rt, alloc, service)?;
+    let port = open_port(rt, alloc, service, most)?;
     let relay = relay_of(alloc, service)?;
     let watching = match &watch {
         Some(watch) => Some(watch.count()?),
@@ -55,6 +60,7 @@ where
     };
     let loops = start_loops(rt, alloc, watch)?;
     if let Err(reason) = announce(rt, service) {
+        log.end(rt);
         end_loops(rt, loops);
         return Err(ServeFault::Write(Failure {
             device: Device::Output,
@@ -83,7 +89,7 @@ fn open_watch<R: Net>(
     Ok(Some(Watch::open(rt, alloc, asked, most_idle, service.limits)?))
 }
 
-/// Listens on the main port, and takes all that it takes to serve it.
+/// Listens on the main port, and takes all that it takes to serve it: as many connections as this, or as come.
 ///
 /// # Errors
 ///
@@ -92,13 +98,18 @@ fn open_port<R: Net<Listener = TcpListener, Stream = TcpStream> + Clock>(
     rt: &R,
     alloc: Global,
     service: &Service,
-) -> Result<MainPort, ServeFault> {
+    most: Option<u32>,
+) -> Result<MainPort, ServeFault>
+    ensures most { IfOk result (λ port. port.most ≡ most) }
+    ensures ends { IfOk result (λ port. port.until_input_ends ≡ service.now.until_input_ends) }
+    ensures limits { IfOk result (λ port. port.limits ≡ service.now.limits) }
+{
     let address = SocketAddr::from((Ipv4Addr::LOCALHOST, service.port));
     let listener = match bind(rt, address) {
         Ok(listener) => listener,
         Err(reason) => return Err(ServeFault::at(address, reason)),
     };
-    match MainPort::open(rt, alloc, listener, &settings_of(service)) {
+    match MainPort::open(rt, alloc, listener, &settings_of(service, most)) {
         Ok(port) => Ok(port),
         Err(error) if error.kind() == ErrorKind::OutOfMemory => Err(ServeFault::OutOfMemory),
         Err(reason) => Err(ServeFault::at(address, reason)),
@@ -106,14 +117,15 @@ fn open_port<R: Net<Listener = TcpListener, Stream = TcpStream> + Clock>(
 }
 
 /// How the main port is served.
-fn settings_of(service: &Service) -> Settings {
+fn settings_of(service: &Service, most: Option<u32>) -> Settings
+    ensures most { result.most ≡ most }
+    ensures ends { result.until_input_ends ≡ service.now.until_input_ends }
+    ensures limits { result.limits ≡ service.now.limits }
+{
     Settings {
         limits: service.limits,
         idle: idle_of(service.idle),
-        most: match service.connections {
-            Connections::Count(most) => Some(most),
-            Connections::Forever => None,
-        },
+        most,
         until_input_ends: service.until_input_ends,
     }
 }
@@ -123,7 +135,9 @@ fn settings_of(service: &Service) -> Settings {
 /// # Errors
 ///
 /// There was no memory.
-fn relay_of(alloc: Global, service: &Service) -> Result<RelayService, ServeFault> {
+fn relay_of(alloc: Global, service: &Service) -> Result<RelayService, ServeFault>
+    ensures { IfOk result (λ relay. relay ≡ begun service.now.limits (service.now.grace * 1000) (nat_lt 0 service.now.grace)) }
+{
     let grace = u64::from(service.grace) * SECOND_MILLIS;
     match RelayService::new(alloc, service.limits, grace, service.grace > 0) {
         Ok(relay) => Ok(relay),
@@ -136,11 +150,7 @@ fn relay_of(alloc: Global, service: &Service) -> Result<RelayService, ServeFault
 /// # Errors
 ///
 /// There was no memory, or no thread.
-fn start_loops<R>(
-    rt: &R,
-    alloc: Global,
-    watch: Option<Watch>,
-) -> Result<Option<Loops>, ServeFault>
+fn start_loops<R>(rt: &R, alloc: Global, watch: Option<Watch>) -> Result<Option<Loops>, ServeFault>
 where
     R: Threads + Wait + Clock + Clone + Send + Drop + 'static,
 {
