@@ -1,4 +1,3 @@
 pub mod Copying
 pub mod Putting
 pub mod Showing
-pub mod Taping

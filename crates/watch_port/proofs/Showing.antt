@@ -91,10 +91,10 @@ start_kept plies at (Opened name start ∷ xs) bs b c there after =
     start_kept plies at xs (bs ++ copy_of plies name start ∷ []) b c (get_before bs (copy_of plies name start ∷ []) at b there) after
 start_kept plies at (Played q m ∷ xs) bs b c there after =
     let step = changed_at_any (λ x y. y.game.start ≡ x.game.start) (λ _. refl) (played_by m) bs q at b there (played_start m b) in
-    start_kept plies at xs (changed_at (played_by m) q bs) step.0 c step.1.0 after ∙ step.1.1
+    start_kept plies at xs (changed_at (played_by m) q bs) step.0 c step.1 after ∙ step.2
 start_kept plies at (Ended q outcome ∷ xs) bs b c there after =
     let step = changed_at_any (λ x y. y.game.start ≡ x.game.start) (λ _. refl) (ended_by outcome) bs q at b there refl in
-    start_kept plies at xs (changed_at (ended_by outcome) q bs) step.0 c step.1.0 after ∙ step.1.1
+    start_kept plies at xs (changed_at (ended_by outcome) q bs) step.0 c step.1 after ∙ step.2
 
 -- ---- One board of them.
 
@@ -109,9 +109,10 @@ module _ (plies n : ℕ) (l : List Triple) (at : ℕ) (game : Game960 n l) (fits
       (get_before bs (copy_of plies name start ∷ []) at b there) is whole
   goes_on (Ended q outcome ∷ xs) bs b before rest k len there is whole =
       let step = changed_at_any (λ x y. y.game ≡ x.game) (λ _. refl) (ended_by outcome) bs q at b there refl in
-      goes_on xs (changed_at (ended_by outcome) q bs) step.0 before rest k (changed_length (ended_by outcome) bs q ∙ len) step.1.0 (step.1.1 ∙ is) whole
+      goes_on xs (changed_at (ended_by outcome) q bs) step.0 before rest k (changed_length (ended_by outcome) bs q ∙ len) step.1 (step.2 ∙ is) whole
   goes_on (Played q m ∷ xs) bs b before rest k len there is whole = by (q == at) refl
     where
+      more : List Triple
       more = moves_from at k xs
 
       inside : nat_lt at k ≡ true
@@ -134,12 +135,12 @@ module _ (plies n : ℕ) (l : List Triple) (at : ℕ) (game : Game960 n l) (fits
           ∙ ap (λ t. if t then with_move (played_to n plies before) m else played_to n plies before) ok in
           let rec = goes_on xs (changed_at (played_by m) q bs) (played_by m b) (before ++ m ∷ []) rest k (changed_length (played_by m) bs q ∙ len) there2 moved
           (whole2 ∙ regroup (more ++ rest)) in
-          (rec.0, rec.1.0, rec.1.1 ∙ ap (played_to n plies) (sym (regroup more) ∙ ap (λ t. before ++ t) (sym told)))
+          (rec.0, rec.1, rec.2 ∙ ap (played_to n plies) (sym (regroup more) ∙ ap (λ t. before ++ t) (sym told)))
       by false e =
           let told : moves_from at k (Played q m ∷ xs) ≡ more = ap (λ t. cond t (m ∷ more) more) (ap (λ t. t && nat_lt at k) e) in
           let rec = goes_on xs (changed_at (played_by m) q bs) b before rest k (changed_length (played_by m) bs q ∙ len)
           (changed_elsewhere (played_by m) bs q at e ∙ there) is (whole ∙ ap (λ t. before ++ (t ++ rest)) told) in
-          (rec.0, rec.1.0, rec.1.1 ∙ ap (λ t. played_to n plies (before ++ t)) (sym told))
+          (rec.0, rec.1, rec.2 ∙ ap (λ t. played_to n plies (before ++ t)) (sym told))
 
   -- before it was
   comes : (xs : List News) (bs : List BoardCopy) (rest : List Triple) (k : ℕ) → length bs ≡ k → k ≤ at → l ≡ moves_from at k xs ++ rest
@@ -159,6 +160,7 @@ module _ (plies n : ℕ) (l : List Triple) (at : ℕ) (game : Game960 n l) (fits
       and_false false = refl
   comes (Opened name start ∷ xs) bs rest k len low whole c there is = by (k == at) refl
     where
+      copy : BoardCopy
       copy = copy_of plies name start
 
       longer : length (bs ++ copy ∷ []) ≡ suc k
@@ -172,7 +174,7 @@ module _ (plies n : ℕ) (l : List Triple) (at : ℕ) (game : Game960 n l) (fits
           let begun : copy.game ≡ played_to n plies [] =
           ap (λ s. opened s plies) its ∙ ap (λ (o : Option Outcome). record { start = n; plies = plies; log = []; outcome = o }) (sym (start_goes_on n game.numbered)) in
           let rec = goes_on xs (bs ++ copy ∷ []) copy [] rest (suc k) longer first begun whole in
-          ap (λ (x : BoardCopy). x.game) (same_Some c rec.0 (sym there ∙ rec.1.0)) ∙ rec.1.1
+          ap (λ (x : BoardCopy). x.game) (same_Some c rec.0 (sym there ∙ rec.1)) ∙ rec.2
       by false e =
           let higher : suc k ≤ at = grind (arith, nat_tests) in
           comes xs (bs ++ copy ∷ []) rest (suc k) longer higher whole c there is

@@ -168,7 +168,13 @@ impl Feed {
     pub(crate) fn tell(&mut self, board: &NewsOfBoard<'_>) -> bool
         ensures { IsPut self.old (missing self.old board.now) result self.new }
     {
-        self.tell_opened(board) && self.tell_moves(board) && self.tell_end(board)
+        if !self.tell_opened(board) {
+            return false;
+        }
+        if !self.tell_moves(board) {
+            return false;
+        }
+        self.tell_end(board)
     }
 
     /// Tells the loop that a board was opened, once it knows of those before.

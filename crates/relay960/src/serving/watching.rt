@@ -178,8 +178,8 @@ impl Watchers for Loops {
         self.publisher.marks(at);
     }
 
-    /// Once all loops were told that all boards were ended, the port closes: its spectators need not wait until connections of the main port
-    /// have gone.
+    /// Once all loops were told that all boards were ended, the port closes: its spectators need not wait until connections of the main
+    /// port have gone.
     fn wake(&mut self, hall: &Hall) {
         let are_told = self.publisher.publish(hall);
         for at in 0..self.running.len() {
