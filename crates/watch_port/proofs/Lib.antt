@@ -1,3 +1,1 @@
 pub mod Copying
-pub mod Putting
-pub mod Showing
