@@ -1,4 +1,1 @@
 pub mod Copying
-pub mod Putting
-pub mod Showing
-pub mod Taping

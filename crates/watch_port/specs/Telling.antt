@@ -1,6 +1,5 @@
 -- What a loop is told of boards, and how far it was told of each.
-use Rattle.std.specs.Prelude.{◌≡◌, ◌==◌, ◌&&◌, ◌+◌, ◌-◌, ℕ, min, nat_lt, Bool, true, false, not, cond, List, [], ◌∷◌, ◌++◌, map, length, drop, take, slice_get, Option, Some, None, option_map, unwrap_or}
-use Rattle.c960_board.specs.Moves.{Triple}
+use Rattle.std.specs.Prelude.{◌≡◌, ◌==◌, ◌&&◌, ◌+◌, ◌-◌, ℕ, min, nat_lt, Bool, true, false, not, cond, List, [], ◌∷◌, ◌++◌, length, take, slice_get, Option, Some, None, option_map, unwrap_or}
 use Rattle.c960_game.specs.declared.outcome.Outcome.{Outcome}
 use Rattle.watch_port.specs.declared.feed.NewsOfBoard.{NewsOfBoard}
 use Rattle.watch_port.specs.declared.feed.Told.{Told}
@@ -43,10 +42,6 @@ is_told_of_the_end sent at = unwrap_or (option_map (λ (t : Told). t.is_over) (s
 abbrev pub opening_of : List News → NewsOfBoard → List News
 opening_of sent b = cond (b.at == length (told_by sent)) (Opened b.name b.start ∷ []) []
 
--- the moves of which it was not told, of those from a place on
-abbrev pub untold_of : List News → NewsOfBoard → List News
-untold_of sent b = map (λ (m : Triple). Played b.at m) (drop (moves_told sent b.at - b.from) b.moves.now)
-
 -- the end, if there is one and it was not told of it
 abbrev pub end_told : ℕ → Option Outcome → Bool → List News
 end_told at None told = []
@@ -54,13 +49,6 @@ end_told at (Some outcome) told = cond told [] (Ended at outcome ∷ [])
 
 abbrev pub end_of : List News → NewsOfBoard → List News
 end_of sent b = end_told b.at b.outcome (is_told_of_the_end sent b.at)
-
--- all that it lacks of a board, in order: each as far as it was told then
-abbrev pub missing : List News → NewsOfBoard → List News
-missing sent b =
-    let begun = sent ++ opening_of sent b in
-    let played = begun ++ untold_of begun b in
-    opening_of sent b ++ (untold_of begun b ++ end_of played b)
 
 -- it was told all of this behind what it had been told before, or the first part of it
 abbrev pub IsPut : List News → List News → Bool → List News → Type 0

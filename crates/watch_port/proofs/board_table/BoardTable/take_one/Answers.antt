@@ -11,7 +11,7 @@ invariant_of-self-2 c =
     let its : news ≡ c.pop_known.result =
     peeked news c.pop_known.result (known_items c.is_empty.new.self) (known_items c.pop_known.new.self) c.peek_known-news.ensures c.pop_known.ensures.received.1 in
     let more : received c.pop_known.new.self ≡ received c.self.inside.ring ++ news ∷ [] =
-    c.pop_known.ensures.received.0 ∙ ap (λ xs. xs ++ c.pop_known.result ∷ []) c.is_empty.ensures.looked.1.0
+    c.pop_known.ensures.received.0 ∙ ap (λ xs. xs ++ c.pop_known.result ∷ []) c.is_empty.ensures.looked.1
     ∙ ap (λ x. received c.self.inside.ring ++ x ∷ []) (sym its) in
     let applied : c.apply.new.boards.items ≡ copied_after c.self.inside.limits.plies c.self.inside.boards.items news = search rules in
     table_more c.self.inside.limits.plies c.self.inside.boards.items c.apply.new.boards.items (received c.self.inside.ring) (received c.pop_known.new.self) news
@@ -23,5 +23,5 @@ returns-clause-taken c =
     c.self.view_is (record {
       plies = refl;
       more = c.pop_known.result ∷ [];
-      told = c.pop_known.ensures.received.0 ∙ ap (λ xs. xs ++ c.pop_known.result ∷ []) c.is_empty.ensures.looked.1.0;
+      told = c.pop_known.ensures.received.0 ∙ ap (λ xs. xs ++ c.pop_known.result ∷ []) c.is_empty.ensures.looked.1;
     })
