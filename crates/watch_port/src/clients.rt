@@ -125,8 +125,8 @@ impl<'a> Clients<'a> {
         }
     }
 
-    /// A client was sent everything. Its output ends, and what it still sends is read for a while, since a reset would otherwise destroy the
-    /// end of it.
+    /// A client was sent everything. Its output ends, and what it still sends is read for a while, since a reset would otherwise destroy
+    /// the end of it.
     fn lets_go(&mut self, key: usize) {
         self.watches_no_more(key);
         let now = self.now;
