@@ -17,8 +17,8 @@ IsLeftBy f g = (g.table ≡ f.table) × (g.knows.parts ≡ []) × ((status : ℕ
 
 -- it has a follower while it follows; then that has left, and only what remains of it is there
 abbrev pub IsStandingBy : Option FollowerSeat → FollowerSeat → Option BoardSeat → Stage → Type 0
-IsStandingBy (Some f) had gone stage = stage ≡ Follows
-IsStandingBy None had gone stage = (stage ≡ Follows → ⊥) × IsSomeAnd gone (λ g. IsLeftBy had g)
+IsStandingBy (Some f) had remains stage = stage ≡ Follows
+IsStandingBy None had remains stage = (stage ≡ Follows → ⊥) × IsSomeAnd remains (λ g. IsLeftBy had g)
 
 abbrev pub IsStanding : Inside → Type 0
 IsStanding a = IsStandingBy a.follower a.had.value a.gone a.stage
