@@ -73,8 +73,8 @@ def connections(count):
 
 
 def few_descriptors():
-    """The three standard streams, the listener, the descriptor in reserve and one connection."""
-    resource.setrlimit(resource.RLIMIT_NOFILE, (6, 6))
+    """The three standard streams, what the loop asks and is woken by, the listener, the descriptor in reserve and one connection."""
+    resource.setrlimit(resource.RLIMIT_NOFILE, (9, 9))
 
 
 def told(peer):
