@@ -147,7 +147,7 @@ impl Read for Endless<'_> {
 }
 
 /// Pongs, one after another.
-fn pongs(alloc: Global) -> Result<Vec<u8>, AllocError> {
+fn many_pongs(alloc: Global) -> Result<Vec<u8>, AllocError> {
     let mut bytes = Vec::new(alloc);
     for _ in 0..PONGS {
         bytes.extend_from_slice(PONG_FRAME)?;
@@ -158,7 +158,7 @@ fn pongs(alloc: Global) -> Result<Vec<u8>, AllocError> {
 #[test]
 fn behind_a_million_messages_the_session_closes(rt: HostRuntime) -> Result<(), Fail> {
     let alloc = rt.alloc();
-    let pongs = pongs(alloc)?;
+    let pongs = many_pongs(alloc)?;
     let mut sent = Vec::new(alloc);
     let stream = Duplex {
         reader: Endless {
