@@ -35,11 +35,11 @@ impl Outlet for Lines {
 
 /// A follower as a source. It says nothing to a contract.
 #[derive(Drop)]
-struct Follows {
+struct Taker {
     follower: Follower,
 }
 
-impl Source for Follows {
+impl Source for Taker {
     ghost use Rattle.std.specs.Prelude.{⊤};
 
     ghost gives = { λ _ _ _. ⊤ };
@@ -132,7 +132,7 @@ impl Fast {
     /// It is told of the board that it follows, to its end.
     fn follows<R: Wait + Abort>(&mut self, rt: &R, handed: Handed) {
         let Handed { follower, .. } = handed;
-        let mut source = Follows { follower };
+        let mut source = Taker { follower };
         let mut outlet = Lines {
             told: Vec::new(self.alloc),
         };

@@ -149,14 +149,14 @@ impl<R: Wait + Abort> Read for Operator<'_, R> {
             let mut request = REQUEST;
             return request.read(buf);
         }
-        match self.next() {
-            Some(bytes) if bytes.len() <= buf.len() => {
-                let mut left = bytes.as_slice();
-                left.read(buf)
-            }
-            Some(_) => Err(io::Error::from(ErrorKind::Other)),
-            None => Ok(0),
+        let Some(bytes) = self.next() else {
+            return Ok(0);
+        };
+        if bytes.len() > buf.len() {
+            return Err(io::Error::from(ErrorKind::Other));
         }
+        let mut left = bytes.as_slice();
+        left.read(buf)
     }
 }
 

@@ -1,6 +1,6 @@
 //! Worked cases.
 
-use crate::tests::loopback::served::serve_connections;
+use crate::tests::loopback::served::serving;
 use relay_server::{Gate, OpenGate};
 use std::sync::Arc;
 use std::sync::atomic::{AtomicBool, AtomicU64, Ordering};
@@ -55,7 +55,7 @@ fn a_follower_gets_the_move_and_the_end_and_a_stranger_is_refused(rt: HostRuntim
     let Ok(gate) = Arc::new(rt.alloc(), OpenGate) else {
         panic!(rt; "memory");
     };
-    let server = serve_connections(&rt, rt.alloc(), &gate, 3);
+    let server = serving(&rt, rt.alloc(), &gate, 3);
     let mut owner = server.client(&rt);
     owner.asks(&rt, OPEN_B1, OPENED);
     let mut follower = server.client(&rt);
@@ -84,7 +84,7 @@ fn a_follower_gets_what_was_played_before_and_the_end_of_a_board_that_is_left(rt
     let Ok(gate) = Arc::new(rt.alloc(), OpenGate) else {
         panic!(rt; "memory");
     };
-    let server = serve_connections(&rt, rt.alloc(), &gate, 2);
+    let server = serving(&rt, rt.alloc(), &gate, 2);
     let mut owner = server.client(&rt);
     owner.asks(&rt, OPEN_B1, OPENED);
     owner.asks(&rt, SUBMITS[0], PLAYED[0]);
@@ -167,7 +167,7 @@ fn two_at_once(rt: HostRuntime) {
     let Ok(gate) = Arc::new(rt.alloc(), Holding::new((1, 2), 0)) else {
         panic!(rt; "memory");
     };
-    let server = serve_connections(&rt, rt.alloc(), &gate, 2);
+    let server = serving(&rt, rt.alloc(), &gate, 2);
     let mut first = server.client(&rt);
     let mut second = server.client(&rt);
     first.says(&rt, OPEN_B1);
@@ -185,7 +185,7 @@ fn a_follower_whose_queue_is_full_is_cut_off(rt: HostRuntime) {
     let Ok(gate) = Arc::new(rt.alloc(), Holding::new((0, 0), 2)) else {
         panic!(rt; "memory");
     };
-    let server = serve_connections(&rt, rt.alloc(), &gate, 2);
+    let server = serving(&rt, rt.alloc(), &gate, 2);
     let mut owner = server.client(&rt);
     owner.asks(&rt, OPEN_B1, OPENED);
     let mut follower = server.client(&rt);

@@ -29,12 +29,7 @@ where
 }
 
 /// A server of so many connections, whose followers may be two moves behind.
-pub fn serve_connections<R, G>(
-    rt: &R,
-    alloc: Global,
-    gate: &Arc<G, Global>,
-    connections: u32,
-) -> Served
+pub fn serving<R, G>(rt: &R, alloc: Global, gate: &Arc<G, Global>, connections: u32) -> Served
 where
     R: Net<Listener = TcpListener, Stream = TcpStream>
         + Threads

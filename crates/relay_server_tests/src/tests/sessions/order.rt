@@ -121,35 +121,50 @@ fn each_call_comes_in_its_turn_at_a_breach(rt: HostRuntime) -> Result<(), Fail> 
 }
 
 /// A pong without payload, as a client sends it.
-const PONG_FRAME: [u8; 6] = [PONG, 0x80, 0, 0, 0, 0];
+const PONG_FRAME: &[u8] = &[PONG, 0x80, 0, 0, 0, 0];
 
-/// A peer that sends its request, and then pongs without end, as many in each read as it has room for.
+/// How many pongs a peer without end sends at a time: fewer than a read has room for.
+const PONGS: usize = 8192;
+
+/// A peer that sends its request, and then these bytes without end.
 #[derive(Drop)]
-struct Endless {
+struct Endless<'a> {
     has_asked: bool,
+    bytes: &'a [u8],
 }
 
-impl Read for Endless {
+impl Read for Endless<'_> {
     fn read(&mut self, buf: &mut [u8]) -> io::Result<usize> {
         if !self.has_asked {
             self.has_asked = true;
             let mut request = REQUEST;
             return request.read(buf);
         }
-        let len = buf.len() - buf.len() % PONG_FRAME.len();
-        for (at, byte) in buf[..len].iter_mut().enumerate() {
-            *byte = PONG_FRAME[at % PONG_FRAME.len()];
-        }
-        Ok(len)
+        let n = self.bytes.len().min(buf.len());
+        buf[..n].copy_from_slice(&self.bytes[..n]);
+        Ok(n)
     }
+}
+
+/// Pongs, one after another.
+fn many_pongs(alloc: Global) -> Result<Vec<u8>, AllocError> {
+    let mut bytes = Vec::new(alloc);
+    for _ in 0..PONGS {
+        bytes.extend_from_slice(PONG_FRAME)?;
+    }
+    Ok(bytes)
 }
 
 #[test]
 fn behind_a_million_messages_the_session_closes(rt: HostRuntime) -> Result<(), Fail> {
     let alloc = rt.alloc();
+    let pongs = many_pongs(alloc)?;
     let mut sent = Vec::new(alloc);
     let stream = Duplex {
-        reader: Endless { has_asked: false },
+        reader: Endless {
+            has_asked: false,
+            bytes: pongs.as_slice(),
+        },
         writer: &mut sent,
     };
     let end = session(&rt, alloc, &registry(alloc)?, 1, stream, &OpenGate);
