@@ -8,9 +8,13 @@ use crate::clients::Clients;
 use crate::tally::Tally;
 use crate::watchers::Watchers;
 use mio::Events;
-use server_loop::{LoopWaker, MOST_EVENTS};
+use server_loop::{LoopWaker, MOST_EVENTS, Poller};
 use std::sync::Wait;
+use std::thread::sleep;
 use std::time::{Clock, Duration};
+
+/// How long, in milliseconds, the loop pauses if the system cannot be asked.
+const PAUSE_MILLIS: u64 = 20;
 
 /// How many milliseconds a turn waits at most.
 const TURN_MILLIS: u64 = 500;
@@ -70,8 +74,25 @@ impl<'a, R: Wait + Clock, W: Watchers> EventLoop<'a, R, W> {
         }
     }
 
+    /// Turns until the end. Returns who was met, and those who watch.
+    pub(crate) fn run(mut self, poller: &mut Poller) -> (Tally, W)
+        ensures most { result.0.most ≡ self.entry.acceptor.tally.most }
+        ensures all { self.entry.acceptor.may_end ≡ false → is_full result.0 ≡ true }
+    {
+        let rt = self.rt;
+        for _ in rt.forever() {
+            if poller.wait(self.patience()).is_err() {
+                let _ = sleep(rt, Duration::from_millis(PAUSE_MILLIS));
+            }
+            if self.take(poller.events()) {
+                return self.end();
+            }
+        }
+        unreachable!()
+    }
+
     /// How long the next turn waits at most.
-    pub(crate) fn patience(&self) -> Duration {
+    fn patience(&self) -> Duration {
         if self.clients.has_due() || self.clients.is_looking() {
             return Duration::ZERO;
         }
@@ -128,7 +149,7 @@ impl<'a, R: Wait + Clock, W: Watchers> EventLoop<'a, R, W> {
     }
 
     /// Handles what the system reported, and what is due. Returns whether it was the last turn, which none is while newcomers come in.
-    pub(crate) fn take(&mut self, events: &Events) -> bool
+    fn take(&mut self, events: &Events) -> bool
         ensures same { IsOfTheSame self.old.acceptor self.new.acceptor }
         ensures last { result ≡ true → self.new.acceptor.is_open ≡ false }
     {
@@ -197,7 +218,7 @@ impl<'a, R: Wait + Clock, W: Watchers> EventLoop<'a, R, W> {
     }
 
     /// Who was met, and those who watch.
-    pub(crate) fn end(self) -> (Tally, W)
+    fn end(self) -> (Tally, W)
         ensures tally { result.0 ≡ self.entry.acceptor.tally }
         ensures all { self.entry.acceptor.is_open ≡ false → self.entry.acceptor.may_end ≡ false → is_full result.0 ≡ true }
     {

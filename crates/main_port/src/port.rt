@@ -20,11 +20,8 @@ use std::marker::Model;
 use std::net::{Net, TcpListener};
 use std::sync::atomic::{AtomicBool, Ordering};
 use std::sync::{Arc, Wait};
-use std::thread::{Threads, sleep};
-use std::time::{Clock, Duration};
-
-/// How long, in milliseconds, the loop pauses if the system cannot be asked.
-const PAUSE_MILLIS: u64 = 20;
+use std::thread::Threads;
+use std::time::Clock;
 
 /// The main port, ready to be served. Contracts see how it is served.
 #[derive(Drop)]
@@ -144,15 +141,6 @@ impl MainPort {
             rt, alloc, service, &settings, room, registry, clock, watchers, log,
         );
         let acceptor = Acceptor::new(listener, &settings, &has_input_ended, log);
-        let mut event_loop = EventLoop::new(rt, &waker, clients, acceptor);
-        for _ in rt.forever() {
-            if poller.wait(event_loop.patience()).is_err() {
-                let _ = sleep(rt, Duration::from_millis(PAUSE_MILLIS));
-            }
-            if event_loop.take(poller.events()) {
-                return event_loop.end();
-            }
-        }
-        unreachable!()
+        EventLoop::new(rt, &waker, clients, acceptor).run(&mut poller)
     }
 }
