@@ -7,8 +7,8 @@ use Rattle.relay_following.specs.declared.stage.Stage.{Stage}
 use Rattle.relay_following.specs.declared.stage.Stage.TheVariants.{Follows, Over, Cut, Left, Failed}
 use Rattle.relay_following.specs.Pieces.{Piece}
 
--- The name of its board; its follower, or what that had when it left; how far it has come; all that was put before the first piece; the
--- bytes that were sent, and those that are due; and the pieces that were put, the first one first.
+-- The name of its board; its follower, or what that had when it left; how far it has come; what was still due when it began to follow;
+-- the bytes that were sent, and those that are due; and the pieces that were put, the first one first.
 pub record DeliveryRecord : Type 0 where
   pub board : List ℕ
   pub follower : FollowerSeat

@@ -30,7 +30,7 @@ pub(crate) struct Delivery {
     /// The name of its board.
     board: BoardName,
     standing: Standing,
-    /// All that was put before the first piece.
+    /// What was still due when it began to follow.
     opening: Bytes,
     /// All that was sent.
     sent: Bytes,

@@ -1,6 +1,6 @@
 //! The server's side of WebSocket (RFC 6455) without reading and writing: bytes come in, events and bytes go out. Nothing here
-//! waits, looks at a clock or knows of a socket. So a thread for each peer and a loop for all of them read peers in the same way. How long
-//! a silent peer is waited for is reckoned in seconds that the caller counts.
+//! waits, looks at a clock or knows of a socket, so that a loop can serve all peers. How long a silent peer is waited for is reckoned in
+//! seconds that the caller counts.
 #![tactic(auto)]
 
 mod acceptance;
