@@ -1,7 +1,7 @@
 //! A connection, as the loop sees it: its socket, how far the loop is with it, and how long it is waited for.
 
 use mio::net::TcpStream;
-use server_loop::{Deadlines, Rank, end_of_pause};
+use server_loop::{Deadlines, Rank};
 use std::net::Shutdown;
 
 /// How many pieces a connection may send after everything was written to it.
@@ -40,7 +40,7 @@ pub(crate) enum Input {
 /// What a connection is to boards, as the loop knows it.
 #[derive(Clone, Copy, PartialEq, Eq, Debug)]
 pub(crate) enum Role {
-    /// A board belongs to it. No board is ever removed, so this stays true, unless it follows.
+    /// A board belongs to it. No board is ever removed, so this stays true.
     Owner,
     /// It follows the board of this index, in the order of opening.
     Follower(usize),
@@ -114,14 +114,6 @@ impl Client {
     pub(crate) fn has_sent_little(&mut self) {
         if self.input == Input::Something {
             self.input = Input::Nothing;
-        }
-    }
-
-    /// At which millisecond it is read again, if it pauses.
-    pub(crate) fn pauses_until(&self) -> Option<u64> {
-        match self.state {
-            State::Pauses(since) => Some(end_of_pause(since, self.refused)),
-            _ => None,
         }
     }
 

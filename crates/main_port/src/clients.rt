@@ -91,6 +91,8 @@ pub(crate) struct Clients<'a, R, W> {
     followers: BoardFollowers,
     rounds: Rounds,
     watchers: W,
+    /// Whether those who watch were told all.
+    are_told: bool,
     log: BoardLog<'a, R>,
     pub(super) clock: LoopClock,
     /// Those that were answered, and whose answers have yet to be sent.
@@ -140,6 +142,7 @@ impl<'a, R: Wait + Clock, W: Watchers> Clients<'a, R, W> {
             followers,
             rounds,
             watchers,
+            are_told: true,
             log: BoardLog::new(rt, log),
             clock,
             unsent,
@@ -278,13 +281,25 @@ impl<'a, R: Wait + Clock, W: Watchers> Clients<'a, R, W> {
     pub(crate) fn serve_all(&mut self) {
         let has_owners = self.queue.len(Rank::Owner) > 0;
         self.serve_rank(Rank::Owner, MOST_OWNERS_MICROS);
-        self.watchers.wake(self.service.hall());
+        self.wake_watchers();
         if has_owners && self.has_due() {
             yield_now();
         }
         self.serve_rank(Rank::Follower, MOST_FOLLOWERS_MICROS);
         self.serve_rank(Rank::Other, MOST_OTHERS_MICROS);
-        self.watchers.wake(self.service.hall());
+        self.wake_watchers();
+    }
+
+    /// Wakes those who watch, if they were told anything.
+    pub(crate) fn wake_watchers(&mut self)
+        ensures { self.new.clients ≡ self.old.clients }
+    {
+        self.are_told = self.watchers.wake(self.service.hall());
+    }
+
+    /// Whether those who watch were told all. What they had no room for they are told later, though nothing reports that they have.
+    pub(crate) fn has_told_watchers(&self) -> bool {
+        self.are_told
     }
 
     /// Gives those of a rank a turn that are due one, as long as there is time for that. One that becomes due meanwhile waits.
@@ -294,6 +309,10 @@ impl<'a, R: Wait + Clock, W: Watchers> Clients<'a, R, W> {
             let Some(number) = self.queue.take(rank) else {
                 break;
             };
+            if rank == Rank::Follower && !self.follows(number) {
+                // An owner that waited for its followers: those before it have their moves before it makes another.
+                self.send_answers();
+            }
             self.serve_if_due(number);
             self.is_answered(number);
             if self.is_late(until) {

@@ -19,6 +19,9 @@ const PAUSE_MILLIS: u64 = 20;
 /// How many milliseconds a turn waits at most.
 const TURN_MILLIS: u64 = 500;
 
+/// How many milliseconds it waits at most while those who watch have yet to be told something.
+const UNTOLD_MILLIS: u64 = 5;
+
 /// After how many milliseconds the hall is told the time at the latest.
 const TICK_MILLIS: u64 = 1000;
 
@@ -103,6 +106,9 @@ impl<'a, R: Wait + Clock, W: Watchers> EventLoop<'a, R, W> {
         if let Some(ends_at) = self.ends_at {
             most = most.min(ends_at.saturating_sub(self.clients.passed()));
         }
+        if !self.clients.has_told_watchers() {
+            most = most.min(Duration::from_millis(UNTOLD_MILLIS));
+        }
         if let Some(accepts) = self.acceptor.accepts_in(now) {
             most = most.min(Duration::from_millis(accepts));
         }
@@ -176,7 +182,10 @@ impl<'a, R: Wait + Clock, W: Watchers> EventLoop<'a, R, W> {
             // An accept that failed is tried again.
             self.acceptor.looks();
         }
-        self.is_over()
+        let is_over = self.is_over();
+        // Boards may have ended by themselves since the answers were sent.
+        self.clients.wake_watchers();
+        is_over
     }
 
     // ---- The end.

@@ -7,8 +7,13 @@ pub trait Watchers {
     /// The board of this index, in the order of opening, was opened, or its game has changed. It is only noted here.
     fn changed(&mut self, at: usize);
 
-    /// The answers before were written: those who watch may be told what has changed. Called at least once a turn, also if nothing has.
-    fn wake(&mut self, hall: &Hall);
+    /// Answers are about to be written: those who watch are told before of what has changed, so that whoever has read an answer finds it at
+    /// the watch port too. Nobody is woken yet.
+    fn tell(&mut self, hall: &Hall);
+
+    /// Those who were told anything are woken, and what could not be told before is told. Called at least once a turn, also if nothing has
+    /// changed. Returns whether all was told.
+    fn wake(&mut self, hall: &Hall) -> bool;
 
     /// Serving ends, and all boards were ended. Called once, if at all.
     fn has_ended(&mut self);
@@ -22,9 +27,16 @@ impl<W: Watchers> Watchers for Option<W> {
         }
     }
 
-    fn wake(&mut self, hall: &Hall) {
+    fn tell(&mut self, hall: &Hall) {
         if let Some(watchers) = self {
-            watchers.wake(hall);
+            watchers.tell(hall);
+        }
+    }
+
+    fn wake(&mut self, hall: &Hall) -> bool {
+        match self {
+            Some(watchers) => watchers.wake(hall),
+            None => true,
         }
     }
 

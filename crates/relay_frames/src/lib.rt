@@ -1,6 +1,5 @@
 //! The server's side of WebSocket (RFC 6455) without reading and writing: bytes come in, events and bytes go out. Nothing here
-//! waits, looks at a clock or knows of a socket, so that a loop can serve all peers. How long a silent peer is waited for is reckoned in
-//! seconds that the caller counts.
+//! waits, looks at a clock or knows of a socket, so that a loop can serve all peers.
 #![tactic(auto)]
 
 mod acceptance;
@@ -18,7 +17,6 @@ mod peer;
 mod progress;
 mod request;
 mod request_refusal;
-pub mod silence;
 
 pub use acceptance::Acceptance;
 pub use breach::Breach;

@@ -1,6 +1,6 @@
 -- How long a connection is waited for, in the units of the loop's clock.
 use Rattle.std.specs.Prelude.{ℕ, ◌+◌, ◌-◌, ◌/◌, nat_le, nat_lt, Bool, false, cond, is_some, Option, None, Some}
-use Rattle.relay_frames.specs.declared.silence.TheConstants.{MOST_PINGS}
+use Rattle.server_loop.specs.declared.silence.TheConstants.{MOST_PINGS}
 use Rattle.server_loop.specs.declared.deadlines.Deadlines.{Deadlines}
 use Rattle.server_loop.specs.declared.deadlines.SlowReader.{SlowReader}
 use Rattle.server_loop.specs.declared.deadlines.Times.{Times}

@@ -7,8 +7,6 @@ use std::time::{Clock, Duration, Instant};
 #[derive(Clone, Copy)]
 pub struct LoopClock {
     began: Instant,
-    /// The same in milliseconds of the monotonic clock.
-    epoch: u64,
     passed: Duration,
 }
 
@@ -19,10 +17,8 @@ impl LoopClock {
     ///
     /// The clock cannot be read.
     pub fn begin<C: Clock>(clock: &C) -> io::Result<LoopClock> {
-        let epoch = clock.monotonic()?.as_millis();
         Ok(LoopClock {
             began: Instant::now(clock)?,
-            epoch: u64::try_from(epoch).unwrap_or(u64::MAX),
             passed: Duration::ZERO,
         })
     }
@@ -47,10 +43,5 @@ impl LoopClock {
     /// The same in whole seconds.
     pub fn seconds(&self) -> u64 {
         self.passed.as_secs()
-    }
-
-    /// This millisecond of its own, as one of the monotonic clock.
-    pub fn by_clock(&self, millis: u64) -> u64 {
-        self.epoch.saturating_add(millis)
     }
 }

@@ -4,7 +4,7 @@ ghost use Rattle.std.specs.Prelude.{◌≡◌, ◌-◌, None, cond};
 ghost use Rattle.server_loop.specs.Deadlines.{counted_by, has_lasted, kept_waiting, ping_of, slow_verdict, steps_in, tries_by, verdict_of, verdict_talking};
 ghost use Rattle.server_loop.specs.declared.deadlines.Verdict.TheVariants.{Gone, Stays};
 
-use relay_frames::silence::{MOST_PINGS, Silence};
+use crate::silence::{MOST_PINGS, Silence};
 
 /// What one that takes nothing of what is due is granted before it goes.
 #[derive(Clone, Copy)]

@@ -12,6 +12,7 @@ mod log_line;
 mod log_thread;
 mod poller;
 mod run_queue;
+mod silence;
 mod socket;
 mod waker;
 
@@ -24,5 +25,6 @@ pub use log_line::LogLine;
 pub use log_thread::{Counts, Log};
 pub use poller::{LISTENER, MOST_EVENTS, Poller, WAKER};
 pub use run_queue::{Rank, RunQueue};
+pub use silence::Silence;
 pub use socket::{Delivery, Intake, Written, receive, send, write_once};
 pub use waker::LoopWaker;

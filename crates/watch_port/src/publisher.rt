@@ -12,7 +12,10 @@ pub struct Publisher {
     feeds: Vec<Feed>,
     /// Of each board, whether some loop has yet to be told of it.
     changed: [bool; MOST_BOARDS as usize],
+    /// Whether a board has changed since all changes were last told, as far as there was room.
     has_changed: bool,
+    /// Whether there was no room for some.
+    is_behind: bool,
     /// Room for the moves of a board.
     moves: Vec<Move>,
 }
@@ -24,6 +27,7 @@ impl Publisher {
             feeds,
             changed: [false; MOST_BOARDS as usize],
             has_changed: false,
+            is_behind: false,
             moves: Vec::new(alloc),
         }
     }
@@ -36,21 +40,33 @@ impl Publisher {
         }
     }
 
-    /// Tells the loops of the boards that have changed. What does not fit into a loop's ring, or finds no memory, is told by the next call.
-    /// Returns whether all loops were told all.
+    /// Tells the loops of the boards that have changed, if any has since the last such call. Returns whether all loops were told all: what
+    /// does not fit into a loop's ring, or finds no memory, is told later.
     pub fn publish(&mut self, hall: &Hall) -> bool {
-        if !self.has_changed {
-            return true;
+        if self.has_changed {
+            self.has_changed = false;
+            self.is_behind = !self.publish_all(hall);
         }
-        self.has_changed = false;
+        !self.is_behind
+    }
+
+    /// The same, and also if none has changed: rings that were full may have room.
+    pub fn publish_again(&mut self, hall: &Hall) -> bool {
+        self.has_changed = self.has_changed || self.is_behind;
+        self.publish(hall)
+    }
+
+    /// Tells the loops of all boards of which they have yet to be told. Returns whether they were told all.
+    fn publish_all(&mut self, hall: &Hall) -> bool {
+        let mut are_told = true;
         for at in 0..MOST_BOARDS {
             if self.changed[usize::from(at)] {
                 let is_told = self.publish_one(hall, at).unwrap_or(false);
                 self.changed[usize::from(at)] = !is_told;
-                self.has_changed = self.has_changed || !is_told;
+                are_told = are_told && is_told;
             }
         }
-        !self.has_changed
+        are_told
     }
 
     /// Tells all loops of one board. Returns whether each was told all.

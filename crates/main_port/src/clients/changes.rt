@@ -45,7 +45,7 @@ impl<'a, R: Wait + Clock, W: Watchers> Clients<'a, R, W> {
                 self.has_news(number);
             }
         }
-        self.rounds.changes(at, self.queue.len(Rank::Follower))
+        self.followers.count(at) > 0 && self.rounds.changes(at, self.queue.len(Rank::Follower))
     }
 
     /// The board that a connection follows has changed.

@@ -53,7 +53,19 @@ impl<'a, R: Wait + Clock, W: Watchers> Clients<'a, R, W> {
     /// Whether a connection is answered or read in its turn.
     fn is_heard(&self, number: u64) -> bool {
         match self.clients.get(&number) {
-            Some(client) => client.state == State::Interrupted || client.is_read(),
+            Some(client) => {
+                client.state == State::Interrupted || client.is_read() && !self.is_leaving(number)
+            }
+            None => false,
+        }
+    }
+
+    /// Whether a connection leaves once what is due to it is written. What it sends meanwhile is not read.
+    fn is_leaving(&self, number: u64) -> bool {
+        match self.clients.get(&number) {
+            Some(client) => {
+                client.is_blocked() && self.service.stage(number) == Some(Stage::Leaves)
+            }
             None => false,
         }
     }
@@ -225,11 +237,12 @@ impl<'a, R: Wait + Clock, W: Watchers> Clients<'a, R, W> {
         }
     }
 
-    /// The turn of a connection was over before all was answered that it said: it has another one, after the others of its rank, or of
-    /// this one.
+    /// The turn of a connection was over before all was answered that it said: it has another one, after the others of the rank that it has
+    /// by now, or of this one.
     fn is_interrupted(&mut self, number: u64, rank: Option<Rank>)
         ensures { OthersStay number self.old.clients.entries self.new.clients.entries }
     {
+        self.notes_role(number);
         let Some(client) = self.clients.get_mut(&number) else {
             return;
         };

@@ -14,6 +14,9 @@ use std::time::{Clock, Duration};
 /// How many connections are looked at in a turn. The others are in the next turns.
 const MOST_LOOKED_AT: u32 = 64;
 
+/// For how many microseconds they are looked at in a turn: one that takes all the moves that are left to it may take long.
+const MOST_LOOKING_MICROS: u64 = 100;
+
 /// After how many milliseconds each connection is looked at again.
 const MOST_UNLOOKED_MILLIS: u64 = 500;
 
@@ -85,8 +88,9 @@ impl<'a, R: Wait + Clock, W: Watchers> Clients<'a, R, W> {
                 self.service.hall().len(),
             );
         }
+        let until = self.time_for(MOST_LOOKING_MICROS);
         for _ in 0..MOST_LOOKED_AT {
-            if !self.is_looking() {
+            if !self.is_looking() || self.is_late(until) {
                 break;
             }
             self.look_at_next();
@@ -114,7 +118,7 @@ impl<'a, R: Wait + Clock, W: Watchers> Clients<'a, R, W> {
             return;
         };
         if client.is_queued {
-            // What it is waited for may have come, and have yet to be read. It sends at most a million messages meanwhile.
+            // What it is waited for may have come, and have yet to be read.
             return;
         }
         let most_idle = if client.role == Role::Other {

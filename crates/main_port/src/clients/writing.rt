@@ -27,6 +27,7 @@ impl<'a, R: Wait + Clock, W: Watchers> Clients<'a, R, W> {
     /// Sends the answers of all that had a turn. What they were told is not taken back from here on: where boards are kept on a disk, all
     /// that has changed is to be written there before.
     pub(super) fn send_answers(&mut self) {
+        self.watchers.tell(self.service.hall());
         for at in 0..self.unsent.len() {
             let Some(number) = self.unsent.get(at).copied() else {
                 break;
@@ -60,7 +61,7 @@ impl<'a, R: Wait + Clock, W: Watchers> Clients<'a, R, W> {
     }
 
     /// Whether a connection follows a board.
-    fn follows(&self, number: u64) -> bool {
+    pub(super) fn follows(&self, number: u64) -> bool {
         match self.clients.get(&number) {
             Some(client) => matches!(client.role, Role::Follower(_)),
             None => false,

@@ -178,10 +178,14 @@ impl Watchers for Loops {
         self.publisher.marks(at);
     }
 
+    fn tell(&mut self, hall: &Hall) {
+        self.publisher.publish(hall);
+    }
+
     /// Once all loops were told that all boards were ended, the port closes: its spectators need not wait until connections of the main
     /// port have gone.
-    fn wake(&mut self, hall: &Hall) {
-        let are_told = self.publisher.publish(hall);
+    fn wake(&mut self, hall: &Hall) -> bool {
+        let are_told = self.publisher.publish_again(hall);
         for at in 0..self.running.len() {
             if self.publisher.take_fresh(at) {
                 self.running[at].waker.wake();
@@ -191,6 +195,7 @@ impl Watchers for Loops {
             self.has_ended = false;
             self.close();
         }
+        are_told
     }
 
     fn has_ended(&mut self) {

@@ -40,6 +40,8 @@ impl<'a> Clients<'a> {
         name: &BoardName,
         from: Option<u16>,
     ) -> Result<Option<Refusal>, AllocError> {
+        // It may have read of a board or a move elsewhere since this turn began.
+        self.take_in_news();
         let Some(at) = self.find(name)? else {
             return Ok(Some(Refusal::NoSuchBoard));
         };
