@@ -16,6 +16,7 @@ import unittest
 from relay_client.connection import Connection
 from relay_client.faults import port_fault
 from relay_client.frames import MASK, PING, REQUEST, frame, head, request
+from relay_client.keys import new_key
 from relay_client.ports import free_port
 from relay_client.program import PATIENCE, PROGRAM, fens, game_by_chance, start_fen
 from relay_client.server import Server
@@ -596,6 +597,21 @@ class Ending(unittest.TestCase):
             for watcher in watchers:
                 watcher.hears(*texts, ABANDONED, DONE)
             close_all(owner, *watchers)
+            self.assertEqual(server.ended(), (b"", b"served 1, failed 0\n", 0))
+
+    def test_a_board_that_waits_for_its_operator_ends_for_spectators_too_when_standard_input_does(self):
+        """Nobody is left at the main port, so its loop is over with the turn in which the board ends."""
+        with Server("--forever", "--until-input-ends", "--grace", "60", watch=True, stdin=subprocess.PIPE) as server:
+            owner, watcher, of_all = owner_of(server, key=new_key()), watcher_of(server), Connection(server.watch_port)
+            owner.asks(submits("b1", "e2e4"), played(0))
+            watcher.hears(moved("e2e4", 0))
+            owner.close()
+            time.sleep(0.3)  # The relay notices that it has gone.
+            server.process.stdin.close()
+            server.process.stdin = None
+            watcher.hears(ABANDONED, DONE)
+            of_all.hears(AWAY)
+            close_all(watcher, of_all)
             self.assertEqual(server.ended(), (b"", b"served 1, failed 0\n", 0))
 
     def test_those_of_both_ports_that_do_not_go_are_waited_for_at_the_same_time(self):
