@@ -94,7 +94,7 @@ NO_BOARD = [b'{"code":1,"name":"NoSuchBoard","reply":"refused"}', b"close 1000"]
 # How many refusals at most only leave a line out: that the last connection has come. The main port's loop writes it in a thread of its own.
 MOST_LINES = 5
 # Standard error says so if there was no memory to start a connection's session.
-TURNED_AWAY = b"no descriptor or thread for a connection: turned away\n"
+TURNED_AWAY = b"no descriptor or memory for a connection: turned away\n"
 # None says that what was asked for had been done already, as a command that is made a second time would.
 ANSWERS = {*OWNED, *FOLLOWED, *NO_BOARD, NO_MEMORY}
 

@@ -7,7 +7,7 @@ COUNTS = re.compile(r"\] connections (\d+), boards \d+, ended \d+, followers (\d
 SPECTATORS = re.compile(r"\] connections of the watch port (\d+)$")
 LEFT_OUT = re.compile(r"\] (\d+) lines left out$")
 # Without --log too.
-TURNED_AWAY = "no descriptor or thread for a connection: turned away"
+TURNED_AWAY = "no descriptor or memory for a connection: turned away"
 
 
 class Figures:

@@ -50,7 +50,7 @@ class Log(unittest.TestCase):
 
     def test_newcomers_turned_away_and_lines_left_out_are_added_up(self):
         figures = Figures()
-        for line in 2 * ["no descriptor or thread for a connection: turned away\n", "[INFO  relay960] 17 lines left out\n"]:
+        for line in 2 * ["no descriptor or memory for a connection: turned away\n", "[INFO  relay960] 17 lines left out\n"]:
             figures.read(line)
         self.assertEqual((figures.refused["turned_away"], figures.left_out), (2, 34))
 

@@ -16,7 +16,7 @@ DEFAULT_PORT = 9600
 
 # What a newcomer is told for whom there is no room, and what standard error is told of the first of several.
 NO_ROOM = b"HTTP/1.1 503 Service Unavailable\r\nConnection: close\r\nContent-Length: 0\r\n\r\n"
-ONE_LINE = b"no descriptor or thread for a connection: turned away\n"
+ONE_LINE = b"no descriptor or memory for a connection: turned away\n"
 
 
 def compare(what, found, wanted):

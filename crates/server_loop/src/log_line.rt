@@ -43,7 +43,7 @@ impl fmt::Display for LogLine {
                 f,
                 "the last connection has come, {most} of {most}: no more are accepted without --forever"
             ),
-            LogLine::NoRoom => write!(f, "no descriptor or thread for a connection: turned away"),
+            LogLine::NoRoom => write!(f, "no descriptor or memory for a connection: turned away"),
         }
     }
 }
