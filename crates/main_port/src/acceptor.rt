@@ -192,7 +192,7 @@ impl<'a> Acceptor<'a> {
     }
 
     /// Closes the listener if the last has come that may, or serving ends. Returns whether it is closed.
-    pub(crate) fn is_closed<R: Wait>(&mut self, rt: &R) -> bool
+    pub(crate) fn closes_if_over<R: Wait>(&mut self, rt: &R) -> bool
         ensures closed { result ≡ not self.new.is_open }
         ensures rest { self.new ≡ record self.old { is_open = self.new.is_open } }
         ensures full { is_full self.old.tally ≡ true → result ≡ true }

@@ -185,7 +185,7 @@ impl<'a, R: Wait + Clock, W: Watchers> Clients<'a, R, W> {
             return false;
         }
         self.coming = self.coming.saturating_add(1);
-        let is_registered = self.is_registered(number);
+        let is_registered = self.registers(number);
         if !is_registered {
             self.remove(number);
         }
@@ -193,7 +193,7 @@ impl<'a, R: Wait + Clock, W: Watchers> Clients<'a, R, W> {
     }
 
     /// Registers a connection. Returns whether that succeeded.
-    fn is_registered(&mut self, number: u64) -> bool
+    fn registers(&mut self, number: u64) -> bool
         ensures { OthersStay number self.old.clients.entries self.new.clients.entries }
     {
         let Some(client) = self.clients.get_mut(&number) else {
@@ -217,13 +217,13 @@ impl<'a, R: Wait + Clock, W: Watchers> Clients<'a, R, W> {
         for event in events.iter() {
             report.told = report.told.saturating_add(1);
             report.has_newcomers = report.has_newcomers || event.token() == LISTENER;
-            self.is_told(event);
+            self.notes_event(event);
         }
         report
     }
 
     /// Notes one thing that the system reported: that a connection may be read or written, or that its output has ended.
-    fn is_told(&mut self, event: &Event) {
+    fn notes_event(&mut self, event: &Event) {
         let token = event.token();
         if token == LISTENER || token == WAKER {
             return;
@@ -314,7 +314,7 @@ impl<'a, R: Wait + Clock, W: Watchers> Clients<'a, R, W> {
                 self.send_answers();
             }
             self.serve_if_due(number);
-            self.is_answered(number);
+            self.queues_answers(number);
             if self.is_late(until) {
                 break;
             }

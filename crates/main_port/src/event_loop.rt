@@ -182,7 +182,7 @@ impl<'a, R: Wait + Clock, W: Watchers> EventLoop<'a, R, W> {
             // An accept that failed is tried again.
             self.acceptor.looks();
         }
-        let is_over = self.is_over();
+        let is_over = self.ends_if_over();
         // Boards may have ended by themselves since the answers were sent.
         self.clients.wake_watchers();
         is_over
@@ -191,11 +191,11 @@ impl<'a, R: Wait + Clock, W: Watchers> EventLoop<'a, R, W> {
     // ---- The end.
 
     /// Does what is due at the end. Returns whether that is over.
-    fn is_over(&mut self) -> bool
+    fn ends_if_over(&mut self) -> bool
         ensures same { IsOfTheSame self.old.acceptor self.new.acceptor }
         ensures over { result ≡ true → self.new.acceptor.is_open ≡ false }
     {
-        if !self.acceptor.is_closed(self.rt) {
+        if !self.acceptor.closes_if_over(self.rt) {
             return false;
         }
         let is_ending = self.acceptor.is_ending();
@@ -204,13 +204,13 @@ impl<'a, R: Wait + Clock, W: Watchers> EventLoop<'a, R, W> {
             self.clients.shut();
         }
         if is_ending {
-            return self.has_ended();
+            return self.ends_all();
         }
         self.clients.is_empty()
     }
 
     /// Serving is to end. All boards are ended, connections are told, and then waited for. Returns whether this is over.
-    fn has_ended(&mut self) -> bool
+    fn ends_all(&mut self) -> bool
         ensures { self.new.acceptor ≡ self.old.acceptor }
     {
         let now = self.clients.passed();

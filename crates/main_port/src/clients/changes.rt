@@ -112,11 +112,11 @@ impl<'a, R: Wait + Clock, W: Watchers> Clients<'a, R, W> {
             }
             self.counts_followers(at);
         }
-        self.is_now(number, role);
+        self.sets_role(number, role);
     }
 
     /// A connection is this to boards from now on.
-    fn is_now(&mut self, number: u64, role: Role)
+    fn sets_role(&mut self, number: u64, role: Role)
         ensures { OthersStay number self.old.clients.entries self.new.clients.entries }
     {
         if let Some(client) = self.clients.get_mut(&number) {
@@ -152,7 +152,7 @@ impl<'a, R: Wait + Clock, W: Watchers> Clients<'a, R, W> {
         if self.service.was_cut(number) {
             self.log.cut(self.service.hall(), at);
         }
-        self.is_now(number, Role::Other);
+        self.sets_role(number, Role::Other);
     }
 
     /// A connection is not among those any more that follow a board.

@@ -73,7 +73,7 @@ impl<'a, R: Wait + Clock, W: Watchers> Clients<'a, R, W> {
     // ---- From the loop.
 
     /// The output of a connection has ended. It goes, unless something has yet to be sent to it.
-    pub(super) fn is_closed_by_its_peer(&mut self, number: u64)
+    pub(super) fn hears_the_end(&mut self, number: u64)
         ensures { OthersStay number self.old.clients.entries self.new.clients.entries }
     {
         self.send(number);

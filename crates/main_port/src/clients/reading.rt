@@ -43,6 +43,7 @@ impl<'a, R: Wait + Clock, W: Watchers> Clients<'a, R, W> {
         let until = self.time_for(MOST_ANSWERED_MICROS);
         self.answer_rest(number, until);
         for _ in 0..MOST_PIECES {
+            self.pauses_if_refused(number);
             if !self.is_read(number) || !self.read(number, until) {
                 return;
             }
@@ -70,13 +71,12 @@ impl<'a, R: Wait + Clock, W: Watchers> Clients<'a, R, W> {
         }
     }
 
-    /// Whether a connection is read now. One that was refused to follow is not read for a moment: from now on, however long its answers
-    /// took.
-    fn is_read(&mut self, number: u64) -> bool
+    /// A connection that was refused to follow is not read for a moment: from now on, however long its answers took.
+    fn pauses_if_refused(&mut self, number: u64)
         ensures { OthersStay number self.old.clients.entries self.new.clients.entries }
     {
         let Some(client) = self.clients.get_mut(&number) else {
-            return false;
+            return;
         };
         if client.refused > 0 && client.state == State::Talks {
             self.clock.look(self.rt);
@@ -87,7 +87,14 @@ impl<'a, R: Wait + Clock, W: Watchers> Clients<'a, R, W> {
                 client.has_paused();
             }
         }
-        client.is_read()
+    }
+
+    /// Whether a connection is read now.
+    fn is_read(&self, number: u64) -> bool {
+        match self.clients.get(&number) {
+            Some(client) => client.is_read(),
+            None => false,
+        }
     }
 
     /// Reads once from a connection, and answers what was read until this time. Returns whether it is read again in this turn.
@@ -105,15 +112,15 @@ impl<'a, R: Wait + Clock, W: Watchers> Clients<'a, R, W> {
                 self.has_read(number, n, until);
                 return true;
             }
-            Intake::Nothing => self.is_read_to_the_end(number),
-            Intake::End => self.is_closed_by_its_peer(number),
+            Intake::Nothing => self.has_read_all(number),
+            Intake::End => self.hears_the_end(number),
             Intake::Failed => self.remove(number),
         }
         false
     }
 
     /// Nothing more has arrived from a connection.
-    fn is_read_to_the_end(&mut self, number: u64)
+    fn has_read_all(&mut self, number: u64)
         ensures { OthersStay number self.old.clients.entries self.new.clients.entries }
     {
         if let Some(client) = self.clients.get_mut(&number) {
@@ -185,16 +192,16 @@ impl<'a, R: Wait + Clock, W: Watchers> Clients<'a, R, W> {
                 Answered::Nothing => break,
                 Answered::Something => {
                     if self.is_late(until) {
-                        self.is_interrupted(number, None);
+                        self.interrupts(number, None);
                         break;
                     }
                 }
                 Answered::FarAhead => {
-                    self.is_interrupted(number, Some(Rank::Follower));
+                    self.interrupts(number, Some(Rank::Follower));
                     break;
                 }
                 Answered::Full => {
-                    self.is_full(number);
+                    self.waits_for_room(number);
                     break;
                 }
                 Answered::Failed => {
@@ -218,7 +225,7 @@ impl<'a, R: Wait + Clock, W: Watchers> Clients<'a, R, W> {
         let answered = self.service.answer(number);
         let is_far_ahead = self.gather(boards);
         if self.service.take_turned_away() {
-            self.is_refused(number);
+            self.counts_refusal(number);
         }
         match answered {
             Ok(true) if is_far_ahead => Answered::FarAhead,
@@ -229,7 +236,7 @@ impl<'a, R: Wait + Clock, W: Watchers> Clients<'a, R, W> {
     }
 
     /// A command of a connection to follow was refused.
-    fn is_refused(&mut self, number: u64)
+    fn counts_refusal(&mut self, number: u64)
         ensures { OthersStay number self.old.clients.entries self.new.clients.entries }
     {
         if let Some(client) = self.clients.get_mut(&number) {
@@ -239,7 +246,7 @@ impl<'a, R: Wait + Clock, W: Watchers> Clients<'a, R, W> {
 
     /// The turn of a connection was over before all was answered that it said: it has another one, after the others of the rank that it has
     /// by now, or of this one.
-    fn is_interrupted(&mut self, number: u64, rank: Option<Rank>)
+    fn interrupts(&mut self, number: u64, rank: Option<Rank>)
         ensures { OthersStay number self.old.clients.entries self.new.clients.entries }
     {
         self.notes_role(number);
@@ -253,7 +260,7 @@ impl<'a, R: Wait + Clock, W: Watchers> Clients<'a, R, W> {
 
     /// A connection is not answered before what is due is written. The rest of a message of one that follows is not waited for meanwhile:
     /// what is due to it is not its own doing.
-    fn is_full(&mut self, number: u64)
+    fn waits_for_room(&mut self, number: u64)
         ensures { OthersStay number self.old.clients.entries self.new.clients.entries }
     {
         if let Some(client) = self.clients.get_mut(&number) {

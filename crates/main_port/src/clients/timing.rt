@@ -130,9 +130,9 @@ impl<'a, R: Wait + Clock, W: Watchers> Clients<'a, R, W> {
             .deadlines
             .verdict(&Times::MAIN_PORT, now, waited, most_idle)
         {
-            Verdict::Stays | Verdict::Tries => self.is_not_forgotten(number),
+            Verdict::Stays | Verdict::Tries => self.remembers(number),
             Verdict::Ping => self.ping(number),
-            Verdict::Idle => self.is_idle(number),
+            Verdict::Idle => self.drops_idle(number),
             Verdict::Stuck | Verdict::Gone => self.remove(number),
         }
     }
@@ -168,7 +168,7 @@ impl<'a, R: Wait + Clock, W: Watchers> Clients<'a, R, W> {
 
     /// A connection has sent no message for too long. It goes, unless a board belongs to it.
     #[tactic(auto, unfolding(relay_frames::specs::Codes::may_be_sent))]
-    fn is_idle(&mut self, number: u64)
+    fn drops_idle(&mut self, number: u64)
         ensures { OthersStay number self.old.clients.entries self.new.clients.entries }
     {
         let is_owner = self.service.is_owner(number);
@@ -187,7 +187,7 @@ impl<'a, R: Wait + Clock, W: Watchers> Clients<'a, R, W> {
     /// Gives a connection the turn for which there was no memory when it became due, if that is so: something has come from it, or it is
     /// behind its board. One that follows whose connection takes nothing takes no moves, and so does not learn that it was cut off: if it
     /// must have been, it takes everything that is left to it, and its slot on the board is free.
-    fn is_not_forgotten(&mut self, number: u64)
+    fn remembers(&mut self, number: u64)
         ensures { OthersStay number self.old.clients.entries self.new.clients.entries }
     {
         let Some(client) = self.clients.get(&number) else {
@@ -237,14 +237,14 @@ impl<'a, R: Wait + Clock, W: Watchers> Clients<'a, R, W> {
             let index = many.saturating_sub(told).saturating_sub(1);
             if let Some((number, _)) = self.clients.get_index(index) {
                 let number = *number;
-                self.is_told_of_the_end(number);
+                self.tells_of_the_end(number);
             }
         }
     }
 
     /// Tells a connection that serving ends.
     #[tactic(auto, unfolding(relay_frames::specs::Codes::may_be_sent))]
-    fn is_told_of_the_end(&mut self, number: u64)
+    fn tells_of_the_end(&mut self, number: u64)
         ensures { OthersStay number self.old.clients.entries self.new.clients.entries }
     {
         match self.waited(number) {

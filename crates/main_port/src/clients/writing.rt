@@ -15,7 +15,7 @@ impl<'a, R: Wait + Clock, W: Watchers> Clients<'a, R, W> {
     // ---- Answers.
 
     /// A connection had its turn, and has yet to be sent its answers. They are sent for some connections at once.
-    pub(super) fn is_answered(&mut self, number: u64) {
+    pub(super) fn queues_answers(&mut self, number: u64) {
         if self.unsent.push(number).is_err() {
             self.deliver(number);
         }
@@ -91,14 +91,14 @@ impl<'a, R: Wait + Clock, W: Watchers> Clients<'a, R, W> {
             _ => return,
         }
         match send_to(&self.clients, &mut self.service, number) {
-            Delivery::All => self.is_served(number),
-            Delivery::Blocked => self.is_kept_waiting(number),
+            Delivery::All => self.has_sent_all(number),
+            Delivery::Blocked => self.blocks(number),
             Delivery::Failed => self.remove(number),
         }
     }
 
     /// A connection took everything that was due. If it says no more, that was all; if it was not answered meanwhile, it is again.
-    fn is_served(&mut self, number: u64)
+    fn has_sent_all(&mut self, number: u64)
         ensures { OthersStay number self.old.clients.entries self.new.clients.entries }
     {
         let stage = self.service.stage(number);
@@ -118,7 +118,7 @@ impl<'a, R: Wait + Clock, W: Watchers> Clients<'a, R, W> {
     }
 
     /// A connection takes no more now. One that says no more leaves the hall meanwhile.
-    fn is_kept_waiting(&mut self, number: u64)
+    fn blocks(&mut self, number: u64)
         ensures { OthersStay number self.old.clients.entries self.new.clients.entries }
     {
         let now = self.clock.millis();
