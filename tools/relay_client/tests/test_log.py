@@ -7,7 +7,8 @@ from relay_client.connection import Connection
 from relay_client.frames import pong
 from relay_client.keys import new_key
 from relay_client.server import Server, last_has_come
-from relay_client.tests.sessions import ABANDONED, guest_of, moves_without_a_draw, owner_of
+from relay_client.tests.sessions import ABANDONED, guest_of, owner_of
+from relay_client.tests.test_watching_loops import long_game
 from relay_client.texts import NOT_OBJECT, OPENED, ended, ends, opens, played, submits
 from relay_client.waiting import is_readable
 
@@ -100,23 +101,24 @@ class Log(unittest.TestCase):
             ])))
 
     def test_each_follower_that_is_cut_off_is_a_line(self):
-        """With room for one move in its queue a follower is cut off by a burst of moves, if it is not very fast."""
-        moves = list(moves_without_a_draw())
-        with Server("--log", "--capacity", "1", "--connections", "21") as server:
+        """Three of six take next to nothing, and their queues have room for four moves. Nobody reads before the game is over."""
+        moves = long_game(1400)
+        with Server("--log", "--capacity", "4", "--plies", "1500", "--connections", "7") as server:
             log, owner = Reader(server), owner_of(server)
-            guests = [guest_of(server) for _ in range(20)]
-            owner.send(*(submits("b1", move) for move in moves))
-            owner.hears(*map(played, range(len(moves))))
+            fast = [guest_of(server) for _ in range(3)]
+            slow = [guest_of(server, room=1024, segment=536) for _ in range(3)]
+            for start in range(0, len(moves), 100):
+                owner.send(*(submits("b1", move) for move in moves[start:start + 100]))
+                owner.hears(*(played(place) for place in range(start, min(start + 100, len(moves)))))
+                time.sleep(0.01)
             owner.close()
-            closes = []
-            for guest in guests:
+            for guest, code in [*((it, "close 1000") for it in fast), *((it, "close 4001") for it in slow)]:
                 while not (received := guest.receive()).startswith("close"):
                     pass
-                closes.append(received)
+                self.assertEqual(received, code)
                 guest.close()
             lines = log.ended()
-            self.assertGreater(closes.count("close 4001"), 0)
-            self.assertEqual(lines.count(line("board b1 has cut a follower off")), closes.count("close 4001"))
+            self.assertEqual(lines.count(line("board b1 has cut a follower off")), len(slow))
             self.assertEqual(lines.count(line("board b1 ended: abandoned")), 1)
 
     def test_the_counts_come_once_a_minute(self):
