@@ -3,17 +3,17 @@
 ghost use Rattle.std.specs.Prelude.{◌≡◌, ◌≤◌, [], None, Some, length, take, OnErr, OnOk};
 ghost use Rattle.relay_frames.specs.Heads.{EndsWithin, head_so_far_behind};
 ghost use Rattle.relay_frames.specs.Requests.{Accepts, IsAnswered};
-ghost use Rattle.relay_calling.specs.Calling.{CallerRecord};
+ghost use Rattle.relay_calling.specs.Calling.{OperatorRecord};
 ghost use Rattle.relay_calling.specs.Coming.{Arrives, Judged, Settled, owner_by, turned_away, welcomed};
 ghost use Rattle.relay_calling.specs.declared.stage.Stage.TheVariants.{Asks, Leaves};
 
-use crate::caller::Caller;
 use crate::key::key_of;
+use crate::operator_connection::OperatorConnection;
 use crate::stage::Stage;
 use relay_frames::{Acceptance, HeadSoFar, RequestRefusal, acceptance_of, head_so_far};
 use std::alloc::AllocError;
 
-impl Caller {
+impl OperatorConnection {
     /// These bytes of a request came.
     pub(crate) fn arrive(&mut self, bytes: &[u8]) -> Result<(), AllocError>
         ensures ok { OnOk result (Arrives self.old bytes.now self.new) }

@@ -8,7 +8,7 @@ ghost use Rattle.relay_messages.specs.declared.fault.MessageFault.TheVariants.{B
 ghost use Rattle.relay_pushing.specs.Connections.{OwnsAny};
 ghost use Rattle.relay_hall.specs.Steps.{tells_of};
 ghost use Rattle.relay_hall.specs.Talk.{are_none};
-ghost use Rattle.relay_calling.specs.Calling.{Answers, AnswersInFull, AnswersNot, Fails, Heeds, Meets, MeetsNot, after_write, apology, breach_frames, farewell, fault_frame, is_the_last, left_after, newcomer, stage_after, with_due};
+ghost use Rattle.relay_calling.specs.Calling.{Answers, AnswersInFull, AnswersNext, AnswersNot, Fails, Meets, MeetsNot, after_write, apology, breach_frames, farewell, fault_frame, is_the_last, left_after, newcomer, stage_after, with_due};
 ghost use Rattle.relay_calling.specs.Coming.{Feeds};
 ghost use Rattle.relay_calling.specs.declared.stage.Stage.TheVariants.{Leaves};
 ghost use Rattle.relay_frames.specs.declared.output.TheConstants.{MOST_OUTPUT};
@@ -26,10 +26,10 @@ use std::marker::Model;
 /// How many messages a connection may send, with pings and pongs. The fragments of one message are not counted.
 pub const MOST_MESSAGES: u32 = 1_000_000;
 
-/// A connection, from its first byte on. It is fed the bytes that came, heeds what they say, and offers the bytes that are due to the peer.
-/// Contracts see a `CallerRecord`.
+/// A connection, from its first byte on. It is fed the bytes that came, answers what they say, and offers the bytes that are due to the
+/// peer. Contracts see an `OperatorRecord`.
 #[derive(Drop)]
-pub struct Caller {
+pub struct OperatorConnection {
     alloc: Global,
     /// What has come of its request, until that is answered.
     head: Vec<u8>,
@@ -45,14 +45,14 @@ pub struct Caller {
     progress: Progress,
 }
 
-impl Model for Caller {
-    ghost use Rattle.relay_calling.specs.Calling.{CallerRecord};
+impl Model for OperatorConnection {
+    ghost use Rattle.relay_calling.specs.Calling.{OperatorRecord};
 
-    ghost Value = { CallerRecord };
+    ghost Value = { OperatorRecord };
 
-    ghost use Rattle.relay_calling.specs.Inner.{caller_of};
+    ghost use Rattle.relay_calling.specs.Inner.{operator_of};
 
-    ghost view = { caller_of };
+    ghost view = { operator_of };
 }
 
 /// How many messages may still be sent after an event, if so many might be before.
@@ -65,12 +65,12 @@ fn left_after(left: u32, event: &Event) -> u32
     }
 }
 
-impl Caller {
+impl OperatorConnection {
     /// A connection of which nothing has been read, with its number, and whether its request may name a key.
-    pub fn new(alloc: Global, opener: u64, takes_keys: bool) -> Caller
+    pub fn new(alloc: Global, opener: u64, takes_keys: bool) -> OperatorConnection
         ensures { result ≡ newcomer opener takes_keys }
     {
-        Caller {
+        OperatorConnection {
             alloc,
             head: Vec::new(alloc),
             takes_keys,
@@ -108,8 +108,8 @@ impl Caller {
     /// # Errors
     ///
     /// There was no memory. Nothing has changed; or what was said next is lost, and the connection leaves.
-    pub fn heed(&mut self, hall: &mut Hall) -> (Result<bool, AllocError>, Option<Handed>)
-        ensures ok { IfOk result.0 (λ some. Heeds some self.old hall.old result.1 hall.new self.new) }
+    pub fn answer(&mut self, hall: &mut Hall) -> (Result<bool, AllocError>, Option<Handed>)
+        ensures ok { IfOk result.0 (λ some. AnswersNext some self.old hall.old result.1 hall.new self.new) }
         ensures err { OnErr result.0 (Fails self.old hall.old result.1 hall.new self.new) }
     {
         if !self.stage.asks() {
@@ -181,7 +181,7 @@ impl Caller {
         ensures ok { OnOk result.0 (AnswersInFull self.old hall.old (told event.now) result.1 hall.new self.new) }
         ensures err { OnErr result.0 (AnswersNot self.old hall.old (told event.now) result.1 hall.new self.new) }
     {
-        let (answered, handed) = self.answer(event, hall);
+        let (answered, handed) = self.answer_event(event, hall);
         match answered {
             Ok(()) => (self.say_farewell(event, handed.is_some()), handed),
             Err(error) => (Err(error), handed),
@@ -201,7 +201,11 @@ impl Caller {
     }
 
     /// Answers an event.
-    fn answer(&mut self, event: &Event, hall: &mut Hall) -> (Result<(), AllocError>, Option<Handed>)
+    fn answer_event(
+        &mut self,
+        event: &Event,
+        hall: &mut Hall,
+    ) -> (Result<(), AllocError>, Option<Handed>)
         ensures ok { OnOk result.0 (Answers self.old hall.old (told event.now) result.1 hall.new self.new) }
         ensures err { OnErr result.0 (AnswersNot self.old hall.old (told event.now) result.1 hall.new self.new) }
     {

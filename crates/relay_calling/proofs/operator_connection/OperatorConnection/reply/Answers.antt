@@ -1,11 +1,11 @@
 use Rattle.std.proofs.Common.{string_bytes}
-use Rattle.relay_calling.specs.Inner.{caller_of}
+use Rattle.relay_calling.specs.Inner.{operator_of}
 use Rattle.relay_calling.proofs.Answering.{each_of, onto_err, onto_ok, text_answers, text_fails}
-use Rattle.relay_calling.proofs.caller.Caller.reply.Goals as goal
+use Rattle.relay_calling.proofs.operator_connection.OperatorConnection.reply.Goals as goal
 
 pub returns-in-Ok-clause-ok : goal.returns-in-Ok-clause-ok
 returns-in-Ok-clause-ok c =
-    let mine = caller_of c.self.inside in
+    let mine = operator_of c.self.inside in
     let h = c.hear-heard in
     rw (← c.self.view_is)
     (onto_ok (text_answers mine c.args.hall.now h.result.1 h.new.self c.args.text.now c.as_str.result.now h.new.conn c.put_text.new.self h.ensures.rest
@@ -13,7 +13,7 @@ returns-in-Ok-clause-ok c =
 
 pub returns-in-Ok-clause-err : goal.returns-in-Ok-clause-err
 returns-in-Ok-clause-err c =
-    let mine = caller_of c.self.inside in
+    let mine = operator_of c.self.inside in
     let h = c.hear-heard in
     rw (← c.self.view_is)
     (onto_err (text_fails mine c.args.hall.now h.result.1 h.new.self c.args.text.now (string_bytes c.in-Ok.answer) h.new.conn c.put_text.new.self h.ensures.rest

@@ -4,12 +4,12 @@
 ghost use Rattle.std.specs.Prelude.{◌≡◌, OnErr, OnOk};
 ghost use Rattle.relay_calling.specs.Calling.{pinged, sent_away};
 
-use crate::caller::Caller;
+use crate::operator_connection::OperatorConnection;
 use crate::stage::Stage;
 use relay_frames::Code;
 use std::alloc::AllocError;
 
-impl Caller {
+impl OperatorConnection {
     /// Puts a ping behind what is due, if the connection asks: by its pong a silent peer shows that it is there (RFC 6455, section 5.5.2).
     /// Otherwise nothing is done.
     ///
