@@ -18,7 +18,7 @@ watched (WatchesAll change) = None
 
 -- a frame of what it watches is partly written, or the end of that is written: nothing may be written there but the rest of it
 abbrev pub is_within : Course → Watching → Bool
-is_within c w = w.has_begun && not (is_between c w.watcher)
+is_within c w = w.has_begun && not (is_between c w.spectator)
 
 -- there is no output, now or later
 abbrev pub has_no_output : Visitor → Bool
@@ -42,7 +42,7 @@ is_next c v = is_next_of c v (watched v.doing)
 
 -- n bytes of the tape were written to a visitor that watches
 pub record HasWrittenTape (w : Watching) (n : ℕ) (old new : Visitor) : Type 0 where
-  pub doing : new.doing ≡ Watches (record w { watcher = after_write w.watcher n; has_begun = true })
+  pub doing : new.doing ≡ Watches (record w { spectator = after_write w.spectator n; has_begun = true })
   pub output : new.output.items ≡ old.output.items
   pub written : new.written ≡ old.written
   pub leaving : new.is_leaving ≡ old.is_leaving

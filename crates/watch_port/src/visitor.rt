@@ -6,7 +6,7 @@ ghost use Rattle.relay_watching.specs.Promised.{Joining};
 ghost use Rattle.watch_port.specs.Visits.{HasWrittenOutput, HasWrittenTape, has_no_output, is_next, is_tapes_turn, is_within, output_left, watched};
 
 use relay_frames::{Event, Peer};
-use relay_watching::{Tape, Watcher};
+use relay_watching::{SpectatorConnection, Tape};
 use std::alloc::{AllocError, Global};
 use std::mem;
 
@@ -31,7 +31,7 @@ pub(crate) enum Doing {
 pub(crate) struct Watching {
     /// The key of the audience that it is in.
     pub(crate) audience: usize,
-    watcher: Watcher,
+    spectator: SpectatorConnection,
     /// Whether anything of it was written.
     has_begun: bool,
 }
@@ -41,19 +41,19 @@ impl Watching {
     fn is_within(&self, tape: &Tape) -> bool
         ensures { result ≡ is_within tape.now self.now }
     {
-        self.has_begun && !self.watcher.is_between_frames(tape)
+        self.has_begun && !self.spectator.is_between_frames(tape)
     }
 
     /// The first `n` of the bytes offered of it were written.
     fn wrote(&mut self, tape: &Tape, n: usize)
-        requires { n ≤ length (offered tape.now self.old.watcher) }
-        ensures written { self.new.watcher ≡ after_write self.old.watcher n }
-        ensures sent { (j : Joining) (written : List ℕ) → WasSent tape.now j written self.old.watcher
-            → WasSent tape.now j (written ++ take n (offered tape.now self.old.watcher)) self.new.watcher }
+        requires { n ≤ length (offered tape.now self.old.spectator) }
+        ensures written { self.new.spectator ≡ after_write self.old.spectator n }
+        ensures sent { (j : Joining) (written : List ℕ) → WasSent tape.now j written self.old.spectator
+            → WasSent tape.now j (written ++ take n (offered tape.now self.old.spectator)) self.new.spectator }
         ensures begun { self.new.has_begun ≡ true }
         ensures audience { self.new.audience ≡ self.old.audience }
     {
-        self.watcher.wrote(tape, n);
+        self.spectator.wrote(tape, n);
         self.has_begun = true;
     }
 }
@@ -93,10 +93,10 @@ impl Visitor {
     }
 
     /// It watches a board from now on.
-    pub(crate) fn watch(&mut self, audience: usize, watcher: Watcher) {
+    pub(crate) fn watch(&mut self, audience: usize, spectator: SpectatorConnection) {
         self.doing = Doing::Watches(Watching {
             audience,
-            watcher,
+            spectator,
             has_begun: false,
         });
     }
@@ -180,16 +180,16 @@ impl Visitor {
     /// The bytes that are to be written next to a visitor that watches. If a frame of the tape is begun, they are of the tape, at most up
     /// to the end of that frame if there is output; otherwise they are the output.
     fn offered_of<'a>(&'a self, tape: &'a Tape, watching: &'a Watching) -> &'a [u8]
-        ensures tape { is_tapes_turn tape.now self.now watching.now ≡ true → result.now ≡ take (length result.now) (offered tape.now watching.now.watcher) }
+        ensures tape { is_tapes_turn tape.now self.now watching.now ≡ true → result.now ≡ take (length result.now) (offered tape.now watching.now.spectator) }
         ensures output { is_tapes_turn tape.now self.now watching.now ≡ false → result.now ≡ output_left self.now }
     {
         if !self.is_tapes_turn(tape, watching) {
             return self.output_left();
         }
         if self.has_no_output() {
-            watching.watcher.due(tape)
+            watching.spectator.due(tape)
         } else {
-            watching.watcher.due_of_frame(tape)
+            watching.spectator.due_of_frame(tape)
         }
     }
 
@@ -203,7 +203,7 @@ impl Visitor {
 
     /// The bytes of the tape that are to be written after the output to a visitor that watches, if the output is offered and it stays.
     fn offered_behind_output<'a>(&'a self, tape: &'a Tape, watching: &'a Watching) -> &'a [u8]
-        ensures part { result.now ≡ take (length result.now) (offered tape.now watching.now.watcher) }
+        ensures part { result.now ≡ take (length result.now) (offered tape.now watching.now.spectator) }
         ensures alone { is_tapes_turn tape.now self.now watching.now ≡ true → result.now ≡ [] }
         ensures behind { (next : Visitor) → HasWrittenOutput (length (output_left self.now)) self.now next
             → is_tapes_turn tape.now next watching.now ≡ false → result.now ≡ [] }
@@ -211,7 +211,7 @@ impl Visitor {
         if self.is_leaving || self.is_tapes_turn(tape, watching) {
             return &[];
         }
-        watching.watcher.due(tape)
+        watching.spectator.due(tape)
     }
 
     /// The part of the output that has not been written.
@@ -228,7 +228,7 @@ impl Visitor {
     /// The first `n` of the bytes offered were written.
     pub(crate) fn wrote(&mut self, tape: Option<&Tape>, n: usize)
         ensures tape { IfSome tape.entry (λ t. (w : Watching) → watched self.old.doing ≡ Some w → is_tapes_turn t.now self.old w ≡ true
-            → n ≤ length (offered t.now w.watcher) → HasWrittenTape w n self.old self.new) }
+            → n ≤ length (offered t.now w.spectator) → HasWrittenTape w n self.old self.new) }
         ensures output { IfSome tape.entry (λ t. is_next t.now self.old ≡ false → n ≤ length (output_left self.old) → HasWrittenOutput n self.old self.new) }
         ensures alone { IfNone tape.entry (n ≤ length (output_left self.old) → HasWrittenOutput n self.old self.new) }
     {
@@ -253,10 +253,10 @@ impl Visitor {
 
     /// The first `n` of the bytes offered of what it watches were written. Any beyond those offered are not counted.
     fn wrote_tape(&mut self, tape: &Tape, n: usize)
-        ensures { (w : Watching) → watched self.old.doing ≡ Some w → n ≤ length (offered tape.now w.watcher) → HasWrittenTape w n self.old self.new }
+        ensures { (w : Watching) → watched self.old.doing ≡ Some w → n ≤ length (offered tape.now w.spectator) → HasWrittenTape w n self.old self.new }
     {
         if let Doing::Watches(watching) = &mut self.doing {
-            if n <= watching.watcher.due(tape).len() {
+            if n <= watching.spectator.due(tape).len() {
                 watching.wrote(tape, n);
             }
         }
@@ -276,7 +276,7 @@ impl Visitor {
     /// Whether everything that it will ever be sent is written.
     pub(crate) fn is_done(&self, tape: Option<&Tape>) -> bool {
         if let (Doing::Watches(watching), Some(tape)) = (&self.doing, tape) {
-            if watching.watcher.is_done(tape) {
+            if watching.spectator.is_done(tape) {
                 return true;
             }
         }

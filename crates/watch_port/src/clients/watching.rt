@@ -67,11 +67,11 @@ impl<'a> Clients<'a> {
         };
         let length = u16::try_from(audience.tape.len()).unwrap_or(u16::MAX);
         let place = from.unwrap_or(length);
-        let Some(watcher) = audience.join(board, place)? else {
+        let Some(spectator) = audience.join(board, place)? else {
             return Ok(Some(Refusal::NotYet));
         };
         if let Some(client) = self.clients.get_mut(key) {
-            client.visitor.watch(at, watcher);
+            client.visitor.watch(at, spectator);
         }
         Ok(None)
     }

@@ -1,5 +1,5 @@
 use Rattle.relay_watching.proofs.Progresses.{sent_after}
-use Rattle.relay_watching.proofs.watcher.Watcher.wrote.Goals as goal
+use Rattle.relay_watching.proofs.spectator_connection.SpectatorConnection.wrote.Goals as goal
 
 pub returns-clause-sent : goal.returns-clause-sent
 returns-clause-sent c =

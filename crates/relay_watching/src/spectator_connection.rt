@@ -11,7 +11,7 @@ use std::marker::Model;
 
 /// How far a spectator was sent what it is promised. Each call is passed the tape that the spectator joined.
 #[derive(Drop)]
-pub struct Watcher {
+pub struct SpectatorConnection {
     alloc: Global,
     /// The frame of the greeting, or nothing once it is written.
     greeting: Vec<u8>,
@@ -21,7 +21,7 @@ pub struct Watcher {
     at: usize,
 }
 
-impl Model for Watcher {
+impl Model for SpectatorConnection {
     ghost use Rattle.relay_watching.specs.Progress.{Progress};
 
     ghost Value = { Progress };
@@ -31,12 +31,12 @@ impl Model for Watcher {
     ghost view = { λ w. record { left = drop w.greeted w.greeting.items; at = w.at } };
 }
 
-impl Watcher {
+impl SpectatorConnection {
     /// A spectator to which this greeting has yet to be written, and then the tape from there on.
-    pub(crate) fn new(alloc: Global, greeting: Vec<u8>, at: usize) -> Watcher
+    pub(crate) fn new(alloc: Global, greeting: Vec<u8>, at: usize) -> SpectatorConnection
         ensures { result ≡ record { left = greeting.items; at = at } }
     {
-        Watcher {
+        SpectatorConnection {
             alloc,
             greeting,
             greeted: 0,

@@ -2,7 +2,7 @@ use Rattle.std.proofs.Common.{◌≡◌, length, sym, ◌∙◌}
 use Rattle.std.proofs.lemmas.Bool.{eqb-true}
 use Rattle.std.proofs.lemmas.List.{nil_from_length}
 use Rattle.relay_watching.proofs.Progresses.{due_none}
-use Rattle.relay_watching.proofs.watcher.Watcher.is_done.Goals as goal
+use Rattle.relay_watching.proofs.spectator_connection.SpectatorConnection.is_done.Goals as goal
 
 pub returns-then-is_over-clause-written : goal.returns-then-is_over-clause-written
 returns-then-is_over-clause-written c =
