@@ -3,17 +3,17 @@
 ghost use Rattle.std.specs.Prelude.{◌≡◌, ◌≤◌, ℕ, List, [], ◌++◌, length, take, None, Some, IfSome, IfNone, true, false};
 ghost use Rattle.relay_watching.specs.Progress.{WasSent, after_write, offered};
 ghost use Rattle.relay_watching.specs.Promised.{Joining};
-ghost use Rattle.watch_port.specs.Visits.{HasWrittenOutput, HasWrittenTape, has_no_output, is_next, is_tapes_turn, is_within, output_left, watched};
+ghost use Rattle.watch_port.specs.Connections.{HasWrittenOutput, HasWrittenTape, has_no_output, is_next, is_tapes_turn, is_within, output_left, watched};
 
 use relay_frames::{Event, Peer};
 use relay_watching::{SpectatorConnection, Tape};
 use std::alloc::{AllocError, Global};
 use std::mem;
 
-/// How many bytes of answers may be kept for a visitor before it is no longer heard.
+/// How many bytes of answers may be kept for a connection before it is no longer heard.
 const MOST_OUTPUT: usize = 16384;
 
-/// What a visitor does.
+/// What a connection does.
 #[derive(Drop)]
 pub(crate) enum Doing {
     /// It sends its request. These bytes of it have come.
@@ -26,7 +26,7 @@ pub(crate) enum Doing {
     WatchesAll(u64),
 }
 
-/// What a visitor watches, and how far it was sent.
+/// What a connection watches, and how far it was sent.
 #[derive(Drop)]
 pub(crate) struct Watching {
     /// The key of the audience that it is in.
@@ -58,9 +58,9 @@ impl Watching {
     }
 }
 
-/// A visitor. Its output is whole frames, and is written before what it watches, between two frames of that.
+/// A connection. Its output is whole frames, and is written before what it watches, between two frames of that.
 #[derive(Drop)]
-pub(crate) struct Visitor {
+pub(crate) struct WatchConnection {
     alloc: Global,
     peer: Peer,
     pub(crate) doing: Doing,
@@ -71,10 +71,10 @@ pub(crate) struct Visitor {
     is_leaving: bool,
 }
 
-impl Visitor {
-    /// A visitor from which nothing has come yet.
-    pub(crate) fn new(alloc: Global) -> Visitor {
-        Visitor {
+impl WatchConnection {
+    /// A connection from which nothing has come yet.
+    pub(crate) fn new(alloc: Global) -> WatchConnection {
+        WatchConnection {
             alloc,
             peer: Peer::new(alloc),
             doing: Doing::Comes(Vec::new(alloc)),
@@ -136,7 +136,7 @@ impl Visitor {
     }
 
     /// Whether so much output is kept that it is not heard until that is written.
-    pub(crate) fn is_stuffed(&self) -> bool {
+    pub(crate) fn is_full(&self) -> bool {
         self.output.len() > MOST_OUTPUT
     }
 
@@ -177,8 +177,8 @@ impl Visitor {
         }
     }
 
-    /// The bytes that are to be written next to a visitor that watches. If a frame of the tape is begun, they are of the tape, at most up
-    /// to the end of that frame if there is output; otherwise they are the output.
+    /// The bytes that are to be written next to a connection that watches. If a frame of the tape is begun, they are of the tape, at most
+    /// up to the end of that frame if there is output; otherwise they are the output.
     fn offered_of<'a>(&'a self, tape: &'a Tape, watching: &'a Watching) -> &'a [u8]
         ensures tape { is_tapes_turn tape.now self.now watching.now ≡ true → result.now ≡ take (length result.now) (offered tape.now watching.now.spectator) }
         ensures output { is_tapes_turn tape.now self.now watching.now ≡ false → result.now ≡ output_left self.now }
@@ -201,11 +201,11 @@ impl Visitor {
         }
     }
 
-    /// The bytes of the tape that are to be written after the output to a visitor that watches, if the output is offered and it stays.
+    /// The bytes of the tape that are to be written after the output to a connection that watches, if the output is offered and it stays.
     fn offered_behind_output<'a>(&'a self, tape: &'a Tape, watching: &'a Watching) -> &'a [u8]
         ensures part { result.now ≡ take (length result.now) (offered tape.now watching.now.spectator) }
         ensures alone { is_tapes_turn tape.now self.now watching.now ≡ true → result.now ≡ [] }
-        ensures behind { (next : Visitor) → HasWrittenOutput (length (output_left self.now)) self.now next
+        ensures behind { (next : WatchConnection) → HasWrittenOutput (length (output_left self.now)) self.now next
             → is_tapes_turn tape.now next watching.now ≡ false → result.now ≡ [] }
     {
         if self.is_leaving || self.is_tapes_turn(tape, watching) {

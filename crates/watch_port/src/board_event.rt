@@ -6,7 +6,7 @@ use relay_core::BoardName;
 
 /// What happened to a board. A board is known by its index, in the order of opening.
 #[derive(Clone, Copy, Debug)]
-pub enum News {
+pub enum BoardEvent {
     /// The next board was opened under this name, with this number of a start.
     Opened(BoardName, u16),
     /// A move was made on the board of this index.
