@@ -64,7 +64,7 @@ impl Publisher {
         };
         let from = self.least_told(at);
         self.moves.clear();
-        let outcome = shown.news(from, &mut self.moves)?;
+        let outcome = shown.moves_from(from, &mut self.moves)?;
         let board = BoardUpdate {
             at,
             name: shown.name(),

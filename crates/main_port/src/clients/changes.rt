@@ -22,7 +22,7 @@ impl<'a, R: Wait + Clock, W: Watchers> Clients<'a, R, W> {
     {
         let mut is_far_ahead = false;
         for _ in 0..MOST_BOARDS {
-            let Some(at) = self.service.take_rung() else {
+            let Some(at) = self.service.take_changed() else {
                 break;
             };
             is_far_ahead = self.changes(at) || is_far_ahead;
