@@ -253,7 +253,7 @@ class Terms(unittest.TestCase):
         self.assertEqual(sorted(terms), sorted(set(terms)))
 
     def test_what_the_documents_speak_of_is_explained(self):
-        wanted = ("place, ply, capacity, closing, seat, view, note, bell, tape, visitor, service, driver, watch port, main port, "
+        wanted = ("place, ply, capacity, closing, seat, view, note, bell, tape, watch connection, service, driver, watch port, main port, "
                   "spectator, follower, owner, operator, limit, queue, cut, channel, feed, beat, key, grace, kit, crate, clause, headline, "
                   "gate")
         self.assertLessEqual(set(wanted.split(", ")), {term for terms, _ in self.items() for term in terms})

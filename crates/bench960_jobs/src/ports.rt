@@ -12,7 +12,7 @@ use c960_game::Limits;
 use relay_frames::{Event, Peer, outgoing};
 use relay_messages::Decoder;
 use relay_pushing::{Conn, LastText, PushEnd, Turn, push_some};
-use relay_watching::{Tape, Watcher};
+use relay_watching::{SpectatorConnection, Tape};
 use std::alloc::{AllocError, Global};
 
 /// How many followers are pushed to.
@@ -77,7 +77,7 @@ struct Crowd {
     last: LastText,
     wire: Wire,
     tape: Tape,
-    watchers: Vec<Watcher>,
+    spectators: Vec<SpectatorConnection>,
 }
 
 /// A crowd at the operator's board.
@@ -89,7 +89,7 @@ fn gather(alloc: Global, operator: &mut Operator) -> Result<Crowd, AllocError> {
             bytes: Vec::new(alloc),
         },
         tape: Tape::new(alloc),
-        watchers: Vec::new(alloc),
+        spectators: Vec::new(alloc),
     };
     for _ in 0..FOLLOWERS {
         if let Some(board) = &mut operator.hall.board {
@@ -128,8 +128,8 @@ fn join(chance: &mut Chance, crowd: &mut Crowd, operator: &Operator) -> Result<(
             let place = chance.small(board.len());
             if let Some(position) = board.position_at(place) {
                 if usize::from(place) <= crowd.tape.len() {
-                    let watcher = crowd.tape.join(place, &position)?;
-                    crowd.watchers.push(watcher)?;
+                    let spectator = crowd.tape.join(place, &position)?;
+                    crowd.spectators.push(spectator)?;
                 }
             }
         }
@@ -138,18 +138,18 @@ fn join(chance: &mut Chance, crowd: &mut Crowd, operator: &Operator) -> Result<(
 }
 
 /// Writes what is due to each spectator of the tape, in pieces of at most this many bytes.
-fn write(digest: &mut Digest, tape: &Tape, watchers: &mut Vec<Watcher>, most: usize) {
-    for watcher in watchers {
+fn write(digest: &mut Digest, tape: &Tape, spectators: &mut Vec<SpectatorConnection>, most: usize) {
+    for spectator in spectators {
         for _ in 0..u64::MAX {
-            let piece = watcher.due(tape);
+            let piece = spectator.due(tape);
             let size = piece.len().min(most);
             if size == 0 {
                 break;
             }
             digest.add_bytes(piece.get(..size).unwrap_or(&[]));
-            watcher.wrote(tape, size);
+            spectator.wrote(tape, size);
         }
-        digest.add(u64::from(watcher.is_between_frames(tape)));
+        digest.add(u64::from(spectator.is_between_frames(tape)));
     }
 }
 
@@ -173,7 +173,7 @@ fn ply(
     write(
         digest,
         &crowd.tape,
-        &mut crowd.watchers,
+        &mut crowd.spectators,
         chance.below(1000).saturating_add(1),
     );
     Ok(())

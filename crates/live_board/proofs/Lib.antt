@@ -16,7 +16,7 @@ mod Opening
 mod SoundViews
 mod Allowed
 mod Steps
-mod Desks
+mod TableWriters
 mod Followers
 mod Hands
 mod Orders

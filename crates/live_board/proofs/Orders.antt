@@ -5,7 +5,7 @@ use Rattle.c960_board.specs.Moves.{Triple}
 use Rattle.live_board.specs.declared.step.BoardStep.{BoardStep}
 use Rattle.live_board.specs.declared.step.BoardStep.TheVariants.{CursorLoaded, CursorExchanged, MoveStored, StatusStored}
 use Rattle.live_board.specs.declared.view.View.{View}
-use Rattle.live_board.specs.Desk.{Tried, TriedBelow, Submitted}
+use Rattle.live_board.specs.TableWriter.{Tried, TriedBelow, Submitted}
 use Rattle.live_board.specs.Order.{DoneAt, DoneBelow, SubmittedInOrder}
 use Rattle.live_board.proofs.lemmas.Tries.{by_try}
 

@@ -24,10 +24,10 @@ abbrev pub IsLegalGame : View → Type 0
 IsLegalGame v = IsGame (game_of v)
 
 -- the game that runs is the one that the view shows
-pub record IsBoard (desk : BoardSeat) (game : GameRecord) : Type 0 where
-  pub game_is : game ≡ game_of desk.knows
+pub record IsBoard (writer : BoardSeat) (game : GameRecord) : Type 0 where
+  pub game_is : game ≡ game_of writer.knows
   pub valid : IsGame game
-  pub sound : IsSound desk.knows
+  pub sound : IsSound writer.knows
 
 -- ---- Following.
 

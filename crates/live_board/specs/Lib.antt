@@ -10,7 +10,7 @@ pub mod Sound
 pub mod KindViews
 pub mod Kinds
 pub mod Seats
-pub mod Desk
+pub mod TableWriter
 pub mod Order
 pub mod Takes
 pub mod Board

@@ -67,7 +67,7 @@ least_vacant_with vacant slot (Closed c) = past vacant slot
 
 -- Of a board: the table's identity and key, the seat, and the fields besides. After the opening and after each call the notes have room
 -- for each follower, and for no more. This says nothing about memory that a call allocates and frees itself.
-pub record IsDesk (id : TableId) (key : BoardSetup) (seat : Seat (Unit {0}) View) (setup : BoardSetup) (len least vacant : ℕ)
+pub record IsTableWriter (id : TableId) (key : BoardSetup) (seat : Seat (Unit {0}) View) (setup : BoardSetup) (len least vacant : ℕ)
     (notes : List Note) (room : ℕ) : Type 0 where
   pub table : seat.table_id ≡ id
   pub words : id.words ≡ word_count setup.limits

@@ -15,12 +15,12 @@ ghost use Rattle.live_board.specs.Views.{each_part, finished, followed, left_at,
 ghost use Rattle.live_board.specs.Accounts.{account_of};
 ghost use Rattle.live_board.specs.Carried.{Carries, CarriesAt, closing_at, due_at, TookAt};
 ghost use Rattle.live_board.specs.Board.{from_place, game_of, IsLegalGame, IsNotYet, IsTooFarBack, setup_of};
-ghost use Rattle.live_board.specs.Desk.{Joined, LoadedBelow, NoneVacant, NoneVacantBelow, Searched, Submitted};
+ghost use Rattle.live_board.specs.TableWriter.{Joined, LoadedBelow, NoneVacant, NoneVacantBelow, Searched, Submitted};
 ghost use Rattle.live_board.specs.Meeting.{Met};
 ghost use Rattle.live_board.specs.Order.{SubmittedInOrder};
 
-use crate::desk::Desk;
 use crate::follower::Follower;
+use crate::table_writer::TableWriter;
 use crate::{BoardLimits, BoardSetup};
 use c960_board::{Move, Position, STARTS};
 use c960_game::{Ending, Game, Limits, Outcome, Refusal, Replaying};
@@ -32,7 +32,7 @@ use std::marker::Model;
 #[derive(Drop)]
 pub struct Board {
     /// The board's side of its table.
-    desk: Desk,
+    writer: TableWriter,
     /// The game that the table shows.
     game: Game,
 }
@@ -43,9 +43,9 @@ impl Model for Board {
 
     ghost Value = { BoardSeat };
 
-    ghost view = { λ b. b.desk };
+    ghost view = { λ b. b.writer };
 
-    ghost invariant = { λ b. IsBoard b.desk b.game };
+    ghost invariant = { λ b. IsBoard b.writer b.game };
 }
 
 impl Board {
@@ -64,10 +64,10 @@ impl Board {
             start: u64::from(start),
             limits: BoardLimits::of(&limits),
         };
-        let Ok(desk) = Desk::new(alloc, setup) else {
+        let Ok(writer) = TableWriter::new(alloc, setup) else {
             return Err(Refusal::OutOfMemory);
         };
-        Ok(Board { desk, game })
+        Ok(Board { writer, game })
     }
 
     /// The number of the start, 0 to 959.
@@ -91,7 +91,7 @@ impl Board {
         ensures value { result ≡ self.now.knows.setup.limits.capacity }
         ensures valid { IsLegalGame self.now.knows }
     {
-        self.desk.capacity() as u16
+        self.writer.capacity() as u16
     }
 
     /// The move at a place of the log, counted from 0, or None exactly from the log's length on.
@@ -140,7 +140,7 @@ impl Board {
     pub fn word(&self, number: u64) -> Option<u64>
         ensures { IsSome result ↔ (number < self.now.knows.setup.limits.followers + 2 + self.now.knows.setup.limits.plies) }
     {
-        self.desk.word(number)
+        self.writer.word(number)
     }
 
     /// Makes a move. Returns its place in the log, and the outcome if it ends the game. Refused as by `Game::play`, and then nothing has
@@ -159,8 +159,8 @@ impl Board {
     {
         let place = self.game.len();
         let outcome = self.game.play(m)?;
-        self.desk.close_full();
-        self.desk.publish(m, outcome);
+        self.writer.close_full();
+        self.writer.publish(m, outcome);
         Ok((place, outcome))
     }
 
@@ -174,7 +174,7 @@ impl Board {
         ensures sound { IsSound self.new.knows }
     {
         let outcome = self.game.end(ending)?;
-        self.desk.finish(&ending, outcome);
+        self.writer.finish(&ending, outcome);
         Ok(outcome)
     }
 
@@ -201,12 +201,12 @@ impl Board {
     {
         let len = self.game.len();
         let place = from.unwrap_or(len);
-        may_join_at(len, place, self.desk.capacity() as u16)?;
+        may_join_at(len, place, self.writer.capacity() as u16)?;
         let outcome = self.game.outcome();
-        let Some(cursor) = self.desk.find_vacant() else {
+        let Some(cursor) = self.writer.find_vacant() else {
             return Err(Refusal::TooManyFollowers);
         };
-        self.desk
+        self.writer
             .sit(cursor, u64::from(place), outcome)
             .ok_or(Refusal::OutOfMemory)
     }
@@ -221,7 +221,7 @@ impl Board {
         ensures first { IfSome result (λ k. NoneVacantBelow k self.now.knows) }
         ensures valid { IsLegalGame self.now.knows }
     {
-        self.desk.vacant()
+        self.writer.vacant()
     }
 
     /// Adds a follower in a vacant slot. It takes from the place `from` of the log.
@@ -234,7 +234,7 @@ impl Board {
         ensures valid { IsLegalGame self.new.knows }
         ensures sound { IsSound self.new.knows }
     {
-        self.desk.join_at(slot, u64::from(from));
+        self.writer.join_at(slot, u64::from(from));
     }
 
     /// Adds a follower in the first vacant slot. It takes from the place `from` of the log. The next search for a vacant slot then passes
@@ -249,7 +249,7 @@ impl Board {
         ensures valid { IsLegalGame self.new.knows }
         ensures sound { IsSound self.new.knows }
     {
-        self.desk.pass_over(slot);
+        self.writer.pass_over(slot);
         self.join_at(slot, from);
     }
 
@@ -262,17 +262,17 @@ impl Board {
         ensures valid { IsLegalGame self.new.knows }
         ensures sound { IsSound self.new.knows }
     {
-        let closing = self.desk.closing_at(slot);
+        let closing = self.writer.closing_at(slot);
         let place = u64::from(next);
         let len = u64::from(self.game.len());
         let answer = without_move(closing, place, len, self.game.outcome());
         if is_cut(&answer) {
             return Taken::Cut;
         }
-        self.desk.look();
+        self.writer.look();
         match answer {
             Some(answer) => answer,
-            None => Taken::Move(next, self.desk.gain_at(slot, place)),
+            None => Taken::Move(next, self.writer.gain_at(slot, place)),
         }
     }
 
@@ -286,9 +286,9 @@ impl Board {
         ensures valid { IsLegalGame self.new.knows }
         ensures sound { IsSound self.new.knows }
     {
-        let closing = self.desk.closing_at(slot);
-        self.desk.look();
-        self.desk.leave_at(slot);
+        let closing = self.writer.closing_at(slot);
+        self.writer.look();
+        self.writer.leave_at(slot);
         closing
     }
 }
@@ -311,6 +311,6 @@ pub fn meet(board: &mut Board, follower: &mut Follower) -> Account
     ensures sound { IsSound board.new.knows }
     ensures sound_part { IsSoundPart follower.new.part }
 {
-    board.desk.meet(follower);
+    board.writer.meet(follower);
     follower.account()
 }

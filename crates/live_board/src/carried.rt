@@ -13,13 +13,13 @@ ghost use Rattle.live_board.specs.Words.{length_in, move_word_at, outcome_in};
 ghost use Rattle.live_board.specs.Carried.{Carries, closing_at};
 
 use crate::Note;
-use crate::desk::Desk;
 use crate::kinds::{Follow, Leave, Look, Read, Take};
 use crate::note::set_note;
+use crate::table_writer::TableWriter;
 use crate::words::{STATUS, cursor_at, move_word_at, open_cursor};
 use c960_board::Move;
 
-impl Desk {
+impl TableWriter {
     /// The closing of the follower in the slot.
     pub(crate) fn closing_at(&self, slot: u64) -> Option<u64>
         requires { Carries self.now.knows slot }

@@ -8,9 +8,9 @@ ghost use Rattle.live_board.specs.Words.{closing_in, length_in, outcome_in};
 ghost use Rattle.live_board.specs.Accounts.{account_of};
 ghost use Rattle.live_board.specs.Takes.{HasSeenNoLess, Stays, StaysKnown, Took, TookOfGame};
 
-use crate::desk::LiveTable;
 use crate::gone::Gone;
 use crate::kinds::{Leave, Look, Read, Take};
+use crate::table_writer::LiveTable;
 use crate::words::{STATUS, closing_in, cursor_at, length_in, move_word_at, outcome_in};
 use crate::{BoardSetup, View};
 use atomic_table::Seat;

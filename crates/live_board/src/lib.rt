@@ -10,7 +10,6 @@
 mod board;
 mod carried;
 mod cursor;
-mod desk;
 mod follower;
 mod gone;
 pub mod kinds;
@@ -19,6 +18,7 @@ mod limits;
 mod note;
 mod setup;
 mod step;
+mod table_writer;
 mod view;
 pub mod words;
 

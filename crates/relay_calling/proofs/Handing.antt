@@ -16,7 +16,7 @@ use Rattle.relay_hall.specs.Record.{FloorRecord, HallRecord}
 use Rattle.relay_hall.specs.Talk.{IsAnsweredBy, SaidAnswered, may_make}
 use Rattle.relay_hall.specs.Telling.{Tells}
 use Rattle.relay_hall.proofs.lemmas.Telling.{replied_tells}
-use Rattle.relay_calling.specs.Calling.{CallerRecord, EventMet, Heeds, IsTold, left_after}
+use Rattle.relay_calling.specs.Calling.{AnswersNext, EventMet, IsTold, OperatorRecord, left_after}
 use Rattle.relay_calling.specs.declared.stage.Stage.TheVariants.{HandsOver}
 
 -- ---- The text tells of it, as the reply does.
@@ -53,8 +53,8 @@ module _ (k : HallRecord) (h : Handed) (who : Owner) (boards : List (List ℕ)) 
   event_tells (closed number) frames (answer, (is, (none, same, opened)), frames-are) due = nothing h none
   event_tells (broken breach) frames (answer, (is, (none, same, opened)), frames-are) due = nothing h none
 
-pub heed_tells : (c : CallerRecord) (k : HallRecord) (h : Handed) (l : HallRecord) (d : CallerRecord) → Heeds true c k (Some h) l d → IsTold c.due h d.due × (d.stage ≡ HandsOver)
-heed_tells c k h l d (t, asking, says, (frames, met, is)) = (
-  subst (λ (ys : List ℕ). IsTold c.due h ys) (sym (ap (λ (e : CallerRecord). e.due) is)) (event_tells k h c.who c.boards (left_after c.left t) l d.boards t frames met c.due),
-  ap (λ (e : CallerRecord). e.stage) is,
+pub answered_tells : (c : OperatorRecord) (k : HallRecord) (h : Handed) (l : HallRecord) (d : OperatorRecord) → AnswersNext true c k (Some h) l d → IsTold c.due h d.due × (d.stage ≡ HandsOver)
+answered_tells c k h l d (t, asking, says, (frames, met, is)) = (
+  subst (λ (ys : List ℕ). IsTold c.due h ys) (sym (ap (λ (e : OperatorRecord). e.due) is)) (event_tells k h c.who c.boards (left_after c.left t) l d.boards t frames met c.due),
+  ap (λ (e : OperatorRecord). e.stage) is,
 )

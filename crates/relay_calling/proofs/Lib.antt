@@ -1,9 +1,9 @@
 pub mod lemmas
 mod Answering
 mod Arriving
-mod Crowding
+mod Connections
 mod Handing
-mod Heeding
+mod Hearing
 mod Keying
 mod Owning
 mod Sending

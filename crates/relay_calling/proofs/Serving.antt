@@ -12,18 +12,18 @@ use Rattle.relay_frames.specs.Requests.{Accepts, IsAnswered, acceptance_text, an
 use Rattle.relay_frames.proofs.lemmas.Coming.{nothing_is_part, part_later, refused_still, same_head, same_rest, whole_still, whole_within}
 use Rattle.relay_frames.proofs.lemmas.Hearings.{pieces_are_one}
 use Rattle.relay_hall.specs.declared.owner.Owner.{Owner}
-use Rattle.relay_calling.specs.Calling.{CallerRecord, asks, is_through, newcomer, nobody}
+use Rattle.relay_calling.specs.Calling.{OperatorRecord, asks, is_through, newcomer, nobody}
 use Rattle.relay_calling.specs.Coming.{Judged, Settled, owner_by, turned_away, welcomed}
-use Rattle.relay_calling.specs.declared.caller.TheConstants.{MOST_MESSAGES}
+use Rattle.relay_calling.specs.declared.operator_connection.TheConstants.{MOST_MESSAGES}
 use Rattle.relay_calling.specs.declared.stage.Stage.{Stage}
 use Rattle.relay_calling.specs.declared.stage.Stage.TheVariants.{Comes, Leaves}
-use Rattle.relay_calling.specs.Running.{AreSent, Cause, Deed, IsSent, IsSentOnly, IsServed, IsServedAt, Runs, bytes_of, came, causes_of, failed, heeded, pieces_of, was_pinged, was_sent_away, written_of, wrote}
-use Rattle.relay_calling.proofs.Heeding.{hear_no_more}
+use Rattle.relay_calling.specs.Running.{AreSent, Cause, Deed, IsSent, IsSentOnly, IsServed, IsServedAt, Runs, bytes_of, came, causes_of, failed, pieces_of, was_answered, was_pinged, was_sent_away, written_of, wrote}
+use Rattle.relay_calling.proofs.Hearing.{hear_no_more}
 use Rattle.relay_calling.proofs.Sending.{GoesOn, goes_on, silent}
 
 -- ---- Nothing more was due for what came before.
 
-module _ (x : Deed) (xs : List Deed) (d : CallerRecord) (causes : causes_of (x ∷ xs) ≡ causes_of xs) (writes : written_of (x ∷ xs) ≡ written_of xs) where
+module _ (x : Deed) (xs : List Deed) (d : OperatorRecord) (causes : causes_of (x ∷ xs) ≡ causes_of xs) (writes : written_of (x ∷ xs) ≡ written_of xs) where
   only_on : (answer : List ℕ) (stage : Stage) → IsSentOnly answer stage xs d → IsSentOnly answer stage (x ∷ xs) d
   only_on answer stage s = record { none = causes ∙ s.none; sent = ap (λ (ys : List ℕ). ys ++ d.due) writes ∙ s.sent; there = s.there }
 
@@ -41,13 +41,13 @@ module _ (x : Deed) (xs : List Deed) (d : CallerRecord) (causes : causes_of (x �
 
 module _ (opener : ℕ) (takes_keys : Bool) where
   -- a connection of whose request this has come
-  abbrev arriving : List ℕ → CallerRecord
+  abbrev arriving : List ℕ → OperatorRecord
   arriving head = record (newcomer opener takes_keys) { head = head }
 
-  abbrev IsServedBy : List ℕ → List Deed → CallerRecord → Type 0
+  abbrev IsServedBy : List ℕ → List Deed → OperatorRecord → Type 0
   IsServedBy bytes deeds d = IsServedAt (head_so_far bytes) opener takes_keys bytes deeds d
 
-  served_on : (x : Deed) (xs : List Deed) (d : CallerRecord) → causes_of (x ∷ xs) ≡ causes_of xs → written_of (x ∷ xs) ≡ written_of xs
+  served_on : (x : Deed) (xs : List Deed) (d : OperatorRecord) → causes_of (x ∷ xs) ≡ causes_of xs → written_of (x ∷ xs) ≡ written_of xs
       → (s : HeadSoFar) (bytes : List ℕ) → IsServedAt s opener takes_keys bytes xs d → IsServedAt s opener takes_keys bytes (x ∷ xs) d
   served_on x xs d causes writes Part bytes only = only_on x xs d causes writes [] Comes only
   served_on x xs d causes writes (Refused refusal) bytes only = only_on x xs d causes writes (answer_text refusal) Leaves only
@@ -58,24 +58,24 @@ module _ (opener : ℕ) (takes_keys : Bool) where
   -- ---- Its head.
 
   -- more of it has to come
-  waits : (head : List ℕ) (d : CallerRecord) → head_so_far head ≡ Part → d ≡ arriving head → IsServedBy (head ++ []) [] d
+  waits : (head : List ℕ) (d : OperatorRecord) → head_so_far head ≡ Part → d ≡ arriving head → IsServedBy (head ++ []) [] d
   waits head d part is =
       subst (λ (bytes : List ℕ). IsServedBy bytes [] d) (sym (append-nil head))
       (subst (λ (s : HeadSoFar). IsServedAt s opener takes_keys head [] d) (sym part)
-      (record { none = refl; sent = ap (λ (e : CallerRecord). e.due) is; there = ap (λ (e : CallerRecord). e.stage) is }))
+      (record { none = refl; sent = ap (λ (e : OperatorRecord). e.due) is; there = ap (λ (e : OperatorRecord). e.stage) is }))
 
-  module _ (head : List ℕ) (mid : CallerRecord) (xs : List Deed) (d : CallerRecord) (runs : Runs mid xs d) where
+  module _ (head : List ℕ) (mid : OperatorRecord) (xs : List Deed) (d : OperatorRecord) (runs : Runs mid xs d) where
     -- it is refused
     refused_then : (refusal : RequestRefusal) → mid ≡ turned_away (arriving head) refusal → IsSentOnly (answer_text refusal) Leaves xs d
     refused_then refusal is =
-        let s = silent mid xs d (ap (λ (e : CallerRecord). is_through e.stage) is) runs in
-        record { none = s.none; sent = s.sent ∙ ap (λ (e : CallerRecord). e.due) is; there = s.there ∙ ap (λ (e : CallerRecord). e.stage) is }
+        let s = silent mid xs d (ap (λ (e : OperatorRecord). is_through e.stage) is) runs in
+        record { none = s.none; sent = s.sent ∙ ap (λ (e : OperatorRecord). e.due) is; there = s.there ∙ ap (λ (e : OperatorRecord). e.stage) is }
 
     -- it is accepted
     accepted_then : (end : ℕ) (value : List ℕ) → mid ≡ welcomed (arriving head) end value
         → IsSent (owner_by takes_keys (take end head) (nobody opener)) (acceptance_text value) (drop end head ++ bytes_of xs) xs d
     accepted_then end value is =
-        let g : GoesOn (welcomed (arriving head) end value) xs d = goes_on (welcomed (arriving head) end value) xs d refl (subst (λ (m : CallerRecord). Runs m xs d) is runs) in
+        let g : GoesOn (welcomed (arriving head) end value) xs d = goes_on (welcomed (arriving head) end value) xs d refl (subst (λ (m : OperatorRecord). Runs m xs d) is runs) in
         let heard : behind g.events g.rest ≡ hear_all (fed opened (drop end head ++ bytes_of xs)) = g.heard ∙ pieces_are_one (drop end head ∷ pieces_of xs) in
         record {
           events = g.events;
@@ -120,31 +120,31 @@ module _ (opener : ℕ) (takes_keys : Bool) where
   never_asks : {A : Type 0} → asks Comes ≡ true → A
   never_asks asking = absurd (true≢false (sym asking))
 
-  serves : (head : List ℕ) → head_so_far head ≡ Part → (deeds : List Deed) (d : CallerRecord) → Runs (arriving head) deeds d → IsServedBy (head ++ bytes_of deeds) deeds d
+  serves : (head : List ℕ) → head_so_far head ≡ Part → (deeds : List Deed) (d : OperatorRecord) → Runs (arriving head) deeds d → IsServedBy (head ++ bytes_of deeds) deeds d
   serves head part [] d is = waits head d part is
   serves head part (came piece ∷ xs) d (mid, arrives, runs) =
       let all = head ++ piece in
       let settled : Settled (arriving all) (head_so_far all) mid = subst (λ (s : HeadSoFar). Settled (arriving all) s mid) (part_later head piece part) arrives in
       let served : IsServedBy (all ++ bytes_of xs) xs d =
-      settled_then all mid xs d runs (head_so_far all) refl settled (λ p is. serves all p xs d (subst (λ (m : CallerRecord). Runs m xs d) is runs)) in
+      settled_then all mid xs d runs (head_so_far all) refl settled (λ p is. serves all p xs d (subst (λ (m : OperatorRecord). Runs m xs d) is runs)) in
       subst (λ (bytes : List ℕ). IsServedBy bytes (came piece ∷ xs) d) (append_assoc head piece (bytes_of xs))
       (served_on (came piece) xs d refl refl (head_so_far (all ++ bytes_of xs)) (all ++ bytes_of xs) served)
   serves head part (wrote bytes ∷ xs) d (mid, (n, first, is), runs) =
       let same : mid ≡ arriving head = is ∙ ap (λ (due : List ℕ). record (arriving head) { due = due }) (drop-nil n) in
       served_on (wrote bytes) xs d refl (ap (λ (ys : List ℕ). ys ++ written_of xs) (first ∙ take-nil n)) (head_so_far (head ++ bytes_of xs)) (head ++ bytes_of xs)
-      (serves head part xs d (subst (λ (m : CallerRecord). Runs m xs d) same runs))
-  serves head part (heeded false m ∷ xs) d (mid, (none, same, is, more), runs) =
-      served_on (heeded false m) xs d refl refl (head_so_far (head ++ bytes_of xs)) (head ++ bytes_of xs) (serves head part xs d (subst (λ (m : CallerRecord). Runs m xs d) is runs))
+      (serves head part xs d (subst (λ (m : OperatorRecord). Runs m xs d) same runs))
+  serves head part (was_answered false m ∷ xs) d (mid, (none, same, is, more), runs) =
+      served_on (was_answered false m) xs d refl refl (head_so_far (head ++ bytes_of xs)) (head ++ bytes_of xs) (serves head part xs d (subst (λ (m : OperatorRecord). Runs m xs d) is runs))
   serves head part (failed m ∷ xs) d (mid, inl (none, same, is), runs) =
-      served_on (failed m) xs d refl refl (head_so_far (head ++ bytes_of xs)) (head ++ bytes_of xs) (serves head part xs d (subst (λ (m : CallerRecord). Runs m xs d) is runs))
+      served_on (failed m) xs d refl refl (head_so_far (head ++ bytes_of xs)) (head ++ bytes_of xs) (serves head part xs d (subst (λ (m : OperatorRecord). Runs m xs d) is runs))
   serves head part (was_pinged false ∷ xs) d (mid, (asked, is), runs) =
-      served_on (was_pinged false) xs d refl refl (head_so_far (head ++ bytes_of xs)) (head ++ bytes_of xs) (serves head part xs d (subst (λ (m : CallerRecord). Runs m xs d) is runs))
+      served_on (was_pinged false) xs d refl refl (head_so_far (head ++ bytes_of xs)) (head ++ bytes_of xs) (serves head part xs d (subst (λ (m : OperatorRecord). Runs m xs d) is runs))
   serves head part (was_sent_away false code ∷ xs) d (mid, (asked, is), runs) =
-      served_on (was_sent_away false code) xs d refl refl (head_so_far (head ++ bytes_of xs)) (head ++ bytes_of xs) (serves head part xs d (subst (λ (m : CallerRecord). Runs m xs d) is runs))
+      served_on (was_sent_away false code) xs d refl refl (head_so_far (head ++ bytes_of xs)) (head ++ bytes_of xs) (serves head part xs d (subst (λ (m : OperatorRecord). Runs m xs d) is runs))
   serves head part (was_pinged true ∷ xs) d (mid, (asking, is), runs) = never_asks asking
   serves head part (was_sent_away true code ∷ xs) d (mid, (asking, is), runs) = never_asks asking
-  serves head part (heeded true m ∷ xs) d (mid, (t, asking, says, met), runs) = never_asks asking
+  serves head part (was_answered true m ∷ xs) d (mid, (t, asking, says, met), runs) = never_asks asking
   serves head part (failed m ∷ xs) d (mid, inr (t, asking, says, lost), runs) = never_asks asking
 
-pub is_served : (opener : ℕ) (takes_keys : Bool) (deeds : List Deed) (d : CallerRecord) → Runs (newcomer opener takes_keys) deeds d → IsServed opener takes_keys deeds d
+pub is_served : (opener : ℕ) (takes_keys : Bool) (deeds : List Deed) (d : OperatorRecord) → Runs (newcomer opener takes_keys) deeds d → IsServed opener takes_keys deeds d
 is_served opener takes_keys deeds d runs = serves opener takes_keys [] nothing_is_part deeds d runs

@@ -1,4 +1,4 @@
--- What a caller does to a hall.
+-- What a connection does to a hall.
 use Rattle.std.proofs.Common.{◌≡◌, ℕ, List, Bool, true, false, Option, inl, inr, refl, subst}
 use Rattle.relay_frames.specs.Events.{Told, fragment, text, binary, ping, pong, closed, broken}
 use Rattle.relay_hall.specs.declared.handed.Handed.{Handed}
@@ -6,7 +6,7 @@ use Rattle.relay_hall.specs.declared.owner.Owner.{Owner}
 use Rattle.relay_hall.specs.Record.{HallRecord}
 use Rattle.relay_hall.specs.Runs.{IsOneStep}
 use Rattle.relay_hall.proofs.lemmas.OneStep.{answered_once, unanswered_once}
-use Rattle.relay_calling.specs.Calling.{CallerRecord, EventAnswered, EventUnanswered, Fails, Heeds, Stays, asks}
+use Rattle.relay_calling.specs.Calling.{AnswersNext, EventAnswered, EventUnanswered, Fails, OperatorRecord, Stays, asks}
 
 module _ (k : HallRecord) (who : Owner) (boards : List (List ℕ)) (handed : Option Handed) (l : HallRecord) (now : List (List ℕ)) where
   stays_once : Stays k boards handed l now → IsOneStep k who handed l
@@ -33,21 +33,21 @@ module _ (k : HallRecord) (who : Owner) (boards : List (List ℕ)) (handed : Opt
 
 -- ---- Said by one who is known while it asks.
 
-module _ (c : CallerRecord) (k : HallRecord) (handed : Option Handed) (l : HallRecord) (d : CallerRecord) (one : Owner) (is : asks c.stage ≡ true → c.who ≡ one) where
+module _ (c : OperatorRecord) (k : HallRecord) (handed : Option Handed) (l : HallRecord) (d : OperatorRecord) (one : Owner) (is : asks c.stage ≡ true → c.who ≡ one) where
   pub fails_as : Fails c k handed l d → IsOneStep k one handed l
   fails_as (inl (none, same, stays)) = inr (same, none)
   fails_as (inr (t, asking, says, (un, then))) = subst (λ (who : Owner). IsOneStep k who handed l) (is asking) (lost_once k c.who c.boards handed l d.boards t un)
 
-pub heeds_as : (some : Bool) (c : CallerRecord) (k : HallRecord) (handed : Option Handed) (l : HallRecord) (d : CallerRecord) (one : Owner) → (asks c.stage ≡ true → c.who ≡ one)
-    → Heeds some c k handed l d → IsOneStep k one handed l
-heeds_as true c k handed l d one is (t, asking, says, (frames, (answer, answered, met), then)) =
+pub answers_as : (some : Bool) (c : OperatorRecord) (k : HallRecord) (handed : Option Handed) (l : HallRecord) (d : OperatorRecord) (one : Owner) → (asks c.stage ≡ true → c.who ≡ one)
+    → AnswersNext some c k handed l d → IsOneStep k one handed l
+answers_as true c k handed l d one is (t, asking, says, (frames, (answer, answered, met), then)) =
     subst (λ (who : Owner). IsOneStep k who handed l) (is asking) (event_once k c.who c.boards handed l d.boards t answer answered)
-heeds_as false c k handed l d one is (none, same, stays, more) = inr (same, none)
+answers_as false c k handed l d one is (none, same, stays, more) = inr (same, none)
 
 -- ---- Said by itself.
 
-pub heeds_once : (some : Bool) (c : CallerRecord) (k : HallRecord) (handed : Option Handed) (l : HallRecord) (d : CallerRecord) → Heeds some c k handed l d → IsOneStep k c.who handed l
-heeds_once some c k handed l d heeds = heeds_as some c k handed l d c.who (λ asking. refl) heeds
+pub answers_once : (some : Bool) (c : OperatorRecord) (k : HallRecord) (handed : Option Handed) (l : HallRecord) (d : OperatorRecord) → AnswersNext some c k handed l d → IsOneStep k c.who handed l
+answers_once some c k handed l d answers = answers_as some c k handed l d c.who (λ asking. refl) answers
 
-pub fails_once : (c : CallerRecord) (k : HallRecord) (handed : Option Handed) (l : HallRecord) (d : CallerRecord) → Fails c k handed l d → IsOneStep k c.who handed l
+pub fails_once : (c : OperatorRecord) (k : HallRecord) (handed : Option Handed) (l : HallRecord) (d : OperatorRecord) → Fails c k handed l d → IsOneStep k c.who handed l
 fails_once c k handed l d fails = fails_as c k handed l d c.who (λ asking. refl) fails

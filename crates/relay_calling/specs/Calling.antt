@@ -1,4 +1,4 @@
--- What contracts see of a caller, how each of its events is answered by a hall, and what the caller then is.
+-- What contracts see of a connection, how each of its events is answered by a hall, and what the connection then is.
 use Rattle.std.specs.Prelude.{◌≡◌, ◌⊎◌, ℕ, ◌-◌, ◌==◌, List, [], ◌++◌, length, take, drop, cond, is_some, not, ◌||◌, Bool, true, false, Option, None, Some}
 use Rattle.relay_core.specs.declared.reply.Reply.{Reply}
 use Rattle.relay_frames.specs.Breaches.{code_of}
@@ -16,13 +16,13 @@ use Rattle.relay_hall.specs.declared.owner.Owner.{Owner}
 use Rattle.relay_hall.specs.Record.{HallRecord}
 use Rattle.relay_hall.specs.Talk.{IsAnsweredBy, IsUnansweredBy}
 use Rattle.relay_hall.specs.Telling.{Tells}
-use Rattle.relay_calling.specs.declared.caller.TheConstants.{MOST_MESSAGES}
+use Rattle.relay_calling.specs.declared.operator_connection.TheConstants.{MOST_MESSAGES}
 use Rattle.relay_calling.specs.declared.stage.Stage.{Stage}
 use Rattle.relay_calling.specs.declared.stage.Stage.TheVariants.{Comes, Asks, HandsOver, Leaves}
 
--- what has come of a caller's request until that is answered, whether it may name a key, what has been read of the bytes behind it, the
+-- what has come of a connection's request until that is answered, whether it may name a key, what has been read of the bytes behind it, the
 -- boards that it opened, who it is, the bytes that have yet to be written to it, how many messages it may still send, and what it does
-pub record CallerRecord : Type 0 where
+pub record OperatorRecord : Type 0 where
   pub head : List ℕ
   pub takes_keys : Bool
   pub reading : Reading
@@ -37,7 +37,7 @@ abbrev pub nobody : ℕ → Owner
 nobody opener = record { key = None; opener = opener }
 
 -- nothing has come yet of a connection with this number
-abbrev pub newcomer : ℕ → Bool → CallerRecord
+abbrev pub newcomer : ℕ → Bool → OperatorRecord
 newcomer opener takes_keys = record {
   head = [];
   takes_keys = takes_keys;
@@ -49,22 +49,22 @@ newcomer opener takes_keys = record {
   stage = Comes;
 }
 
-abbrev pub has_left : Stage → Bool
-has_left Comes = false
-has_left Asks = false
-has_left HandsOver = false
-has_left Leaves = true
+abbrev pub is_draining : Stage → Bool
+is_draining Comes = false
+is_draining Asks = false
+is_draining HandsOver = false
+is_draining Leaves = true
 
 -- bytes came, behind the request; those of one that leaves are dropped
-abbrev pub after_feed : CallerRecord → List ℕ → CallerRecord
-after_feed c bytes = record c { reading = cond (has_left c.stage) c.reading (fed c.reading bytes) }
+abbrev pub after_feed : OperatorRecord → List ℕ → OperatorRecord
+after_feed c bytes = record c { reading = cond (is_draining c.stage) c.reading (fed c.reading bytes) }
 
 -- the first n of the bytes due were written
-abbrev pub after_write : CallerRecord → ℕ → CallerRecord
+abbrev pub after_write : OperatorRecord → ℕ → OperatorRecord
 after_write c n = record c { due = drop n c.due }
 
 -- more is due
-abbrev pub with_due : CallerRecord → List ℕ → CallerRecord
+abbrev pub with_due : OperatorRecord → List ℕ → OperatorRecord
 with_due c frames = record c { due = c.due ++ frames }
 
 -- ---- The answers that need no hall.
@@ -127,7 +127,7 @@ EventUnanswered k who boards (pong bytes) handed l now = Stays k boards handed l
 EventUnanswered k who boards (closed number) handed l now = Stays k boards handed l now
 EventUnanswered k who boards (broken breach) handed l now = Stays k boards handed l now
 
--- ---- The last message that a caller may send.
+-- ---- The last message that a connection may send.
 
 -- each message counts, and each ping and pong; the fragments of one message are not counted
 abbrev pub left_after : ℕ → Told → ℕ
@@ -147,20 +147,20 @@ abbrev pub EventMet : HallRecord → Owner → List (List ℕ) → ℕ → Told 
 EventMet k who boards left t frames handed l now =
     (answer : List ℕ) × EventAnswered k who boards t answer handed l now × (frames ≡ answer ++ farewell left t (is_some handed))
 
--- ---- What a caller is then.
+-- ---- What a connection is then.
 
 -- the frames of the answer to an event are due behind all that was due
-abbrev pub Answers : CallerRecord → HallRecord → Told → Option Handed → HallRecord → CallerRecord → Type 0
+abbrev pub Answers : OperatorRecord → HallRecord → Told → Option Handed → HallRecord → OperatorRecord → Type 0
 Answers c k t handed l d =
     (frames : List ℕ) × EventAnswered k c.who c.boards t frames handed l d.boards × (d ≡ record c { boards = d.boards; due = c.due ++ frames })
 
 -- the same with a farewell
-abbrev pub AnswersInFull : CallerRecord → HallRecord → Told → Option Handed → HallRecord → CallerRecord → Type 0
+abbrev pub AnswersInFull : OperatorRecord → HallRecord → Told → Option Handed → HallRecord → OperatorRecord → Type 0
 AnswersInFull c k t handed l d =
     (frames : List ℕ) × EventMet k c.who c.boards c.left t frames handed l d.boards × (d ≡ record c { boards = d.boards; due = c.due ++ frames })
 
 -- there was no memory, and something of the answer may be due behind all that was due
-abbrev pub AnswersNot : CallerRecord → HallRecord → Told → Option Handed → HallRecord → CallerRecord → Type 0
+abbrev pub AnswersNot : OperatorRecord → HallRecord → Told → Option Handed → HallRecord → OperatorRecord → Type 0
 AnswersNot c k t handed l d =
     EventUnanswered k c.who c.boards t handed l d.boards × (d ≡ record c { boards = d.boards; due = d.due }) × (take (length c.due) d.due ≡ c.due)
 
@@ -177,11 +177,11 @@ asks Leaves = false
 -- ---- What it is sent unasked. Nothing is done to one that asks no more, or not yet: a frame may only come behind the acceptance.
 
 -- a ping is due behind all that was due
-abbrev pub pinged : CallerRecord → CallerRecord
+abbrev pub pinged : OperatorRecord → OperatorRecord
 pinged c = cond (asks c.stage) (with_due c (ping_frame [])) c
 
 -- a close with this code is due behind all that was due, and it leaves
-abbrev pub sent_away : CallerRecord → ℕ → CallerRecord
+abbrev pub sent_away : OperatorRecord → ℕ → OperatorRecord
 sent_away c code = cond (asks c.stage) (record c { due = c.due ++ close_frame (Some code); stage = Leaves }) c
 
 -- it follows or leaves, so that it neither asks nor is going to
@@ -192,14 +192,14 @@ is_through HandsOver = true
 is_through Leaves = true
 
 -- behind the next event
-abbrev pub moved_on : CallerRecord → CallerRecord
+abbrev pub moved_on : OperatorRecord → OperatorRecord
 moved_on c = record c { reading = (next_step c.reading).then }
 
-abbrev pub counted : CallerRecord → Told → CallerRecord
+abbrev pub counted : OperatorRecord → Told → OperatorRecord
 counted c t = record c { left = left_after c.left t }
 
 -- an event was answered
-abbrev pub Meets : CallerRecord → HallRecord → Told → Option Handed → HallRecord → CallerRecord → Type 0
+abbrev pub Meets : OperatorRecord → HallRecord → Told → Option Handed → HallRecord → OperatorRecord → Type 0
 Meets c k t handed l d =
     (frames : List ℕ) × EventMet k c.who c.boards (left_after c.left t) t frames handed l d.boards
     × (d ≡ record c {
@@ -210,17 +210,17 @@ Meets c k t handed l d =
     })
 
 -- there was no memory: it leaves, and nothing more is due
-abbrev pub MeetsNot : CallerRecord → HallRecord → Told → Option Handed → HallRecord → CallerRecord → Type 0
+abbrev pub MeetsNot : OperatorRecord → HallRecord → Told → Option Handed → HallRecord → OperatorRecord → Type 0
 MeetsNot c k t handed l d =
     EventUnanswered k c.who c.boards t handed l d.boards × (d ≡ record c { boards = d.boards; left = left_after c.left t; stage = Leaves })
 
 -- It asks, and the next event was answered, and this was handed out. Or nothing has changed, and it asks no more or there is no event.
-abbrev pub Heeds : Bool → CallerRecord → HallRecord → Option Handed → HallRecord → CallerRecord → Type 0
-Heeds true c k handed l d = (t : Told) × (asks c.stage ≡ true) × ((next_step c.reading).told ≡ Some t) × Meets (moved_on c) k t handed l d
-Heeds false c k handed l d = (handed ≡ None) × (l ≡ k) × (d ≡ c) × (asks c.stage ≡ true → (next_step c.reading).told ≡ None)
+abbrev pub AnswersNext : Bool → OperatorRecord → HallRecord → Option Handed → HallRecord → OperatorRecord → Type 0
+AnswersNext true c k handed l d = (t : Told) × (asks c.stage ≡ true) × ((next_step c.reading).told ≡ Some t) × Meets (moved_on c) k t handed l d
+AnswersNext false c k handed l d = (handed ≡ None) × (l ≡ k) × (d ≡ c) × (asks c.stage ≡ true → (next_step c.reading).told ≡ None)
 
 -- there was no memory: nothing has changed; or it asked, the next event is lost, and it leaves
-abbrev pub Fails : CallerRecord → HallRecord → Option Handed → HallRecord → CallerRecord → Type 0
+abbrev pub Fails : OperatorRecord → HallRecord → Option Handed → HallRecord → OperatorRecord → Type 0
 Fails c k handed l d =
     ((handed ≡ None) × (l ≡ k) × (d ≡ c))
     ⊎ ((t : Told) × (asks c.stage ≡ true) × ((next_step c.reading).told ≡ Some t) × MeetsNot (moved_on c) k t handed l d)

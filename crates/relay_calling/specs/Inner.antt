@@ -1,9 +1,9 @@
--- What a caller shows of its fields.
-use Rattle.relay_calling.specs.Calling.{CallerRecord}
-use Rattle.relay_calling.specs.declared.caller.Caller.TheInside.{Inside}
+-- What a connection shows of its fields.
+use Rattle.relay_calling.specs.Calling.{OperatorRecord}
+use Rattle.relay_calling.specs.declared.operator_connection.OperatorConnection.TheInside.{Inside}
 
-abbrev pub caller_of : Inside → CallerRecord
-caller_of a = record {
+abbrev pub operator_of : Inside → OperatorRecord
+operator_of a = record {
   head = a.head.items;
   takes_keys = a.takes_keys;
   reading = a.peer;

@@ -1,6 +1,6 @@
 pub mod Calling
 pub mod Coming
-pub mod Crowd
+pub mod Connections
 pub mod Inner
 pub mod Keys
 pub mod Running

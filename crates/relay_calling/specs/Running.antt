@@ -1,4 +1,4 @@
--- What happens to a caller, call by call, and what it is sent.
+-- What happens to a connection, call by call, and what it is sent.
 use Rattle.std.specs.Prelude.{◌≡◌, ◌⊎◌, ◌≤◌, ℕ, ◌+◌, List, [], ◌∷◌, ◌++◌, take, drop, Bool, true, false, None, Some, Option}
 use Rattle.std.specs.List.{concat}
 use Rattle.relay_frames.specs.declared.head.HeadSoFar.{HeadSoFar}
@@ -13,9 +13,9 @@ use Rattle.relay_frames.specs.Requests.{Accepts, IsAnswered, acceptance_text, an
 use Rattle.relay_hall.specs.declared.handed.Handed.{Handed}
 use Rattle.relay_hall.specs.declared.owner.Owner.{Owner}
 use Rattle.relay_hall.specs.Record.{HallRecord}
-use Rattle.relay_calling.specs.Calling.{CallerRecord, EventMet, Fails, Heeds, after_write, asks, left_after, nobody, pinged, sent_away}
+use Rattle.relay_calling.specs.Calling.{AnswersNext, EventMet, Fails, OperatorRecord, after_write, asks, left_after, nobody, pinged, sent_away}
 use Rattle.relay_calling.specs.Coming.{Feeds, owner_by}
-use Rattle.relay_calling.specs.declared.caller.TheConstants.{MOST_MESSAGES}
+use Rattle.relay_calling.specs.declared.operator_connection.TheConstants.{MOST_MESSAGES}
 use Rattle.relay_calling.specs.declared.stage.Stage.{Stage}
 use Rattle.relay_calling.specs.declared.stage.Stage.TheVariants.{Comes, Leaves}
 
@@ -28,9 +28,9 @@ pub record Moment : Type 0 where
 pub data Deed : Type 0 where
   -- these bytes came
   came : List ℕ → Deed
-  -- what they say next was heeded, if they say anything
-  heeded : Bool → Moment → Deed
-  -- there was no memory to heed it
+  -- what they say next was answered, if they say anything
+  was_answered : Bool → Moment → Deed
+  -- there was no memory to answer it
   failed : Moment → Deed
   -- these bytes were written
   wrote : List ℕ → Deed
@@ -40,25 +40,25 @@ pub data Deed : Type 0 where
   was_sent_away : Bool → ℕ → Deed
 
 -- each as the call says
-abbrev pub IsDone : CallerRecord → Deed → CallerRecord → Type 0
+abbrev pub IsDone : OperatorRecord → Deed → OperatorRecord → Type 0
 IsDone c (came bytes) d = Feeds c bytes d
-IsDone c (heeded some m) d = Heeds some c m.before m.handed m.after d
+IsDone c (was_answered some m) d = AnswersNext some c m.before m.handed m.after d
 IsDone c (failed m) d = Fails c m.before m.handed m.after d
 IsDone c (wrote bytes) d = (n : ℕ) × (bytes ≡ take n c.due) × (d ≡ after_write c n)
 IsDone c (was_pinged some) d = (asks c.stage ≡ some) × (d ≡ pinged c)
 IsDone c (was_sent_away some code) d = (asks c.stage ≡ some) × (d ≡ sent_away c code)
 
 -- one after another, in any order
-abbrev pub Runs : CallerRecord → List Deed → CallerRecord → Type 0
+abbrev pub Runs : OperatorRecord → List Deed → OperatorRecord → Type 0
 Runs c [] d = d ≡ c
-Runs c (x ∷ xs) d = (mid : CallerRecord) × IsDone c x mid × Runs mid xs d
+Runs c (x ∷ xs) d = (mid : OperatorRecord) × IsDone c x mid × Runs mid xs d
 
 -- ---- What can be read off them.
 
 abbrev pub pieces_of : List Deed → List (List ℕ)
 pieces_of [] = []
 pieces_of (came bytes ∷ xs) = bytes ∷ pieces_of xs
-pieces_of (heeded some m ∷ xs) = pieces_of xs
+pieces_of (was_answered some m ∷ xs) = pieces_of xs
 pieces_of (failed m ∷ xs) = pieces_of xs
 pieces_of (wrote bytes ∷ xs) = pieces_of xs
 pieces_of (was_pinged some ∷ xs) = pieces_of xs
@@ -71,7 +71,7 @@ bytes_of deeds = concat (pieces_of deeds)
 abbrev pub written_of : List Deed → List ℕ
 written_of [] = []
 written_of (came bytes ∷ xs) = written_of xs
-written_of (heeded some m ∷ xs) = written_of xs
+written_of (was_answered some m ∷ xs) = written_of xs
 written_of (failed m ∷ xs) = written_of xs
 written_of (wrote bytes ∷ xs) = bytes ++ written_of xs
 written_of (was_pinged some ∷ xs) = written_of xs
@@ -86,8 +86,8 @@ pub data Cause : Type 0 where
 abbrev pub causes_of : List Deed → List Cause
 causes_of [] = []
 causes_of (came bytes ∷ xs) = causes_of xs
-causes_of (heeded true m ∷ xs) = an_event m ∷ causes_of xs
-causes_of (heeded false m ∷ xs) = causes_of xs
+causes_of (was_answered true m ∷ xs) = an_event m ∷ causes_of xs
+causes_of (was_answered false m ∷ xs) = causes_of xs
 causes_of (failed m ∷ xs) = causes_of xs
 causes_of (wrote bytes ∷ xs) = causes_of xs
 causes_of (was_pinged true ∷ xs) = a_ping ∷ causes_of xs
@@ -95,7 +95,7 @@ causes_of (was_pinged false ∷ xs) = causes_of xs
 causes_of (was_sent_away true code ∷ xs) = a_close code ∷ causes_of xs
 causes_of (was_sent_away false code ∷ xs) = causes_of xs
 
--- ---- What a caller is sent.
+-- ---- What a connection is sent.
 
 -- These bytes are, in the order of their causes, the frames of the answers to these events, each at the hall as it stood, for one that had
 -- opened these boards and might send so many messages; each ping that was put; and a close that was put, behind which nothing is due.
@@ -114,11 +114,11 @@ messages_in [] = 0
 messages_in (fragment ∷ ts) = messages_in ts
 messages_in (_ ∷ ts) = messages_in ts + 1
 
--- An owner's caller to which first this was due, and which asks with these bytes. Some events were answered, and these are the first of
+-- An owner's connection to which first this was due, and which asks with these bytes. Some events were answered, and these are the first of
 -- those of the bytes, and no more than so many messages. What was written to it, and then what is due, are what was due first, and then the
--- frames of their answers, with what was put unasked between them where that was. If it still asks and nothing more can be heeded, they are
--- all the events of the bytes.
-pub record IsSent (who : Owner) (first : List ℕ) (bytes : List ℕ) (deeds : List Deed) (d : CallerRecord) : Type 0 where
+-- frames of their answers, with what was put unasked between them where that was. If it still asks and nothing more can be answered, they
+-- are all the events of the bytes.
+pub record IsSent (who : Owner) (first : List ℕ) (bytes : List ℕ) (deeds : List Deed) (d : OperatorRecord) : Type 0 where
   pub events : List Told
   pub frames : List ℕ
   pub rest : Heard
@@ -128,8 +128,8 @@ pub record IsSent (who : Owner) (first : List ℕ) (bytes : List ℕ) (deeds : L
   pub sent : written_of deeds ++ d.due ≡ first ++ frames
   pub all : asks d.stage ≡ true → (next_step d.reading).told ≡ None → events ≡ (hear_all (fed opened bytes)).told
 
--- this was written to a caller, and then is due, and nothing else; nothing was heeded or put unasked, and it has come so far
-pub record IsSentOnly (answer : List ℕ) (stage : Stage) (deeds : List Deed) (d : CallerRecord) : Type 0 where
+-- this was written to a connection, and then is due, and nothing else; nothing was answered or put unasked, and it has come so far
+pub record IsSentOnly (answer : List ℕ) (stage : Stage) (deeds : List Deed) (d : OperatorRecord) : Type 0 where
   pub none : causes_of deeds ≡ []
   pub sent : written_of deeds ++ d.due ≡ answer
   pub there : d.stage ≡ stage
@@ -138,7 +138,7 @@ pub record IsSentOnly (answer : List ℕ) (stage : Stage) (deeds : List Deed) (d
 
 -- The request whose head ends behind so many of these bytes is accepted: then its acceptance comes first, and the bytes behind the head are
 -- answered to the owner that it names. Or it is refused, and that is all.
-abbrev pub IsServedBehind : ℕ → ℕ → Bool → List ℕ → List Deed → CallerRecord → Type 0
+abbrev pub IsServedBehind : ℕ → ℕ → Bool → List ℕ → List Deed → OperatorRecord → Type 0
 IsServedBehind end opener takes_keys bytes deeds d =
     (IsAnswered (take end bytes) None
     × ((value : List ℕ) × Accepts (take end bytes) value
@@ -146,11 +146,11 @@ IsServedBehind end opener takes_keys bytes deeds d =
     ⊎ ((refusal : RequestRefusal) × IsAnswered (take end bytes) (Some refusal) × IsSentOnly (answer_text refusal) Leaves deeds d)
 
 -- Nothing is sent while more of the head has to come. If it is refused before its end, the answer to that is all.
-abbrev pub IsServedAt : HeadSoFar → ℕ → Bool → List ℕ → List Deed → CallerRecord → Type 0
+abbrev pub IsServedAt : HeadSoFar → ℕ → Bool → List ℕ → List Deed → OperatorRecord → Type 0
 IsServedAt Part opener takes_keys bytes deeds d = IsSentOnly [] Comes deeds d
 IsServedAt (Whole end) opener takes_keys bytes deeds d = IsServedBehind end opener takes_keys bytes deeds d
 IsServedAt (Refused refusal) opener takes_keys bytes deeds d = IsSentOnly (answer_text refusal) Leaves deeds d
 
 -- what a connection with this number is sent, by all bytes that came from it, however they were cut
-abbrev pub IsServed : ℕ → Bool → List Deed → CallerRecord → Type 0
+abbrev pub IsServed : ℕ → Bool → List Deed → OperatorRecord → Type 0
 IsServed opener takes_keys deeds d = IsServedAt (head_so_far (bytes_of deeds)) opener takes_keys (bytes_of deeds) deeds d

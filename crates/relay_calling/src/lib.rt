@@ -1,11 +1,11 @@
-//! A caller: a connection of an operator that a hall answers, without reading and writing. Bytes come in, bytes go out. It takes no lock,
-//! opens no socket, reads no clock and waits for nobody.
+//! A connection of an operator that a hall answers, without reading and writing. Bytes come in, bytes go out. It takes no lock, opens no
+//! socket, reads no clock and waits for nobody.
 #![tactic(auto)]
 
-mod caller;
 mod key;
 pub mod laws;
+mod operator_connection;
 mod stage;
 
-pub use caller::{Caller, MOST_MESSAGES};
+pub use operator_connection::{MOST_MESSAGES, OperatorConnection};
 pub use stage::Stage;

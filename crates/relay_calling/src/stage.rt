@@ -1,4 +1,4 @@
-//! How far a caller has come.
+//! How far a connection has come.
 
 ghost use Rattle.std.specs.Prelude.{◌≡◌};
 ghost use Rattle.relay_calling.specs.Calling.{asks, stage_after};
@@ -31,7 +31,7 @@ impl Stage {
         }
     }
 
-    /// Whether it is heeded.
+    /// Whether it is answered.
     pub(crate) fn asks(self) -> bool
         ensures { result ≡ asks self }
     {

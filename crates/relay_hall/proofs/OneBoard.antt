@@ -14,7 +14,7 @@ use Rattle.live_board.proofs.lemmas.Tries.{tidied_below, unmoved_below}
 use Rattle.live_board.specs.Board.{game_of}
 use Rattle.live_board.specs.declared.limits.BoardLimits.{BoardLimits}
 use Rattle.live_board.specs.declared.view.View.{View}
-use Rattle.live_board.specs.Desk.{Joined, Searched, Submitted}
+use Rattle.live_board.specs.TableWriter.{Joined, Searched, Submitted}
 use Rattle.live_board.specs.Views.{published, storing}
 use Rattle.relay_hall.specs.declared.hosted.Hosted.{Hosted}
 use Rattle.relay_hall.specs.Hosting.{Entries, Swapped, Turned, game_in, games, limits_at, limits_each, limits_in, rows, shown_board}

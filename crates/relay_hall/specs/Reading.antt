@@ -26,7 +26,7 @@ abbrev pub place_of : FloorRecord → List ℕ → Option ℕ
 place_of f name = position (same_name name) (keys_of f.boards)
 
 -- the moves of a game from a place on come after those that were there, and its outcome is told
-pub record NewsOf {E : Type 0} (g : GameRecord) (from : ℕ) (before after : List Triple) (told : Result (Option Outcome) E) : Type 0 where
+pub record MovesFrom {E : Type 0} (g : GameRecord) (from : ℕ) (before after : List Triple) (told : Result (Option Outcome) E) : Type 0 where
   pub moves : OnOk told (after ≡ before ++ drop from g.log)
   pub outcome : IfOk told (λ o. o ≡ g.outcome)
 

@@ -14,10 +14,10 @@ ghost use Rattle.relay_hall.specs.Meeting.{Meets};
 ghost use Rattle.relay_hall.specs.Keys.{is_owner};
 ghost use Rattle.relay_hall.specs.Hosting.{HandsAt, Swapped, Turned, abandoned_by, game_in, held_by, shown_board};
 
+use crate::changed_boards::ChangedBoards;
 use crate::hosted::Hosted;
 use crate::leaver::Leaver;
 use crate::owner::Owner;
-use crate::rung::Rung;
 use c960_board::Move;
 use c960_game::{Ending, Outcome, Refusal, Replaying};
 use indexmap::IndexMap;
@@ -108,10 +108,10 @@ pub(crate) fn turn_away(
     }
 }
 
-/// Ends, as abandoned, each game that is not over of those whose owners have left, and rings for each.
+/// Ends, as abandoned, each game that is not over of those whose owners have left, and notes each.
 pub(crate) fn end_where<L: Leaver>(
     boards: &mut IndexMap<BoardKey, Hosted>,
-    rung: &mut Rung,
+    changed: &mut ChangedBoards,
     left: &L,
 )
     ensures ended { boards.new.entries ≡ map (λ e. (e.0, abandoned_by (L.gone left.now) e.1)) boards.old.entries }
@@ -123,26 +123,26 @@ pub(crate) fn end_where<L: Leaver>(
             unreachable!();
         };
         let has_ended = hosted.abandon(left);
-        ring_if(rung, has_ended, at);
+        note_if(changed, has_ended, at);
     }
 }
 
-/// Rings for the board of this name if its game has changed.
-pub(crate) fn ring_for(
+/// Notes the board of this name if its game has changed.
+pub(crate) fn note_change(
     boards: &IndexMap<BoardKey, Hosted>,
-    rung: &mut Rung,
+    changed: &mut ChangedBoards,
     board: &BoardKey,
     has_changed: bool,
 ) {
     if let Some(at) = boards.get_index_of(board) {
-        ring_if(rung, has_changed, at);
+        note_if(changed, has_changed, at);
     }
 }
 
-/// Rings for the board of this index if its game has changed.
-fn ring_if(rung: &mut Rung, has_changed: bool, at: usize) {
+/// Notes the board of this index if its game has changed.
+fn note_if(changed: &mut ChangedBoards, has_changed: bool, at: usize) {
     if has_changed {
-        rung.ring(at);
+        changed.add(at);
     }
 }
 

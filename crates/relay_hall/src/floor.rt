@@ -15,13 +15,13 @@ ghost use Rattle.relay_hall.specs.Steps.{Makes, StateMakes, reply_to_end, reply_
 ghost use Rattle.relay_hall.specs.Talk.{IsAnsweredBy, IsUnansweredBy};
 ghost use Rattle.relay_hall.specs.Times.{swept_floor};
 
-use crate::boards::{end, end_where, hand_out, meet_at, owns_any, play, ring_for, turn_away};
+use crate::boards::{end, end_where, hand_out, meet_at, note_change, owns_any, play, turn_away};
+use crate::changed_boards::ChangedBoards;
 use crate::full::Full;
 use crate::handed::Handed;
 use crate::hosted::Hosted;
 use crate::leaver::Leaver;
 use crate::owner::Owner;
-use crate::rung::Rung;
 use crate::shown::Shown;
 use c960_board::Move;
 use c960_game::{Ending, Limits, Outcome, Refusal};
@@ -43,7 +43,7 @@ pub(crate) struct Floor {
     /// The boards that were opened, with room for all that the limits allow.
     boards: IndexMap<BoardKey, Hosted>,
     /// Which of them have something new.
-    rung: Rung,
+    changed: ChangedBoards,
     /// Which of them are known to have no vacant slot.
     full: Full,
     /// Whose text is answered.
@@ -98,13 +98,13 @@ impl Floor {
         ensures floor { IfOk result (λ s. s.floor ≡ record { limits = limits; boards = [] }) }
         ensures empty { IfOk result (λ s. s.handed ≡ None) }
     {
-        let rung = Rung::with_room_for(alloc, usize::from(limits.boards()))?;
+        let changed = ChangedBoards::with_room_for(alloc, usize::from(limits.boards()))?;
         let full = Full::with_room_for(alloc, usize::from(limits.boards()))?;
         Ok(Floor {
             alloc,
             limits,
             boards: IndexMap::with_capacity(alloc, usize::from(limits.boards()))?,
-            rung,
+            changed,
             full,
             speaker: Owner {
                 key: None,
@@ -143,7 +143,7 @@ impl Floor {
         ensures { StateMakes self.old (Submit board m) result self.new }
     {
         let answer = play(&mut self.boards, board, m);
-        ring_for(&self.boards, &mut self.rung, &board, answer.is_ok());
+        note_change(&self.boards, &mut self.changed, &board, answer.is_ok());
         played(answer)
     }
 
@@ -153,7 +153,7 @@ impl Floor {
         ensures { StateMakes self.old (End board ending) result self.new }
     {
         let answer = end(&mut self.boards, board, ending);
-        ring_for(&self.boards, &mut self.rung, &board, answer.is_ok());
+        note_change(&self.boards, &mut self.changed, &board, answer.is_ok());
         ended(answer)
     }
 
@@ -267,10 +267,10 @@ impl Floor {
     }
 
     /// The index of a board whose game has changed, once for each since it was last told.
-    pub(crate) fn take_rung(&mut self) -> Option<usize>
+    pub(crate) fn take_changed(&mut self) -> Option<usize>
         ensures { self.new ≡ self.old }
     {
-        self.rung.take()
+        self.changed.take()
     }
 
     /// Whether a follow that might be made was refused since the last such call.
@@ -292,7 +292,7 @@ impl Floor {
         ensures floor { self.new.floor ≡ swept_floor self.old.floor (L.gone left.now) }
         ensures handed { self.new.handed ≡ self.old.handed }
     {
-        end_where(&mut self.boards, &mut self.rung, left);
+        end_where(&mut self.boards, &mut self.changed, left);
     }
 
     /// The board of this index, in the order of opening.

@@ -183,12 +183,12 @@ impl Hall {
         self.floor.fault(MessageFault::BadField)
     }
 
-    /// The index of a board whose game has changed, in the order of opening: each once since it was last told. A ring is no promise, and
+    /// The index of a board whose game has changed, in the order of opening: each once since it was last told. That is no promise, and
     /// there is no harm in one too many.
-    pub fn take_rung(&mut self) -> Option<usize>
+    pub fn take_changed(&mut self) -> Option<usize>
         ensures { self.new ≡ self.old }
     {
-        self.floor.take_rung()
+        self.floor.take_changed()
     }
 
     /// Whether a connection that might follow was refused since the last such call. It says how soon one of those is read again, and is no

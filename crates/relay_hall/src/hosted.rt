@@ -4,7 +4,7 @@ ghost use Rattle.std.specs.Prelude.{◌≡◌, length, OnErr, OnOk, Err};
 ghost use Rattle.c960_game.specs.Record.{end_answer, play_answer, with_move};
 ghost use Rattle.relay_core.specs.BoardAnswers.{ended_by, with_place};
 ghost use Rattle.live_board.specs.Accounts.{account_of};
-ghost use Rattle.live_board.specs.Desk.{LoadedBelow, NoneVacant};
+ghost use Rattle.live_board.specs.TableWriter.{LoadedBelow, NoneVacant};
 ghost use Rattle.relay_hall.specs.Meeting.{Meets};
 ghost use Rattle.relay_hall.specs.Steps.{Hands};
 ghost use Rattle.relay_hall.specs.Hosting.{Turned, abandoned_by, game_in, limits_in, shown_board};

@@ -4,6 +4,7 @@
 #![tactic(auto)]
 
 mod boards;
+mod changed_boards;
 mod floor;
 mod full;
 mod hall;
@@ -15,7 +16,6 @@ pub mod laws;
 mod leaver;
 mod owner;
 mod presence;
-mod rung;
 mod shown;
 
 pub use hall::Hall;

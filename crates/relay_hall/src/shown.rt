@@ -3,7 +3,7 @@
 ghost use Rattle.std.specs.Prelude.{◌≡◌, ◌++◌, drop, OnOk, Some};
 ghost use Rattle.c960_game.specs.Positions.{position_at};
 ghost use Rattle.relay_hall.specs.Keys.{is_owner};
-ghost use Rattle.relay_hall.specs.Reading.{NewsOf, last_of, summary_of};
+ghost use Rattle.relay_hall.specs.Reading.{MovesFrom, last_of, summary_of};
 
 use crate::hosted::Hosted;
 use crate::key::Key;
@@ -51,8 +51,12 @@ impl<'a> Shown<'a> {
     /// # Errors
     ///
     /// There was no memory. Some of the moves may have been appended.
-    pub fn news(&self, from: u16, moves: &mut Vec<Move>) -> Result<Option<Outcome>, AllocError>
-        ensures { NewsOf self.now.game from moves.old.items moves.new.items result }
+    pub fn moves_from(
+        &self,
+        from: u16,
+        moves: &mut Vec<Move>,
+    ) -> Result<Option<Outcome>, AllocError>
+        ensures { MovesFrom self.now.game from moves.old.items moves.new.items result }
     {
         append_log(&self.hosted.board, from, moves)?;
         Ok(self.hosted.board.outcome())

@@ -14,7 +14,7 @@ use Rattle.live_board.specs.Sound.{Follows}
 use Rattle.live_board.proofs.lemmas.Cases.{pick, not_there}
 use Rattle.live_board.proofs.lemmas.Totals.{at_map_back}
 use Rattle.live_board.specs.Carried.{holding_of}
-use Rattle.live_board.specs.Desk.{Tried, TriedBelow}
+use Rattle.live_board.specs.TableWriter.{Tried, TriedBelow}
 use Rattle.live_board.proofs.lemmas.Notes.{at_within, closed_open, open_back, vacant_open, at_place}
 use Rattle.live_board.proofs.lemmas.Tries.{by_try, loaded_note, tidied, tidied_below, TidiedBelow}
 

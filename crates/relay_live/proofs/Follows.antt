@@ -42,7 +42,7 @@ use Rattle.live_board.specs.Views.{followed, newcomer}
 use Rattle.live_board.proofs.lemmas.Totals.{total-set, term_le}
 use Rattle.live_board.specs.Board.{game_of, setup_of}
 use Rattle.live_board.specs.Carried.{Carries, closing_found}
-use Rattle.live_board.specs.Desk.{NoneVacant}
+use Rattle.live_board.specs.TableWriter.{NoneVacant}
 use Rattle.live_board.specs.Seats.{BoardSeat}
 use Rattle.relay_live.specs.declared.seated.Seated.{Seated}
 use Rattle.relay_live.specs.Live.{Boards, held_at, held_in, view_in, held_by, game, games, holders, IsSeated, IsLive, Swapped, vacancy}

@@ -15,7 +15,7 @@ use Rattle.live_board.specs.declared.note.Note.{Note}
 use Rattle.live_board.specs.declared.note.Note.TheVariants.{Vacant, Open, Closed}
 use Rattle.live_board.specs.declared.view.Part.{Part}
 use Rattle.live_board.specs.declared.view.View.{View}
-use Rattle.live_board.specs.Desk.{Submitted}
+use Rattle.live_board.specs.TableWriter.{Submitted}
 use Rattle.live_board.specs.Carried.{Carries, Holding, closing_found, holding_of}
 use Rattle.live_board.specs.Meeting.{closing_noted}
 use Rattle.relay_live.specs.Live.{held_in, vacancy}

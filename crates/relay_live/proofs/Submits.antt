@@ -27,7 +27,7 @@ use Rattle.live_board.specs.declared.setup.BoardSetup.{BoardSetup}
 use Rattle.live_board.specs.declared.view.View.{View}
 use Rattle.live_board.specs.Board.{game_of, setup_of}
 use Rattle.live_board.specs.Carried.{Carries}
-use Rattle.live_board.specs.Desk.{Submitted}
+use Rattle.live_board.specs.TableWriter.{Submitted}
 use Rattle.live_board.specs.Seats.{BoardSeat}
 use Rattle.relay_live.specs.Live.{Boards, held_at, held_in, view_in, held_by, game, games, holders, IsSeated, IsLive, vacancy}
 use Rattle.live_board.specs.Shows.{total}

@@ -15,7 +15,7 @@ ghost use Rattle.live_board.specs.Sound.{IsSound};
 ghost use Rattle.live_board.specs.Views.{each_part, finished, followed, left_at, sees};
 ghost use Rattle.live_board.specs.Board.{game_of};
 ghost use Rattle.live_board.specs.Carried.{closing_at, due_at, TookAt};
-ghost use Rattle.live_board.specs.Desk.{NoneVacantBelow, Submitted};
+ghost use Rattle.live_board.specs.TableWriter.{NoneVacantBelow, Submitted};
 ghost use Rattle.live_board.specs.Seats.{BoardSeat};
 ghost use Rattle.relay_live.specs.Live.{IsSeated, Swapped, held_in};
 

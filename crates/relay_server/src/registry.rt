@@ -53,7 +53,7 @@ impl Registry {
     {
         let mut hall = self.hall.lock(rt);
         let made = hall.step(speaker, step);
-        if let Some(at) = hall.take_rung() {
+        if let Some(at) = hall.take_changed() {
             self.ring(at);
         }
         made

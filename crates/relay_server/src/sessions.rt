@@ -98,8 +98,8 @@ impl<R: Wait, S: Read + Write + Drop, G: Gate> Talk<'_, '_, R, S, G> {
     /// Answers a message. Returns how the session ended, if it did. Pings and closes are answered by the WebSocket.
     fn meet(&mut self, message: &Message) -> Option<SessionEnd> {
         match message {
-            Message::Text(text) => self.heed(Some(text.as_str().as_bytes())),
-            Message::Binary(_) => self.heed(None),
+            Message::Text(text) => self.answer_command(Some(text.as_str().as_bytes())),
+            Message::Binary(_) => self.answer_command(None),
             Message::Ping(_) | Message::Pong(_) => None,
             Message::Close(_) => Some(match self.outlet.flush() {
                 Ok(()) => SessionEnd::Closed,
@@ -110,7 +110,7 @@ impl<R: Wait, S: Read + Write + Drop, G: Gate> Talk<'_, '_, R, S, G> {
 
     /// Answers a command, of which the gate hears if it is the first, and pushes what the connection follows then. Returns how the session
     /// ended, if it did.
-    fn heed(&mut self, text: Option<&[u8]>) -> Option<SessionEnd> {
+    fn answer_command(&mut self, text: Option<&[u8]>) -> Option<SessionEnd> {
         let is_first = !self.has_begun;
         self.has_begun = true;
         if is_first {

@@ -1,8 +1,8 @@
 -- One event more, at the end of a list of events.
 use Rattle.std.proofs.Common.{◌≡◌, ℕ, List, [], ◌∷◌, ◌++◌, Bool, true, false, true≢false, ◌||◌, inl, inr, refl, sym, ap, ◌∙◌, subst}
 use Rattle.relay_hall.specs.Runs.{AllSayWhileThere, HallEvent, IsOrderly, SaysNoMore, SaysWhileThere, count_after, counts_after, goes_now, has_gone, says_now}
-use Rattle.relay_calling.specs.Crowd.{Turn, happens, passes}
-use Rattle.relay_calling.specs.Running.{came, failed, heeded, was_pinged, was_sent_away, wrote}
+use Rattle.relay_calling.specs.Connections.{Turn, happens, passes}
+use Rattle.relay_calling.specs.Running.{came, failed, was_answered, was_pinged, was_sent_away, wrote}
 use Rattle.relay_service.specs.Runs.{AreMadeBy, MadeBy, counts_by, has_left, holders_after, leaves_by}
 
 -- ---- Tests.
@@ -55,8 +55,8 @@ counts_then count (d ∷ es) e q = counts_then (count_after count d) es e q
 
 made_more : (x : Turn) (events rest new : List HallEvent) → MadeBy x events rest → MadeBy x (events ++ new) (rest ++ new)
 made_more (happens i (came bytes)) events rest new is = ap (λ (es : List HallEvent). es ++ new) is
-made_more (happens i (heeded some m)) events rest new (inl (who, step, mine, is)) = inl (who, step, mine, ap (λ (es : List HallEvent). es ++ new) is)
-made_more (happens i (heeded some m)) events rest new (inr is) = inr (ap (λ (es : List HallEvent). es ++ new) is)
+made_more (happens i (was_answered some m)) events rest new (inl (who, step, mine, is)) = inl (who, step, mine, ap (λ (es : List HallEvent). es ++ new) is)
+made_more (happens i (was_answered some m)) events rest new (inr is) = inr (ap (λ (es : List HallEvent). es ++ new) is)
 made_more (happens i (failed m)) events rest new (inl (who, step, mine, is)) = inl (who, step, mine, ap (λ (es : List HallEvent). es ++ new) is)
 made_more (happens i (failed m)) events rest new (inr is) = inr (ap (λ (es : List HallEvent). es ++ new) is)
 made_more (happens i (wrote bytes)) events rest new is = ap (λ (es : List HallEvent). es ++ new) is
@@ -70,8 +70,8 @@ made_then (y ∷ ys) x events new (rest, first, others) made = (rest ++ new, mad
 
 one_left : (i : ℕ) (x : Turn) (events rest : List HallEvent) → MadeBy x events rest → has_gone i events ≡ (leaves_by i x || has_gone i rest)
 one_left i (happens j (came bytes)) events rest is = ap (has_gone i) is
-one_left i (happens j (heeded some m)) events rest (inl (who, step, mine, is)) = ap (has_gone i) is
-one_left i (happens j (heeded some m)) events rest (inr is) = ap (has_gone i) is
+one_left i (happens j (was_answered some m)) events rest (inl (who, step, mine, is)) = ap (has_gone i) is
+one_left i (happens j (was_answered some m)) events rest (inr is) = ap (has_gone i) is
 one_left i (happens j (failed m)) events rest (inl (who, step, mine, is)) = ap (has_gone i) is
 one_left i (happens j (failed m)) events rest (inr is) = ap (has_gone i) is
 one_left i (happens j (wrote bytes)) events rest is = ap (has_gone i) is
@@ -86,8 +86,8 @@ all_left i (x ∷ xs) events (rest, first, others) =
 
 one_count : (q : List ℕ) (count : List ℕ → ℕ) (x : Turn) (events rest : List HallEvent) → MadeBy x events rest → counts_after count events q ≡ counts_after (counts_by count x) rest q
 one_count q count (happens j (came bytes)) events rest is = ap (λ (es : List HallEvent). counts_after count es q) is
-one_count q count (happens j (heeded some m)) events rest (inl (who, step, mine, is)) = ap (λ (es : List HallEvent). counts_after count es q) is
-one_count q count (happens j (heeded some m)) events rest (inr is) = ap (λ (es : List HallEvent). counts_after count es q) is
+one_count q count (happens j (was_answered some m)) events rest (inl (who, step, mine, is)) = ap (λ (es : List HallEvent). counts_after count es q) is
+one_count q count (happens j (was_answered some m)) events rest (inr is) = ap (λ (es : List HallEvent). counts_after count es q) is
 one_count q count (happens j (failed m)) events rest (inl (who, step, mine, is)) = ap (λ (es : List HallEvent). counts_after count es q) is
 one_count q count (happens j (failed m)) events rest (inr is) = ap (λ (es : List HallEvent). counts_after count es q) is
 one_count q count (happens j (wrote bytes)) events rest is = ap (λ (es : List HallEvent). counts_after count es q) is

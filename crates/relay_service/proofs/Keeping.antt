@@ -7,9 +7,9 @@ use Rattle.relay_hall.specs.declared.handed.Handed.{Handed}
 use Rattle.relay_hall.specs.declared.owner.Owner.{Owner}
 use Rattle.relay_hall.specs.Record.{FloorRecord, HallRecord}
 use Rattle.relay_hall.specs.Runs.{Comes, Goes, HallEvent, HallStep, IsOneStep, SaysWhileThere, Silent, count_after, goes_now, says_now}
-use Rattle.relay_calling.specs.Calling.{CallerRecord, after_write, asks}
-use Rattle.relay_calling.specs.Crowd.{LeadsHall, Turn, happens, passes}
-use Rattle.relay_calling.specs.Running.{Deed, IsDone, Moment, came, failed, heeded, was_pinged, was_sent_away, wrote}
+use Rattle.relay_calling.specs.Calling.{OperatorRecord, after_write, asks}
+use Rattle.relay_calling.specs.Connections.{LeadsHall, Turn, happens, passes}
+use Rattle.relay_calling.specs.Running.{Deed, IsDone, Moment, came, failed, was_answered, was_pinged, was_sent_away, wrote}
 use Rattle.relay_hall.specs.Meeting.{BoardsStay}
 use Rattle.relay_hall.proofs.lemmas.Staying.{once_stays, same_stay, step_stays}
 use Rattle.relay_following.specs.Record.{ConnectionRecord}
@@ -22,9 +22,9 @@ use Rattle.relay_service.specs.declared.turn.Moments.{Moments}
 use Rattle.relay_service.specs.declared.turn.NewDeed.{NewDeed}
 use Rattle.relay_service.specs.declared.turn.NewDeed.TheVariants.{Answered, Failed}
 use Rattle.relay_service.specs.Calls.{AnswersAt, AnswersTo, Arrives, Departs, Does, DoesTo, Enters, FailsAt, FailsTo, FeedsTo, ForEach, IfOperator, IfPresent, LeavesAs, LeavesAt, LeftAs, Loses, Passes, PutsAt, ReceivesAt, Replaces, SendsIn, Serves, arrival, arrivals, moment}
-use Rattle.relay_service.specs.Inner.{AreJoined, AreOpened, IsCallerOf, IsJoined, IsLedTo, IsOrdered, IsService, NamesNoneYet, service_of}
+use Rattle.relay_service.specs.Inner.{AreJoined, AreOpened, IsJoined, IsLedTo, IsOperatorOf, IsOrdered, IsService, NamesNoneYet, service_of}
 use Rattle.relay_service.specs.Noting.{deed_of, moment_of}
-use Rattle.relay_service.specs.Record.{ServiceRecord, begun, caller_at, connection_at, opened, operator_at, operator_in, owner_at, owner_in}
+use Rattle.relay_service.specs.Record.{ServiceRecord, begun, connection_at, opened, operator_at, operator_in, owner_at, owner_in, present_at}
 use Rattle.relay_service.specs.Rights.{IsRightful}
 use Rattle.relay_service.specs.Runs.{MadeBy, OneOrNoneOf}
 use Rattle.relay_service.proofs.Becoming.{IsHandedOut, becomes_same, handed_of, nothing_out}
@@ -33,7 +33,7 @@ use Rattle.relay_service.proofs.Joining.{joined_after, joined_by_deed, joined_by
 use Rattle.relay_service.proofs.Doing.{IsFed, IsNoted, answering_does, at_present, fed_by, for_operator, match_at, present_there}
 use Rattle.relay_service.proofs.Led.{led_at_first, led_by_pass, led_on, led_passed, led_to_next, led_with, led_without}
 use Rattle.relay_service.proofs.Ordering.{ordered_at_first, ordered_by_arrival, ordered_by_departing, ordered_by_newcomer, ordered_by_pass, ordered_lost, ordered_says, ordered_still, ordered_without, names_before, owner_before}
-use Rattle.relay_service.proofs.Owners.{IsNoIntake, IsUnheeded, no_arrival, same_opened, same_owner, unheeded_opened}
+use Rattle.relay_service.proofs.Owners.{IsNoIntake, IsUnanswered, no_arrival, same_opened, same_owner, unanswered_opened}
 use Rattle.relay_service.proofs.Rights.{IsOneRightStep, one_step}
 
 -- all of it, of what is shown
@@ -65,7 +65,7 @@ pub kept_by_newcomer : (s : ServiceRecord) (connections : List (ℕ × Connectio
     → IsKept (record s { connections = connections; next = s.next + 1 })
 kept_by_newcomer s connections k new = record {
   led = led_with (record s { next = s.next + 1 }) s.next (Some (opened s.next s.takes_keys)) connections (led_to_next s k.led) new
-      (λ d is. (omega arith, subst (IsCallerOf (k.led.callers s.next)) (same_Some _ _ is) (k.led.yet s.next (omega arith))));
+      (λ d is. (omega arith, subst (IsOperatorOf (k.led.peers s.next)) (same_Some _ _ is) (k.led.yet s.next (omega arith))));
   ordered = ordered_by_newcomer s connections k.ordered new;
   joined = joined_after s.hall.floor s.hall.floor s.next (Some (opened s.next s.takes_keys)) s.connections connections (same_stay s.hall.floor s.hall.floor refl) k.joined new
       (λ d is. subst (IsJoined s.hall.floor) (same_Some _ _ is) tt);
@@ -81,7 +81,7 @@ kept_without s number connections k gone = record {
 -- the end of all was called
 pub kept_ending : (s : ServiceRecord) → IsKept s → IsKept (record s { is_ending = true })
 kept_ending s k = record {
-  led = record { callers = k.led.callers; run = k.led.run; there = k.led.there; known = k.led.known; yet = k.led.yet; unused = k.led.unused };
+  led = record { peers = k.led.peers; run = k.led.run; there = k.led.there; known = k.led.known; yet = k.led.yet; unused = k.led.unused };
   ordered = record {
     book = k.ordered.book;
     fresh = k.ordered.fresh;
@@ -97,7 +97,7 @@ kept_ending s k = record {
 -- ---- Who goes, and what passes.
 
 departs_led : (s : ServiceRecord) (number : ℕ) (who : Owner) (c : Option Connection) (t : ServiceRecord) (l : IsLedTo s) → Departs s number who c t
-    → ((d : Connection) → c ≡ Some d → (number < s.next) × IsCallerOf (l.callers number) d) → IsLedTo t
+    → ((d : Connection) → c ≡ Some d → (number < s.next) × IsOperatorOf (l.peers number) d) → IsLedTo t
 departs_led s number who c t l d new =
     let m : ServiceRecord = record s { hall = t.hall; turns = s.turns ++ passes (Goes who) Silent ∷ [] } in
     subst IsLedTo (sym d.rest) (led_with m number c t.connections (led_passed s (Goes who) t.hall l d.step) d.connections new)
@@ -110,9 +110,9 @@ kept_by_disconnecting s number who c t k there d = record {
 }
 
 -- what is true of a connection that is not present in the hall any more, if it was true of the one before
-left_caller : (e : CallerRecord) (before after : Connection) → LeftAs before after → IsCallerOf e before → IsCallerOf e after
-left_caller e (Operator c here) after left is = subst (IsCallerOf e) (sym left) is
-left_caller e (Follower f who here) after left is = subst (IsCallerOf e) (sym left) (is.0, is.1, is.2 ∙ sym (gone_keeps f).1)
+left_operator : (e : OperatorRecord) (before after : Connection) → LeftAs before after → IsOperatorOf e before → IsOperatorOf e after
+left_operator e (Operator c here) after left is = subst (IsOperatorOf e) (sym left) is
+left_operator e (Follower f who here) after left is = subst (IsOperatorOf e) (sym left) (is.0, is.1, is.2 ∙ sym (gone_keeps f).1)
 
 left_names : (before after : Connection) → LeftAs before after → NamesNoneYet before → NamesNoneYet after
 left_names (Operator c here) after left is = subst NamesNoneYet (sym left) is
@@ -135,7 +135,7 @@ left_at s number before after who t k there is left step replaced rest =
     let stay : BoardsStay s.hall.floor t.hall.floor = step_stays s.hall (Goes who) Silent t.hall step in (
       record {
         led = departs_led s number who (Some after) t k.led departs
-            (λ e now. (k.led.known number before there, subst (IsCallerOf (k.led.callers number)) (same_Some _ _ now) (left_caller (k.led.callers number) before after left (k.led.there number before there))));
+            (λ e now. (k.led.known number before there, subst (IsOperatorOf (k.led.peers number)) (same_Some _ _ now) (left_operator (k.led.peers number) before after left (k.led.there number before there))));
         ordered = ordered_by_departing s number who (Some after) t k.ordered (k.led.known number before there) departs (left_nobody before after left)
             (λ e now. subst NamesNoneYet (same_Some _ _ now) (left_names before after left (k.ordered.coming number before there)));
         joined = joined_by_departing s number who (Some after) t k.joined departs
@@ -171,8 +171,8 @@ kept_by_pass s e t k p says goes counts there right = record {
 -- ---- What is done to a connection.
 
 -- nobody comes to the hall by it, and nothing is said there
-kept_still : (s : ServiceRecord) (number : ℕ) (x : Deed) (t : ServiceRecord) → IsKept s → (d : Does s number x t) → arrival d.does.caller d.does.then ≡ None
-    → MadeBy (happens number x) [] [] → t.hall ≡ s.hall → (AreOpened s.hall.floor d.does.caller.who d.does.caller.boards → AreOpened s.hall.floor d.does.then.who d.does.then.boards)
+kept_still : (s : ServiceRecord) (number : ℕ) (x : Deed) (t : ServiceRecord) → IsKept s → (d : Does s number x t) → arrival d.does.connection d.does.then ≡ None
+    → MadeBy (happens number x) [] [] → t.hall ≡ s.hall → (AreOpened s.hall.floor d.does.connection.who d.does.connection.boards → AreOpened s.hall.floor d.does.then.who d.does.then.boards)
     → IsHandedOut t.hall.floor x d.does.then → IsKept t
 kept_still s number x t k d none made same own out = record {
   led = led_on s number x t k.led d;
@@ -180,55 +180,55 @@ kept_still s number x t k d none made same own out = record {
   joined = joined_by_deed s number x t k.joined d (same_stay s.hall.floor t.hall.floor (ap (λ (h : HallRecord). h.floor) same)) out;
 }
 
-unheeded_out : (f : FloorRecord) (x : Deed) (d : CallerRecord) → IsUnheeded x → IsHandedOut f x d
-unheeded_out f x d un = nothing_out f x d (by x un)
+unanswered_out : (f : FloorRecord) (x : Deed) (d : OperatorRecord) → IsUnanswered x → IsHandedOut f x d
+unanswered_out f x d un = nothing_out f x d (by x un)
   where
-    by : (y : Deed) → IsUnheeded y → handed_of y ≡ None
+    by : (y : Deed) → IsUnanswered y → handed_of y ≡ None
     by (came bytes) un = refl
-    by (heeded some m) un = absurd un
+    by (was_answered some m) un = absurd un
     by (failed m) un = absurd un
     by (wrote bytes) un = refl
     by (was_pinged some) un = refl
     by (was_sent_away some code) un = refl
 
-unheeded_own : (s : ServiceRecord) (number : ℕ) (x : Deed) (t : ServiceRecord) → IsKept s → (d : Does s number x t) → IsUnheeded x
-    → AreOpened s.hall.floor d.does.caller.who d.does.caller.boards → AreOpened s.hall.floor d.does.then.who d.does.then.boards
-unheeded_own s number x t k d un are = unheeded_opened s.hall.floor d.does.caller x d.does.then (names_before s number x t k.ordered d) un d.does.done are
+unanswered_own : (s : ServiceRecord) (number : ℕ) (x : Deed) (t : ServiceRecord) → IsKept s → (d : Does s number x t) → IsUnanswered x
+    → AreOpened s.hall.floor d.does.connection.who d.does.connection.boards → AreOpened s.hall.floor d.does.then.who d.does.then.boards
+unanswered_own s number x t k d un are = unanswered_opened s.hall.floor d.does.connection x d.does.then (names_before s number x t k.ordered d) un d.does.done are
 
-pub kept_quietly : (s : ServiceRecord) (number : ℕ) (x : Deed) (t : ServiceRecord) → IsKept s → Does s number x t → IsNoIntake x → IsUnheeded x → MadeBy (happens number x) [] [] → t.hall ≡ s.hall → IsKept t
+pub kept_quietly : (s : ServiceRecord) (number : ℕ) (x : Deed) (t : ServiceRecord) → IsKept s → Does s number x t → IsNoIntake x → IsUnanswered x → MadeBy (happens number x) [] [] → t.hall ≡ s.hall → IsKept t
 kept_quietly s number x t k d quiet un made same =
-    kept_still s number x t k d (no_arrival d.does.caller x d.does.then quiet d.does.done) made same (unheeded_own s number x t k d un) (unheeded_out t.hall.floor x d.does.then un)
+    kept_still s number x t k d (no_arrival d.does.connection x d.does.then quiet d.does.done) made same (unanswered_own s number x t k d un) (unanswered_out t.hall.floor x d.does.then un)
 
 -- what is answered is one step or none
 kept_answering : (s : ServiceRecord) (number : ℕ) (x : Deed) (t : ServiceRecord) (handed : Option Handed) → IsKept s → (d : Does s number x t) → d.does.is_present ≡ true → IsNoIntake x
-    → IsOneRightStep s.hall d.does.caller.who d.does.caller.boards handed t.hall d.does.then.boards → ((h : Handed) → handed_of x ≡ Some h → handed ≡ Some h)
+    → IsOneRightStep s.hall d.does.connection.who d.does.connection.boards handed t.hall d.does.then.boards → ((h : Handed) → handed_of x ≡ Some h → handed ≡ Some h)
     → ((events rest : List HallEvent) → OneOrNoneOf number events rest → MadeBy (happens number x) events rest) → IsKept t
 kept_answering s number x t handed k d present quiet right hands makes = by right
   where
-    none : arrival d.does.caller d.does.then ≡ None
-    none = no_arrival d.does.caller x d.does.then quiet d.does.done
+    none : arrival d.does.connection d.does.then ≡ None
+    none = no_arrival d.does.connection x d.does.then quiet d.does.done
 
-    numbered : d.does.caller.who.opener ≡ number
-    numbered = (k.ordered.seated number d.does.caller.who (owner_before s number x t d present)).numbered
+    numbered : d.does.connection.who.opener ≡ number
+    numbered = (k.ordered.seated number d.does.connection.who (owner_before s number x t d present)).numbered
 
-    once : IsOneStep s.hall d.does.caller.who handed t.hall
-    once = one_step s.hall d.does.caller.who d.does.caller.boards handed t.hall d.does.then.boards right
+    once : IsOneStep s.hall d.does.connection.who handed t.hall
+    once = one_step s.hall d.does.connection.who d.does.connection.boards handed t.hall d.does.then.boards right
 
     out : IsHandedOut t.hall.floor x d.does.then
     out h is =
         newcomer_in t.hall.floor h d.does.then.reading d.does.then.due
-        (handed_in s.hall t.hall d.does.caller.who h (subst (λ (o : Option Handed). IsOneStep s.hall d.does.caller.who o t.hall) (hands h is) once))
+        (handed_in s.hall t.hall d.does.connection.who h (subst (λ (o : Option Handed). IsOneStep s.hall d.does.connection.who o t.hall) (hands h is) once))
 
-    by : IsOneRightStep s.hall d.does.caller.who d.does.caller.boards handed t.hall d.does.then.boards → IsKept t
+    by : IsOneRightStep s.hall d.does.connection.who d.does.connection.boards handed t.hall d.does.then.boards → IsKept t
     by (inl (step, reply, made, may, now-is)) = record {
       led = led_on s number x t k.led d;
-      ordered = ordered_says s number x t k.ordered d present none step reply handed made (makes _ _ (inl (d.does.caller.who, step, numbered, refl))) may now-is;
-      joined = joined_by_deed s number x t k.joined d (once_stays s.hall t.hall d.does.caller.who handed once) out;
+      ordered = ordered_says s number x t k.ordered d present none step reply handed made (makes _ _ (inl (d.does.connection.who, step, numbered, refl))) may now-is;
+      joined = joined_by_deed s number x t k.joined d (once_stays s.hall t.hall d.does.connection.who handed once) out;
     }
     by (inr (same, nothing, now-is)) =
         kept_still s number x t k d none (makes _ _ (inr refl)) same
-        (λ are. same_opened s.hall.floor d.does.caller.who d.does.then.who d.does.caller.boards d.does.then.boards
-        (same_owner d.does.caller x d.does.then (names_before s number x t k.ordered d) d.does.done none) now-is are) out
+        (λ are. same_opened s.hall.floor d.does.connection.who d.does.then.who d.does.connection.boards d.does.then.boards
+        (same_owner d.does.connection x d.does.then (names_before s number x t k.ordered d) d.does.done none) now-is are) out
 
 answered_at : (s : ServiceRecord) (number : ℕ) (before after : Connection) (n : Moment) (x : Deed) (t : ServiceRecord) → IsKept s → connection_at s number ≡ Some before
     → IsNoted number before n after x → n.before ≡ s.hall → n.after ≡ t.hall → Replaces number (Some after) s.connections t.connections
@@ -244,25 +244,25 @@ answered_at s number before after n x t k there m first last replaced rest =
       connections = replaced;
       rest = rest;
     } in
-    let right : IsOneRightStep s.hall m.does.caller.who m.does.caller.boards n.handed t.hall m.does.then.boards =
-    subst (λ (h : HallRecord). IsOneRightStep h m.does.caller.who m.does.caller.boards n.handed t.hall m.does.then.boards) first
-    (subst (λ (h : HallRecord). IsOneRightStep n.before m.does.caller.who m.does.caller.boards n.handed h m.does.then.boards) last m.right) in
+    let right : IsOneRightStep s.hall m.does.connection.who m.does.connection.boards n.handed t.hall m.does.then.boards =
+    subst (λ (h : HallRecord). IsOneRightStep h m.does.connection.who m.does.connection.boards n.handed t.hall m.does.then.boards) first
+    (subst (λ (h : HallRecord). IsOneRightStep n.before m.does.connection.who m.does.connection.boards n.handed h m.does.then.boards) last m.right) in
     (kept_answering s number x t n.handed k does m.present m.quiet right m.hands m.makes, does)
 
 answers_ok : (answered : Result Bool AllocError) (r : NewDeed) (m : Moments) (s : ServiceRecord) (number : ℕ) (handed : Option Handed) (t : ServiceRecord) → moment_of m ≡ moment s handed t
-    → IfOk answered (λ some. r ≡ Answered some m) → is_some (caller_at s number) ≡ true → Does s number (deed_of r) t → IfOk answered (λ some. AnswersAt s number some t)
+    → IfOk answered (λ some. r ≡ Answered some m) → is_some (present_at s number) ≡ true → Does s number (deed_of r) t → IfOk answered (λ some. AnswersAt s number some t)
 answers_ok (Ok some) r m s number handed t is noted present does =
-    for_operator (connection_at s number) _ _ _ present (handed, subst (λ (x : Deed). Does s number x t) (ap deed_of noted ∙ ap (heeded some) is) does)
+    for_operator (connection_at s number) _ _ _ present (handed, subst (λ (x : Deed). Does s number x t) (ap deed_of noted ∙ ap (was_answered some) is) does)
 answers_ok (Err e) r m s number handed t is noted present does = tt
 
 fails_err : (answered : Result Bool AllocError) (r : NewDeed) (m : Moments) (s : ServiceRecord) (number : ℕ) (handed : Option Handed) (t : ServiceRecord) → moment_of m ≡ moment s handed t
-    → OnErr answered (r ≡ Failed m) → is_some (caller_at s number) ≡ true → Does s number (deed_of r) t → OnErr answered (FailsAt s number t)
+    → OnErr answered (r ≡ Failed m) → is_some (present_at s number) ≡ true → Does s number (deed_of r) t → OnErr answered (FailsAt s number t)
 fails_err (Ok some) r m s number handed t is noted present does = tt
 fails_err (Err e) r m s number handed t is noted present does =
     for_operator (connection_at s number) _ _ _ present (handed, subst (λ (x : Deed). Does s number x t) (ap deed_of noted ∙ ap failed is) does)
 
 pub answered_by : (s : ServiceRecord) (number : ℕ) (before after : Connection) (answered : Result Bool AllocError) (r : NewDeed) (m : Moments) (handed : Option Handed) (t : ServiceRecord) → IsKept s
-    → connection_at s number ≡ Some before → is_some (caller_at s number) ≡ true → moment_of m ≡ moment s handed t
+    → connection_at s number ≡ Some before → is_some (present_at s number) ≡ true → moment_of m ≡ moment s handed t
     → IfOk answered (λ some. IfPresent before (λ c. AnswersTo c some s.hall handed t.hall after)) → OnErr answered (IfPresent before (λ c. FailsTo c s.hall handed t.hall after))
     → IfOk answered (λ some. r ≡ Answered some m) → OnErr answered (r ≡ Failed m) → Replaces number (Some after) s.connections t.connections
     → t ≡ record s { hall = t.hall; connections = t.connections; turns = s.turns ++ happens number (deed_of r) ∷ [] }
@@ -277,11 +277,11 @@ answered_by s number before after answered r m handed t k there present is ok er
 
 -- bytes came, and it comes to the hall if they end its request
 kept_receiving : (s : ServiceRecord) (number : ℕ) (bytes : List ℕ) (mid t : ServiceRecord) → IsKept s → (d : Does s number (came bytes) mid) → d.does.is_present ≡ true
-    → Arrives (arrival d.does.caller d.does.then) mid t → IsKept t
-kept_receiving s number bytes mid t k d present arrives = by (arrival d.does.caller d.does.then) refl arrives
+    → Arrives (arrival d.does.connection d.does.then) mid t → IsKept t
+kept_receiving s number bytes mid t k d present arrives = by (arrival d.does.connection d.does.then) refl arrives
   where
-    by : (key : Option (List ℕ)) → arrival d.does.caller d.does.then ≡ key → Arrives key mid t → IsKept t
-    by None is same = subst IsKept (sym same) (kept_still s number (came bytes) mid k d is refl d.hall (unheeded_own s number (came bytes) mid k d tt) (nothing_out mid.hall.floor (came bytes) d.does.then refl))
+    by : (key : Option (List ℕ)) → arrival d.does.connection d.does.then ≡ key → Arrives key mid t → IsKept t
+    by None is same = subst IsKept (sym same) (kept_still s number (came bytes) mid k d is refl d.hall (unanswered_own s number (came bytes) mid k d tt) (nothing_out mid.hall.floor (came bytes) d.does.then refl))
     by (Some key) is p = record {
       led = led_by_pass mid (Comes key) t (led_on s number (came bytes) mid k.led d) p;
       ordered = ordered_by_arrival s number bytes mid key t k.ordered d present is p;
@@ -306,7 +306,7 @@ abbrev fed_to : (s : ServiceRecord) (number : ℕ) (bytes : List ℕ) (before af
 fed_to s number bytes before after connections there does replaced = record { before = before; after = after; there = there; does = does; hall = refl; connections = replaced; rest = refl }
 
 pub received : (s : ServiceRecord) (number : ℕ) (bytes : List ℕ) (before after : Connection) (key : Option (List ℕ)) (connections : List (ℕ × Connection)) (hall : HallRecord) (first turns : List Turn) → IsKept s
-    → connection_at s number ≡ Some before → is_some (caller_at s number) ≡ true → IfPresent before (λ c. FeedsTo c bytes key after) → Replaces number (Some after) s.connections connections
+    → connection_at s number ≡ Some before → is_some (present_at s number) ≡ true → IfPresent before (λ c. FeedsTo c bytes key after) → Replaces number (Some after) s.connections connections
     → Enters s.hall key hall → first ≡ noted s number bytes → turns ≡ first ++ arrivals key
     → IsKept (received_as s hall connections turns) × ReceivesAt s number bytes (received_as s hall connections turns)
 received s number bytes before after key connections hall first turns k there present feeds replaced enters begun ends =
@@ -315,12 +315,12 @@ received s number bytes before after key connections hall first turns k there pr
     let t : ServiceRecord = received_as s hall connections turns in
     let does : Does s number (came bytes) mid = fed_to s number bytes before after connections there f.does replaced in
     let all : turns ≡ noted s number bytes ++ arrivals key = ends ∙ ap (λ (xs : List Turn). xs ++ arrivals key) begun in
-    let arrives : Arrives (arrival f.does.caller f.does.then) mid t =
+    let arrives : Arrives (arrival f.does.connection f.does.then) mid t =
     subst (λ (a : Option (List ℕ)). Arrives a mid t) f.names (enters_arrives key mid t enters (ap (λ (xs : List Turn). received_as s hall connections xs) all)) in
     (kept_receiving s number bytes mid t k does f.present arrives, for_operator (connection_at s number) _ _ _ present (record { mid = mid; fed = does; arrives = arrives }))
 
 pub lost : (s : ServiceRecord) (number : ℕ) (bytes : List ℕ) (before after : Connection) (key : Option (List ℕ)) (connections left : List (ℕ × Connection)) (turns : List Turn) → IsKept s
-    → connection_at s number ≡ Some before → is_some (caller_at s number) ≡ true → IfPresent before (λ c. FeedsTo c bytes key after) → Replaces number (Some after) s.connections connections
+    → connection_at s number ≡ Some before → is_some (present_at s number) ≡ true → IfPresent before (λ c. FeedsTo c bytes key after) → Replaces number (Some after) s.connections connections
     → Replaces number None connections left → turns ≡ noted s number bytes → is_some key ≡ true
     → IsKept (record s { connections = left; turns = turns }) × Loses s number bytes (record s { connections = left; turns = turns })
 lost s number bytes before after key connections left turns k there present feeds replaced gone is keyed =
@@ -341,9 +341,9 @@ lost s number bytes before after key connections left turns k there present feed
 -- ---- What is put unasked, and sent.
 
 -- a frame is put if it asks
-pub put_at : (x : Bool → Deed) (f : CallerRecord → CallerRecord) → ((c : CallerRecord) (some : Bool) → asks c.stage ≡ some → IsDone c (x some) (f c)) → ((some : Bool) → IsNoIntake (x some)) → ((some : Bool) → IsUnheeded (x some)) → ((some : Bool) → handed_of (x some) ≡ None)
+pub put_at : (x : Bool → Deed) (f : OperatorRecord → OperatorRecord) → ((c : OperatorRecord) (some : Bool) → asks c.stage ≡ some → IsDone c (x some) (f c)) → ((some : Bool) → IsNoIntake (x some)) → ((some : Bool) → IsUnanswered (x some)) → ((some : Bool) → handed_of (x some) ≡ None)
     → ((k : HallRecord) (some : Bool) → LeadsHall k (x some) k) → ((number : ℕ) (some : Bool) → MadeBy (happens number (x some)) [] [])
-    → (s : ServiceRecord) (number : ℕ) (before after : Connection) (some : Bool) (t : ServiceRecord) → IsKept s → connection_at s number ≡ Some before → is_some (caller_at s number) ≡ true
+    → (s : ServiceRecord) (number : ℕ) (before after : Connection) (some : Bool) (t : ServiceRecord) → IsKept s → connection_at s number ≡ Some before → is_some (present_at s number) ≡ true
     → IfPresent before (λ c. (asks c.stage ≡ some) × (after ≡ Operator (f c) true)) → Replaces number (Some after) s.connections t.connections
     → t ≡ record s { connections = t.connections; turns = s.turns ++ happens number (x some) ∷ [] }
     → IsKept t × ((put : ConnectionRecord → ConnectionRecord) → PutsAt s number x put t)
@@ -355,7 +355,7 @@ put_at x f done quiet un nothing leads made s number before after some t k there
       before = before;
       after = after;
       there = there;
-      does = record { caller = p.0; then = f p.0; is_present = true; was = p.1; done = done p.0 some p.2.0; is = p.2.1 ∙ sym (becomes_same (x some) (f p.0) true (nothing some)) };
+      does = record { connection = p.0; then = f p.0; is_present = true; was = p.1; done = done p.0 some p.2.0; is = p.2.1 ∙ sym (becomes_same (x some) (f p.0) true (nothing some)) };
       hall = subst (LeadsHall s.hall (x some)) (sym same) (leads s.hall some);
       connections = replaced;
       rest = rest ∙ ap (λ (h : HallRecord). record s { hall = h; connections = t.connections; turns = s.turns ++ happens number (x some) ∷ [] }) (sym same);
@@ -383,7 +383,7 @@ sent_at s number n before after bytes t k there some sends replaced rest = by be
           before = Operator c here;
           after = after;
           there = at;
-          does = record { caller = c; then = after_write c n; is_present = here; was = refl; done = (n, first, refl); is = then_is };
+          does = record { connection = c; then = after_write c n; is_present = here; was = refl; done = (n, first, refl); is = then_is };
           hall = same;
           connections = replaced;
           rest = rest ∙ ap (λ (h : HallRecord). record s { hall = h; connections = t.connections; turns = s.turns ++ happens number (wrote bytes) ∷ [] }) (sym same);

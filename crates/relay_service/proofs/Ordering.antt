@@ -16,8 +16,8 @@ use Rattle.relay_hall.specs.Record.{FloorRecord, HallRecord, nobody_yet}
 use Rattle.relay_hall.specs.Talk.{may_make}
 use Rattle.relay_hall.specs.Runs.{HallEvent, HallStep, HallTold, Comes, Goes, Says, Replied, Silent, SaysWhileThere, count_after, counts_after, goes_now, has_gone, history_after, says_now}
 use Rattle.relay_hall.proofs.lemmas.Staying.{same_stay, step_stays}
-use Rattle.relay_calling.specs.Calling.{CallerRecord}
-use Rattle.relay_calling.specs.Crowd.{Turn, happens, passes}
+use Rattle.relay_calling.specs.Calling.{OperatorRecord}
+use Rattle.relay_calling.specs.Connections.{Turn, happens, passes}
 use Rattle.relay_calling.specs.Running.{Deed, came}
 use Rattle.relay_service.specs.declared.connection.Connection.{Connection}
 use Rattle.relay_service.specs.declared.connection.Connection.TheVariants.{Operator, Follower}
@@ -30,7 +30,7 @@ use Rattle.relay_service.proofs.Becoming.{names_becomes, opened_becomes, owner_b
 use Rattle.relay_service.proofs.Connections.{each_after, each_owner, other_way, owners_stay, same_number, unlike}
 use Rattle.relay_service.proofs.Events.{counts_then, made_then, not_gone_then, orderly_then, say_then}
 use Rattle.relay_service.proofs.Here.{is_here, one_less, others_here}
-use Rattle.relay_service.proofs.Owners.{arrives_with, opener_stays, same_opened, same_owner, still_none, unheeded_opened}
+use Rattle.relay_service.proofs.Owners.{arrives_with, opener_stays, same_opened, same_owner, still_none, unanswered_opened}
 use Rattle.relay_service.proofs.Rights.{made_own, may_rightly, opened_still, run_as, run_then}
 
 -- ---- The run.
@@ -136,12 +136,12 @@ ordered_without s number connections o gone = ordered_with s number None connect
 -- ---- What is done to a connection.
 
 -- who it is in the hall, if it is present there
-pub owner_before : (s : ServiceRecord) (number : ℕ) (x : Deed) (t : ServiceRecord) (d : Does s number x t) → d.does.is_present ≡ true → owner_at s number ≡ Some d.does.caller.who
+pub owner_before : (s : ServiceRecord) (number : ℕ) (x : Deed) (t : ServiceRecord) (d : Does s number x t) → d.does.is_present ≡ true → owner_at s number ≡ Some d.does.connection.who
 owner_before s number x t d present =
-    ap owner_in d.there ∙ (ap (λ (c : Connection). owner_in (Some c)) d.does.was ∙ ap (λ (b : Bool). cond b (Some d.does.caller.who) None) present)
+    ap owner_in d.there ∙ (ap (λ (c : Connection). owner_in (Some c)) d.does.was ∙ ap (λ (b : Bool). cond b (Some d.does.connection.who) None) present)
 
 -- it names a key by its request alone
-pub names_before : (s : ServiceRecord) (number : ℕ) (x : Deed) (t : ServiceRecord) → IsOrdered s → (d : Does s number x t) → NamesNone d.does.caller
+pub names_before : (s : ServiceRecord) (number : ℕ) (x : Deed) (t : ServiceRecord) → IsOrdered s → (d : Does s number x t) → NamesNone d.does.connection
 names_before s number x t o d = subst NamesNoneYet d.does.was (o.coming number d.before d.there)
 
 names_after : (s : ServiceRecord) (number : ℕ) (x : Deed) (t : ServiceRecord) → IsOrdered s → (d : Does s number x t)
@@ -149,17 +149,17 @@ names_after : (s : ServiceRecord) (number : ℕ) (x : Deed) (t : ServiceRecord) 
 names_after s number x t o d =
     each_after (λ i c. NamesNoneYet c) number (Some d.after) s.connections t.connections d.connections
     (λ c is. subst NamesNoneYet (sym d.does.is ∙ same_Some _ _ is)
-    (names_becomes x d.does.then d.does.is_present (still_none d.does.caller x d.does.then (names_before s number x t o d) d.does.done)))
+    (names_becomes x d.does.then d.does.is_present (still_none d.does.connection x d.does.then (names_before s number x t o d) d.does.done)))
     (λ i c other at. o.coming i c at)
 
 -- who is in the hall then, if no connection comes to it
-owners_after : (s : ServiceRecord) (number : ℕ) (x : Deed) (t : ServiceRecord) → IsOrdered s → (d : Does s number x t) → arrival d.does.caller d.does.then ≡ None
+owners_after : (s : ServiceRecord) (number : ℕ) (x : Deed) (t : ServiceRecord) → IsOrdered s → (d : Does s number x t) → arrival d.does.connection d.does.then ≡ None
     → (i : ℕ) → owner_at t i ≡ owner_at s i
 owners_after s number x t o d none =
     owners_stay number (Some d.after) s.connections t.connections d.connections
     (ap (λ (c : Connection). owner_in (Some c)) d.does.is
     ∙ owner_becomes x d.does.then d.does.is_present
-    ∙ (ap (λ (w : Owner). cond d.does.is_present (Some w) None) (same_owner d.does.caller x d.does.then (names_before s number x t o d) d.does.done none)
+    ∙ (ap (λ (w : Owner). cond d.does.is_present (Some w) None) (same_owner d.does.connection x d.does.then (names_before s number x t o d) d.does.done none)
     ∙ (sym (ap (λ (c : Connection). owner_in (Some c)) d.does.was) ∙ sym (ap owner_in d.there))))
 
 -- a hall in which each board keeps its owner
@@ -168,26 +168,26 @@ grown_opened f g (Operator c true) stay are = opened_still f g c.who c.boards st
 grown_opened f g (Operator c false) stay are = tt
 grown_opened f g (Follower h who here) stay are = tt
 
-one_opened : (f g : FloorRecord) (before : Connection) (c d : CallerRecord) (here : Bool) → before ≡ Operator c here → (AreOpened f c.who c.boards → AreOpened g d.who d.boards) → OwnsOpened f before
+one_opened : (f g : FloorRecord) (before : Connection) (c d : OperatorRecord) (here : Bool) → before ≡ Operator c here → (AreOpened f c.who c.boards → AreOpened g d.who d.boards) → OwnsOpened f before
     → OwnsOpened g (Operator d here)
 one_opened f g before c d true was own are = own (subst (OwnsOpened f) was are)
 one_opened f g before c d false was own are = tt
 
 -- what connections have opened then is their own, if that is true of the one to which something was done
 opened_after : (s : ServiceRecord) (number : ℕ) (x : Deed) (t : ServiceRecord) → IsOrdered s → (d : Does s number x t) → BoardsStay s.hall.floor t.hall.floor
-    → (AreOpened s.hall.floor d.does.caller.who d.does.caller.boards → AreOpened t.hall.floor d.does.then.who d.does.then.boards)
+    → (AreOpened s.hall.floor d.does.connection.who d.does.connection.boards → AreOpened t.hall.floor d.does.then.who d.does.then.boards)
     → (i : ℕ) (c : Connection) → connection_at t i ≡ Some c → OwnsOpened t.hall.floor c
 opened_after s number x t o d stay own =
     each_after (λ i c. OwnsOpened t.hall.floor c) number (Some d.after) s.connections t.connections d.connections
     (λ c is. subst (OwnsOpened t.hall.floor) (sym d.does.is ∙ same_Some _ _ is) (opened_becomes t.hall.floor x d.does.then d.does.is_present
-    (one_opened s.hall.floor t.hall.floor d.before d.does.caller d.does.then d.does.is_present d.does.was own (o.opened number d.before d.there))))
+    (one_opened s.hall.floor t.hall.floor d.before d.does.connection d.does.then d.does.is_present d.does.was own (o.opened number d.before d.there))))
     (λ i c other at. grown_opened s.hall.floor t.hall.floor c stay (o.opened i c at))
 
 floor_same : (k l : HallRecord) → l ≡ k → BoardsStay k.floor l.floor
 floor_same k l same = same_stay k.floor l.floor (ap (λ (h : HallRecord). h.floor) same)
 
-pub ordered_still : (s : ServiceRecord) (number : ℕ) (x : Deed) (t : ServiceRecord) → IsOrdered s → (d : Does s number x t) → arrival d.does.caller d.does.then ≡ None
-    → MadeBy (happens number x) [] [] → t.hall ≡ s.hall → (AreOpened s.hall.floor d.does.caller.who d.does.caller.boards → AreOpened s.hall.floor d.does.then.who d.does.then.boards) → IsOrdered t
+pub ordered_still : (s : ServiceRecord) (number : ℕ) (x : Deed) (t : ServiceRecord) → IsOrdered s → (d : Does s number x t) → arrival d.does.connection d.does.then ≡ None
+    → MadeBy (happens number x) [] [] → t.hall ≡ s.hall → (AreOpened s.hall.floor d.does.connection.who d.does.connection.boards → AreOpened s.hall.floor d.does.then.who d.does.then.boards) → IsOrdered t
 ordered_still s number x t o d none made same own =
     let u : ServiceRecord = record s { hall = t.hall; connections = t.connections; turns = s.turns ++ happens number x ∷ [] } in
     let is : IsOrdered u = record {
@@ -203,54 +203,54 @@ ordered_still s number x t o d none made same own =
     subst IsOrdered (sym d.rest) is
 
 present_opened : (s : ServiceRecord) (number : ℕ) (x : Deed) (t : ServiceRecord) → IsOrdered s → (d : Does s number x t) → d.does.is_present ≡ true
-    → AreOpened s.hall.floor d.does.caller.who d.does.caller.boards
+    → AreOpened s.hall.floor d.does.connection.who d.does.connection.boards
 present_opened s number x t o d present =
-    subst (OwnsOpened s.hall.floor) (d.does.was ∙ ap (λ (b : Bool). Operator d.does.caller b) present) (o.opened number d.before d.there)
+    subst (OwnsOpened s.hall.floor) (d.does.was ∙ ap (λ (b : Bool). Operator d.does.connection b) present) (o.opened number d.before d.there)
 
 pub ordered_says : (s : ServiceRecord) (number : ℕ) (x : Deed) (t : ServiceRecord) → IsOrdered s → (d : Does s number x t) → d.does.is_present ≡ true
-    → arrival d.does.caller d.does.then ≡ None
-    → (step : Step) (reply : Reply) (handed : Option Handed) → HallStep s.hall (Says d.does.caller.who step) (Replied reply handed) t.hall
-    → MadeBy (happens number x) (Says d.does.caller.who step ∷ []) [] → may_make s.hall.floor d.does.caller.who d.does.caller.boards step ≡ true
-    → d.does.then.boards ≡ pushing.opened_after d.does.caller.boards step reply → IsOrdered t
+    → arrival d.does.connection d.does.then ≡ None
+    → (step : Step) (reply : Reply) (handed : Option Handed) → HallStep s.hall (Says d.does.connection.who step) (Replied reply handed) t.hall
+    → MadeBy (happens number x) (Says d.does.connection.who step ∷ []) [] → may_make s.hall.floor d.does.connection.who d.does.connection.boards step ≡ true
+    → d.does.then.boards ≡ pushing.opened_after d.does.connection.boards step reply → IsOrdered t
 ordered_says s number x t o d present none step reply handed makes made may now-is =
     let u : ServiceRecord = record s { hall = t.hall; connections = t.connections; turns = s.turns ++ happens number x ∷ [] } in
-    let e : HallEvent = Says d.does.caller.who step in
-    let z : IsSeated o.book.events o.here number d.does.caller.who =
-    o.seated number d.does.caller.who (owner_before s number x t d present) in
-    let own : AreOpened s.hall.floor d.does.caller.who d.does.caller.boards = present_opened s number x t o d present in
-    let who-is : d.does.then.who ≡ d.does.caller.who = same_owner d.does.caller x d.does.then (names_before s number x t o d) d.does.done none in
+    let e : HallEvent = Says d.does.connection.who step in
+    let z : IsSeated o.book.events o.here number d.does.connection.who =
+    o.seated number d.does.connection.who (owner_before s number x t d present) in
+    let own : AreOpened s.hall.floor d.does.connection.who d.does.connection.boards = present_opened s number x t o d present in
+    let who-is : d.does.then.who ≡ d.does.connection.who = same_owner d.does.connection x d.does.then (names_before s number x t o d) d.does.done none in
     let says : SaysWhileThere (counts_after (λ key. 0) o.book.events) e =
     λ key at. subst (λ (n : ℕ). 0 < n) (sym (o.counted key)) (is_here o.here number key (z.listed key at)) in
     let is : IsOrdered u = record {
       book = book_then s.limits s.grace s.turns s.hall o.book (happens number x) e (Replied reply handed) t.hall made makes
-          (λ w gone. quiet w (nat_eq number w) refl gone z) says (may_rightly s.hall.floor d.does.caller.who d.does.caller.boards step own may);
+          (λ w gone. quiet w (nat_eq number w) refl gone z) says (may_rightly s.hall.floor d.does.connection.who d.does.connection.boards step own may);
       fresh = λ i more. not_gone_then i o.book.events e (o.fresh i more) refl;
       here = o.here;
       counted = λ q. counts_then (λ key. 0) o.book.events e q ∙ o.counted q;
       seated = λ i who at. seat_on o.book.events o.here i who e (o.seated i who (sym (owners_after s number x t o d none i) ∙ at)) refl;
       coming = names_after s number x t o d;
       opened = opened_after s number x t o d (step_stays s.hall e (Replied reply handed) t.hall makes)
-          (λ are. same_opened t.hall.floor d.does.caller.who d.does.then.who (pushing.opened_after d.does.caller.boards step reply) d.does.then.boards who-is now-is
-          (made_own s.hall.floor t.hall.floor d.does.caller.who step reply handed d.does.caller.boards makes.0 are));
+          (λ are. same_opened t.hall.floor d.does.connection.who d.does.then.who (pushing.opened_after d.does.connection.boards step reply) d.does.then.boards who-is now-is
+          (made_own s.hall.floor t.hall.floor d.does.connection.who step reply handed d.does.connection.boards makes.0 are));
     } in
     subst IsOrdered (sym d.rest) is
   where
-    quiet : (w : ℕ) (b : Bool) → nat_eq number w ≡ b → has_gone w o.book.events ≡ true → IsSeated o.book.events o.here number d.does.caller.who
-        → is_left_by w d.does.caller.who ≡ false
+    quiet : (w : ℕ) (b : Bool) → nat_eq number w ≡ b → has_gone w o.book.events ≡ true → IsSeated o.book.events o.here number d.does.connection.who
+        → is_left_by w d.does.connection.who ≡ false
     quiet w true is gone z = absurd (true≢false (sym gone ∙ subst (λ (n : ℕ). has_gone n o.book.events ≡ false) (eqb-true number w is) z.alive))
-    quiet w false is gone z = not_left w d.does.caller.who number z.numbered is
+    quiet w false is gone z = not_left w d.does.connection.who number z.numbered is
 
 -- ---- Coming to the hall.
 
 pub ordered_by_arrival : (s : ServiceRecord) (number : ℕ) (bytes : List ℕ) (mid : ServiceRecord) (key : List ℕ) (t : ServiceRecord) → IsOrdered s → (d : Does s number (came bytes) mid)
-    → d.does.is_present ≡ true → arrival d.does.caller d.does.then ≡ Some key → Passes mid (Comes key) t → IsOrdered t
+    → d.does.is_present ≡ true → arrival d.does.connection d.does.then ≡ Some key → Passes mid (Comes key) t → IsOrdered t
 ordered_by_arrival s number bytes mid key t o d present arrives p =
     let turns : List Turn = s.turns ++ happens number (came bytes) ∷ [] in
     let m : ServiceRecord = record s { hall = mid.hall; connections = mid.connections; turns = turns } in
     let u : ServiceRecord = record m { hall = t.hall; turns = turns ++ passes (Comes key) Silent ∷ [] } in
     let e : HallEvent = Comes key in
-    let z : IsSeated o.book.events o.here number d.does.caller.who =
-    o.seated number d.does.caller.who (owner_before s number (came bytes) mid d present) in
+    let z : IsSeated o.book.events o.here number d.does.connection.who =
+    o.seated number d.does.connection.who (owner_before s number (came bytes) mid d present) in
     let now : List (ℕ × List ℕ) = (number, key) ∷ o.here in
     let is : IsOrdered u = record {
       book = book_then s.limits s.grace turns mid.hall (book_still s.limits s.grace s.turns s.hall o.book (happens number (came bytes)) mid.hall refl d.hall)
@@ -260,9 +260,9 @@ ordered_by_arrival s number bytes mid key t o d present arrives p =
       counted = λ q. counts_then (λ key. 0) o.book.events e q ∙ ap (λ (n : ℕ). cond (same_key q key) (n + 1) n) (o.counted q);
       seated = each_owner (IsSeated (o.book.events ++ e ∷ []) now) number (Some d.after) s.connections mid.connections d.connections
           (λ who is. subst (IsSeated (o.book.events ++ e ∷ []) now number) (mine who is) (record {
-            numbered = opener_stays d.does.caller (came bytes) d.does.then d.does.done ∙ z.numbered;
+            numbered = opener_stays d.does.connection (came bytes) d.does.then d.does.done ∙ z.numbered;
             alive = not_gone_then number o.book.events e z.alive refl;
-            listed = λ other at. ap (λ (b : Bool). cond b (Some key) (lookup (nat_eq number) o.here)) (same_number number) ∙ (sym (arrives_with d.does.caller d.does.then key arrives) ∙ at);
+            listed = λ other at. ap (λ (b : Bool). cond b (Some key) (lookup (nat_eq number) o.here)) (same_number number) ∙ (sym (arrives_with d.does.connection d.does.then key arrives) ∙ at);
           }))
           (λ i who other at. seat_on o.book.events now i who e
           (seat_among o.book.events o.here now i who (o.seated i who at) (ap (λ (b : Bool). cond b (Some key) (lookup (nat_eq i) o.here)) (other_way number i other))) refl);
@@ -270,7 +270,7 @@ ordered_by_arrival s number bytes mid key t o d present arrives p =
       opened = λ i c at. grown_opened mid.hall.floor t.hall.floor c (step_stays mid.hall e Silent t.hall p.step)
           (opened_after s number (came bytes) mid o d (floor_same s.hall mid.hall d.hall)
           (λ are. subst (λ (h : HallRecord). AreOpened h.floor d.does.then.who d.does.then.boards) (sym d.hall)
-          (unheeded_opened s.hall.floor d.does.caller (came bytes) d.does.then (names_before s number (came bytes) mid o d) tt d.does.done are)) i c at);
+          (unanswered_opened s.hall.floor d.does.connection (came bytes) d.does.then (names_before s number (came bytes) mid o d) tt d.does.done are)) i c at);
     } in
     subst IsOrdered (sym (p.rest ∙ ap (λ (r : ServiceRecord). record r { hall = t.hall; turns = r.turns ++ passes (Comes key) Silent ∷ [] }) d.rest)) is
   where

@@ -25,7 +25,7 @@ use Rattle.relay_hall.specs.Runs.{HallEvent, HallRuns, HallStep, HallTold, IsOne
 use Rattle.relay_hall.specs.Steps.{Makes, OpensAs, answer_to_open, is_owned, new_board, tells_of}
 use Rattle.relay_hall.specs.Talk.{IsAnsweredBy, IsUnansweredBy, IsUnmade, IsUnread, SaidAnswered, StepReplied, may_make}
 use Rattle.relay_hall.proofs.lemmas.Staying.{made_stay}
-use Rattle.relay_calling.specs.Calling.{CallerRecord, EventAnswered, EventUnanswered, Fails, Heeds, Stays}
+use Rattle.relay_calling.specs.Calling.{AnswersNext, EventAnswered, EventUnanswered, Fails, OperatorRecord, Stays}
 use Rattle.relay_service.specs.Inner.{AreOpened}
 use Rattle.relay_service.specs.Rights.{AreRightful, IsRightful, IsRightfulStep, OwnsBoard}
 
@@ -113,13 +113,13 @@ module _ (k : HallRecord) (who : Owner) (boards : List (List ℕ)) (handed : Opt
   lost_right (closed number) stays = stays_right stays
   lost_right (broken breach) stays = stays_right stays
 
-pub heeds_right : (some : Bool) (c : CallerRecord) (k : HallRecord) (handed : Option Handed) (l : HallRecord) (d : CallerRecord) → Heeds some c k handed l d
+pub answers_right : (some : Bool) (c : OperatorRecord) (k : HallRecord) (handed : Option Handed) (l : HallRecord) (d : OperatorRecord) → AnswersNext some c k handed l d
     → IsOneRightStep k c.who c.boards handed l d.boards
-heeds_right true c k handed l d (t, asking, says, (frames, (answer, is, met), then)) = event_right k c.who c.boards handed l d.boards t answer is
-heeds_right false c k handed l d (none, same, stays, more) = inr (same, none, ap (λ (e : CallerRecord). e.boards) stays)
+answers_right true c k handed l d (t, asking, says, (frames, (answer, is, met), then)) = event_right k c.who c.boards handed l d.boards t answer is
+answers_right false c k handed l d (none, same, stays, more) = inr (same, none, ap (λ (e : OperatorRecord). e.boards) stays)
 
-pub fails_right : (c : CallerRecord) (k : HallRecord) (handed : Option Handed) (l : HallRecord) (d : CallerRecord) → Fails c k handed l d → IsOneRightStep k c.who c.boards handed l d.boards
-fails_right c k handed l d (inl (none, same, stays)) = inr (same, none, ap (λ (e : CallerRecord). e.boards) stays)
+pub fails_right : (c : OperatorRecord) (k : HallRecord) (handed : Option Handed) (l : HallRecord) (d : OperatorRecord) → Fails c k handed l d → IsOneRightStep k c.who c.boards handed l d.boards
+fails_right c k handed l d (inl (none, same, stays)) = inr (same, none, ap (λ (e : OperatorRecord). e.boards) stays)
 fails_right c k handed l d (inr (t, asking, says, (un, then))) = lost_right k c.who c.boards handed l d.boards t un
 
 -- ---- Whose the boards are.

@@ -9,7 +9,7 @@ use Rattle.relay_following.specs.Record.{ConnectionRecord, follows}
 use Rattle.relay_service.specs.declared.connection.Connection.{Connection}
 use Rattle.relay_service.specs.declared.connection.Connection.TheVariants.{Operator, Follower}
 use Rattle.relay_service.specs.Calls.{IfFollows, PushFailsAt, PushFailsTo, PushesAt, PushesTo, Replaces, Serves}
-use Rattle.relay_service.specs.Inner.{IsCallerOf, IsJoined, NamesNoneYet, OwnsOpened}
+use Rattle.relay_service.specs.Inner.{IsJoined, IsOperatorOf, NamesNoneYet, OwnsOpened}
 use Rattle.relay_service.specs.Record.{ServiceRecord, connection_at, follower_at, follower_in, owner_in}
 use Rattle.relay_service.proofs.Doing.{match_some}
 use Rattle.relay_service.proofs.Followers.{Keeps}
@@ -24,7 +24,7 @@ kept_in s number P t k v follows opening =
     let there = k.led.there number (Follower v.before v.who v.is_present) v.there in
     subst IsKept (sym v.rest) (record {
       led = led_with s number (Some (Follower v.after v.who v.is_present)) t.connections k.led v.connections
-          (λ d is. (k.led.known number (Follower v.before v.who v.is_present) v.there, subst (IsCallerOf (k.led.callers number)) (same_Some _ _ is) (there.0, there.1, there.2 ∙ sym opening)));
+          (λ d is. (k.led.known number (Follower v.before v.who v.is_present) v.there, subst (IsOperatorOf (k.led.peers number)) (same_Some _ _ is) (there.0, there.1, there.2 ∙ sym opening)));
       ordered = ordered_with s number (Some (Follower v.after v.who v.is_present)) t.connections k.ordered v.connections (λ who is. ap owner_in v.there ∙ is)
           (λ d is. subst NamesNoneYet (same_Some _ _ is) tt) (λ d is. subst (OwnsOpened s.hall.floor) (same_Some _ _ is) tt);
       joined = joined_after s.hall.floor s.hall.floor number (Some (Follower v.after v.who v.is_present)) s.connections t.connections (same_stay s.hall.floor s.hall.floor refl) k.joined v.connections

@@ -4,37 +4,37 @@ use Rattle.relay_hall.specs.declared.handed.Handed.{Handed}
 use Rattle.relay_hall.specs.declared.owner.Owner.{Owner}
 use Rattle.relay_hall.specs.Record.{FloorRecord, HallRecord}
 use Rattle.relay_hall.specs.Runs.{HallEvent, HallStep, Comes, Goes, Silent}
-use Rattle.relay_calling.specs.Calling.{CallerRecord, Fails, Heeds, asks}
+use Rattle.relay_calling.specs.Calling.{AnswersNext, Fails, OperatorRecord, asks}
 use Rattle.relay_calling.specs.Coming.{Feeds, comes}
-use Rattle.relay_calling.specs.Crowd.{LeadsHall, Turn, deeds_of, happens, passes}
+use Rattle.relay_calling.specs.Connections.{LeadsHall, Turn, deeds_of, happens, passes}
 use Rattle.relay_calling.specs.declared.stage.Stage.{Stage}
 use Rattle.relay_calling.specs.declared.stage.Stage.TheVariants.{HandsOver}
-use Rattle.relay_calling.specs.Running.{Deed, IsDone, IsServed, Moment, came, failed, heeded, was_pinged, was_sent_away, wrote}
+use Rattle.relay_calling.specs.Running.{Deed, IsDone, IsServed, Moment, came, failed, was_answered, was_pinged, was_sent_away, wrote}
 use Rattle.relay_following.specs.Calls as following
 use Rattle.relay_following.specs.Pushing.{PushFails, Pushes}
 use Rattle.relay_following.specs.Record.{ConnectionRecord, follows, newcomer}
 use Rattle.relay_following.specs.Shown.{IsShown}
 use Rattle.relay_service.specs.declared.connection.Connection.{Connection}
 use Rattle.relay_service.specs.declared.connection.Connection.TheVariants.{Operator, Follower}
-use Rattle.relay_service.specs.Record.{ServiceRecord, caller_in, connection_at, connection_in, follower_at, owner_at}
+use Rattle.relay_service.specs.Record.{ServiceRecord, connection_at, connection_in, follower_at, owner_at, present_in}
 
 -- this is the connection of this number then, or none is, and all others are as before
 abbrev pub Replaces : ℕ → Option Connection → List (ℕ × Connection) → List (ℕ × Connection) → Type 0
 Replaces number c before after = (q : ℕ) → connection_in after q ≡ cond (nat_eq number q) c (connection_in before q)
 
 -- an operator's connection that was heard: if something was handed out it follows from then on, and what is due then comes before all moves
-abbrev pub heard_as : Option Handed → CallerRecord → Bool → Connection
+abbrev pub heard_as : Option Handed → OperatorRecord → Bool → Connection
 heard_as None d here = Operator d here
 heard_as (Some handed) d here = Follower (newcomer handed d.reading d.due) d.who here
 
 -- the same if it was told so
-abbrev pub taken_up : Bool → Option Handed → CallerRecord → Bool → Connection
+abbrev pub taken_up : Bool → Option Handed → OperatorRecord → Bool → Connection
 taken_up told handed d here = cond told (heard_as handed d here) (Operator d here)
 
 -- what it is once this was done to it
-abbrev pub becomes : Deed → CallerRecord → Bool → Connection
+abbrev pub becomes : Deed → OperatorRecord → Bool → Connection
 becomes (came bytes) d here = Operator d here
-becomes (heeded some m) d here = heard_as m.handed d here
+becomes (was_answered some m) d here = heard_as m.handed d here
 becomes (failed m) d here = Operator d here
 becomes (wrote bytes) d here = Operator d here
 becomes (was_pinged some) d here = Operator d here
@@ -46,11 +46,11 @@ OthersStay s number t = (q : ℕ) → nat_eq number q ≡ false → connection_a
 
 -- This was done to a connection, which is an operator's.
 pub record DoesTo (before : Connection) (x : Deed) (after : Connection) : Type 0 where
-  pub caller : CallerRecord
-  pub then : CallerRecord
+  pub connection : OperatorRecord
+  pub then : OperatorRecord
   pub is_present : Bool
-  pub was : before ≡ Operator caller is_present
-  pub done : IsDone caller x then
+  pub was : before ≡ Operator connection is_present
+  pub done : IsDone connection x then
   pub is : after ≡ becomes x then is_present
 
 -- This was done to the connection of this number, and nothing else. It is the last of the turns.
@@ -76,7 +76,7 @@ pub record Serves (s : ServiceRecord) (number : ℕ) (P : ConnectionRecord → C
 
 -- the first of these if there is no connection or nothing is done to it, the second of an operator's that is present in the hall, the third
 -- of one that follows
-abbrev pub ForEach : Option Connection → Type 0 → (CallerRecord → Type 0) → (ConnectionRecord → Type 0) → Type 0
+abbrev pub ForEach : Option Connection → Type 0 → (OperatorRecord → Type 0) → (ConnectionRecord → Type 0) → Type 0
 ForEach None N O F = N
 ForEach (Some (Operator c true)) N O F = O c
 ForEach (Some (Operator c false)) N O F = N
@@ -95,10 +95,10 @@ pub record Passes (s : ServiceRecord) (e : HallEvent) (t : ServiceRecord) : Type
 
 -- The key with which a connection comes to the hall that was at this stage before: the key that its request named, if that is accepted
 -- now.
-abbrev pub arrival_at : Stage → CallerRecord → Option (List ℕ)
+abbrev pub arrival_at : Stage → OperatorRecord → Option (List ℕ)
 arrival_at was d = cond (comes was && asks d.stage) d.who.key None
 
-abbrev pub arrival : CallerRecord → CallerRecord → Option (List ℕ)
+abbrev pub arrival : OperatorRecord → OperatorRecord → Option (List ℕ)
 arrival c d = arrival_at c.stage d
 
 -- with a key it comes to the hall; without one nothing passes
@@ -110,7 +110,7 @@ Arrives (Some key) s t = Passes s (Comes key) t
 pub record Receives (s : ServiceRecord) (number : ℕ) (bytes : List ℕ) (t : ServiceRecord) : Type 0 where
   pub mid : ServiceRecord
   pub fed : Does s number (came bytes) mid
-  pub arrives : Arrives (arrival fed.does.caller fed.does.then) mid t
+  pub arrives : Arrives (arrival fed.does.connection fed.does.then) mid t
 
 -- no connection has this number any more
 abbrev pub Forgets : ServiceRecord → ℕ → ServiceRecord → Type 0
@@ -120,7 +120,7 @@ Forgets s number t = Replaces number None s.connections t.connections × (t ≡ 
 pub record Loses (s : ServiceRecord) (number : ℕ) (bytes : List ℕ) (t : ServiceRecord) : Type 0 where
   pub mid : ServiceRecord
   pub fed : Does s number (came bytes) mid
-  pub keyed : is_some (arrival fed.does.caller fed.does.then) ≡ true
+  pub keyed : is_some (arrival fed.does.connection fed.does.then) ≡ true
   pub gone : Forgets mid number t
 
 -- these bytes came from the connection of this number; those of one that is not present in the hall any more are dropped
@@ -145,7 +145,7 @@ moment s handed t = record { before = s.hall; handed = handed; after = t.hall }
 
 -- what an operator's connection says next was answered by the hall of this very service, if it says anything; and this was handed out
 abbrev pub AnswersOperator : ServiceRecord → ℕ → Bool → ServiceRecord → Type 0
-AnswersOperator s number some t = (handed : Option Handed) × Does s number (heeded some (moment s handed t)) t
+AnswersOperator s number some t = (handed : Option Handed) × Does s number (was_answered some (moment s handed t)) t
 
 -- there was no memory to answer it
 abbrev pub FailsOperator : ServiceRecord → ℕ → ServiceRecord → Type 0
@@ -183,10 +183,10 @@ PushFailsAt s number most t = MatchOption (follower_at s number) ⊥ (λ f. Serv
 -- A connection that follows was first sent what its deeds require of it as an operator's, up to the text that told it that it follows. From
 -- then on no deed is its own.
 pub record IsOpenedBy (number : ℕ) (takes_keys : Bool) (deeds : List Deed) (f : ConnectionRecord) : Type 0 where
-  pub caller : CallerRecord
-  pub served : IsServed number takes_keys deeds caller
-  pub handed : caller.stage ≡ HandsOver
-  pub due : caller.due ≡ f.delivery.opening
+  pub connection : OperatorRecord
+  pub served : IsServed number takes_keys deeds connection
+  pub handed : connection.stage ≡ HandsOver
+  pub due : connection.due ≡ f.delivery.opening
 
 -- What a connection has been sent, and what is due to it, are what its deeds among all turns so far require. Of one that follows these are
 -- its opening, and then come the moves of the board that it follows in this very hall.
@@ -238,29 +238,29 @@ DisconnectsAt s number t = MatchOption (owner_at s number) (Forgets s number t) 
 -- ---- What is done to one connection.
 
 -- it is an operator's, of which this is true; or it is none
-abbrev pub IfOperator : Connection → (CallerRecord → Bool → Type 0) → Type 0
+abbrev pub IfOperator : Connection → (OperatorRecord → Bool → Type 0) → Type 0
 IfOperator (Operator c here) P = P c here
 IfOperator (Follower f who here) P = Unit {0}
 
 -- the same of one that is present in the hall
-abbrev pub IfPresent : Connection → (CallerRecord → Type 0) → Type 0
-IfPresent c P = MatchOption (caller_in (Some c)) (Unit {0}) P
+abbrev pub IfPresent : Connection → (OperatorRecord → Type 0) → Type 0
+IfPresent c P = MatchOption (present_in (Some c)) (Unit {0}) P
 
 -- it follows, and becomes another such connection of which this is true; or it does not follow
 abbrev pub IfFollows : Connection → (ConnectionRecord → ConnectionRecord → Type 0) → Connection → Type 0
 IfFollows (Operator c here) P after = Unit {0}
 IfFollows (Follower f who here) P after = (g : ConnectionRecord) × P f g × (after ≡ Follower g who here)
 
-abbrev pub FeedsTo : CallerRecord → List ℕ → Option (List ℕ) → Connection → Type 0
-FeedsTo c bytes key after = (d : CallerRecord) × Feeds c bytes d × (after ≡ Operator d true) × (key ≡ arrival c d)
+abbrev pub FeedsTo : OperatorRecord → List ℕ → Option (List ℕ) → Connection → Type 0
+FeedsTo c bytes key after = (d : OperatorRecord) × Feeds c bytes d × (after ≡ Operator d true) × (key ≡ arrival c d)
 
-abbrev pub HeedsTo : CallerRecord → Bool → HallRecord → Option Handed → HallRecord → Connection → Type 0
-HeedsTo c some k handed l after = (d : CallerRecord) × Heeds some c k handed l d × (after ≡ Operator d true)
+abbrev pub AnswersNextTo : OperatorRecord → Bool → HallRecord → Option Handed → HallRecord → Connection → Type 0
+AnswersNextTo c some k handed l after = (d : OperatorRecord) × AnswersNext some c k handed l d × (after ≡ Operator d true)
 
 -- it was heard, and follows if something was handed out
-abbrev pub AnswersTo : CallerRecord → Bool → HallRecord → Option Handed → HallRecord → Connection → Type 0
-AnswersTo c some k handed l after = (d : CallerRecord) × Heeds some c k handed l d × (after ≡ heard_as handed d true)
+abbrev pub AnswersTo : OperatorRecord → Bool → HallRecord → Option Handed → HallRecord → Connection → Type 0
+AnswersTo c some k handed l after = (d : OperatorRecord) × AnswersNext some c k handed l d × (after ≡ heard_as handed d true)
 
 -- there was no memory: what was handed out has left its board again
-abbrev pub FailsTo : CallerRecord → HallRecord → Option Handed → HallRecord → Connection → Type 0
-FailsTo c k handed l after = (d : CallerRecord) × Fails c k handed l d × (after ≡ Operator d true)
+abbrev pub FailsTo : OperatorRecord → HallRecord → Option Handed → HallRecord → Connection → Type 0
+FailsTo c k handed l after = (d : OperatorRecord) × Fails c k handed l d × (after ≡ Operator d true)

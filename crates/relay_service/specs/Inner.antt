@@ -8,9 +8,9 @@ use Rattle.relay_hall.specs.declared.owner.Owner.{Owner}
 use Rattle.relay_hall.specs.Keys.{same_key}
 use Rattle.relay_hall.specs.Record.{FloorRecord, HallBoard, nobody_yet}
 use Rattle.relay_hall.specs.Runs.{HallEvent, counts_after, has_gone}
-use Rattle.relay_calling.specs.Calling.{CallerRecord, newcomer}
+use Rattle.relay_calling.specs.Calling.{OperatorRecord, newcomer}
 use Rattle.relay_calling.specs.Coming.{comes}
-use Rattle.relay_calling.specs.Crowd.{CrowdRecord, Turns, deeds_of}
+use Rattle.relay_calling.specs.Connections.{ConnectionsRecord, Turns, deeds_of}
 use Rattle.relay_calling.specs.declared.stage.Stage.TheVariants.{HandsOver}
 use Rattle.relay_following.specs.Boards.{IsIn}
 use Rattle.relay_service.specs.declared.connection.Connection.{Connection}
@@ -32,21 +32,21 @@ service_of a = record {
 }
 
 -- an empty hall of these limits and this grace, and newcomers with all numbers
-abbrev pub beginning : LimitNumbers → ℕ → Bool → CrowdRecord
-beginning limits grace takes_keys = record { hall = nobody_yet limits grace; callers = λ i. newcomer i takes_keys }
+abbrev pub beginning : LimitNumbers → ℕ → Bool → ConnectionsRecord
+beginning limits grace takes_keys = record { hall = nobody_yet limits grace; peers = λ i. newcomer i takes_keys }
 
--- this is the caller of the connection; or the one that it was when it was handed out what it follows, to which its opening was due
-abbrev pub IsCallerOf : CallerRecord → Connection → Type 0
-IsCallerOf d (Operator c here) = d ≡ c
-IsCallerOf d (Follower f who here) = (d.who ≡ who) × (d.stage ≡ HandsOver) × (d.due ≡ f.delivery.opening)
+-- this is what the connection is as an operator's; or what it was when it was handed out what it follows, and its opening was due to it
+abbrev pub IsOperatorOf : OperatorRecord → Connection → Type 0
+IsOperatorOf d (Operator c here) = d ≡ c
+IsOperatorOf d (Follower f who here) = (d.who ≡ who) × (d.stage ≡ HandsOver) × (d.due ≡ f.delivery.opening)
 
 -- The turns lead from an empty hall and newcomers to this hall and these connections; numbers from the next on were never used.
 pub record IsLedTo (s : ServiceRecord) : Type 0 where
-  pub callers : ℕ → CallerRecord
-  pub run : Turns (beginning s.limits s.grace s.takes_keys) s.turns (record { hall = s.hall; callers = callers })
-  pub there : (i : ℕ) (c : Connection) → connection_at s i ≡ Some c → IsCallerOf (callers i) c
+  pub peers : ℕ → OperatorRecord
+  pub run : Turns (beginning s.limits s.grace s.takes_keys) s.turns (record { hall = s.hall; peers = peers })
+  pub there : (i : ℕ) (c : Connection) → connection_at s i ≡ Some c → IsOperatorOf (peers i) c
   pub known : (i : ℕ) (c : Connection) → connection_at s i ≡ Some c → i < s.next
-  pub yet : (i : ℕ) → s.next ≤ i → callers i ≡ newcomer i s.takes_keys
+  pub yet : (i : ℕ) → s.next ≤ i → peers i ≡ newcomer i s.takes_keys
   pub unused : (i : ℕ) → s.next ≤ i → deeds_of i s.turns ≡ []
 
 -- how many of those that are here have this key
@@ -61,7 +61,7 @@ pub record IsSeated (events : List HallEvent) (here : List (ℕ × List ℕ)) (i
   pub listed : (key : List ℕ) → who.key ≡ Some key → lookup (nat_eq i) here ≡ Some key
 
 -- a connection names a key by its request alone, and opens no board before
-abbrev pub NamesNone : CallerRecord → Type 0
+abbrev pub NamesNone : OperatorRecord → Type 0
 NamesNone c = comes c.stage ≡ true → (c.who.key ≡ None) × (c.boards ≡ [])
 
 abbrev pub NamesNoneYet : Connection → Type 0

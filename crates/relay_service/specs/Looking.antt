@@ -8,9 +8,9 @@ use Rattle.relay_hall.specs.Reading.{place_of}
 use Rattle.relay_hall.specs.Record.{FloorRecord}
 use Rattle.relay_hall.specs.Steps.{tells_of}
 use Rattle.relay_hall.specs.Talk.{are_none}
-use Rattle.relay_calling.specs.Calling.{CallerRecord}
+use Rattle.relay_calling.specs.Calling.{OperatorRecord}
 use Rattle.relay_calling.specs.declared.stage.Stage as calling
-use Rattle.relay_calling.specs.declared.stage.Stage.TheVariants as callers
+use Rattle.relay_calling.specs.declared.stage.Stage.TheVariants as operators
 use Rattle.relay_following.specs.declared.stage.Stage as following
 use Rattle.relay_following.specs.declared.stage.Stage.TheVariants as followers
 use Rattle.relay_following.specs.Calls.{is_full}
@@ -22,11 +22,11 @@ use Rattle.relay_service.specs.declared.stage.Stage.TheVariants.{Comes, Asks, Fo
 use Rattle.relay_service.specs.Record.{ServiceRecord, connection_at, follower_at, operator_at}
 
 -- what an operator's connection does that is present in the hall; one that follows is none any more
-abbrev pub stage_of_caller : calling.Stage → Stage
-stage_of_caller callers.Comes = Comes
-stage_of_caller callers.Asks = Asks
-stage_of_caller callers.HandsOver = Follows
-stage_of_caller callers.Leaves = Leaves
+abbrev pub stage_of_operator : calling.Stage → Stage
+stage_of_operator operators.Comes = Comes
+stage_of_operator operators.Asks = Asks
+stage_of_operator operators.HandsOver = Follows
+stage_of_operator operators.Leaves = Leaves
 
 abbrev pub stage_of_follower : following.Stage → Stage
 stage_of_follower followers.Follows = Follows
@@ -36,7 +36,7 @@ stage_of_follower followers.Left = Leaves
 stage_of_follower followers.Failed = Leaves
 
 abbrev pub stage_of : Connection → Stage
-stage_of (Operator c here) = cond here (stage_of_caller c.stage) Leaves
+stage_of (Operator c here) = cond here (stage_of_operator c.stage) Leaves
 stage_of (Follower f who here) = stage_of_follower f.delivery.stage
 
 abbrev pub stage_at : ServiceRecord → ℕ → Option Stage
@@ -73,7 +73,7 @@ was_cut_in (Some (Follower f who here)) = is_cut f.delivery.stage
 abbrev pub was_cut_at : ServiceRecord → ℕ → Bool
 was_cut_at s number = was_cut_in (connection_at s number)
 
-abbrev pub owns_in : FloorRecord → Option CallerRecord → Bool
+abbrev pub owns_in : FloorRecord → Option OperatorRecord → Bool
 owns_in floor None = false
 owns_in floor (Some c) = not (are_none c.boards) || tells_of floor c.who OwnsAny
 

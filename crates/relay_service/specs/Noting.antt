@@ -1,6 +1,6 @@
 -- Which turn is noted.
-use Rattle.relay_calling.specs.Crowd.{Turn, happens, passes}
-use Rattle.relay_calling.specs.Running.{Deed, Moment, came, failed, heeded, was_pinged, was_sent_away, wrote}
+use Rattle.relay_calling.specs.Connections.{Turn, happens, passes}
+use Rattle.relay_calling.specs.Running.{Deed, Moment, came, failed, was_answered, was_pinged, was_sent_away, wrote}
 use Rattle.relay_hall.specs.Runs as runs
 use Rattle.relay_service.specs.declared.turn.NewTurn.{NewTurn}
 use Rattle.relay_service.specs.declared.turn.NewTurn.TheVariants.{Happens, Comes, Goes, Time, Shuts, Ends}
@@ -13,7 +13,7 @@ moment_of m = record { before = m.before.value; handed = m.handed.value; after =
 
 abbrev pub deed_of : NewDeed → Deed
 deed_of (Came bytes) = came bytes.items
-deed_of (Answered some m) = heeded some (moment_of m)
+deed_of (Answered some m) = was_answered some (moment_of m)
 deed_of (Failed m) = failed (moment_of m)
 deed_of (Wrote bytes) = wrote bytes.items
 deed_of (WasPinged some) = was_pinged some

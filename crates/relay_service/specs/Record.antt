@@ -4,8 +4,8 @@ use Rattle.std.specs.Map.{lookup}
 use Rattle.c960_game.specs.Limits.{LimitNumbers}
 use Rattle.relay_hall.specs.declared.owner.Owner.{Owner}
 use Rattle.relay_hall.specs.Record.{HallRecord, nobody_yet}
-use Rattle.relay_calling.specs.Calling.{CallerRecord, newcomer}
-use Rattle.relay_calling.specs.Crowd.{Turn}
+use Rattle.relay_calling.specs.Calling.{OperatorRecord, newcomer}
+use Rattle.relay_calling.specs.Connections.{Turn}
 use Rattle.relay_following.specs.Record.{ConnectionRecord}
 use Rattle.relay_service.specs.declared.connection.Connection.{Connection}
 use Rattle.relay_service.specs.declared.connection.Connection.TheVariants.{Operator, Follower}
@@ -43,17 +43,17 @@ opened number takes_keys = Operator (newcomer number takes_keys) true
 abbrev pub connection_in : List (ℕ × Connection) → ℕ → Option Connection
 connection_in connections number = lookup (nat_eq number) connections
 
--- the caller of an operator's, if it is one
-abbrev pub operator_in : Option Connection → Option CallerRecord
+-- the connection of an operator, if it is one
+abbrev pub operator_in : Option Connection → Option OperatorRecord
 operator_in None = None
 operator_in (Some (Operator c here)) = Some c
 operator_in (Some (Follower f who here)) = None
 
 -- the same, if it is present in the hall
-abbrev pub caller_in : Option Connection → Option CallerRecord
-caller_in None = None
-caller_in (Some (Operator c here)) = cond here (Some c) None
-caller_in (Some (Follower f who here)) = None
+abbrev pub present_in : Option Connection → Option OperatorRecord
+present_in None = None
+present_in (Some (Operator c here)) = cond here (Some c) None
+present_in (Some (Follower f who here)) = None
 
 -- the connection of one that follows, if it does
 abbrev pub follower_in : Option Connection → Option ConnectionRecord
@@ -76,11 +76,11 @@ due_in (Some (Follower f who here)) = f.delivery.due
 abbrev pub connection_at : ServiceRecord → ℕ → Option Connection
 connection_at s number = connection_in s.connections number
 
-abbrev pub operator_at : ServiceRecord → ℕ → Option CallerRecord
+abbrev pub operator_at : ServiceRecord → ℕ → Option OperatorRecord
 operator_at s number = operator_in (connection_at s number)
 
-abbrev pub caller_at : ServiceRecord → ℕ → Option CallerRecord
-caller_at s number = caller_in (connection_at s number)
+abbrev pub present_at : ServiceRecord → ℕ → Option OperatorRecord
+present_at s number = present_in (connection_at s number)
 
 abbrev pub follower_at : ServiceRecord → ℕ → Option ConnectionRecord
 follower_at s number = follower_in (connection_at s number)

@@ -6,8 +6,8 @@ use Rattle.relay_core.specs.History.{History}
 use Rattle.relay_hall.specs.declared.owner.Owner.{Owner}
 use Rattle.relay_hall.specs.Record.{HallRecord, nobody_yet}
 use Rattle.relay_hall.specs.Runs.{AllSayWhileThere, HallEvent, HallRuns, HallTold, IsOrderly, Says, count_after, goes_now}
-use Rattle.relay_calling.specs.Crowd.{Turn, happens, passes}
-use Rattle.relay_calling.specs.Running.{came, failed, heeded, was_pinged, was_sent_away, wrote}
+use Rattle.relay_calling.specs.Connections.{Turn, happens, passes}
+use Rattle.relay_calling.specs.Running.{came, failed, was_answered, was_pinged, was_sent_away, wrote}
 use Rattle.relay_service.specs.Record.{ServiceRecord}
 use Rattle.relay_service.specs.Rights.{AreRightful}
 
@@ -18,7 +18,7 @@ OneOrNoneOf number events rest = ((who : Owner) × (step : Step) × (who.opener 
 -- the events of a turn, and then the rest: what is answered is one step at most, said by that connection; what passes is itself
 abbrev pub MadeBy : Turn → List HallEvent → List HallEvent → Type 0
 MadeBy (happens number (came bytes)) events rest = events ≡ rest
-MadeBy (happens number (heeded some m)) events rest = OneOrNoneOf number events rest
+MadeBy (happens number (was_answered some m)) events rest = OneOrNoneOf number events rest
 MadeBy (happens number (failed m)) events rest = OneOrNoneOf number events rest
 MadeBy (happens number (wrote bytes)) events rest = events ≡ rest
 MadeBy (happens number (was_pinged some)) events rest = events ≡ rest

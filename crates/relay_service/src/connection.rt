@@ -4,16 +4,16 @@ ghost use Rattle.std.specs.Prelude.{◌≡◌, [], None, Some, IfOk, IfSome, OnE
 ghost use Rattle.relay_calling.specs.Calling.{after_write, asks, pinged, sent_away};
 ghost use Rattle.relay_service.specs.declared.connection.Connection.TheVariants.{Operator, Follower};
 ghost use Rattle.relay_following.specs.Served.{IsOpening};
-ghost use Rattle.relay_service.specs.Calls.{AnswersTo, FailsTo, FeedsTo, HeedsTo, IfOperator, IfPresent, LeftAs, arrival_at, heard_as, taken_up};
-ghost use Rattle.relay_service.specs.Looking.{is_full_in, is_midway_in, stage_of, stage_of_caller, stage_of_follower, was_cut_in};
-ghost use Rattle.relay_service.specs.Record.{caller_in, follower_in, opened, operator_in, owner_in};
+ghost use Rattle.relay_service.specs.Calls.{AnswersNextTo, AnswersTo, FailsTo, FeedsTo, IfOperator, IfPresent, LeftAs, arrival_at, heard_as, taken_up};
+ghost use Rattle.relay_service.specs.Looking.{is_full_in, is_midway_in, stage_of, stage_of_follower, stage_of_operator, was_cut_in};
+ghost use Rattle.relay_service.specs.Record.{follower_in, opened, operator_in, owner_in, present_in};
 
 mod following;
 
 use crate::bytes::Bytes;
 use crate::stage::Stage;
 use relay_calling::laws::what_is_handed_over_was_told;
-use relay_calling::{Caller, Stage as CallerStage};
+use relay_calling::{OperatorConnection, Stage as OperatorStage};
 use relay_following::{FollowerConnection, Stage as FollowerStage};
 use relay_frames::Code;
 use relay_hall::{Hall, Handed, Key, Owner};
@@ -26,7 +26,7 @@ use std::snapshot::Snapshot;
 pub enum Connection {
     /// An operator's, whose bytes are answered by the hall. Once it is not present there any more it says nothing, and is sent what is due.
     Operator {
-        caller: Caller,
+        connection: OperatorConnection,
         is_present: bool,
     },
     /// One that follows a board. It is present in the hall as who it was when it asked.
@@ -39,25 +39,25 @@ pub enum Connection {
 
 /// The key with which a connection comes to the hall that was at this stage before: the one that its request named, if that was accepted
 /// now.
-fn arrival(was: CallerStage, caller: &Caller) -> Option<Key>
-    ensures { result ≡ arrival_at was caller.now }
+fn arrival(was: OperatorStage, connection: &OperatorConnection) -> Option<Key>
+    ensures { result ≡ arrival_at was connection.now }
 {
-    if was == CallerStage::Comes && caller.stage() == CallerStage::Asks {
-        caller.owner().key
+    if was == OperatorStage::Comes && connection.stage() == OperatorStage::Asks {
+        connection.owner().key
     } else {
         None
     }
 }
 
 /// What an operator's connection does that is present in the hall.
-fn stage_of_caller(stage: CallerStage) -> Stage
-    ensures { result ≡ stage_of_caller stage }
+fn stage_of_operator(stage: OperatorStage) -> Stage
+    ensures { result ≡ stage_of_operator stage }
 {
     match stage {
-        CallerStage::Comes => Stage::Comes,
-        CallerStage::Asks => Stage::Asks,
-        CallerStage::HandsOver => Stage::Follows,
-        CallerStage::Leaves => Stage::Leaves,
+        OperatorStage::Comes => Stage::Comes,
+        OperatorStage::Asks => Stage::Asks,
+        OperatorStage::HandsOver => Stage::Follows,
+        OperatorStage::Leaves => Stage::Leaves,
     }
 }
 
@@ -85,19 +85,19 @@ impl Connection {
         ensures { result ≡ opened number takes_keys }
     {
         Connection::Operator {
-            caller: Caller::new(alloc, number, takes_keys),
+            connection: OperatorConnection::new(alloc, number, takes_keys),
             is_present: true,
         }
     }
 
     // ---- What it is.
 
-    /// The caller of an operator's.
-    pub(crate) fn caller(&self) -> Option<&Caller>
+    /// The connection of an operator.
+    pub(crate) fn operator(&self) -> Option<&OperatorConnection>
         ensures { option_map (λ c. c.now) result ≡ operator_in (Some self.now) }
     {
         match self {
-            Connection::Operator { caller, .. } => Some(caller),
+            Connection::Operator { connection, .. } => Some(connection),
             Connection::Follower { .. } => None,
         }
     }
@@ -114,7 +114,7 @@ impl Connection {
 
     /// Whether it is an operator's that is present in the hall.
     pub(crate) fn is_present(&self) -> bool
-        ensures { result ≡ is_some (caller_in (Some self.now)) }
+        ensures { result ≡ is_some (present_in (Some self.now)) }
     {
         match self {
             Connection::Operator { is_present, .. } => *is_present,
@@ -127,7 +127,10 @@ impl Connection {
         ensures { result ≡ owner_in (Some self.now) }
     {
         match self {
-            Connection::Operator { caller, is_present } if *is_present => Some(*caller.owner()),
+            Connection::Operator {
+                connection,
+                is_present,
+            } if *is_present => Some(*connection.owner()),
             Connection::Follower {
                 who,
                 is_present,
@@ -142,9 +145,10 @@ impl Connection {
         ensures { result ≡ stage_of self.now }
     {
         match self {
-            Connection::Operator { caller, is_present } if *is_present => {
-                stage_of_caller(caller.stage())
-            }
+            Connection::Operator {
+                connection,
+                is_present,
+            } if *is_present => { stage_of_operator(connection.stage()) }
             Connection::Operator { .. } => Stage::Leaves,
             Connection::Follower { connection, .. } => stage_of_follower(connection.stage()),
         }
@@ -167,7 +171,7 @@ impl Connection {
         ensures { result ≡ is_full_in (Some self.now) }
     {
         match self {
-            Connection::Operator { caller, .. } => caller.is_full(),
+            Connection::Operator { connection, .. } => connection.is_full(),
             Connection::Follower { connection, .. } => connection.is_full(),
         }
     }
@@ -177,7 +181,7 @@ impl Connection {
         ensures { result ≡ is_midway_in (Some self.now) }
     {
         match self {
-            Connection::Operator { caller, .. } => caller.is_midway(),
+            Connection::Operator { connection, .. } => connection.is_midway(),
             Connection::Follower { connection, .. } => connection.is_midway(),
         }
     }
@@ -194,10 +198,10 @@ impl Connection {
         ensures unchanged { OnErr result (self.new ≡ self.old) }
     {
         match self {
-            Connection::Operator { caller, .. } => {
-                let was = caller.stage();
-                caller.feed(bytes)?;
-                Ok(arrival(was, caller))
+            Connection::Operator { connection, .. } => {
+                let was = connection.stage();
+                connection.feed(bytes)?;
+                Ok(arrival(was, connection))
             }
             Connection::Follower { .. } => Ok(None),
         }
@@ -218,7 +222,7 @@ impl Connection {
         ensures err { OnErr result.0 (IfPresent self.old (λ c. FailsTo c hall.old result.1.value hall.new self.new)) }
     {
         what_is_handed_over_was_told();
-        let (answered, handed) = self.heed(hall);
+        let (answered, handed) = self.answer_next(hall);
         let what = Snapshot::of(&handed);
         self.take_up(alloc, answered.is_ok(), handed);
         (answered, what)
@@ -229,13 +233,16 @@ impl Connection {
     /// # Errors
     ///
     /// There was no memory.
-    fn heed(&mut self, hall: &mut Hall) -> (Result<bool, AllocError>, Option<Handed>)
-        ensures ok { IfOk result.0 (λ some. IfPresent self.old (λ c. HeedsTo c some hall.old result.1 hall.new self.new)) }
+    fn answer_next(&mut self, hall: &mut Hall) -> (Result<bool, AllocError>, Option<Handed>)
+        ensures ok { IfOk result.0 (λ some. IfPresent self.old (λ c. AnswersNextTo c some hall.old result.1 hall.new self.new)) }
         ensures err { OnErr result.0 (IfPresent self.old (λ c. FailsTo c hall.old result.1 hall.new self.new)) }
-        ensures none { caller_in (Some self.old) ≡ None → result.1 ≡ None }
+        ensures none { present_in (Some self.old) ≡ None → result.1 ≡ None }
     {
         match self {
-            Connection::Operator { caller, is_present } if *is_present => caller.heed(hall),
+            Connection::Operator {
+                connection,
+                is_present,
+            } if *is_present => connection.answer(hall),
             _ => (Ok(false), None),
         }
     }
@@ -263,9 +270,13 @@ impl Connection {
         ensures { IfOperator self.old (λ c here. self.new ≡ heard_as (Some handed) c here) }
     {
         let asked = mem::replace(self, Connection::new(alloc, 0, false));
-        if let Connection::Operator { caller, is_present } = asked {
-            let who = *caller.owner();
-            let (peer, opening) = caller.into_parts();
+        if let Connection::Operator {
+            connection,
+            is_present,
+        } = asked
+        {
+            let who = *connection.owner();
+            let (peer, opening) = connection.into_parts();
             *self = Connection::Follower {
                 connection: FollowerConnection::new(handed, peer, opening),
                 who,
@@ -279,9 +290,9 @@ impl Connection {
         ensures { IfOperator self.old (λ c here. (result.items ≡ take n c.due) × (self.new ≡ Operator (after_write c n) here)) }
     {
         match self {
-            Connection::Operator { caller, .. } => {
-                let bytes = first_of(caller.due(), n);
-                caller.wrote(n);
+            Connection::Operator { connection, .. } => {
+                let bytes = first_of(connection.due(), n);
+                connection.wrote(n);
                 bytes
             }
             Connection::Follower { .. } => Bytes::of(&[]),
@@ -298,9 +309,9 @@ impl Connection {
         ensures err { OnErr result (self.new ≡ self.old) }
     {
         match self {
-            Connection::Operator { caller, .. } => {
-                let asks = caller.stage() == CallerStage::Asks;
-                caller.ping()?;
+            Connection::Operator { connection, .. } => {
+                let asks = connection.stage() == OperatorStage::Asks;
+                connection.ping()?;
                 Ok(asks)
             }
             Connection::Follower { .. } => Ok(false),
@@ -317,9 +328,9 @@ impl Connection {
         ensures err { OnErr result (self.new ≡ self.old) }
     {
         match self {
-            Connection::Operator { caller, .. } => {
-                let asks = caller.stage() == CallerStage::Asks;
-                caller.send_away(code)?;
+            Connection::Operator { connection, .. } => {
+                let asks = connection.stage() == OperatorStage::Asks;
+                connection.send_away(code)?;
                 Ok(asks)
             }
             Connection::Follower { .. } => Ok(false),
@@ -348,7 +359,7 @@ impl Connection {
         ensures { self.new ≡ self.old }
     {
         match self {
-            Connection::Operator { caller, .. } => caller.take_said(),
+            Connection::Operator { connection, .. } => connection.take_said(),
             Connection::Follower { .. } => false,
         }
     }
@@ -358,7 +369,7 @@ impl Connection {
         ensures { self.new ≡ self.old }
     {
         match self {
-            Connection::Operator { caller, .. } => caller.take_whole(),
+            Connection::Operator { connection, .. } => connection.take_whole(),
             Connection::Follower { connection, .. } => connection.take_whole(),
         }
     }

@@ -2,7 +2,7 @@
 
 ghost use Rattle.std.specs.Prelude.{◌≡◌, List, [], ◌∷◌, ◌++◌};
 ghost use Rattle.std.specs.Borrow.{ftrue};
-ghost use Rattle.relay_calling.specs.Crowd.{Turn};
+ghost use Rattle.relay_calling.specs.Connections.{Turn};
 ghost use Rattle.relay_service.specs.Noting.{turn_of};
 
 use crate::turn::NewTurn;

@@ -7,7 +7,7 @@ ghost use Rattle.relay_watching.specs.Progress.{GoesOn, WasSent, newcomer};
 ghost use Rattle.relay_watching.specs.Taped.{offset, tape_bytes};
 
 use crate::frames;
-use crate::watcher::Watcher;
+use crate::spectator_connection::SpectatorConnection;
 use c960_board::{Move, Position};
 use c960_game::Outcome;
 use std::alloc::{AllocError, Global};
@@ -189,13 +189,13 @@ impl Tape {
     /// # Errors
     ///
     /// There was no memory.
-    pub fn join(&self, place: u16, position: &Position) -> Result<Watcher, AllocError>
+    pub fn join(&self, place: u16, position: &Position) -> Result<SpectatorConnection, AllocError>
         requires { place ≤ length self.now.moves }
         ensures newcomer { IfOk result (λ w. w ≡ newcomer self.now (record { place = place; position = position.now })) }
         ensures sent { IfOk result (WasSent self.now (record { place = place; position = position.now }) []) }
     {
         let greeting = frames::following(self.alloc, place, position)?;
-        Ok(Watcher::new(self.alloc, greeting, self.offset(usize::from(place))))
+        Ok(SpectatorConnection::new(self.alloc, greeting, self.offset(usize::from(place))))
     }
 }
 

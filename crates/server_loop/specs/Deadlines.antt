@@ -5,7 +5,7 @@ use Rattle.server_loop.specs.declared.deadlines.Deadlines.{Deadlines}
 use Rattle.server_loop.specs.declared.deadlines.SlowReader.{SlowReader}
 use Rattle.server_loop.specs.declared.deadlines.Times.{Times}
 use Rattle.server_loop.specs.declared.deadlines.Stage.{Stage}
-use Rattle.server_loop.specs.declared.deadlines.Stage.TheVariants.{Comes, Asks, Follows, Leaves, HasLeft}
+use Rattle.server_loop.specs.declared.deadlines.Stage.TheVariants.{Comes, Asks, Follows, Leaves, Drains}
 use Rattle.server_loop.specs.declared.deadlines.Verdict.{Verdict}
 use Rattle.server_loop.specs.declared.deadlines.Verdict.TheVariants.{Stays, Ping, Tries, Idle, Stuck, Gone}
 
@@ -57,7 +57,7 @@ verdict_talking t d now most_idle =
 -- what is to be done with a connection at this stage
 abbrev pub verdict_of : Times → Deadlines → ℕ → Stage → Option ℕ → Verdict
 verdict_of t d now Comes most_idle = cond (nat_le t.request (now - d.stage_began)) Gone Stays
-verdict_of t d now HasLeft most_idle = cond (nat_le t.leaving (now - d.stage_began)) Gone Stays
+verdict_of t d now Drains most_idle = cond (nat_le t.leaving (now - d.stage_began)) Gone Stays
 verdict_of t d now Leaves most_idle = cond (has_lasted d.waits_since now t.wait) Gone Stays
 verdict_of t d now Asks most_idle = verdict_talking t d now most_idle
 verdict_of t d now Follows most_idle = verdict_talking t d now None

@@ -90,7 +90,7 @@ pub enum Stage {
     /// It is sent what is due, and then goes.
     Leaves,
     /// Everything was written to it. What it still sends is read for a while.
-    HasLeft,
+    Drains,
 }
 
 /// Since when the loop has waited for a connection.
@@ -171,7 +171,7 @@ impl Deadlines {
     {
         match stage {
             Stage::Comes => gone_if(self.staged(now) >= times.request),
-            Stage::HasLeft => gone_if(self.staged(now) >= times.leaving),
+            Stage::Drains => gone_if(self.staged(now) >= times.leaving),
             Stage::Leaves => gone_if(is_over(self.waits_since, now, times.wait)),
             Stage::Asks => self.verdict_if_it_talks(times, now, most_idle),
             Stage::Follows => self.verdict_if_it_talks(times, now, None),

@@ -1,11 +1,11 @@
--- Lists in which one element has changed, and what news make one after another.
+-- Lists in which one element has changed, and what events make one after another.
 use Rattle.std.proofs.Common.{◌≡◌, ◌≤◌, ◌<◌, ℕ, zero, suc, List, [], ◌∷◌, ◌++◌, length, slice_get, slice_index_or, slice_set, Some, None, refl, sym, ap, ◌∙◌, arith}
 use mathlib.Core.List.{IsPrefix}
 use Rattle.std.proofs.lemmas.List.{append-nil, append_assoc}
 use Rattle.std.proofs.lemmas.Option.{same_Some}
 use Rattle.watch_port.specs.declared.board_table.BoardCopy.{BoardCopy}
 use Rattle.watch_port.specs.declared.feed.Told.{Told}
-use Rattle.watch_port.specs.declared.news.News.{News}
+use Rattle.watch_port.specs.declared.board_event.BoardEvent.{BoardEvent}
 use Rattle.watch_port.specs.Copies.{HasTaken, TableRecord, changed_at, copied_after, copied_from}
 use Rattle.watch_port.specs.Telling.{told_after, told_by, told_from}
 
@@ -22,13 +22,13 @@ module _ {X : Type 0} (f : X → X) where
   changes_nothing (x ∷ xs) zero le = absurd (omega arith)
   changes_nothing (x ∷ xs) (suc at) le = ap (λ t. x ∷ t) (changes_nothing xs at (omega arith))
 
--- one more news after others
-pub copied_more : (plies : ℕ) (boards : List BoardCopy) (xs : List News) (x : News)
+-- one more event after others
+pub copied_more : (plies : ℕ) (boards : List BoardCopy) (xs : List BoardEvent) (x : BoardEvent)
     → copied_from plies boards (xs ++ x ∷ []) ≡ copied_after plies (copied_from plies boards xs) x
 copied_more plies boards [] x = refl
 copied_more plies boards (y ∷ ys) x = copied_more plies (copied_after plies boards y) ys x
 
-pub told_more : (ts : List Told) (xs : List News) (x : News) → told_from ts (xs ++ x ∷ []) ≡ told_after (told_from ts xs) x
+pub told_more : (ts : List Told) (xs : List BoardEvent) (x : BoardEvent) → told_from ts (xs ++ x ∷ []) ≡ told_after (told_from ts xs) x
 told_more ts [] x = refl
 told_more ts (y ∷ ys) x = told_more (told_after ts y) ys x
 
@@ -44,12 +44,12 @@ pub peeked : {T : Type 0} (p x : T) (known rest : List T) → IsPrefix (p ∷ []
 peeked p x known rest first is = same_Some p x (ap (λ l. slice_get l 0) (first.1 ∙ is))
 
 -- boards that were those of all that was told are those of one more
-pub table_more : (plies : ℕ) (old new : List BoardCopy) (told more : List News) (x : News) → old ≡ copied_from plies [] told
+pub table_more : (plies : ℕ) (old new : List BoardCopy) (told more : List BoardEvent) (x : BoardEvent) → old ≡ copied_from plies [] told
     → new ≡ copied_after plies old x → more ≡ told ++ x ∷ [] → new ≡ copied_from plies [] more
 table_more plies old new told more x was now is =
     now ∙ ap (λ bs. copied_after plies bs x) was ∙ sym (ap (copied_from plies []) is ∙ copied_more plies [] told x)
 
-pub feed_more : (old new : List Told) (sent more : List News) (x : News) → old ≡ told_by sent → new ≡ told_after old x → more ≡ sent ++ x ∷ []
+pub feed_more : (old new : List Told) (sent more : List BoardEvent) (x : BoardEvent) → old ≡ told_by sent → new ≡ told_after old x → more ≡ sent ++ x ∷ []
     → new ≡ told_by more
 feed_more old new sent more x was now is = now ∙ ap (λ ts. told_after ts x) was ∙ sym (ap told_by is ∙ told_more [] sent x)
 

@@ -7,8 +7,8 @@ use Rattle.c960_game.specs.Record.{opened, play_answer, with_move}
 use Rattle.relay_hall.specs.Reading.{last_of}
 use Rattle.relay_messages.specs.declared.board_summary.BoardSummary.{BoardSummary}
 use Rattle.watch_port.specs.declared.board_table.BoardCopy.{BoardCopy}
-use Rattle.watch_port.specs.declared.news.News.{News}
-use Rattle.watch_port.specs.declared.news.News.TheVariants.{Opened, Played, Ended}
+use Rattle.watch_port.specs.declared.board_event.BoardEvent.{BoardEvent}
+use Rattle.watch_port.specs.declared.board_event.BoardEvent.TheVariants.{Opened, Played, Ended}
 
 -- a list in which the element of this index has changed, if there is one
 abbrev pub changed_at : {X : Type 0} → (X → X) → ℕ → List X → List X
@@ -43,21 +43,21 @@ summary_of b = record {
 
 -- ---- All boards of a loop, whose logs may have so many moves.
 
--- what one more news makes of them
-abbrev pub copied_after : ℕ → List BoardCopy → News → List BoardCopy
+-- what one more event makes of them
+abbrev pub copied_after : ℕ → List BoardCopy → BoardEvent → List BoardCopy
 copied_after plies boards (Opened name start) = boards ++ copy_of plies name start ∷ []
 copied_after plies boards (Played at m) = changed_at (played_by m) at boards
 copied_after plies boards (Ended at outcome) = changed_at (ended_by outcome) at boards
 
--- what news make of them, in order
-abbrev pub copied_from : ℕ → List BoardCopy → List News → List BoardCopy
+-- what events make of them, in order
+abbrev pub copied_from : ℕ → List BoardCopy → List BoardEvent → List BoardCopy
 copied_from plies boards [] = boards
 copied_from plies boards (x ∷ xs) = copied_from plies (copied_after plies boards x) xs
 
 -- how many moves logs may have, and all that the loop was told
 pub record TableRecord : Type 0 where
   pub plies : ℕ
-  pub told : List News
+  pub told : List BoardEvent
 
 abbrev pub nothing_told : ℕ → TableRecord
 nothing_told plies = record { plies = plies; told = [] }
@@ -69,5 +69,5 @@ shown_by t = copied_from t.plies [] t.told
 -- it was told more, perhaps
 pub record HasTaken (before after : TableRecord) : Type 0 where
   pub plies : after.plies ≡ before.plies
-  pub more : List News
+  pub more : List BoardEvent
   pub told : after.told ≡ before.told ++ more

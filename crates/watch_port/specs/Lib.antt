@@ -1,4 +1,4 @@
 pub mod Copies
 pub mod Inner
 pub mod Telling
-pub mod Visits
+pub mod Connections

@@ -3,7 +3,7 @@
 use crate::board_table::{BoardCopy, Progress};
 use crate::ready_list::ReadyList;
 use c960_board::Position;
-use relay_watching::{Tape, Watcher};
+use relay_watching::{SpectatorConnection, Tape};
 use slab::Slab;
 use std::alloc::{AllocError, Global};
 
@@ -54,7 +54,7 @@ impl Audience {
         Ok(true)
     }
 
-    /// A watcher for a spectator that joins at a place of the tape. There is none if its board has not reached that place.
+    /// A connection for a spectator that joins at a place of the tape. There is none if its board has not reached that place.
     ///
     /// # Errors
     ///
@@ -63,7 +63,7 @@ impl Audience {
         &mut self,
         board: &BoardCopy,
         place: u16,
-    ) -> Result<Option<Watcher>, AllocError> {
+    ) -> Result<Option<SpectatorConnection>, AllocError> {
         let Some(position) = self.position_at(board, place) else {
             return Ok(None);
         };

@@ -8,7 +8,7 @@ ghost use Rattle.relay_hall.specs.Reading.{last_of};
 ghost use Rattle.rtrb.specs.Ring.{received};
 ghost use Rattle.watch_port.specs.Copies.{HasTaken, changed_at, copied_after, copy_of, ended_by, nothing_told, played_by, shown_by, summary_of};
 
-use crate::news::News;
+use crate::board_event::BoardEvent;
 use c960_board::{Move, Position};
 use c960_game::{Game, Limits, Outcome};
 use relay_core::BoardName;
@@ -17,8 +17,8 @@ use rtrb::Consumer;
 use std::alloc::{AllocError, Global};
 use std::marker::Model;
 
-/// How many news are taken in at a time.
-const MOST_NEWS: u32 = 65536;
+/// How many events are taken in at a time.
+const MOST_EVENTS: u32 = 65536;
 
 /// A board of a loop, as far as the loop was told of it.
 #[derive(Drop)]
@@ -163,15 +163,15 @@ fn apply(
     alloc: Global,
     limits: &Limits,
     boards: &mut Vec<BoardCopy>,
-    news: News,
+    event: BoardEvent,
 ) -> Result<(), AllocError>
-    ensures ok { OnOk result (boards.new.items ≡ copied_after limits.now.plies boards.old.items news) }
+    ensures ok { OnOk result (boards.new.items ≡ copied_after limits.now.plies boards.old.items event) }
     ensures err { OnErr result (boards.new.items ≡ boards.old.items) }
 {
-    match news {
-        News::Opened(name, start) => return open(alloc, limits, boards, name, start),
-        News::Played(at, m) => play_at(boards, usize::from(at), m),
-        News::Ended(at, outcome) => end_at(boards, usize::from(at), outcome),
+    match event {
+        BoardEvent::Opened(name, start) => return open(alloc, limits, boards, name, start),
+        BoardEvent::Played(at, m) => play_at(boards, usize::from(at), m),
+        BoardEvent::Ended(at, outcome) => end_at(boards, usize::from(at), outcome),
     }
     Ok(())
 }
@@ -188,7 +188,7 @@ fn find(boards: &[BoardCopy], name: &BoardName) -> Option<usize>
 #[derive(Drop)]
 pub struct BoardTable {
     alloc: Global,
-    ring: Consumer<News, Global>,
+    ring: Consumer<BoardEvent, Global>,
     /// The limits of the boards.
     limits: Limits,
     boards: Vec<BoardCopy>,
@@ -208,7 +208,11 @@ impl Model for BoardTable {
 
 impl BoardTable {
     /// No boards yet. What is told of them comes by this ring, and these are their limits.
-    pub(crate) fn new(alloc: Global, ring: Consumer<News, Global>, limits: Limits) -> BoardTable
+    pub(crate) fn new(
+        alloc: Global,
+        ring: Consumer<BoardEvent, Global>,
+        limits: Limits,
+    ) -> BoardTable
         requires { received ring ≡ [] }
         ensures { result ≡ nothing_told limits.plies }
     {
@@ -229,7 +233,7 @@ impl BoardTable {
     pub fn take_in(&mut self) -> Result<(), AllocError>
         ensures { HasTaken self.old self.new }
     {
-        for _ in 0..MOST_NEWS {
+        for _ in 0..MOST_EVENTS {
             if !self.take_one()? {
                 return Ok(());
             }
@@ -251,8 +255,8 @@ impl BoardTable {
         if self.ring.is_empty() {
             return Ok(false);
         }
-        let news = *self.ring.peek_known();
-        apply(self.alloc, &self.limits, &mut self.boards, news)?;
+        let event = *self.ring.peek_known();
+        apply(self.alloc, &self.limits, &mut self.boards, event)?;
         let _ = self.ring.pop_known();
         Ok(true)
     }

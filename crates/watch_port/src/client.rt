@@ -1,6 +1,6 @@
-//! A visitor and its connection.
+//! A client: its connection, as bytes in and out, and its socket.
 
-use crate::visitor::{Doing, Visitor};
+use crate::watch_connection::{Doing, WatchConnection};
 use mio::net::TcpStream;
 use relay_frames::{Code, outgoing};
 use relay_watching::Tape;
@@ -11,20 +11,20 @@ use std::net::Shutdown;
 /// The close code for a client for which there is no room now (IANA's registry of close codes).
 const AGAIN: u16 = 1013;
 
-/// A visitor and its connection.
+/// A client: its connection, as bytes in and out, and its socket.
 #[derive(Drop)]
 pub(crate) struct Client {
     pub(crate) stream: TcpStream,
-    pub(crate) visitor: Visitor,
+    pub(crate) connection: WatchConnection,
     pub(crate) deadlines: Deadlines,
     /// Its index in its audience among those that are written to as soon as there is news, if it is among them.
     pub(crate) ready_index: Option<usize>,
     /// Whether there was room for it when it came.
     pub(crate) has_room: bool,
     /// Whether everything was sent to it, and its output has ended.
-    pub(crate) has_left: bool,
+    pub(crate) is_draining: bool,
     /// Whether it is not heard until what it is owed is written.
-    pub(crate) is_stuffed: bool,
+    pub(crate) is_full: bool,
     /// Whether it is among those that are to be read on although the system reports nothing of them.
     pub(crate) is_unread: bool,
 }
@@ -33,13 +33,13 @@ impl Client {
     /// Writes what is due, until nothing is or the connection takes no more. The tape is that of the board that it watches.
     pub(crate) fn send(&mut self, tape: Option<&Tape>, now: u64) -> Delivery {
         for _ in 0..u64::MAX {
-            let piece = self.visitor.offered(tape);
+            let piece = self.connection.offered(tape);
             if piece.is_empty() {
                 self.deadlines.is_served();
                 return Delivery::All;
             }
             let length = piece.len();
-            match write_once(&self.stream, piece, self.visitor.offered_behind(tape)) {
+            match write_once(&self.stream, piece, self.connection.offered_behind(tape)) {
                 Written::Bytes(n) => {
                     self.deadlines.is_served();
                     self.wrote(tape, n, length);
@@ -56,18 +56,18 @@ impl Client {
 
     /// `n` bytes were written: of those offered, which have this length, and then of those after them.
     fn wrote(&mut self, tape: Option<&Tape>, n: usize, length: usize) {
-        self.visitor.wrote(tape, n.min(length));
+        self.connection.wrote(tape, n.min(length));
         if n > length {
-            self.visitor.wrote(tape, n - length);
+            self.connection.wrote(tape, n - length);
         }
     }
 
     /// The stage at which it is.
     pub(crate) fn stage(&self) -> Stage {
-        if self.has_left {
-            return Stage::HasLeft;
+        if self.is_draining {
+            return Stage::Drains;
         }
-        match &self.visitor.doing {
+        match &self.connection.doing {
             Doing::Comes(_) => Stage::Comes,
             Doing::Asks => Stage::Asks,
             Doing::Watches(_) | Doing::WatchesAll(_) => Stage::Follows,
@@ -76,13 +76,13 @@ impl Client {
 
     /// A client that has shaken hands but for which there was no room is told so, and leaves. Any other asks from now on.
     pub(crate) fn turn_away_if_full(&mut self, now: u64) -> Result<(), AllocError> {
-        if !matches!(self.visitor.doing, Doing::Asks) {
+        if !matches!(self.connection.doing, Doing::Asks) {
             return Ok(());
         }
         self.deadlines.begins(now);
-        if !self.has_room && !self.visitor.is_leaving() {
-            outgoing::close(Code::new(AGAIN), self.visitor.output())?;
-            self.visitor.leaves();
+        if !self.has_room && !self.connection.is_leaving() {
+            outgoing::close(Code::new(AGAIN), self.connection.output())?;
+            self.connection.leaves();
         }
         Ok(())
     }

@@ -11,7 +11,7 @@ use crate::board_table::BoardTable;
 use crate::client::Client;
 use crate::port::Port;
 use crate::ready_list::ReadyList;
-use crate::visitor::Visitor;
+use crate::watch_connection::WatchConnection;
 use mio::net::TcpStream;
 use mio::{Interest, Registry, Token};
 use relay_messages::Decoder;
@@ -85,12 +85,12 @@ impl<'a> Clients<'a> {
         let has_room = self.port.enters(self.acceptor);
         let client = Client {
             stream,
-            visitor: Visitor::new(self.alloc),
+            connection: WatchConnection::new(self.alloc),
             deadlines: Deadlines::new(self.now),
             ready_index: None,
             has_room,
-            has_left: false,
-            is_stuffed: false,
+            is_draining: false,
+            is_full: false,
             is_unread: false,
         };
         match self.clients.insert(client) {
@@ -127,11 +127,11 @@ impl<'a> Clients<'a> {
 
     /// A client was sent everything. Its output ends, and what it still sends is read for a while, since a reset would otherwise destroy
     /// the end of it.
-    fn lets_go(&mut self, key: usize) {
+    fn drains(&mut self, key: usize) {
         self.watches_no_more(key);
         let now = self.now;
         if let Some(client) = self.clients.get_mut(key) {
-            client.has_left = true;
+            client.is_draining = true;
             client.end_output();
             client.deadlines.begins(now);
         }

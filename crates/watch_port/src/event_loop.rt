@@ -139,7 +139,7 @@ impl<'a> Turns<'a> {
         poller.waker().reset();
         // The boards have ended if the port closes, so what is told then is the last.
         let is_closing = self.port.is_closing();
-        self.clients.take_in_news();
+        self.clients.take_in_events();
         self.clients.hear_unread();
         let mut told = 0usize;
         for event in poller.events().iter() {

@@ -4,8 +4,8 @@ ghost use Rattle.std.specs.Prelude.{◌≡◌, ◌<◌, ◌∷◌, ◌++◌, [],
 ghost use Rattle.watch_port.specs.Copies.{changed_at, nothing_told};
 ghost use Rattle.watch_port.specs.Telling.{IsPut, end_of, is_told_of_the_end, moves_told, one_more, opening_of, over, told_after, told_by};
 
+use crate::board_event::BoardEvent;
 use crate::board_table::BoardTable;
-use crate::news::News;
 use c960_board::Move;
 use c960_game::{Limits, Outcome};
 use relay_core::BoardName;
@@ -14,8 +14,8 @@ use std::alloc::{AllocError, Global};
 use std::marker::Model;
 use std::mem;
 
-/// How many news a loop may have yet to take in. What is beyond that it is told later.
-const MOST_NEWS: usize = 4096;
+/// How many events a loop may have yet to take in. What is beyond that it is told later.
+const MOST_EVENTS: usize = 4096;
 
 /// How far a loop was told of a board.
 #[derive(Clone, Copy)]
@@ -44,7 +44,7 @@ impl Told {
 
 /// A board of which loops are to be told.
 #[derive(Clone, Copy)]
-pub(crate) struct NewsOfBoard<'a> {
+pub(crate) struct BoardUpdate<'a> {
     /// Its index, in the order of opening.
     pub(crate) at: u16,
     pub(crate) name: BoardName,
@@ -59,7 +59,7 @@ pub(crate) struct NewsOfBoard<'a> {
 /// that the loop was told.
 #[derive(Drop)]
 pub struct Feed {
-    ring: Producer<News, Global>,
+    ring: Producer<BoardEvent, Global>,
     /// How far, of each board that it was told of.
     told: Vec<Told>,
     /// Whether the loop has yet to be woken.
@@ -68,9 +68,9 @@ pub struct Feed {
 
 impl Model for Feed {
     ghost use Rattle.std.specs.Prelude.{List};
-    ghost use Rattle.watch_port.specs.declared.news.News.{News};
+    ghost use Rattle.watch_port.specs.declared.board_event.BoardEvent.{BoardEvent};
 
-    ghost Value = { List News };
+    ghost Value = { List BoardEvent };
 
     ghost use Rattle.watch_port.specs.Inner.{IsFeed, sent_by};
 
@@ -80,17 +80,17 @@ impl Model for Feed {
 }
 
 /// Notes what was put into a ring.
-fn note(told: &mut Vec<Told>, news: &News)
+fn note(told: &mut Vec<Told>, event: &BoardEvent)
     requires { vec_len told.old < vec_capacity told.old }
-    ensures { told.new.items ≡ told_after told.old.items news.now }
+    ensures { told.new.items ≡ told_after told.old.items event.now }
 {
-    match *news {
-        News::Opened(_, _) => told.push_reserved(Told {
+    match *event {
+        BoardEvent::Opened(_, _) => told.push_reserved(Told {
             moves: 0,
             is_over: false,
         }),
-        News::Played(at, _) => note_move(told, usize::from(at)),
-        News::Ended(at, _) => note_end(told, usize::from(at)),
+        BoardEvent::Played(at, _) => note_move(told, usize::from(at)),
+        BoardEvent::Ended(at, _) => note_end(told, usize::from(at)),
     }
 }
 
@@ -121,7 +121,7 @@ impl Feed {
     pub fn new(alloc: Global, limits: Limits) -> Result<(Feed, BoardTable), AllocError>
         ensures { IfOk result (λ made. (made.0 ≡ []) × (made.1 ≡ nothing_told limits.plies)) }
     {
-        let (sender, receiver) = RingBuffer::new(alloc, MOST_NEWS)?;
+        let (sender, receiver) = RingBuffer::new(alloc, MOST_EVENTS)?;
         let feed = Feed {
             ring: sender,
             told: Vec::new(alloc),
@@ -165,7 +165,7 @@ impl Feed {
     }
 
     /// Tells the loop of a board what it has not been told, in order, as far as there is room. Returns whether that is all.
-    pub(crate) fn tell(&mut self, board: &NewsOfBoard<'_>) -> bool {
+    pub(crate) fn tell(&mut self, board: &BoardUpdate<'_>) -> bool {
         if !self.tell_opened(board) {
             return false;
         }
@@ -176,21 +176,21 @@ impl Feed {
     }
 
     /// Tells the loop that a board was opened, once it knows of those before.
-    fn tell_opened(&mut self, board: &NewsOfBoard<'_>) -> bool
+    fn tell_opened(&mut self, board: &BoardUpdate<'_>) -> bool
         ensures put { IsPut self.old (opening_of self.old board.now) result self.new }
     {
         let at = usize::from(board.at);
         if at != self.boards_told() {
             return at < self.boards_told();
         }
-        self.put(News::Opened(board.name, board.start))
+        self.put(BoardEvent::Opened(board.name, board.start))
     }
 
     /// Tells the loop of the moves of which it has not been told.
-    fn tell_moves(&mut self, board: &NewsOfBoard<'_>) -> bool {
+    fn tell_moves(&mut self, board: &BoardUpdate<'_>) -> bool {
         let told = self.moves_told(board.at).saturating_sub(board.from);
         for at in usize::from(told)..board.moves.len() {
-            if !self.put(News::Played(board.at, board.moves[at])) {
+            if !self.put(BoardEvent::Played(board.at, board.moves[at])) {
                 return false;
             }
         }
@@ -198,29 +198,29 @@ impl Feed {
     }
 
     /// Tells the loop how the game ended, once it has, and only once.
-    fn tell_end(&mut self, board: &NewsOfBoard<'_>) -> bool
+    fn tell_end(&mut self, board: &BoardUpdate<'_>) -> bool
         ensures put { IsPut self.old (end_of self.old board.now) result self.new }
     {
         match board.outcome {
             Some(outcome) if !self.is_told_of_the_end(board.at) => {
-                self.put(News::Ended(board.at, outcome))
+                self.put(BoardEvent::Ended(board.at, outcome))
             }
             _ => true,
         }
     }
 
     /// Puts this into the ring, and notes it. Returns whether there was room.
-    fn put(&mut self, news: News) -> bool
-        ensures put { IsTrue result → self.new ≡ self.old ++ news ∷ [] }
+    fn put(&mut self, event: BoardEvent) -> bool
+        ensures put { IsTrue result → self.new ≡ self.old ++ event ∷ [] }
         ensures full { IsFalse result → self.new ≡ self.old }
     {
         if self.told.reserve(1).is_err() {
             return false;
         }
-        let Ok(()) = self.ring.push(news) else {
+        let Ok(()) = self.ring.push(event) else {
             return false;
         };
-        note(&mut self.told, &news);
+        note(&mut self.told, &event);
         self.is_fresh = true;
         true
     }

@@ -7,18 +7,18 @@
 
 mod acceptors;
 mod audience;
+mod board_event;
 mod board_list;
 mod board_table;
 mod client;
 mod clients;
 mod event_loop;
 mod feed;
-mod news;
 mod port;
 mod publisher;
 mod ready_list;
 mod request;
-mod visitor;
+mod watch_connection;
 
 pub use board_table::{BoardCopy, BoardTable};
 pub use event_loop::EventLoop;

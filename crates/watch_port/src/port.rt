@@ -63,7 +63,7 @@ impl Port {
         }
     }
 
-    /// No more guests are accepted, and the loops end once theirs have gone, or after a while. The loops have yet to be woken.
+    /// No more clients are accepted, and the loops end once theirs have gone, or after a while. The loops have yet to be woken.
     pub fn close(&self) {
         self.is_closing.store(true, Ordering::SeqCst);
     }

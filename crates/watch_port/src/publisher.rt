@@ -1,6 +1,6 @@
 //! What happens to boards, for all loops that show them.
 
-use crate::feed::{Feed, NewsOfBoard};
+use crate::feed::{BoardUpdate, Feed};
 use c960_board::Move;
 use c960_game::MOST_BOARDS;
 use relay_hall::Hall;
@@ -80,8 +80,8 @@ impl Publisher {
         };
         let from = self.least_told(at);
         self.moves.clear();
-        let outcome = shown.news(from, &mut self.moves)?;
-        let board = NewsOfBoard {
+        let outcome = shown.moves_from(from, &mut self.moves)?;
+        let board = BoardUpdate {
             at,
             name: shown.name(),
             start: shown.summary().start,

@@ -1,7 +1,7 @@
 //! The connections of an audience that are written to as soon as there is news: all but those whose connections take no more now.
 
 use crate::audience::Audience;
-use crate::visitor::{Doing, Watching};
+use crate::watch_connection::{Doing, Watching};
 use slab::Slab;
 use std::alloc::{AllocError, Global};
 

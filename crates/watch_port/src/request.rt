@@ -1,6 +1,6 @@
-//! A visitor's request, as it comes, and its answer.
+//! A connection's request, as it comes, and its answer.
 
-use crate::visitor::{Doing, Visitor};
+use crate::watch_connection::{Doing, WatchConnection};
 use relay_frames::{MOST_HEAD_BYTES, RequestRefusal, acceptance_of, end_of_head};
 use std::alloc::{AllocError, Global};
 use std::mem;
@@ -16,48 +16,48 @@ enum Head {
     Refused(RequestRefusal),
 }
 
-/// Takes what came from a visitor that sends its request. Returns how many of these bytes belong to the request. The request is answered
-/// once it is complete; if it is refused, the visitor leaves.
+/// Takes what came from a connection that sends its request. Returns how many of these bytes belong to the request. The request is answered
+/// once it is complete; if it is refused, the connection leaves.
 ///
 /// # Errors
 ///
 /// There was no memory.
 pub(crate) fn take_request(
     alloc: Global,
-    visitor: &mut Visitor,
+    connection: &mut WatchConnection,
     bytes: &[u8],
 ) -> Result<usize, AllocError> {
-    let Doing::Comes(begun) = &mut visitor.doing else {
+    let Doing::Comes(begun) = &mut connection.doing else {
         return Ok(0);
     };
     let begun = mem::replace(begun, Vec::new(alloc));
     match grow(begun, bytes)? {
         Head::Part(head) => {
-            visitor.doing = Doing::Comes(head);
+            connection.doing = Doing::Comes(head);
             Ok(bytes.len())
         }
         Head::Whole(head, used) => {
             match acceptance_of(head.as_slice()) {
                 Ok(acceptance) => {
-                    acceptance.write(visitor.output())?;
-                    visitor.doing = Doing::Asks;
+                    acceptance.write(connection.output())?;
+                    connection.doing = Doing::Asks;
                 }
-                Err(refusal) => refuse(visitor, refusal)?,
+                Err(refusal) => refuse(connection, refusal)?,
             }
             Ok(used)
         }
         Head::Refused(refusal) => {
-            refuse(visitor, refusal)?;
+            refuse(connection, refusal)?;
             Ok(bytes.len())
         }
     }
 }
 
-/// Tells a visitor that its request is refused, after which it leaves.
-fn refuse(visitor: &mut Visitor, refusal: RequestRefusal) -> Result<(), AllocError> {
-    visitor.output().extend_from_slice(refusal.answer())?;
-    visitor.doing = Doing::Asks;
-    visitor.leaves();
+/// Tells a connection that its request is refused, after which it leaves.
+fn refuse(connection: &mut WatchConnection, refusal: RequestRefusal) -> Result<(), AllocError> {
+    connection.output().extend_from_slice(refusal.answer())?;
+    connection.doing = Doing::Asks;
+    connection.leaves();
     Ok(())
 }
 

@@ -222,7 +222,7 @@ class Frames(unittest.TestCase):
             self.assertEqual(frames_until_pong(guest), [])
             close_all(owner, guest)
 
-    def test_what_came_with_the_follow_is_heeded(self):
+    def test_what_came_with_the_follow_is_answered(self):
         """All of it comes in one piece, as a client may send it that does not wait for answers."""
         with Server("--forever", "--followers", "1") as server:
             for board, messages in ("b1", 0), ("b2", 5):

@@ -15,7 +15,7 @@ use Rattle.live_board.specs.declared.view.View.{View}
 use Rattle.live_board.specs.Words.{cursor_of, note_after}
 use Rattle.live_board.specs.Views.{noted, missing, closed_off}
 use Rattle.live_board.proofs.lemmas.Notes.{note_there, note_read, at_within, closed_open, open_back, at_place, at_other}
-use Rattle.live_board.specs.Desk.{NotedAs, Checked, IsNotedFull, Exchanged, MayBeFull, Asked, Tried, TriedBelow, FreeBelow, CheckedBelow, LoadedBelow, Unmoved}
+use Rattle.live_board.specs.TableWriter.{NotedAs, Checked, IsNotedFull, Exchanged, MayBeFull, Asked, Tried, TriedBelow, FreeBelow, CheckedBelow, LoadedBelow, Unmoved}
 
 -- the note that a load of the cursor k sets
 pub loaded_note : (v : View) (k r : ℕ) (a : Note) → get_elem? v.notes k ≡ some a → get_elem? (noted (k + 2) r v).notes k ≡ some (note_after a r)

@@ -22,7 +22,7 @@ impl<'a, R: Wait + Clock, W: Watchers> Clients<'a, R, W> {
     {
         let mut is_far_ahead = false;
         for _ in 0..MOST_BOARDS {
-            let Some(at) = self.service.take_rung() else {
+            let Some(at) = self.service.take_changed() else {
                 break;
             };
             is_far_ahead = self.changes(at) || is_far_ahead;
@@ -42,14 +42,14 @@ impl<'a, R: Wait + Clock, W: Watchers> Clients<'a, R, W> {
         self.log.ended(self.service.hall(), at);
         for index in 0..self.followers.count(at) {
             if let Some(number) = self.followers.number(at, index) {
-                self.has_news(number);
+                self.notes_change(number);
             }
         }
         self.followers.count(at) > 0 && self.rounds.changes(at, self.queue.len(Rank::Follower))
     }
 
     /// The board that a connection follows has changed.
-    fn has_news(&mut self, number: u64)
+    fn notes_change(&mut self, number: u64)
         ensures { AllStay self.old.clients.entries self.new.clients.entries }
     {
         let Some(client) = self.clients.get(&number) else {

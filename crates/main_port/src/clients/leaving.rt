@@ -93,7 +93,7 @@ impl<'a, R: Wait + Clock, W: Watchers> Clients<'a, R, W> {
     }
 
     /// A connection was sent everything, and is let go: it leaves the hall, and the output to it ends.
-    pub(super) fn lets_go(&mut self, number: u64)
+    pub(super) fn drains(&mut self, number: u64)
         ensures { OthersStay number self.old.clients.entries self.new.clients.entries }
     {
         self.leaves_hall(number);

@@ -141,7 +141,7 @@ impl<'a, R: Wait + Clock, W: Watchers> Clients<'a, R, W> {
     fn waited(&self, number: u64) -> Waited {
         match self.clients.get(&number) {
             Some(client) => match client.state {
-                State::Drains(_) => return Waited::HasLeft,
+                State::Drains(_) => return Waited::Drains,
                 State::InputClosed => return Waited::Leaves,
                 _ => {}
             },
@@ -250,7 +250,7 @@ impl<'a, R: Wait + Clock, W: Watchers> Clients<'a, R, W> {
         match self.waited(number) {
             Waited::Comes => self.remove(number),
             Waited::Asks => self.close(number, Code::AWAY),
-            Waited::Follows | Waited::Leaves | Waited::HasLeft => {}
+            Waited::Follows | Waited::Leaves | Waited::Drains => {}
         }
     }
 }

@@ -108,7 +108,7 @@ impl<'a, R: Wait + Clock, W: Watchers> Clients<'a, R, W> {
         client.deadlines.is_served();
         match client.state {
             State::InputClosed => self.remove(number),
-            _ if stage == Some(Stage::Leaves) => self.lets_go(number),
+            _ if stage == Some(Stage::Leaves) => self.drains(number),
             State::Full => {
                 client.state = State::Interrupted;
                 self.stands_due(number);

@@ -181,7 +181,7 @@ fn announce<R: Print>(rt: &R, service: &Service) -> io::Result<()> {
     }
 }
 
-/// For how many seconds a guest of the watch port that asks for nothing is waited for.
+/// For how many seconds a client of the watch port that asks for nothing is waited for.
 fn most_idle(idle: u32) -> Option<u64> {
     if idle == 0 {
         None

@@ -1,5 +1,5 @@
 //! `frames` makes the frames of both sides, `requests` the request before them, `scene` a connection over a hall of its own; `coming` has
-//! the beginnings of a connection, `talking` two callers over one hall, `leaving` the ends of a connection, `unasked` what it is sent
+//! the beginnings of a connection, `talking` two connections over one hall, `leaving` the ends of a connection, `unasked` what it is sent
 //! unasked.
 
 mod coming;

@@ -3,7 +3,7 @@ use Rattle.std.proofs.Common.{◌≡◌, ◌⊎◌, ℕ, nat_eq, List, Bool, tru
 use Rattle.std.specs.Prelude.{MatchOption}
 use Rattle.relay_hall.specs.declared.owner.Owner.{Owner}
 use Rattle.relay_hall.specs.Runs.{HallEvent}
-use Rattle.relay_calling.specs.Calling.{CallerRecord}
+use Rattle.relay_calling.specs.Calling.{OperatorRecord}
 use Rattle.relay_calling.specs.Running.{Deed}
 use Rattle.relay_following.specs.Record.{ConnectionRecord}
 use Rattle.relay_service.specs.declared.connection.Connection.{Connection}
@@ -39,7 +39,7 @@ departed_others s number who c t d = replaced number c s.connections t.connectio
 
 -- ---- Each call.
 
-each : (X : Type 0) (o : Option Connection) (N : Type 0) (O : CallerRecord → Type 0) (F : ConnectionRecord → Type 0) → (N → X) → ((c : CallerRecord) → O c → X) → ((f : ConnectionRecord) → F f → X) → ForEach o N O F → X
+each : (X : Type 0) (o : Option Connection) (N : Type 0) (O : OperatorRecord → Type 0) (F : ConnectionRecord → Type 0) → (N → X) → ((c : OperatorRecord) → O c → X) → ((f : ConnectionRecord) → F f → X) → ForEach o N O F → X
 each X None N O F n o f is = n is
 each X (Some (Operator c true)) N O F n o f is = o c is
 each X (Some (Operator c false)) N O F n o f is = n is
@@ -55,7 +55,7 @@ arrived_others (Some key) mid t number p = passed_others mid _ t number p
 
 received_one : (s : ServiceRecord) (number : ℕ) (bytes : List ℕ) (t : ServiceRecord) → Receives s number bytes t → OthersStay s number t
 received_one s number bytes t r =
-    then_others s r.mid t number (deed_others s number _ r.mid r.fed) (arrived_others (arrival r.fed.does.caller r.fed.does.then) r.mid t number r.arrives)
+    then_others s r.mid t number (deed_others s number _ r.mid r.fed) (arrived_others (arrival r.fed.does.connection r.fed.does.then) r.mid t number r.arrives)
 
 pub received_others : (s : ServiceRecord) (number : ℕ) (bytes : List ℕ) (t : ServiceRecord) → ReceivesAt s number bytes t → OthersStay s number t
 received_others s number bytes t is =

@@ -2,7 +2,7 @@
 
 ghost use Rattle.std.specs.Prelude.{◌≡◌, is_some};
 ghost use Rattle.relay_service.specs.Looking.{is_full_at, is_midway_at, next_at, owns_any, place_at, stage_at, was_cut_at};
-ghost use Rattle.relay_service.specs.Record.{caller_at, follower_at, operator_at, owner_at};
+ghost use Rattle.relay_service.specs.Record.{follower_at, operator_at, owner_at, present_at};
 
 use crate::connection::Connection;
 use crate::service::Service;
@@ -65,7 +65,7 @@ impl Service {
 
     /// Whether the connection of this number is an operator's that is present in the hall.
     pub(crate) fn is_present(&self, number: u64) -> bool
-        ensures { result ≡ is_some (caller_at self.now number) }
+        ensures { result ≡ is_some (present_at self.now number) }
     {
         match self.connections.get(&number) {
             Some(connection) => connection.is_present(),
@@ -85,7 +85,7 @@ impl Service {
         ensures { result ≡ owns_any self.now number }
     {
         match self.connections.get(&number) {
-            Some(Connection::Operator { caller, .. }) => caller.is_owner(&self.hall),
+            Some(Connection::Operator { connection, .. }) => connection.is_owner(&self.hall),
             _ => false,
         }
     }

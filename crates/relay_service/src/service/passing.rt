@@ -34,10 +34,10 @@ impl Service {
     }
 
     /// The index of a board whose game has changed, in the order of opening: each once since it was last told.
-    pub fn take_rung(&mut self) -> Option<usize>
+    pub fn take_changed(&mut self) -> Option<usize>
         ensures { self.new ≡ self.old }
     {
-        self.hall.take_rung()
+        self.hall.take_changed()
     }
 
     /// Whether a connection that might follow was refused since the last such call.

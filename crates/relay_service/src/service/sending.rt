@@ -23,7 +23,7 @@ impl Service {
     {
         however_many_there_are();
         match self.connections.get(&number) {
-            Some(Connection::Operator { caller, .. }) => caller.due(),
+            Some(Connection::Operator { connection, .. }) => connection.due(),
             Some(Connection::Follower { connection, .. }) => connection.output(),
             None => &[],
         }

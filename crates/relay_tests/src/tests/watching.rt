@@ -5,7 +5,7 @@ use crate::tests::claims::{claim, claim_at};
 use crate::tests::values::move_of;
 use c960_board::{Colour, Position, read_fen};
 use c960_game::{Game, Outcome};
-use relay_watching::{Tape, Watcher};
+use relay_watching::{SpectatorConnection, Tape};
 use std::alloc::Global;
 use std::process::Abort;
 use std::test::Fail;
@@ -46,15 +46,21 @@ fn at_crowded() -> &'static [u8] {
 }
 
 /// Everything that is due is written, at most `most` bytes at a time.
-fn write_all(rt: &impl Abort, got: &mut Vec<u8>, watcher: &mut Watcher, tape: &Tape, most: usize) {
+fn write_all(
+    rt: &impl Abort,
+    got: &mut Vec<u8>,
+    spectator: &mut SpectatorConnection,
+    tape: &Tape,
+    most: usize,
+) {
     for _ in 0..1000 {
-        let due = watcher.due(tape);
+        let due = spectator.due(tape);
         if due.is_empty() {
             break;
         }
         let n = due.len().min(most);
         got.extend_from_slice(&due[..n]).expect(rt, "memory");
-        watcher.wrote(tape, n);
+        spectator.wrote(tape, n);
     }
 }
 
@@ -87,7 +93,7 @@ fn make(rt: &impl Abort, broadcast: &mut Broadcast, text: &str) {
 }
 
 /// A spectator joins at a place.
-fn join(rt: &impl Abort, broadcast: &Broadcast, place: u16) -> Watcher {
+fn join(rt: &impl Abort, broadcast: &Broadcast, place: u16) -> SpectatorConnection {
     let position = broadcast.game.position_at(place).expect(rt, "a place");
     assert!(rt; usize::from(place) <= broadcast.tape.len());
     broadcast.tape.join(place, &position).expect(rt, "memory")
@@ -169,21 +175,21 @@ fn other_frames_go_between_frames(rt: HostRuntime) -> Result<(), Fail> {
     let alloc = rt.alloc();
     let mut tape = Tape::new(alloc);
     let start = Position::start(518).expect(&rt, "a start");
-    let mut watcher = tape.join(0, &start)?;
+    let mut spectator = tape.join(0, &start)?;
     tape.push_all(&[move_of(&rt, "f2f3"), move_of(&rt, "e7e5")])?;
     for k in 0..183 {
-        let is_between = watcher.is_between_frames(&tape);
+        let is_between = spectator.is_between_frames(&tape);
         claim_at(&rt, is_between == (k == 99 || k == 141), "byte", k);
         // What is written rests on it, so it is asserted here.
-        assert!(rt; !watcher.due(&tape).is_empty(), "due behind {k}");
-        watcher.wrote(&tape, 1);
+        assert!(rt; !spectator.due(&tape).is_empty(), "due behind {k}");
+        spectator.wrote(&tape, 1);
     }
     claim(
         &rt,
-        watcher.is_between_frames(&tape),
+        spectator.is_between_frames(&tape),
         "behind the last frame",
     );
-    claim(&rt, watcher.due(&tape).is_empty(), "nothing is due");
+    claim(&rt, spectator.due(&tape).is_empty(), "nothing is due");
     Ok(())
 }
 
@@ -191,7 +197,7 @@ fn other_frames_go_between_frames(rt: HostRuntime) -> Result<(), Fail> {
 fn a_long_greeting_has_its_length_in_two_bytes(rt: HostRuntime) -> Result<(), Fail> {
     let tape = Tape::new(rt.alloc());
     let position = read_fen(crowded()).expect(&rt, "a position");
-    let watcher = tape.join(0, &position)?;
-    claim(&rt, watcher.due(&tape) == at_crowded(), "the greeting");
+    let spectator = tape.join(0, &position)?;
+    claim(&rt, spectator.due(&tape) == at_crowded(), "the greeting");
     Ok(())
 }

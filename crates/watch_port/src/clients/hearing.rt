@@ -2,7 +2,7 @@
 
 use crate::clients::Clients;
 use crate::request::take_request;
-use crate::visitor::Doing;
+use crate::watch_connection::Doing;
 use c960_game::Refusal;
 use relay_core::{Reply, Step};
 use relay_frames::{Breach, Event, outgoing};
@@ -95,14 +95,14 @@ impl<'a> Clients<'a> {
         let Some(client) = self.clients.get_mut(key) else {
             return Ok(());
         };
-        if client.has_left || client.visitor.is_leaving() {
+        if client.is_draining || client.connection.is_leaving() {
             return Ok(());
         }
-        let used = take_request(self.alloc, &mut client.visitor, bytes)?;
+        let used = take_request(self.alloc, &mut client.connection, bytes)?;
         if used > 0 {
             client.turn_away_if_full(self.now)?;
         }
-        client.visitor.feed(bytes.get(used..).unwrap_or(&[]))?;
+        client.connection.feed(bytes.get(used..).unwrap_or(&[]))?;
         self.answer(key)?;
         self.has_heard(key);
         Ok(())
@@ -112,7 +112,7 @@ impl<'a> Clients<'a> {
     fn has_heard(&mut self, key: usize) {
         let now = self.now;
         if let Some(client) = self.clients.get_mut(key) {
-            let is_midway = client.visitor.is_midway();
+            let is_midway = client.connection.is_midway();
             client.deadlines.silence.hears(now, is_midway);
         }
     }
@@ -124,10 +124,10 @@ impl<'a> Clients<'a> {
         let Some(client) = self.clients.get_mut(key) else {
             return false;
         };
-        if !is_owed_first && !client.visitor.is_stuffed() {
+        if !is_owed_first && !client.connection.is_full() {
             return false;
         }
-        client.is_stuffed = true;
+        client.is_full = true;
         client.deadlines.silence.owes_no_rest();
         true
     }
@@ -135,7 +135,7 @@ impl<'a> Clients<'a> {
     /// Whether nothing has been written yet to a client of what it watches. That comes before the answers to what it said later.
     pub(super) fn is_owed_first(&self, key: usize) -> bool {
         match self.clients.get(key) {
-            Some(client) => client.visitor.is_owed_first(self.list.changes()),
+            Some(client) => client.connection.is_owed_first(self.list.changes()),
             None => false,
         }
     }
@@ -158,10 +158,10 @@ impl<'a> Clients<'a> {
             let Some(client) = self.clients.get_mut(key) else {
                 return Ok(());
             };
-            if client.has_left || client.visitor.is_leaving() {
+            if client.is_draining || client.connection.is_leaving() {
                 return Ok(());
             }
-            let Some(event) = client.visitor.next()? else {
+            let Some(event) = client.connection.next()? else {
                 return Ok(());
             };
             self.answer_one(key, &event)?;
@@ -211,7 +211,7 @@ impl<'a> Clients<'a> {
         self.take_in_news();
         self.list.refresh(&self.boards, self.now)?;
         if let Some(client) = self.clients.get_mut(key) {
-            client.visitor.watch_all();
+            client.connection.watch_all();
             self.list_count = self.list_count.saturating_add(1);
         }
         Ok(())
@@ -244,7 +244,7 @@ impl<'a> Clients<'a> {
         match self.clients.get(key) {
             Some(client) => {
                 matches!(
-                    client.visitor.doing,
+                    client.connection.doing,
                     Doing::Watches(_) | Doing::WatchesAll(_)
                 )
             }
@@ -256,7 +256,7 @@ impl<'a> Clients<'a> {
     fn put_answer(&mut self, key: usize, answer: &Answer) -> Result<(), AllocError> {
         let text = encode(self.alloc, answer)?;
         match self.clients.get_mut(key) {
-            Some(client) => outgoing::text(text.as_str(), client.visitor.output()),
+            Some(client) => outgoing::text(text.as_str(), client.connection.output()),
             None => Ok(()),
         }
     }
@@ -268,10 +268,13 @@ impl<'a> Clients<'a> {
             return Ok(());
         };
         if let Some(frame) = frame {
-            client.visitor.output().extend_from_slice(frame.as_slice())?;
+            client
+                .connection
+                .output()
+                .extend_from_slice(frame.as_slice())?;
         }
         if event.is_last() {
-            client.visitor.leaves();
+            client.connection.leaves();
         }
         Ok(())
     }

@@ -58,7 +58,7 @@ impl<'a> Clients<'a> {
     /// Sends a client a ping.
     fn ping(&mut self, key: usize) {
         if let Some(client) = self.clients.get_mut(key) {
-            if outgoing::ping(b"", client.visitor.output()).is_err() {
+            if outgoing::ping(b"", client.connection.output()).is_err() {
                 self.remove(key);
                 return;
             }
@@ -69,14 +69,14 @@ impl<'a> Clients<'a> {
     /// Closes a client's connection with a code.
     fn close(&mut self, key: usize, code: u16) {
         if let Some(client) = self.clients.get_mut(key) {
-            if client.visitor.is_leaving() {
+            if client.connection.is_leaving() {
                 return;
             }
-            if outgoing::close(Code::new(code), client.visitor.output()).is_err() {
+            if outgoing::close(Code::new(code), client.connection.output()).is_err() {
                 self.remove(key);
                 return;
             }
-            client.visitor.leaves();
+            client.connection.leaves();
         }
         self.send(key);
     }
@@ -93,7 +93,7 @@ impl<'a> Clients<'a> {
         let Some(client) = self.clients.get(key) else {
             return;
         };
-        let is_over = match tape_at(&self.audiences, client.visitor.audience()) {
+        let is_over = match tape_at(&self.audiences, client.connection.audience()) {
             Some(tape) => tape.is_over(),
             None => false,
         };
@@ -107,7 +107,7 @@ impl<'a> Clients<'a> {
                     self.close(key, AWAY);
                 }
             }
-            Stage::Follows | Stage::Leaves | Stage::HasLeft => {}
+            Stage::Follows | Stage::Leaves | Stage::Drains => {}
         }
     }
 }

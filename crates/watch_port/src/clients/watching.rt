@@ -3,7 +3,7 @@
 use crate::audience::Audience;
 use crate::clients::Clients;
 use crate::ready_list::ready_of;
-use crate::visitor::{Doing, Watching};
+use crate::watch_connection::{Doing, Watching};
 use c960_game::Refusal;
 use relay_core::BoardName;
 use std::alloc::AllocError;
@@ -69,11 +69,11 @@ impl<'a> Clients<'a> {
         };
         let length = u16::try_from(audience.tape.len()).unwrap_or(u16::MAX);
         let place = from.unwrap_or(length);
-        let Some(watcher) = audience.join(board, place)? else {
+        let Some(spectator) = audience.join(board, place)? else {
             return Ok(Some(Refusal::NotYet));
         };
         if let Some(client) = self.clients.get_mut(key) {
-            client.visitor.watch(at, watcher);
+            client.connection.watch(at, spectator);
         }
         Ok(None)
     }
@@ -95,11 +95,11 @@ impl<'a> Clients<'a> {
 
     /// A client no longer watches anything.
     pub(super) fn watches_no_more(&mut self, key: usize) {
-        self.rests(key);
+        self.leaves_ready(key);
         let Some(client) = self.clients.get_mut(key) else {
             return;
         };
-        let doing = client.visitor.watch_no_more();
+        let doing = client.connection.watch_no_more();
         match doing {
             Doing::Watches(Watching { audience, .. }) => self.count_one_less(audience),
             Doing::WatchesAll(_) => self.list_count = self.list_count.saturating_sub(1),
@@ -115,7 +115,7 @@ impl<'a> Clients<'a> {
         if client.ready_index.is_some() {
             return;
         }
-        let doing = &client.visitor.doing;
+        let doing = &client.connection.doing;
         let Some(ready) = ready_of(&mut self.audiences, &mut self.list_ready, doing) else {
             return;
         };
@@ -126,14 +126,14 @@ impl<'a> Clients<'a> {
     }
 
     /// Removes a client from those.
-    pub(super) fn rests(&mut self, key: usize) {
+    pub(super) fn leaves_ready(&mut self, key: usize) {
         let Some(client) = self.clients.get_mut(key) else {
             return;
         };
         let Some(index) = client.ready_index.take() else {
             return;
         };
-        let doing = &client.visitor.doing;
+        let doing = &client.connection.doing;
         let Some(ready) = ready_of(&mut self.audiences, &mut self.list_ready, doing) else {
             return;
         };

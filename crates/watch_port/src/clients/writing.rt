@@ -3,7 +3,7 @@
 use crate::audience::tape_at;
 use crate::clients::Clients;
 use crate::ready_list::ReadyList;
-use crate::visitor::Doing;
+use crate::watch_connection::Doing;
 use server_loop::Delivery;
 use std::alloc::AllocError;
 
@@ -17,16 +17,16 @@ impl<'a> Clients<'a> {
         let Some(client) = self.clients.get_mut(key) else {
             return;
         };
-        if client.has_left {
+        if client.is_draining {
             return;
         }
-        let tape = tape_at(&self.audiences, client.visitor.audience());
+        let tape = tape_at(&self.audiences, client.connection.audience());
         let sent = client.send(tape, self.now);
-        let is_done = sent == Delivery::All && client.visitor.is_done(tape);
+        let is_done = sent == Delivery::All && client.connection.is_done(tape);
         match sent {
             Delivery::Failed => self.remove(key),
-            Delivery::Blocked => self.rests(key),
-            Delivery::All if is_done => self.lets_go(key),
+            Delivery::Blocked => self.leaves_ready(key),
+            Delivery::All if is_done => self.drains(key),
             Delivery::All => {
                 self.stands_ready(key);
                 self.reads_on(key);
@@ -41,15 +41,15 @@ impl<'a> Clients<'a> {
         let Some(client) = self.clients.get_mut(key) else {
             return Ok(());
         };
-        let Doing::WatchesAll(told) = client.visitor.doing else {
+        let Doing::WatchesAll(told) = client.connection.doing else {
             return Ok(());
         };
         let changes = self.list.changes();
-        if told == changes || !(are_last || client.visitor.has_no_output()) {
+        if told == changes || !(are_last || client.connection.has_no_output()) {
             return Ok(());
         }
-        self.list.put_changes(told, client.visitor.output())?;
-        client.visitor.doing = Doing::WatchesAll(changes);
+        self.list.put_changes(told, client.connection.output())?;
+        client.connection.doing = Doing::WatchesAll(changes);
         Ok(())
     }
 
@@ -58,7 +58,7 @@ impl<'a> Clients<'a> {
         let Some(client) = self.clients.get(key) else {
             return;
         };
-        if let Doing::WatchesAll(told) = client.visitor.doing {
+        if let Doing::WatchesAll(told) = client.connection.doing {
             if told != self.list.changes() {
                 self.list_told = 0;
             }
@@ -73,9 +73,9 @@ impl<'a> Clients<'a> {
         let Some(client) = self.clients.get_mut(key) else {
             return;
         };
-        if client.is_stuffed {
-            client.is_stuffed = false;
-            let is_midway = client.visitor.is_midway();
+        if client.is_full {
+            client.is_full = false;
+            let is_midway = client.connection.is_midway();
             client.deadlines.silence.is_heard_again(self.now, is_midway);
             self.stands_unread(key);
         }
@@ -98,8 +98,8 @@ impl<'a> Clients<'a> {
         Ok(())
     }
 
-    /// Writes to the ready ones of an audience, or without one to those that watch all boards. One that goes or rests is replaced by the
-    /// last of them.
+    /// Writes to the ready ones of an audience, or without one to those that watch all boards. One that goes or is blocked is replaced by
+    /// the last of them.
     fn send_to_ready(&mut self, audience: Option<usize>) {
         let mut index = 0usize;
         for _ in 0..self.ready_count(audience) {
@@ -135,7 +135,7 @@ impl<'a> Clients<'a> {
     }
 
     /// Takes in what the loop was told of boards. Without memory for that the boards stay as they are until the next turn.
-    pub(crate) fn take_in_news(&mut self) {
+    pub(crate) fn take_in_events(&mut self) {
         let _ = self.boards.take_in();
     }
 

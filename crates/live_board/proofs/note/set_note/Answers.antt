@@ -1,6 +1,6 @@
 use Rattle.std.proofs.Common.{sym, subst, set}
 use Rattle.live_board.specs.Seats.{NoneVacantBefore}
-use Rattle.live_board.proofs.Desks.{none_vacant_noted}
+use Rattle.live_board.proofs.TableWriters.{none_vacant_noted}
 use Rattle.live_board.proofs.note.set_note.Goals as goal
 
 pub returns-clause-vacant : goal.returns-clause-vacant

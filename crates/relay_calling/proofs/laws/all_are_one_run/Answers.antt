@@ -1,4 +1,4 @@
-use Rattle.relay_calling.proofs.Crowding.{are_one_run}
+use Rattle.relay_calling.proofs.Connections.{are_one_run}
 use Rattle.relay_calling.proofs.laws.all_are_one_run.Goals as goal
 
 pub returns : goal.returns

@@ -1,4 +1,4 @@
-use Rattle.relay_calling.proofs.Crowding.{each_is_served}
+use Rattle.relay_calling.proofs.Connections.{each_is_served}
 use Rattle.relay_calling.proofs.laws.however_many_there_are.Goals as goal
 
 pub returns : goal.returns

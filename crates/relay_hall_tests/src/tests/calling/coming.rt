@@ -4,7 +4,7 @@ use crate::tests::calling::frames::{PING, PONG, TEXT, add, asked, tell};
 use crate::tests::calling::requests::{
     ACCEPTED, REQUEST, hall, is_due, is_fed, is_heard, with_target,
 };
-use relay_calling::{Caller, Stage};
+use relay_calling::{OperatorConnection, Stage};
 use relay_hall::Hall;
 use std::alloc::Global;
 use std::process::Abort;
@@ -47,23 +47,29 @@ fn refused() -> &'static [(&'static [u8], &'static [u8])] {
     &REFUSED
 }
 
-/// Whether bytes that are cut there are answered by these, and only the second piece says what is heeded.
+/// Whether bytes that are cut there are answered by these, and only the second piece says what is answered.
 fn is_answered_in_two(
-    caller: &mut Caller,
+    connection: &mut OperatorConnection,
     hall: &mut Hall,
     bytes: &[u8],
     n: usize,
     wanted: &[u8],
 ) -> bool {
     let (first, second) = bytes.split_at(n.min(bytes.len()));
-    is_heard(caller, hall, first, false)
-        && is_heard(caller, hall, second, true)
-        && is_due(caller, wanted, Stage::Asks)
+    is_heard(connection, hall, first, false)
+        && is_heard(connection, hall, second, true)
+        && is_due(connection, wanted, Stage::Asks)
 }
 
 /// The same of a new connection.
 fn answers_cut_at(alloc: Global, hall: &mut Hall, bytes: &[u8], n: usize, wanted: &[u8]) -> bool {
-    is_answered_in_two(&mut Caller::new(alloc, 1, true), hall, bytes, n, wanted)
+    is_answered_in_two(
+        &mut OperatorConnection::new(alloc, 1, true),
+        hall,
+        bytes,
+        n,
+        wanted,
+    )
 }
 
 /// A request with a ping behind it.
@@ -88,7 +94,7 @@ fn a_request_is_answered_and_what_is_behind_it_however_they_are_cut(rt: HostRunt
     let alloc = rt.alloc();
     let mut hall = hall(&rt, alloc);
     let (sent, wanted) = (sent(&rt, alloc), wanted(&rt, alloc));
-    // In front of the ping's last byte the first piece says nothing that is heeded.
+    // In front of the ping's last byte the first piece says nothing that is answered.
     for n in 0..sent.len() {
         assert!(rt;
             answers_cut_at(alloc, &mut hall, sent.as_slice(), n, wanted.as_slice()),
@@ -98,14 +104,20 @@ fn a_request_is_answered_and_what_is_behind_it_however_they_are_cut(rt: HostRunt
 }
 
 /// Whether this request is refused by this answer, and a good one behind it is answered no more.
-fn is_refused(caller: &mut Caller, request: &[u8], answer: &[u8]) -> bool {
-    is_fed(caller, request) && is_fed(caller, REQUEST) && is_due(caller, answer, Stage::Leaves)
+fn is_refused(connection: &mut OperatorConnection, request: &[u8], answer: &[u8]) -> bool {
+    is_fed(connection, request)
+        && is_fed(connection, REQUEST)
+        && is_due(connection, answer, Stage::Leaves)
 }
 
 #[test]
 fn a_request_that_is_refused_has_its_answer_and_nothing_more(rt: HostRuntime) {
     for (request, answer) in refused() {
-        let is_refused = is_refused(&mut Caller::new(rt.alloc(), 1, true), *request, *answer);
+        let is_refused = is_refused(
+            &mut OperatorConnection::new(rt.alloc(), 1, true),
+            *request,
+            *answer,
+        );
         assert!(rt; is_refused);
     }
 }
@@ -118,30 +130,34 @@ fn endless() -> &'static [(usize, &'static [u8])] {
 }
 
 /// Whether these bytes are due after so many of a head without an end.
-fn is_due_after(caller: &mut Caller, size: usize, answer: &[u8]) -> bool {
+fn is_due_after(connection: &mut OperatorConnection, size: usize, answer: &[u8]) -> bool {
     for _ in 0..size {
-        if !is_fed(caller, b"a") {
+        if !is_fed(connection, b"a") {
             return false;
         }
     }
-    caller.due() == answer
+    connection.due() == answer
 }
 
 #[test]
 fn a_head_without_an_end_is_refused_at_8192_bytes(rt: HostRuntime) {
     for (size, answer) in endless() {
-        let is_due = is_due_after(&mut Caller::new(rt.alloc(), 1, true), *size, *answer);
+        let is_due = is_due_after(
+            &mut OperatorConnection::new(rt.alloc(), 1, true),
+            *size,
+            *answer,
+        );
         assert!(rt; is_due, "after {size} bytes");
     }
 }
 
 /// The owner, a connection with a key, opens a board.
 fn opens(rt: &impl Abort, alloc: Global, hall: &mut Hall) {
-    let mut caller = with_target(rt, alloc, 2, true, b"/?key=0123456789abcdef");
+    let mut connection = with_target(rt, alloc, 2, true, b"/?key=0123456789abcdef");
     let text = b"{\"cmd\":\"open\",\"board\":\"a\",\"start\":518}";
     let open = asked(rt, alloc, TEXT, text);
-    assert!(rt; is_heard(&mut caller, hall, open.as_slice(), true));
-    assert!(rt; caller.is_owner(hall));
+    assert!(rt; is_heard(&mut connection, hall, open.as_slice(), true));
+    assert!(rt; connection.is_owner(hall));
 }
 
 /// Whether any board belongs to a connection with this target.

@@ -38,7 +38,7 @@ fn ends_by(rt: &impl Abort, alloc: Global, bytes: &[u8], answer: &str, close: &[
     tell(rt, &mut wanted, CLOSE, close);
     let mut scene = Scene::new(rt, alloc);
     scene.is_heard(bytes, true)
-        && scene.is_heeded(rt, PING, b"", false)
+        && scene.is_answered(rt, PING, b"", false)
         && scene.is_due(wanted.as_slice(), Stage::Leaves)
 }
 

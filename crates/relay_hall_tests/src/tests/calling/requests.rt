@@ -1,7 +1,7 @@
 //! Requests and their answers (RFC 6455, sections 1.3 and 4). The key and its answer are those of section 1.3.
 
 use c960_game::Limits;
-use relay_calling::{Caller, Stage};
+use relay_calling::{OperatorConnection, Stage};
 use relay_hall::{Hall, Handed};
 use std::alloc::Global;
 use std::process::Abort;
@@ -22,9 +22,9 @@ pub const BEHIND_TARGET: &[u8] =
 #[derive(Clone, Copy, PartialEq)]
 pub enum Heard {
     Nothing,
-    /// It was heeded.
+    /// It was answered.
     Something,
-    /// It was heeded, and handed a follower, which joins at this place, and has left.
+    /// It was answered, and handed a follower, which joins at this place, and has left.
     Joins(u16),
     /// There was no memory, or a follower was handed out for nothing.
     Fails,
@@ -36,10 +36,10 @@ pub fn hall(rt: &impl Abort, alloc: Global) -> Hall {
     Hall::new(alloc, limits, 1000).expect(rt, "memory")
 }
 
-/// Feeds a connection these bytes. Returns whether there was memory. Whoever calls this, `hears` or `is_due` carries no clause of a caller
-/// along, so that its proof is short.
-pub fn is_fed(caller: &mut Caller, bytes: &[u8]) -> bool {
-    caller.feed(bytes).is_ok()
+/// Feeds a connection these bytes. Returns whether there was memory. Whoever calls this, `hears` or `is_due` carries no clause of a
+/// connection along, so that its proof is short.
+pub fn is_fed(connection: &mut OperatorConnection, bytes: &[u8]) -> bool {
+    connection.feed(bytes).is_ok()
 }
 
 /// A follower that was handed out leaves its board. Returns where it joined.
@@ -54,9 +54,9 @@ fn leaves(handed: Option<Handed>) -> Option<u16> {
     }
 }
 
-/// Heeds what a connection says next.
-fn heeds(caller: &mut Caller, hall: &mut Hall) -> Heard {
-    let (some, handed) = caller.heed(hall);
+/// Answers what a connection says next.
+fn answers_next(connection: &mut OperatorConnection, hall: &mut Hall) -> Heard {
+    let (some, handed) = connection.answer(hall);
     match (some, leaves(handed)) {
         (Ok(true), None) => Heard::Something,
         (Ok(true), Some(joined)) => Heard::Joins(joined),
@@ -65,18 +65,23 @@ fn heeds(caller: &mut Caller, hall: &mut Hall) -> Heard {
     }
 }
 
-/// Feeds bytes, and heeds what they say next.
-pub fn hears(caller: &mut Caller, hall: &mut Hall, bytes: &[u8]) -> Heard {
-    if is_fed(caller, bytes) {
-        heeds(caller, hall)
+/// Feeds bytes, and answers what they say next.
+pub fn hears(connection: &mut OperatorConnection, hall: &mut Hall, bytes: &[u8]) -> Heard {
+    if is_fed(connection, bytes) {
+        answers_next(connection, hall)
     } else {
         Heard::Fails
     }
 }
 
 /// Whether bytes say something exactly if `some`, and nothing is handed out.
-pub fn is_heard(caller: &mut Caller, hall: &mut Hall, bytes: &[u8], some: bool) -> bool {
-    match hears(caller, hall, bytes) {
+pub fn is_heard(
+    connection: &mut OperatorConnection,
+    hall: &mut Hall,
+    bytes: &[u8],
+    some: bool,
+) -> bool {
+    match hears(connection, hall, bytes) {
         Heard::Something => some,
         Heard::Nothing => !some,
         _ => false,
@@ -84,8 +89,8 @@ pub fn is_heard(caller: &mut Caller, hall: &mut Hall, bytes: &[u8], some: bool) 
 }
 
 /// Whether these bytes are due to a connection, which does this then.
-pub fn is_due(caller: &Caller, bytes: &[u8], stage: Stage) -> bool {
-    caller.due() == bytes && caller.stage() == stage
+pub fn is_due(connection: &OperatorConnection, bytes: &[u8], stage: Stage) -> bool {
+    connection.due() == bytes && connection.stage() == stage
 }
 
 /// A connection of this number whose request has this target. Its acceptance is written.
@@ -95,16 +100,16 @@ pub fn with_target(
     number: u64,
     takes_keys: bool,
     target: &[u8],
-) -> Caller {
-    let mut caller = Caller::new(alloc, number, takes_keys);
-    assert!(rt; is_fed(&mut caller, b"GET "));
-    assert!(rt; is_fed(&mut caller, target));
-    assert!(rt; is_fed(&mut caller, BEHIND_TARGET));
-    caller.wrote(ACCEPTED.len());
-    caller
+) -> OperatorConnection {
+    let mut connection = OperatorConnection::new(alloc, number, takes_keys);
+    assert!(rt; is_fed(&mut connection, b"GET "));
+    assert!(rt; is_fed(&mut connection, target));
+    assert!(rt; is_fed(&mut connection, BEHIND_TARGET));
+    connection.wrote(ACCEPTED.len());
+    connection
 }
 
 /// A connection of this number that has shaken hands.
-pub fn shaken(rt: &impl Abort, alloc: Global, number: u64) -> Caller {
+pub fn shaken(rt: &impl Abort, alloc: Global, number: u64) -> OperatorConnection {
     with_target(rt, alloc, number, true, b"/")
 }

@@ -2,7 +2,7 @@
 
 use crate::tests::calling::frames::asked;
 use crate::tests::calling::requests::{Heard, hall, hears, is_due, shaken};
-use relay_calling::{Caller, Stage};
+use relay_calling::{OperatorConnection, Stage};
 use relay_frames::Code;
 use relay_hall::Hall;
 use std::alloc::Global;
@@ -13,7 +13,7 @@ use std::process::Abort;
 pub struct Scene {
     alloc: Global,
     pub hall: Hall,
-    pub caller: Caller,
+    pub connection: OperatorConnection,
     taken: Vec<u8>,
 }
 
@@ -30,14 +30,14 @@ impl Scene {
         Scene {
             alloc,
             hall: hall(rt, alloc),
-            caller: shaken(rt, alloc, 1),
+            connection: shaken(rt, alloc, 1),
             taken: Vec::new(alloc),
         }
     }
 
     /// What bytes say next.
     pub fn hears(&mut self, bytes: &[u8]) -> Heard {
-        hears(&mut self.caller, &mut self.hall, bytes)
+        hears(&mut self.connection, &mut self.hall, bytes)
     }
 
     /// Whether bytes say something exactly if `some`, and nothing is handed out.
@@ -55,8 +55,8 @@ impl Scene {
         self.hears(bytes.as_slice())
     }
 
-    /// Whether a frame that it sends is heeded exactly if `some`. A follower that is handed out leaves.
-    pub fn is_heeded(&mut self, rt: &impl Abort, first: u8, payload: &[u8], some: bool) -> bool {
+    /// Whether a frame that it sends is answered exactly if `some`. A follower that is handed out leaves.
+    pub fn is_answered(&mut self, rt: &impl Abort, first: u8, payload: &[u8], some: bool) -> bool {
         match self.hears_frame(rt, first, payload) {
             Heard::Something | Heard::Joins(_) => some,
             Heard::Nothing => !some,
@@ -66,29 +66,29 @@ impl Scene {
 
     /// Whether these bytes are due, and it does this then.
     pub fn is_due(&self, bytes: &[u8], stage: Stage) -> bool {
-        is_due(&self.caller, bytes, stage)
+        is_due(&self.connection, bytes, stage)
     }
 
     pub fn is_midway(&self) -> bool {
-        self.caller.is_midway()
+        self.connection.is_midway()
     }
 
     pub fn is_full(&self) -> bool {
-        self.caller.is_full()
+        self.connection.is_full()
     }
 
     /// Writes so many of the bytes due, or all. Returns how many are due then.
     pub fn writes(&mut self, n: usize) -> usize {
-        self.caller.wrote(n);
-        self.caller.due().len()
+        self.connection.wrote(n);
+        self.connection.due().len()
     }
 
     /// Takes so many of the bytes that are due, or all.
     pub fn takes(&mut self, rt: &impl Abort, n: usize) {
-        let due = self.caller.due();
+        let due = self.connection.due();
         let (first, _) = due.split_at(n.min(due.len()));
         self.taken.extend_from_slice(first).expect(rt, "memory");
-        self.caller.wrote(n);
+        self.connection.wrote(n);
     }
 
     /// Whether it has taken these bytes.
@@ -98,16 +98,16 @@ impl Scene {
 
     /// Whether a whole text or binary message was answered since this was last asked, and whether anything that came whole.
     pub fn take_both(&mut self) -> (bool, bool) {
-        (self.caller.take_said(), self.caller.take_whole())
+        (self.connection.take_said(), self.connection.take_whole())
     }
 
     /// Pings it. Returns whether there was memory.
     pub fn pings(&mut self) -> bool {
-        self.caller.ping().is_ok()
+        self.connection.ping().is_ok()
     }
 
     /// Sends it away with the code of this number. Returns whether there was memory.
     pub fn sends_away(&mut self, rt: &impl Abort, number: u16) -> bool {
-        self.caller.send_away(code(rt, number)).is_ok()
+        self.connection.send_away(code(rt, number)).is_ok()
     }
 }

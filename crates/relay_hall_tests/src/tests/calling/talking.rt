@@ -1,9 +1,9 @@
-//! Two callers over one hall, by bytes. The texts are those of docs/PROTOCOL.md.
+//! Two connections over one hall, by bytes. The texts are those of docs/PROTOCOL.md.
 
 use crate::tests::calling::frames::{BINARY, CLOSE, PING, PONG, TEXT, asked, tell};
 use crate::tests::calling::requests::{Heard, hall, hears, is_due, is_heard, shaken};
 use crate::tests::holds_of;
-use relay_calling::{Caller, Stage};
+use relay_calling::{OperatorConnection, Stage};
 use relay_hall::Hall;
 use std::alloc::Global;
 use std::process::Abort;
@@ -45,41 +45,52 @@ fn turns() -> &'static [Turn] {
 
 /// Whether a connection is answered after the second piece of a frame. A follower is handed out exactly if it hands over, and joins after
 /// the first move.
-fn is_answered(caller: &mut Caller, hall: &mut Hall, frame: &[u8], then: Stage) -> bool {
+fn is_answered(
+    connection: &mut OperatorConnection,
+    hall: &mut Hall,
+    frame: &[u8],
+    then: Stage,
+) -> bool {
     let (first, second) = frame.split_at(frame.len() / 2);
     let wanted = if then == Stage::HandsOver {
         Heard::Joins(1)
     } else {
         Heard::Something
     };
-    is_heard(caller, hall, first, false) && hears(caller, hall, second) == wanted
+    is_heard(connection, hall, first, false) && hears(connection, hall, second) == wanted
 }
 
 /// Whether these bytes are due, and are taken in two pieces, of which the first is a byte.
-fn is_taken_in_two(caller: &mut Caller, wanted: &[u8], then: Stage) -> bool {
-    if !is_due(caller, wanted, then) {
+fn is_taken_in_two(connection: &mut OperatorConnection, wanted: &[u8], then: Stage) -> bool {
+    if !is_due(connection, wanted, then) {
         return false;
     }
-    caller.wrote(1);
+    connection.wrote(1);
     let (_, rest) = wanted.split_at(1.min(wanted.len()));
-    is_due(caller, rest, then) && is_all_taken(caller, rest.len(), then)
+    is_due(connection, rest, then) && is_all_taken(connection, rest.len(), then)
 }
 
 /// Whether nothing is due any more once so many bytes are taken.
-fn is_all_taken(caller: &mut Caller, n: usize, then: Stage) -> bool {
-    caller.wrote(n);
-    is_due(caller, b"", then)
+fn is_all_taken(connection: &mut OperatorConnection, n: usize, then: Stage) -> bool {
+    connection.wrote(n);
+    is_due(connection, b"", then)
 }
 
 /// The connection sends a frame in two pieces. It is answered after the second one, and what is due is taken in two pieces as well.
-fn takes_turn(rt: &impl Abort, alloc: Global, caller: &mut Caller, hall: &mut Hall, turn: Turn) {
+fn takes_turn(
+    rt: &impl Abort,
+    alloc: Global,
+    connection: &mut OperatorConnection,
+    hall: &mut Hall,
+    turn: Turn,
+) {
     let (_, asks, tells, then) = turn;
     let frame = asked(rt, alloc, asks.0, asks.1.as_bytes());
-    let is_answered = is_answered(caller, hall, frame.as_slice(), then);
+    let is_answered = is_answered(connection, hall, frame.as_slice(), then);
     holds_of(rt, is_answered, "is answered", asks.1);
     let mut wanted = Vec::new(alloc);
     tell(rt, &mut wanted, tells.0, tells.1.as_bytes());
-    let is_taken = is_taken_in_two(caller, wanted.as_slice(), then);
+    let is_taken = is_taken_in_two(connection, wanted.as_slice(), then);
     holds_of(rt, is_taken, "is told", tells.1);
 }
 
@@ -87,8 +98,8 @@ fn takes_turn(rt: &impl Abort, alloc: Global, caller: &mut Caller, hall: &mut Ha
 #[derive(Drop)]
 struct Pair {
     hall: Hall,
-    first: Caller,
-    second: Caller,
+    first: OperatorConnection,
+    second: OperatorConnection,
 }
 
 /// Both have shaken hands.

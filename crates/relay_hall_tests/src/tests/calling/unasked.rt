@@ -4,7 +4,7 @@
 use crate::tests::calling::frames::{BINARY, CLOSE, PING, PONG, TEXT, asked, tell};
 use crate::tests::calling::requests::{ACCEPTED, Heard, REQUEST, is_due, is_fed, is_heard, shaken};
 use crate::tests::calling::scene::{Scene, code};
-use relay_calling::{Caller, Stage};
+use relay_calling::{OperatorConnection, Stage};
 use relay_hall::Hall;
 use std::alloc::Global;
 use std::process::Abort;
@@ -115,15 +115,15 @@ fn codes() -> &'static [(u16, &'static [u8])] {
     &CODES
 }
 
-/// Whether a connection whose ping was answered is sent away with this code, and is heeded no more.
+/// Whether a connection whose ping was answered is sent away with this code, and is answered no more.
 fn is_sent_away(rt: &impl Abort, alloc: Global, number: u16, payload: &[u8]) -> bool {
     let mut wanted = Vec::new(alloc);
     tell(rt, &mut wanted, PONG, b"a");
     tell(rt, &mut wanted, CLOSE, payload);
     let mut scene = Scene::new(rt, alloc);
-    scene.is_heeded(rt, PING, b"a", true)
+    scene.is_answered(rt, PING, b"a", true)
         && scene.sends_away(rt, number)
-        && scene.is_heeded(rt, PING, b"b", false)
+        && scene.is_answered(rt, PING, b"b", false)
         && scene.is_due(wanted.as_slice(), Stage::Leaves)
 }
 
@@ -138,19 +138,21 @@ fn one_that_is_sent_away_is_told_the_code(rt: HostRuntime) {
 }
 
 /// Neither a ping nor a close changes what is due to a connection and what it does.
-fn stays(rt: &impl Abort, caller: &mut Caller, due: &[u8], stage: Stage) -> bool {
-    caller.ping().is_ok() && caller.send_away(code(rt, 1001)).is_ok() && is_due(caller, due, stage)
+fn stays(rt: &impl Abort, connection: &mut OperatorConnection, due: &[u8], stage: Stage) -> bool {
+    connection.ping().is_ok()
+        && connection.send_away(code(rt, 1001)).is_ok()
+        && is_due(connection, due, stage)
 }
 
 #[test]
 fn before_its_request_is_answered_it_is_sent_nothing_unasked(rt: HostRuntime) {
-    let mut caller = Caller::new(rt.alloc(), 1, true);
+    let mut connection = OperatorConnection::new(rt.alloc(), 1, true);
     let (first, second) = REQUEST.split_at(REQUEST.len() / 2);
-    assert!(rt; stays(&rt, &mut caller, b"", Stage::Comes));
-    assert!(rt; is_fed(&mut caller, first));
-    assert!(rt; stays(&rt, &mut caller, b"", Stage::Comes));
-    assert!(rt; is_fed(&mut caller, second));
-    assert!(rt; is_due(&caller, ACCEPTED, Stage::Asks));
+    assert!(rt; stays(&rt, &mut connection, b"", Stage::Comes));
+    assert!(rt; is_fed(&mut connection, first));
+    assert!(rt; stays(&rt, &mut connection, b"", Stage::Comes));
+    assert!(rt; is_fed(&mut connection, second));
+    assert!(rt; is_due(&connection, ACCEPTED, Stage::Asks));
 }
 
 /// Another connection opens a board. It may be followed, since whoever opened one may not.
@@ -164,16 +166,16 @@ fn opens(rt: &impl Abort, alloc: Global, hall: &mut Hall) {
 fn one_that_follows_is_sent_nothing_unasked(rt: HostRuntime) {
     let mut scene = Scene::new(&rt, rt.alloc());
     opens(&rt, rt.alloc(), &mut scene.hall);
-    assert!(rt; scene.is_heeded(&rt, TEXT, FOLLOW, true));
+    assert!(rt; scene.is_answered(&rt, TEXT, FOLLOW, true));
     scene.takes(&rt, 1000);
-    assert!(rt; stays(&rt, &mut scene.caller, b"", Stage::HandsOver));
+    assert!(rt; stays(&rt, &mut scene.connection, b"", Stage::HandsOver));
 }
 
 #[test]
 fn one_that_leaves_is_sent_nothing_unasked(rt: HostRuntime) {
     let mut scene = Scene::new(&rt, rt.alloc());
-    assert!(rt; scene.is_heeded(&rt, CLOSE, b"", true));
-    assert!(rt; stays(&rt, &mut scene.caller, &[CLOSE, 0], Stage::Leaves));
+    assert!(rt; scene.is_answered(&rt, CLOSE, b"", true));
+    assert!(rt; stays(&rt, &mut scene.connection, &[CLOSE, 0], Stage::Leaves));
 }
 
 /// Frames in order; whether a whole text or binary message was then answered since the last one; and whether anything that came whole and
@@ -203,7 +205,7 @@ fn is_told_once(
     frame: (u8, &[u8]),
     wanted: (bool, bool),
 ) -> bool {
-    scene.is_heeded(rt, frame.0, frame.1, true)
+    scene.is_answered(rt, frame.0, frame.1, true)
         && scene.take_both() == wanted
         && scene.take_both() == (false, false)
 }
@@ -217,7 +219,7 @@ fn what_came_whole_of_it_is_told_once(rt: HostRuntime) {
     }
 }
 
-/// Whether a frame in two pieces is midway in between, and no more once it is heeded.
+/// Whether a frame in two pieces is midway in between, and no more once it is answered.
 fn is_midway_in_between(scene: &mut Scene, frame: &[u8]) -> bool {
     let (first, second) = frame.split_at(frame.len() / 2);
     scene.is_heard(first, false)
@@ -232,6 +234,6 @@ fn it_is_midway_until_its_message_is_whole(rt: HostRuntime) {
     let ping = asked(&rt, rt.alloc(), PING, b"a");
     assert!(rt; !scene.is_midway());
     assert!(rt; is_midway_in_between(&mut scene, ping.as_slice()));
-    assert!(rt; scene.is_heeded(&rt, FIRST_PART, b"?", true) && scene.is_midway());
-    assert!(rt; scene.is_heeded(&rt, LAST_PART, b"?", true) && !scene.is_midway());
+    assert!(rt; scene.is_answered(&rt, FIRST_PART, b"?", true) && scene.is_midway());
+    assert!(rt; scene.is_answered(&rt, LAST_PART, b"?", true) && !scene.is_midway());
 }

@@ -199,7 +199,7 @@ impl Scene {
         }
         self.known = self.hall.len();
         for _ in 0..u32::MAX {
-            let Some(at) = self.hall.take_rung() else {
+            let Some(at) = self.hall.take_changed() else {
                 return;
             };
             self.publisher.marks(at);
@@ -239,7 +239,7 @@ impl Scene {
                 return false;
             };
             self.moves.clear();
-            if shown.news(0, &mut self.moves).is_err() {
+            if shown.moves_from(0, &mut self.moves).is_err() {
                 return false;
             }
             for table in self.tables.iter() {

@@ -56,12 +56,12 @@ pub fn shows(hall: &Hall, plain: &Plain, values: &Values) -> bool {
 }
 
 /// Whether a board of the model has changed since that was last told. It is told by this.
-pub fn was_rung_for(plain: &mut Plain, at: usize) -> bool {
+pub fn was_changed(plain: &mut Plain, at: usize) -> bool {
     match plain.rows.get_mut(at) {
         Some(row) => {
-            let has_rung = row.has_rung;
-            row.has_rung = false;
-            has_rung
+            let has_changed = row.has_changed;
+            row.has_changed = false;
+            has_changed
         }
         None => false,
     }
@@ -70,18 +70,18 @@ pub fn was_rung_for(plain: &mut Plain, at: usize) -> bool {
 /// Whether no board of the model has changed since that was last told.
 pub fn is_quiet(plain: &Plain) -> bool {
     for row in plain.rows.iter() {
-        if row.has_rung {
+        if row.has_changed {
             return false;
         }
     }
     true
 }
 
-/// Whether the hall rings once for each board of the model that has changed, and for no other.
-pub fn rings(hall: &mut Hall, plain: &mut Plain) -> bool {
+/// Whether the hall tells once of each board of the model that has changed, and of no other.
+pub fn tells_changes(hall: &mut Hall, plain: &mut Plain) -> bool {
     for _ in 0..=BOARDS {
-        match hall.take_rung() {
-            Some(at) if was_rung_for(plain, at) => {}
+        match hall.take_changed() {
+            Some(at) if was_changed(plain, at) => {}
             Some(_) => return false,
             None => return is_quiet(plain),
         }
@@ -109,7 +109,7 @@ pub fn tells(
     moves: &mut Vec<Move>,
 ) -> Result<bool, AllocError> {
     moves.clear();
-    match shown.news(from, moves) {
+    match shown.moves_from(from, moves) {
         Ok(outcome) => Ok(outcome == row.outcome && are_moves(moves.as_slice(), row, from)),
         Err(error) => Err(error),
     }

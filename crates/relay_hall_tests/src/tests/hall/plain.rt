@@ -34,7 +34,7 @@ pub struct Row {
     pub outcome: Option<Outcome>,
     pub followers: u16,
     /// Whether its game has changed since that was last told.
-    pub has_rung: bool,
+    pub has_changed: bool,
 }
 
 /// The connections with a key.
@@ -102,7 +102,7 @@ impl Row {
     fn ends(&mut self, outcome: Outcome) {
         if self.outcome.is_none() {
             self.outcome = Some(outcome);
-            self.has_rung = true;
+            self.has_changed = true;
         }
     }
 
@@ -116,7 +116,7 @@ impl Row {
         }
         let place = self.plies;
         self.plies = place.wrapping_add(1);
-        self.has_rung = true;
+        self.has_changed = true;
         Answer::Played(place)
     }
 
@@ -260,7 +260,7 @@ impl Plain {
             plies: 0,
             outcome: None,
             followers: 0,
-            has_rung: false,
+            has_changed: false,
         });
         Answer::Text(OPENED)
     }

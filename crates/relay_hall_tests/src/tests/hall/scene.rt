@@ -2,7 +2,7 @@
 
 use crate::tests::hall::chance::Dice;
 use crate::tests::hall::command::Command;
-use crate::tests::hall::comparing::{last_of, rings, shows, takes, tells};
+use crate::tests::hall::comparing::{last_of, shows, takes, tells, tells_changes};
 use crate::tests::hall::heard::hall;
 use crate::tests::hall::plain::{BOARDS, CAPACITY, FOLLOWERS, KEYS, PLIES, Plain, Speaker};
 use crate::tests::hall::room::{TWICE, room};
@@ -130,11 +130,15 @@ impl Scene {
         self.assert_shown(rt);
     }
 
-    /// The hall shows, rings for and tells what the model has.
+    /// The hall shows and tells what the model has.
     fn assert_shown(&mut self, rt: &impl Abort) {
         holds(rt, shows(&self.hall, &self.plain, &self.values), "shows");
-        holds(rt, rings(&mut self.hall, &mut self.plain), "rings");
-        holds(rt, self.has_news(rt), "tells");
+        holds(
+            rt,
+            tells_changes(&mut self.hall, &mut self.plain),
+            "changes",
+        );
+        holds(rt, self.tells_moves(rt), "tells");
         holds(rt, self.refused <= 1, TWICE);
     }
 
@@ -162,7 +166,7 @@ impl Scene {
     }
 
     /// Whether any board tells its moves from any place on. If it is refused, it is asked again.
-    fn has_news(&mut self, rt: &impl Abort) -> bool {
+    fn tells_moves(&mut self, rt: &impl Abort) -> bool {
         let at = self.dice.below(u32::from(BOARDS)) as usize;
         let from = self.dice.few(12);
         match self.told(at, from) {

@@ -7,7 +7,7 @@ use crate::tests::calling::frames::{PING, TEXT, add, asked, tell};
 use crate::tests::calling::requests::{ACCEPTED, BEHIND_TARGET};
 use crate::tests::hall::chance::Dice;
 use crate::tests::hall::command::Command;
-use crate::tests::hall::comparing::{is_quiet, shows, was_rung_for};
+use crate::tests::hall::comparing::{is_quiet, shows, was_changed};
 use crate::tests::hall::plain::{Answer, BOARDS, CAPACITY, FOLLOWERS, KEYS, PLIES, Plain};
 use crate::tests::hall::values::{Values, is_text_of, key_text};
 use crate::tests::holds;
@@ -93,7 +93,7 @@ impl Scene {
         }
         let is_shown = shows(self.service.hall(), &self.plain, &self.values);
         holds(rt, is_shown, "shows");
-        holds(rt, self.rings(), "rings");
+        holds(rt, self.tells_changes(), "changes");
     }
 
     /// Time goes on, or is told late.
@@ -120,11 +120,11 @@ impl Scene {
         }
     }
 
-    /// Whether the service rings once for each board of the model that has changed, and for no other.
-    fn rings(&mut self) -> bool {
+    /// Whether the service tells once of each board of the model that has changed, and of no other.
+    fn tells_changes(&mut self) -> bool {
         for _ in 0..=BOARDS {
-            match self.service.take_rung() {
-                Some(at) if was_rung_for(&mut self.plain, at) => {}
+            match self.service.take_changed() {
+                Some(at) if was_changed(&mut self.plain, at) => {}
                 Some(_) => return false,
                 None => return is_quiet(&self.plain),
             }

@@ -4,7 +4,7 @@ use mathlib.Core.Option.{some}
 use lib.ListN.{get_elem?}
 use Rattle.std.specs.Option.{option_copied_mut}
 use Rattle.live_board.specs.declared.note.Note.TheVariants.{Vacant}
-use Rattle.live_board.specs.Desk.{NoneVacantBelow}
+use Rattle.live_board.specs.TableWriter.{NoneVacantBelow}
 use Rattle.live_board.specs.Seats.{BoardSeat}
 use Rattle.relay_core.specs.Name.{same_name}
 use Rattle.relay_live.proofs.Maps.{found_at, written_at}

@@ -2,7 +2,7 @@
 
 use crate::tests::sessions::frames::{REQUEST, behind_head, lines};
 use live_board::Follower;
-use relay_calling::{Caller, Stage};
+use relay_calling::{OperatorConnection, Stage};
 use relay_core::Taken;
 use relay_hall::{Hall, Handed};
 use relay_server::{Bell, Outlet, PushEnd, SendFault, SessionEnd, Source, push_all};
@@ -69,7 +69,7 @@ impl Bell for Silent {
 #[derive(Drop)]
 pub struct Fast {
     alloc: Global,
-    caller: Caller,
+    connection: OperatorConnection,
     sent: Vec<u8>,
     /// What it was sent once it followed.
     pushed: Vec<u8>,
@@ -78,11 +78,11 @@ pub struct Fast {
 
 /// A connection that has sent its request.
 pub fn shaken(rt: &impl Abort, alloc: Global, number: u32) -> Fast {
-    let mut caller = Caller::new(alloc, u64::from(number), false);
-    assert!(rt; caller.feed(REQUEST).is_ok());
+    let mut connection = OperatorConnection::new(alloc, u64::from(number), false);
+    assert!(rt; connection.feed(REQUEST).is_ok());
     Fast {
         alloc,
-        caller,
+        connection,
         sent: Vec::new(alloc),
         pushed: Vec::new(alloc),
         end: None,
@@ -101,20 +101,20 @@ fn closed(end: PushEnd) -> (SessionEnd, &'static [u8]) {
 impl Fast {
     /// These bytes come.
     pub fn comes<R: Wait + Abort>(&mut self, rt: &R, hall: &mut Hall, bytes: &[u8]) {
-        assert!(rt; self.caller.feed(bytes).is_ok());
+        assert!(rt; self.connection.feed(bytes).is_ok());
         for _ in 0..=bytes.len() {
             if self.end.is_some() || !self.answers(rt, hall) {
                 break;
             }
         }
-        if self.end.is_none() && self.caller.stage() == Stage::Leaves {
+        if self.end.is_none() && self.connection.stage() == Stage::Leaves {
             self.end = Some(SessionEnd::Closed);
         }
     }
 
     /// Whether it says something next. That is answered.
     fn answers<R: Wait + Abort>(&mut self, rt: &R, hall: &mut Hall) -> bool {
-        let (some, handed) = self.caller.heed(hall);
+        let (some, handed) = self.connection.answer(hall);
         self.takes(rt);
         if let Some(handed) = handed {
             self.follows(rt, handed);
@@ -124,9 +124,9 @@ impl Fast {
 
     /// What is due is taken.
     fn takes(&mut self, rt: &impl Abort) {
-        let due = self.caller.due();
+        let due = self.connection.due();
         self.sent.extend_from_slice(due).expect(rt, "memory");
-        self.caller.wrote(usize::MAX);
+        self.connection.wrote(usize::MAX);
     }
 
     /// It is told of the board that it follows, to its end.
@@ -146,7 +146,7 @@ impl Fast {
 
     /// It goes. Returns how its session ended, and the lines that it was sent.
     pub fn goes(self, rt: &impl Abort, hall: &mut Hall) -> (SessionEnd, Vec<u8>) {
-        hall.leave(self.caller.owner());
+        hall.leave(self.connection.owner());
         let sent = behind_head(self.sent.as_slice());
         let mut told = lines(self.alloc, sent).expect(rt, "memory");
         told.extend_from_slice(self.pushed.as_slice())

@@ -12,7 +12,7 @@ closing_at-closing-requires c = let q = c.requires in (q.0, q.1, ap (λ (h : Boa
 pub leave_at-requires : goal.leave_at-requires
 leave_at-requires c =
     let q = c.requires in
-    let v = c.self.inside.desk.knows in
+    let v = c.self.inside.writer.knows in
     let e = ap (λ (h : BoardSeat). get_elem? h.knows.parts q.0) c.self.view_is ∙ q.2 in
     let s = c.look.ensures.knows in
     (q.0, sees s.0 q.1, ap (λ (u : View). get_elem? u.parts q.0) s.1 ∙ at_map (sees s.0) v.parts q.0 q.1 e, q.3)

@@ -24,7 +24,7 @@ abbrev rule : View → ℕ → ℕ → Option Taken
 rule v slot next = without_move (closing_at v slot) next (length v.log) v.outcome
 
 -- it is what the function found
-known : (c : After-look) → rule c.self.inside.desk.knows c.args.slot c.args.next ≡ c.without_move-answer.result
+known : (c : After-look) → rule c.self.inside.writer.knows c.args.slot c.args.next ≡ c.without_move-answer.result
 known c =
     let length-is = c.from-len.ensures ∙ c.len.ensures ∙ ap (λ (g : GameRecord). length g.log) c.self.invariant.game_is in
     let over-is = c.outcome.ensures ∙ ap (λ (g : GameRecord). g.outcome) c.self.invariant.game_is in
@@ -33,9 +33,9 @@ known c =
 
 -- if it is nothing, a move is there, and the follower is not at its closing
 more : (c : After-look) → c.without_move-answer.result ≡ None
-    → (c.args.next < length c.self.inside.desk.knows.log) × (closing_at c.self.inside.desk.knows c.args.slot ≡ Some c.args.next → ⊥)
+    → (c.args.next < length c.self.inside.writer.knows.log) × (closing_at c.self.inside.writer.knows c.args.slot ≡ Some c.args.next → ⊥)
 more c is =
-    let v = c.self.inside.desk.knows in
+    let v = c.self.inside.writer.knows in
     let by : rule v c.args.slot c.args.next ≡ None = known c ∙ is in (
       more_there (closing_at v c.args.slot) c.args.next (length v.log) v.outcome by,
       more_uncut (closing_at v c.args.slot) c.args.next (length v.log) v.outcome by,
@@ -43,26 +43,26 @@ more c is =
 
 -- if not, none is, and it is not there either
 none : (c : After-look) (answer : Taken) → c.without_move-answer.result ≡ Some answer
-    → (closing_at c.self.inside.desk.knows c.args.slot ≡ Some c.args.next → ⊥) × (length c.self.inside.desk.knows.log ≤ c.args.next)
-    × (answer ≡ taken_of c.args.next c.self.inside.desk.knows.outcome None [])
+    → (closing_at c.self.inside.writer.knows c.args.slot ≡ Some c.args.next → ⊥) × (length c.self.inside.writer.knows.log ≤ c.args.next)
+    × (answer ≡ taken_of c.args.next c.self.inside.writer.knows.outcome None [])
 none c answer is =
-    let v = c.self.inside.desk.knows in
+    let v = c.self.inside.writer.knows in
     let by : rule v c.args.slot c.args.next ≡ Some answer = known c ∙ is in
     let not-cut : answer ≡ Cut → ⊥ = λ e. true≢false (sym (c.is_cut.ensures.1 (is ∙ ap Some e)) ∙ c.if-is_cut.false) in
     let d = none_there (closing_at v c.args.slot) c.args.next (length v.log) v.outcome answer by not-cut in
     (none_uncut (closing_at v c.args.slot) c.args.next (length v.log) v.outcome answer by not-cut, d.0, d.1)
 
 -- the follower's part before the look and after it
-carried : (c : After-look) → get_elem? c.self.inside.desk.knows.parts c.requires.0 ≡ some c.requires.1
+carried : (c : After-look) → get_elem? c.self.inside.writer.knows.parts c.requires.0 ≡ some c.requires.1
 carried c = ap (λ (h : BoardSeat). get_elem? h.knows.parts c.requires.0) c.self.view_is ∙ c.requires.2
 
 looked : (c : After-look) → get_elem? c.look.new.self.knows.parts c.requires.0 ≡ some (sees c.look.ensures.knows.0 c.requires.1)
 looked c =
     let s = c.look.ensures.knows in
-    ap (λ (u : View). get_elem? u.parts c.requires.0) s.1 ∙ at_map (sees s.0) c.self.inside.desk.knows.parts c.requires.0 c.requires.1 (carried c)
+    ap (λ (u : View). get_elem? u.parts c.requires.0) s.1 ∙ at_map (sees s.0) c.self.inside.writer.knows.parts c.requires.0 c.requires.1 (carried c)
 
 -- the board is sound
-sound : (c : After-look) → IsSoundBoard c.self.inside.desk.knows
+sound : (c : After-look) → IsSoundBoard c.self.inside.writer.knows
 sound c = c.closing_at-closing.ensures.sound.board c.closing_at-closing.ensures.owns
 
 pub returns-then-is_cut-clause-knows : goal.returns-then-is_cut-clause-knows
@@ -80,7 +80,7 @@ gain_at-requires-clause-part c =
       q.3,
       q.4 ∙ sym c.from-place.ensures,
       omega (arith, q.4, s.2, t.0),
-      before_closing c.self.inside.desk.knows c.args.slot c.args.next q.0 q.1 (sound at) (carried at) q.3 q.4 t.1,
+      before_closing c.self.inside.writer.knows c.args.slot c.args.next q.0 q.1 (sound at) (carried at) q.3 q.4 t.1,
     )
 
 pub returns-in-None-clause-answer : goal.returns-in-None-clause-answer
@@ -88,7 +88,7 @@ returns-in-None-clause-answer c =
     let q = c.requires in
     let at = (goal.at.returns-in-None-clause-answer c).After-look in
     let none-cut = more at c.in-None.is in
-    let v = c.self.inside.desk.knows in
+    let v = c.self.inside.writer.knows in
     let next = c.args.next in
     let t = more_due v c.args.slot next q.0 q.1 (sound at) (carried at) q.3 q.4 none-cut.1 none-cut.0 in
     let m : c.gain_at.result ≡ move_at v.log next = c.gain_at.ensures.move_is
@@ -103,7 +103,7 @@ returns-in-None-clause-knows c =
     let less = (more at c.in-None.is).0 in
     let q = c.requires in
     let s = c.look.ensures.knows in
-    let v = c.self.inside.desk.knows in
+    let v = c.self.inside.writer.knows in
     let slot = c.args.slot in
     let owns = ap (λ (u : View). u.owns) s.1 ∙ c.closing_at-closing.ensures.owns in
     let g = c.gain_at.ensures.knows in
@@ -119,7 +119,7 @@ returns-in-Some-clause-answer c =
     let q = c.requires in
     let at = (goal.at.returns-in-Some-clause-answer c).After-look in
     let d = none at c.in-Some.answer c.in-Some.is in
-    let v = c.self.inside.desk.knows in
+    let v = c.self.inside.writer.knows in
     let t = none_due v c.args.slot c.args.next q.0 q.1 (sound at) (carried at) q.3 q.4 d.0 d.1 in
     d.2 ∙ sym (λ k. taken_of c.args.next v.outcome (t.0 k) (t.1 k))
     ∙ ap (λ (h : BoardSeat). taken_of c.args.next h.knows.outcome (closing_at h.knows c.args.slot) (due_at h.knows c.args.slot c.args.next)) c.self.view_is
@@ -128,7 +128,7 @@ pub returns-in-Some-clause-knows : goal.returns-in-Some-clause-knows
 returns-in-Some-clause-knows c =
     let d = none (goal.at.returns-in-Some-clause-knows c).After-look c.in-Some.answer c.in-Some.is in
     let s = c.look.ensures.knows in
-    let v = c.self.inside.desk.knows in
+    let v = c.self.inside.writer.knows in
     subst (λ (h : BoardSeat). TookAt c.args.slot c.in-Some.answer h.knows c.look.new.self.knows) c.self.view_is
     (subst (λ (a : Taken). TookAt c.args.slot a v c.look.new.self.knows) (sym d.2)
     (took_none c.args.slot s.0 c.args.next v c.look.new.self.knows v.outcome s.1 s.2 s.3))

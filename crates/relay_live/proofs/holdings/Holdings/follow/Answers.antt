@@ -4,7 +4,7 @@ use Rattle.std.specs.Map.{keys_of, lookup}
 use Rattle.std.proofs.lemmas.Option.{none-some}
 use Rattle.c960_game.proofs.lemmas.LogFacts.{position_made}
 use Rattle.live_board.specs.declared.setup.BoardSetup.{BoardSetup}
-use Rattle.live_board.specs.Desk.{NoneVacantBelow}
+use Rattle.live_board.specs.TableWriter.{NoneVacantBelow}
 use Rattle.c960_game.specs.declared.refusal.Refusal.TheVariants.{FollowerExists, OutOfMemory}
 use Rattle.relay_core.specs.declared.reply.Reply.TheVariants.{Following, Refused}
 use Rattle.relay_core.specs.declared.step.Step.TheVariants.{Follow}

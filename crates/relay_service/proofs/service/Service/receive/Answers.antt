@@ -1,7 +1,7 @@
 use Rattle.std.proofs.Common.{rules, refl, ap, ◌∙◌, ◌++◌, ◌∷◌, [], ℕ, List, inr}
 use Rattle.std.proofs.lemmas.Map.Steps.{set_value_same}
 use Rattle.relay_hall.specs.Record.{HallRecord}
-use Rattle.relay_calling.specs.Crowd.{Turn, happens}
+use Rattle.relay_calling.specs.Connections.{Turn, happens}
 use Rattle.relay_calling.specs.Running.{came}
 use Rattle.relay_service.specs.declared.connection.Connection.{Connection}
 use Rattle.relay_service.specs.Inner.{service_of}

@@ -7,14 +7,14 @@ use Rattle.watch_port.proofs.board_table.BoardTable.take_one.Goals as goal
 
 pub invariant_of-self-2 : goal.invariant_of-self-2
 invariant_of-self-2 c =
-    let news = c.peek_known-news.result.now in
-    let its : news ≡ c.pop_known.result =
-    peeked news c.pop_known.result (known_items c.is_empty.new.self) (known_items c.pop_known.new.self) c.peek_known-news.ensures c.pop_known.ensures.received.1 in
-    let more : received c.pop_known.new.self ≡ received c.self.inside.ring ++ news ∷ [] =
+    let event = c.peek_known-event.result.now in
+    let its : event ≡ c.pop_known.result =
+    peeked event c.pop_known.result (known_items c.is_empty.new.self) (known_items c.pop_known.new.self) c.peek_known-event.ensures c.pop_known.ensures.received.1 in
+    let more : received c.pop_known.new.self ≡ received c.self.inside.ring ++ event ∷ [] =
     c.pop_known.ensures.received.0 ∙ ap (λ xs. xs ++ c.pop_known.result ∷ []) c.is_empty.ensures.looked.1
     ∙ ap (λ x. received c.self.inside.ring ++ x ∷ []) (sym its) in
-    let applied : c.apply.new.boards.items ≡ copied_after c.self.inside.limits.plies c.self.inside.boards.items news = search rules in
-    table_more c.self.inside.limits.plies c.self.inside.boards.items c.apply.new.boards.items (received c.self.inside.ring) (received c.pop_known.new.self) news
+    let applied : c.apply.new.boards.items ≡ copied_after c.self.inside.limits.plies c.self.inside.boards.items event = search rules in
+    table_more c.self.inside.limits.plies c.self.inside.boards.items c.apply.new.boards.items (received c.self.inside.ring) (received c.pop_known.new.self) event
     c.self.invariant applied more
 
 pub returns-clause-taken : goal.returns-clause-taken

@@ -1,0 +1,285 @@
+//! A spectator that came to the port, without reading and writing: what is to be written next, and what was.
+
+ghost use Rattle.std.specs.Prelude.{◌≡◌, ◌≤◌, ℕ, List, [], ◌++◌, length, take, None, Some, IfSome, IfNone, true, false};
+ghost use Rattle.relay_watching.specs.Progress.{WasSent, after_write, offered};
+ghost use Rattle.relay_watching.specs.Promised.{Joining};
+ghost use Rattle.watch_port.specs.Connections.{HasWrittenOutput, HasWrittenTape, has_no_output, is_next, is_tapes_turn, is_within, output_left, watched};
+
+use relay_frames::{Event, Peer};
+use relay_watching::{SpectatorConnection, Tape};
+use std::alloc::{AllocError, Global};
+use std::mem;
+
+/// How many bytes of answers may be kept for a connection before it is no longer heard.
+const MOST_OUTPUT: usize = 16384;
+
+/// What a connection does.
+#[derive(Drop)]
+pub(crate) enum Doing {
+    /// It sends its request. These bytes of it have come.
+    Comes(Vec<u8>),
+    /// It has shaken hands, and has asked for nothing yet.
+    Asks,
+    /// It watches a board.
+    Watches(Watching),
+    /// It watches all boards. It was sent the changes up to this number.
+    WatchesAll(u64),
+}
+
+/// What a connection watches, and how far it was sent.
+#[derive(Drop)]
+pub(crate) struct Watching {
+    /// The key of the audience that it is in.
+    pub(crate) audience: usize,
+    spectator: SpectatorConnection,
+    /// Whether anything of it was written.
+    has_begun: bool,
+}
+
+impl Watching {
+    /// Whether a frame of it is written in part, or its end is written.
+    fn is_within(&self, tape: &Tape) -> bool
+        ensures { result ≡ is_within tape.now self.now }
+    {
+        self.has_begun && !self.spectator.is_between_frames(tape)
+    }
+
+    /// The first `n` of the bytes offered of it were written.
+    fn wrote(&mut self, tape: &Tape, n: usize)
+        requires { n ≤ length (offered tape.now self.old.spectator) }
+        ensures written { self.new.spectator ≡ after_write self.old.spectator n }
+        ensures sent { (j : Joining) (written : List ℕ) → WasSent tape.now j written self.old.spectator
+            → WasSent tape.now j (written ++ take n (offered tape.now self.old.spectator)) self.new.spectator }
+        ensures begun { self.new.has_begun ≡ true }
+        ensures audience { self.new.audience ≡ self.old.audience }
+    {
+        self.spectator.wrote(tape, n);
+        self.has_begun = true;
+    }
+}
+
+/// A connection. Its output is whole frames, and is written before what it watches, between two frames of that.
+#[derive(Drop)]
+pub(crate) struct WatchConnection {
+    alloc: Global,
+    peer: Peer,
+    pub(crate) doing: Doing,
+    output: Vec<u8>,
+    /// How many bytes of the output are written.
+    written: usize,
+    /// Whether nothing more is written after the output.
+    is_leaving: bool,
+}
+
+impl WatchConnection {
+    /// A connection from which nothing has come yet.
+    pub(crate) fn new(alloc: Global) -> WatchConnection {
+        WatchConnection {
+            alloc,
+            peer: Peer::new(alloc),
+            doing: Doing::Comes(Vec::new(alloc)),
+            output: Vec::new(alloc),
+            written: 0,
+            is_leaving: false,
+        }
+    }
+
+    /// The audience that it is in, if it watches a board.
+    pub(crate) fn audience(&self) -> Option<usize> {
+        match &self.doing {
+            Doing::Watches(watching) => Some(watching.audience),
+            _ => None,
+        }
+    }
+
+    /// It watches a board from now on.
+    pub(crate) fn watch(&mut self, audience: usize, spectator: SpectatorConnection) {
+        self.doing = Doing::Watches(Watching {
+            audience,
+            spectator,
+            has_begun: false,
+        });
+    }
+
+    /// It watches all boards from now on, and has not been sent any of them yet.
+    pub(crate) fn watch_all(&mut self) {
+        self.doing = Doing::WatchesAll(0);
+    }
+
+    /// It no longer watches anything. Returns what it did.
+    pub(crate) fn watch_no_more(&mut self) -> Doing {
+        mem::replace(&mut self.doing, Doing::Asks)
+    }
+
+    /// Feeds it what came after its request.
+    pub(crate) fn feed(&mut self, bytes: &[u8]) -> Result<(), AllocError> {
+        self.peer.feed(bytes)
+    }
+
+    /// What it said next, if that has come completely.
+    pub(crate) fn next(&mut self) -> Result<Option<Event>, AllocError> {
+        self.peer.next()
+    }
+
+    /// Whether it is in the middle of a message.
+    pub(crate) fn is_midway(&self) -> bool {
+        self.peer.is_midway()
+    }
+
+    /// Whether nothing has been written yet of what it watches. Of all boards there have been `changes` changes.
+    pub(crate) fn is_owed_first(&self, changes: u64) -> bool {
+        match &self.doing {
+            Doing::Watches(watching) => !watching.has_begun,
+            Doing::WatchesAll(told) => *told == 0 && changes > 0,
+            Doing::Comes(_) | Doing::Asks => false,
+        }
+    }
+
+    /// Whether so much output is kept that it is not heard until that is written.
+    pub(crate) fn is_full(&self) -> bool {
+        self.output.len() > MOST_OUTPUT
+    }
+
+    /// The output, to which whole frames may be added.
+    pub(crate) fn output(&mut self) -> &mut Vec<u8> {
+        &mut self.output
+    }
+
+    /// Nothing is to be written after the output, whose last frame is a close, or which ends the handshake.
+    pub(crate) fn leaves(&mut self) {
+        self.is_leaving = true;
+    }
+
+    /// Whether nothing is to be written after the output.
+    pub(crate) fn is_leaving(&self) -> bool {
+        self.is_leaving
+    }
+
+    /// Whether the tape of what it watches comes next, and not output.
+    fn is_tapes_turn(&self, tape: &Tape, watching: &Watching) -> bool
+        ensures { result ≡ is_tapes_turn tape.now self.now watching.now }
+    {
+        self.written == 0 && (watching.is_within(tape) || self.has_no_output())
+    }
+
+    /// Whether there is no output, now or later.
+    pub(crate) fn has_no_output(&self) -> bool
+        ensures { result ≡ has_no_output self.now }
+    {
+        self.output.is_empty() && !self.is_leaving
+    }
+
+    /// The bytes that are to be written next. There are none only if nothing is due. The tape is that of the board that it watches.
+    pub(crate) fn offered<'a>(&'a self, tape: Option<&'a Tape>) -> &'a [u8] {
+        match (&self.doing, tape) {
+            (Doing::Watches(watching), Some(tape)) => self.offered_of(tape, watching),
+            _ => self.output_left(),
+        }
+    }
+
+    /// The bytes that are to be written next to a connection that watches. If a frame of the tape is begun, they are of the tape, at most
+    /// up to the end of that frame if there is output; otherwise they are the output.
+    fn offered_of<'a>(&'a self, tape: &'a Tape, watching: &'a Watching) -> &'a [u8]
+        ensures tape { is_tapes_turn tape.now self.now watching.now ≡ true → result.now ≡ take (length result.now) (offered tape.now watching.now.spectator) }
+        ensures output { is_tapes_turn tape.now self.now watching.now ≡ false → result.now ≡ output_left self.now }
+    {
+        if !self.is_tapes_turn(tape, watching) {
+            return self.output_left();
+        }
+        if self.has_no_output() {
+            watching.spectator.due(tape)
+        } else {
+            watching.spectator.due_of_frame(tape)
+        }
+    }
+
+    /// The bytes that are to be written after those offered, once all of these are written: what it watches, after its output.
+    pub(crate) fn offered_behind<'a>(&'a self, tape: Option<&'a Tape>) -> &'a [u8] {
+        match (&self.doing, tape) {
+            (Doing::Watches(watching), Some(tape)) => self.offered_behind_output(tape, watching),
+            _ => &[],
+        }
+    }
+
+    /// The bytes of the tape that are to be written after the output to a connection that watches, if the output is offered and it stays.
+    fn offered_behind_output<'a>(&'a self, tape: &'a Tape, watching: &'a Watching) -> &'a [u8]
+        ensures part { result.now ≡ take (length result.now) (offered tape.now watching.now.spectator) }
+        ensures alone { is_tapes_turn tape.now self.now watching.now ≡ true → result.now ≡ [] }
+        ensures behind { (next : WatchConnection) → HasWrittenOutput (length (output_left self.now)) self.now next
+            → is_tapes_turn tape.now next watching.now ≡ false → result.now ≡ [] }
+    {
+        if self.is_leaving || self.is_tapes_turn(tape, watching) {
+            return &[];
+        }
+        watching.spectator.due(tape)
+    }
+
+    /// The part of the output that has not been written.
+    fn output_left(&self) -> &[u8]
+        ensures { result.now ≡ output_left self.now }
+    {
+        if self.written <= self.output.len() {
+            &self.output[self.written..]
+        } else {
+            &[]
+        }
+    }
+
+    /// The first `n` of the bytes offered were written.
+    pub(crate) fn wrote(&mut self, tape: Option<&Tape>, n: usize)
+        ensures tape { IfSome tape.entry (λ t. (w : Watching) → watched self.old.doing ≡ Some w → is_tapes_turn t.now self.old w ≡ true
+            → n ≤ length (offered t.now w.spectator) → HasWrittenTape w n self.old self.new) }
+        ensures output { IfSome tape.entry (λ t. is_next t.now self.old ≡ false → n ≤ length (output_left self.old) → HasWrittenOutput n self.old self.new) }
+        ensures alone { IfNone tape.entry (n ≤ length (output_left self.old) → HasWrittenOutput n self.old self.new) }
+    {
+        if let Some(tape) = tape {
+            if self.is_next(tape) {
+                self.wrote_tape(tape, n);
+                return;
+            }
+        }
+        self.wrote_output(n);
+    }
+
+    /// Whether it watches the board of this tape, and that comes next.
+    fn is_next(&self, tape: &Tape) -> bool
+        ensures { result ≡ is_next tape.now self.now }
+    {
+        match &self.doing {
+            Doing::Watches(watching) => self.is_tapes_turn(tape, watching),
+            _ => false,
+        }
+    }
+
+    /// The first `n` of the bytes offered of what it watches were written. Any beyond those offered are not counted.
+    fn wrote_tape(&mut self, tape: &Tape, n: usize)
+        ensures { (w : Watching) → watched self.old.doing ≡ Some w → n ≤ length (offered tape.now w.spectator) → HasWrittenTape w n self.old self.new }
+    {
+        if let Doing::Watches(watching) = &mut self.doing {
+            if n <= watching.spectator.due(tape).len() {
+                watching.wrote(tape, n);
+            }
+        }
+    }
+
+    /// The first `n` bytes of what is left of the output were written.
+    fn wrote_output(&mut self, n: usize)
+        ensures { n ≤ length (output_left self.old) → HasWrittenOutput n self.old self.new }
+    {
+        self.written = self.written.saturating_add(n);
+        if self.written >= self.output.len() {
+            self.output = Vec::new(self.alloc);
+            self.written = 0;
+        }
+    }
+
+    /// Whether everything that it will ever be sent is written.
+    pub(crate) fn is_done(&self, tape: Option<&Tape>) -> bool {
+        if let (Doing::Watches(watching), Some(tape)) = (&self.doing, tape) {
+            if watching.spectator.is_done(tape) {
+                return true;
+            }
+        }
+        self.is_leaving && self.output.is_empty()
+    }
+}
