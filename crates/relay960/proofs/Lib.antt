@@ -1,1 +1,2 @@
 pub mod EndFacts
+mod Meeting

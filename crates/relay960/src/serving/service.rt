@@ -2,7 +2,7 @@
 
 ghost use Rattle.std.specs.Prelude.{◌≡◌, ◌*◌, nat_lt, IfOk};
 ghost use Rattle.relay_service.specs.Record.{begun};
-ghost use Rattle.relay960.specs.Serving.{MeetsWith};
+ghost use Rattle.relay960.specs.Serving.{MeetsWith, most_of};
 
 use crate::failure::{Device, Failure};
 use crate::serving::fault::ServeFault;
@@ -44,12 +44,8 @@ where
         + 'static,
     ensures { IfOk result (MeetsWith service.now.connections service.now.until_input_ends) }
 {
-    let most = match service.connections {
-        Connections::Count(most) => Some(most),
-        Connections::Forever => None,
-    };
     let watch = open_watch(rt, alloc, service)?;
-    let port = open_port(rt, alloc, service, most)?;
+    let port = open_port(rt, alloc, service)?;
     let relay = relay_of(alloc, service)?;
     let watching = match &watch {
         Some(watch) => Some(watch.count()?),
@@ -89,7 +85,7 @@ fn open_watch<R: Net>(
     Ok(Some(Watch::open(rt, alloc, asked, most_idle, service.limits)?))
 }
 
-/// Listens on the main port, and takes all that it takes to serve it: as many connections as this, or as come.
+/// Listens on the main port, and takes all that it takes to serve it.
 ///
 /// # Errors
 ///
@@ -98,9 +94,8 @@ fn open_port<R: Net<Listener = TcpListener, Stream = TcpStream> + Clock>(
     rt: &R,
     alloc: Global,
     service: &Service,
-    most: Option<u32>,
 ) -> Result<MainPort, ServeFault>
-    ensures most { IfOk result (λ port. port.most ≡ most) }
+    ensures most { IfOk result (λ port. port.most ≡ most_of service.now.connections) }
     ensures ends { IfOk result (λ port. port.until_input_ends ≡ service.now.until_input_ends) }
     ensures limits { IfOk result (λ port. port.limits ≡ service.now.limits) }
 {
@@ -109,7 +104,7 @@ fn open_port<R: Net<Listener = TcpListener, Stream = TcpStream> + Clock>(
         Ok(listener) => listener,
         Err(reason) => return Err(ServeFault::at(address, reason)),
     };
-    match MainPort::open(rt, alloc, listener, &settings_of(service, most)) {
+    match MainPort::open(rt, alloc, listener, &settings_of(service)) {
         Ok(port) => Ok(port),
         Err(error) if error.kind() == ErrorKind::OutOfMemory => Err(ServeFault::OutOfMemory),
         Err(reason) => Err(ServeFault::at(address, reason)),
@@ -117,16 +112,26 @@ fn open_port<R: Net<Listener = TcpListener, Stream = TcpStream> + Clock>(
 }
 
 /// How the main port is served.
-fn settings_of(service: &Service, most: Option<u32>) -> Settings
-    ensures most { result.most ≡ most }
+fn settings_of(service: &Service) -> Settings
+    ensures most { result.most ≡ most_of service.now.connections }
     ensures ends { result.until_input_ends ≡ service.now.until_input_ends }
     ensures limits { result.limits ≡ service.now.limits }
 {
     Settings {
         limits: service.limits,
         idle: idle_of(service.idle),
-        most,
+        most: most_of(service.connections),
         until_input_ends: service.until_input_ends,
+    }
+}
+
+/// How many connections are accepted, if that is bounded.
+fn most_of(connections: Connections) -> Option<u32>
+    ensures { result ≡ most_of connections }
+{
+    match connections {
+        Connections::Count(most) => Some(most),
+        Connections::Forever => None,
     }
 }
 

@@ -157,7 +157,7 @@ impl Scene {
 
     /// Tells the loops, which take that in, of all that has changed. Returns whether there was room for it.
     pub fn tells_all(&mut self) -> bool {
-        let are_told = self.publisher.publish(&self.hall);
+        let are_told = self.publisher.publish_again(&self.hall);
         if are_told {
             self.take_in();
         }
