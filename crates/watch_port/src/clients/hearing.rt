@@ -208,7 +208,7 @@ impl<'a> Clients<'a> {
 
     /// Lets a client watch all boards from now on.
     fn watch_all(&mut self, key: usize) -> Result<(), AllocError> {
-        self.take_in_news();
+        self.take_in_events();
         self.list.refresh(&self.boards, self.now)?;
         if let Some(client) = self.clients.get_mut(key) {
             client.connection.watch_all();

@@ -41,7 +41,7 @@ impl<'a> Clients<'a> {
         from: Option<u16>,
     ) -> Result<Option<Refusal>, AllocError> {
         // It may have read of a board or a move elsewhere since this turn began.
-        self.take_in_news();
+        self.take_in_events();
         let Some(at) = self.find(name)? else {
             return Ok(Some(Refusal::NoSuchBoard));
         };
