@@ -95,6 +95,7 @@ NO_BOARD = [b'{"code":1,"name":"NoSuchBoard","reply":"refused"}', b"close 1000"]
 MOST_LINES = 5
 # Standard error says so if there was no memory to start a connection's session.
 TURNED_AWAY = b"no descriptor or memory for a connection: turned away\n"
+LEFT_OUT = b"[INFO  relay960] 1 lines left out\n"
 # None says that what was asked for had been done already, as a command that is made a second time would.
 ANSWERS = {*OWNED, *FOLLOWED, *NO_BOARD, NO_MEMORY}
 
@@ -142,7 +143,7 @@ def met(refused, allocator):
         sys.exit(f"allocation {refused}: the server does not answer, or does not end: {fault}")
     if not ANSWERS.issuperset(itertools.chain(owner, *guests)):
         return None
-    if said == b"served 4, failed 0\n":
+    if said in (b"served 4, failed 0\n", LEFT_OUT + b"served 4, failed 0\n"):
         return "line" if owner == OWNED and guests.count(FOLLOWED) == 3 else None
     last = last_has_come(4).encode()
     if said not in (last + b"served 4, failed 0\n", TURNED_AWAY + last + b"served 3, failed 1\n"):

@@ -10,16 +10,18 @@ was made, or it was not, and its connection ends.
 import os
 from dataclasses import dataclass
 
-from refused_watching import (CROWD, DONE, LOST, NOT_YET, SERVED, TOLD_12, House, Sheet, Wrong, always, told, until_nothing_is_refused)
+from refused_watching import (CROWD, DONE, LOST, MOVES, NOT_YET, SERVED, TOLD_12, House, Sheet, Wrong, always, told,
+                              until_nothing_is_refused)
 from relay_client.connection import Connection
 from relay_client.frames import PING, frame, masked
 from relay_client.server import Server
 from relay_client.tests.sessions import owner_of
-from relay_client.texts import (BAD_FIELD, GAME_OVER, NO_BOARD, NOT_JSON, OPENED, ended, ends, following, follows, opens, over, played,
-                                refused, submits)
+from relay_client.texts import (BAD_FIELD, GAME_OVER, NO_BOARD, NOT_JSON, OPENED, ended, ends, following, follows, moved, opens, over,
+                                played, refused, submits)
 
 TAKEN = refused(2, "BoardExists")
 KEY = "a-key-of-twenty-eight-letter"
+MOST_BACK = 3
 
 
 class Hall(House):
@@ -36,6 +38,18 @@ class Hall(House):
 
     def newcomer(self, key=None):
         return Connection(self.server.port, key=key)
+
+    def place_back(self):
+        """Where a follower joins that asks for the last moves. Each move that it gets then takes memory for its text: as many as the board
+        has would be more with each attempt."""
+        return max(0, self.made - MOST_BACK)
+
+    def follows_back(self):
+        return follows("b1", place=self.place_back())
+
+    def from_back(self):
+        place = self.place_back()
+        return [following(place, self.fen(place)), *(moved(move, at) for at, move in enumerate(MOVES[place:self.made], place))]
 
 
 @dataclass(frozen=True)
@@ -55,11 +69,15 @@ def asks(name, line, *answers):
     return Act(name, lambda hall, number: frame(line), lambda hall: answers)
 
 
+def in_two(text):
+    """A text in two fragments."""
+    return masked(0x01, text[:9]) + masked(0x80, text[9:])
+
+
 def of_a_board(number):
     return f"n{number}"
 
 
-FROM_THE_FIRST = follows("b1", place=0).encode()
 ACTS = [
     Act("comes", lambda hall, number: b"", always([]), comes=True),
     Act("comes with a key", lambda hall, number: b"", always([]), comes=True, key=KEY),
@@ -68,9 +86,8 @@ ACTS = [
         opens(of_a_board(number)), submits(of_a_board(number), "e2e4"), ends(of_a_board(number), "agreed")])),
         always([OPENED, played(0), ended("agreed")])),
     Act("follows from now on", lambda hall, number: frame(follows("b1")), House.from_now_on, follows=True),
-    Act("follows from the first place", lambda hall, number: frame(follows("b1", place=0)), House.from_the_first, follows=True),
-    Act("follows in two fragments", lambda hall, number: masked(0x01, FROM_THE_FIRST[:9]) + masked(0x80, FROM_THE_FIRST[9:]),
-        House.from_the_first, follows=True),
+    Act("follows from some moves back", lambda hall, number: frame(hall.follows_back()), Hall.from_back, follows=True),
+    Act("follows in two fragments", lambda hall, number: in_two(hall.follows_back().encode()), Hall.from_back, follows=True),
     asks("is refused for its board", follows("b3"), NO_BOARD),
     asks("is refused for its place", follows("b1", place=60000), NOT_YET),
     asks("is refused for a name", opens("b1"), TAKEN),

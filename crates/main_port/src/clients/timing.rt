@@ -185,8 +185,8 @@ impl<'a, R: Wait + Clock, W: Watchers> Clients<'a, R, W> {
     }
 
     /// Gives a connection the turn for which there was no memory when it became due, if that is so: something has come from it, or it is
-    /// behind its board. One that follows whose connection takes nothing takes no moves, and so does not learn that it was cut off: if it
-    /// must have been, it takes everything that is left to it, and its slot on the board is free.
+    /// behind its board, whose game may be over. One that follows whose connection takes nothing takes no moves, and so does not learn that
+    /// it was cut off: if it must have been, it takes everything that is left to it, and its slot on the board is free.
     fn remembers(&mut self, number: u64)
         ensures { OthersStay number self.old.clients.entries self.new.clients.entries }
     {
@@ -201,8 +201,23 @@ impl<'a, R: Wait + Clock, W: Watchers> Clients<'a, R, W> {
         } else if client.input != Input::Nothing && client.is_read()
             || client.state == State::Interrupted
             || behind > 0
+            || self.is_due_the_end(number)
         {
             self.stands_due(number);
+        }
+    }
+
+    /// Whether a connection has yet to take the end of its board's game, if it follows one: behind that it follows no more.
+    fn is_due_the_end(&self, number: u64) -> bool {
+        if self.service.stage(number) != Some(Stage::Follows) {
+            return false;
+        }
+        let Some(at) = self.service.place(number) else {
+            return false;
+        };
+        match self.service.hall().board(at) {
+            Some(shown) => shown.outcome().is_some(),
+            None => false,
         }
     }
 
