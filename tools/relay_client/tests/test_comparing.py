@@ -21,8 +21,8 @@ PLACES = 0, len(KEY) // 2, len(KEY) - 1
 BOARDS, FEWER = 24, 12
 ASKED = 150  # Each time its key is compared with that of every board.
 LEAST = 16  # Instructions at least for comparing two keys of 64 bytes, as many at a time as the processor takes.
-# The function that compares a key with those of all boards (relay_hall: boards.rt).
-COMPARES = "relay_hall::boards::owns_any"
+# The function that compares the key of a connection with those of all boards, at each of its texts as long as it owns none.
+COMPARES = "relay_service::service::Service::is_owner"
 NOT_YOURS = refused(13, "NotYourBoard")
 
 
