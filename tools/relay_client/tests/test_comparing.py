@@ -11,6 +11,7 @@ import tempfile
 import unittest
 
 from relay_client.connection import Connection
+from relay_client.program import PROGRAM
 from relay_client.server import Server
 from relay_client.tests.sessions import owner_of
 from relay_client.texts import NO_BOARD, follows, refused, submits
@@ -21,9 +22,15 @@ PLACES = 0, len(KEY) // 2, len(KEY) - 1
 BOARDS, FEWER = 24, 12
 ASKED = 150  # Each time its key is compared with that of every board.
 LEAST = 16  # Instructions at least for comparing two keys of 64 bytes, as many at a time as the processor takes.
-# The function that compares the key of a connection with those of all boards, at each of its texts as long as it owns none.
-COMPARES = "relay_service::service::Service::is_owner"
+# The function that compares a key with those of all boards, or the one that asks for that, where a compiler has put the former into it.
+COMPARES = "relay_hall::boards::owns_any", "relay_service::service::Service::is_owner"
 NOT_YOURS = refused(13, "NotYourBoard")
+
+
+def counted_function():
+    """That of the two which the program has by its name."""
+    names = pathlib.Path(PROGRAM).read_bytes()
+    return next(it for it in COMPARES if it.encode() in names)
 
 
 def keys_that_differ(place, count):
@@ -36,7 +43,7 @@ def instructions_of_a_stranger(place, boards):
     """How many instructions the server runs to compare the key of one, which is that of no board, with those of its boards."""
     with tempfile.TemporaryDirectory() as name:
         counts = pathlib.Path(name, "counts")
-        counted = ["valgrind", "--tool=callgrind", f"--toggle-collect={COMPARES}", f"--callgrind-out-file={counts}"]
+        counted = ["valgrind", "--tool=callgrind", f"--toggle-collect={counted_function()}", f"--callgrind-out-file={counts}"]
         with Server("--grace", "60", "--boards", str(boards), "--connections", str(boards + 1), before=counted) as server:
             owners = [owner_of(server, f"b{at}", key=key) for at, key in enumerate(keys_that_differ(place, boards))]
             stranger = Connection(server.port, key=KEY)
