@@ -38,7 +38,8 @@ SECONDS_OF_COPY = 1500
 # How many checks run beside `rt ci`, which has the processors to itself until it leaves some idle.
 WIDTH_BESIDE = 2
 NICENESS = 10
-PROVED = re.compile(r"^rt: (\w+) proved$", re.M)
+# A crate that is proved in this run, or whose proof is kept of an earlier one.
+PROVED = re.compile(r"^rt: (\w+) (?:proved$|is kept: )", re.M)
 # A proof file that names what the edit took away.
 LOST_NAME = re.compile(r"has no field|is not in scope|has no `|was not admitted|is no name")
 
@@ -211,15 +212,37 @@ class Beside:
         self.lock = threading.Lock()
 
     def library_of(self, name):
-        """A library of statements. It is linked away, since `rt ci` puts other files into its place when it ends."""
-        with self.lock:
-            kept = self.kept / f"{name}.rlib"
-            if not kept.exists():
-                shutil.copytree(self.crates.folder(name) / f"out/rlib/{name}.rlib", kept, copy_function=link_or_copy)
-            return kept
+        """A library of statements, which was linked away."""
+        return self.kept / f"{name}.rlib"
 
     def proved(self):
+        """The crates whose libraries are at hand."""
+        with self.lock:
+            return {it for it in self.said_to_be_proved() if self.crates.is_program(it) or self.is_linked_away(it)}
+
+    def said_to_be_proved(self):
         return set(PROVED.findall((self.folder / "log").read_text(errors="replace"))) if (self.folder / "log").is_file() else set()
+
+    def is_linked_away(self, name):
+        """Links a library away, if it is there: `rt ci` puts other files into its place when it ends."""
+        kept, made = self.library_of(name), self.crates.folder(name) / f"out/rlib/{name}.rlib"
+        if kept.exists():
+            return True
+        # Made aside, so that what is there is whole.
+        aside = kept.with_suffix(".aside")
+        shutil.rmtree(aside, ignore_errors=True)
+        try:
+            shutil.copytree(made, aside, copy_function=link_or_copy)
+        except (OSError, shutil.Error):
+            return False
+        aside.rename(kept)
+        return True
+
+    def link_all_away(self):
+        """Links each library away as soon as it is there, until `rt ci` ends: where all proofs are kept that is after seconds."""
+        while not self.has_ended():
+            self.proved()
+            time.sleep(0.2)
 
     def has_ended(self):
         return (self.folder / "status").exists()
@@ -233,6 +256,7 @@ def try_beside(crates, folder):
         trial = Trial(crates, scratch, beside.library_of)
         left = [(name, copy) for name, its in edits.items() for copy in copies_of(its, MOST_IN_COPY)]
         choosing = threading.Lock()
+        threading.Thread(target=beside.link_all_away, daemon=True).start()
 
         def next_copy():
             while True:
@@ -240,8 +264,6 @@ def try_beside(crates, folder):
                     has_ended, proved = beside.has_ended(), beside.proved()
                     for it in left:
                         if proved.issuperset(crates.below(it[0])):
-                            for below in crates.below(it[0]):
-                                beside.library_of(below)
                             left.remove(it)
                             return it
                     if not left or has_ended:
