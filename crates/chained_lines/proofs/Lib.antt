@@ -1,13 +1,13 @@
-pub mod Counting
-pub mod Ends
-pub mod Feeds
-pub mod Front
-pub mod Fronts
-pub mod Holding
-pub mod Kept
-pub mod Known
-pub mod Search
-pub mod Splits
-pub mod Torn
-pub mod Unbegun
-pub mod Whole
+mod Counting
+mod Ends
+mod Feeds
+mod Front
+mod Fronts
+mod Holding
+mod Kept
+mod Known
+mod Search
+mod Splits
+mod Torn
+mod Unbegun
+mod Whole

@@ -3,8 +3,8 @@ use Rattle.std.specs.Prelude.{◌≡◌, ℕ, ◌≤◌, true, false, List, ◌+
 use Rattle.chained_lines.specs.Lines.{Line, are_lines, file_of, last_seal, no_seal}
 use Rattle.chained_lines.specs.Records.{JournalRecord}
 
--- The bytes of the storage are known. They, and then what was noted, are the bytes of these lines; all of them are synced; and no commit has
--- failed.
+-- The bytes of the storage are known. They, and then what was noted, are the bytes of these lines; all of them are synced; and no commit
+-- has failed.
 pub record HoldsLines {S : Type 0} (contents : S → Option (List ℕ)) (synced : S → ℕ) (j : JournalRecord S) (ls : List Line) : Type 0 where
   pub written : List ℕ
   pub known : contents j.storage ≡ Some written

@@ -19,7 +19,8 @@ pub struct FirstLine<'a> {
     pub rest: &'a [u8],
 }
 
-/// The first line of some bytes, if it counts behind a line with the seal `before`: it ends in a line feed, and its seal and mark are right.
+/// The first line of some bytes, if it counts behind a line with the seal `before`: it ends in a line feed, and its seal and mark are
+/// right.
 pub fn first_line<'a>(before: &[u8], bytes: &'a [u8]) -> Option<FirstLine<'a>>
     ensures none { result ≡ None → read_lines before.now bytes.now ≡ [] }
     ensures some { IfSome result (λ f.

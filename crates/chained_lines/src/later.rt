@@ -18,9 +18,9 @@ pub struct LaterWrite {
 
 /// The first line behind a line feed of these bytes that has the mark of the first line of a write.
 ///
-/// A write is begun only once the one before it is synced. So if there is such a line behind the sound part of a file, what stands there was not
-/// merely cut short: bytes that were synced have changed. The line's own seal is not tried, since the change may have taken the seal that it
-/// stands behind.
+/// A write is begun only once the one before it is synced. So if there is such a line behind the sound part of a file, what stands there
+/// was not merely cut short: bytes that were synced have changed. The line's own seal is not tried, since the change may have taken the
+/// seal that it stands behind.
 pub fn later_write(bytes: &[u8]) -> Option<LaterWrite>
     ensures { result ≡ later bytes.now }
 {

@@ -42,8 +42,8 @@ pub fn a_crash_is_no_damage()
         → IsLeft (file_of before ls) synced left → left ≡ file_of before (read_lines before left) ++ rest → later_write rest ≡ None }
 {}
 
-/// Damage before a write is seen: if, behind a line feed, the seal and the mark of the first line of a write stand, that line or an earlier one
-/// is found, whatever bytes stand before and behind them.
+/// Damage before a write is seen: if, behind a line feed, the seal and the mark of the first line of a write stand, that line or an earlier
+/// one is found, whatever bytes stand before and behind them.
 #[tactic(auto, using(crate::proofs::Search::later_is_found))]
 pub fn damage_before_a_write_is_seen()
     ensures { (damaged seal more : List ℕ) → length seal ≡ 16 → has_no_feed seal ≡ true

@@ -9,8 +9,8 @@ use std::fs::File;
 use std::io;
 use std::io::{ErrorKind, Write};
 
-/// A file at whose end bytes are written. What a crash at some moment leaves of it is `IsLeft` of the bytes that were written and of how many
-/// of them were synced before that moment.
+/// A file at whose end bytes are written. What a crash at some moment leaves of it is `IsLeft` of the bytes that were written and of how
+/// many of them were synced before that moment.
 pub trait StableStorage {
     /// All its bytes, where they are known.
     ghost contents: { Self → Option (List ℕ) };
@@ -36,8 +36,8 @@ pub trait StableStorage {
     ///
     /// # Errors
     ///
-    /// It failed. Which of the bytes that were not synced before would survive a crash is not known, even after a later sync: the system may
-    /// have dropped them.
+    /// It failed. Which of the bytes that were not synced before would survive a crash is not known, even after a later sync: the system
+    /// may have dropped them.
     fn sync(&mut self) -> io::Result<()>
         ensures bytes { Keeps (contents self.old) (contents self.new) }
         ensures synced { synced self.old ≤ synced self.new }

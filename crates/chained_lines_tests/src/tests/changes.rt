@@ -10,8 +10,8 @@ use std::test::Fail;
 const BY_ANOTHER_PROGRAM: &[u8] =
     b"64391b373d4b4969>one\n738a96e38e845f2c>two, longer\n86ea597a6c791190 \n9274954248bd7668>four\n";
 
-/// Lines by their numbers: from 0 those of the file, from 4 those of another; how many of them count; and whether what stands behind these is
-/// taken for damage. It is not where it might be a last write.
+/// Lines by their numbers: from 0 those of the file, from 4 those of another; how many of them count; and whether what stands behind these
+/// is taken for damage. It is not where it might be a last write.
 struct Row {
     lines: &'static [usize],
     sound: usize,
@@ -93,7 +93,8 @@ fn the_file_is_as_another_program_makes_it(rt: HostRuntime) {
     claim(&rt, file(rt.alloc()) == BY_ANOTHER_PROGRAM, "the file");
 }
 
-// Each byte that is changed ends what is read at its line. Unless it is in the last write, or the line feed before that, this is taken for damage.
+// Each byte that is changed ends what is read at its line. Unless it is in the last write, or the line feed before that, this is taken for
+// damage.
 #[test]
 fn each_change_is_seen(rt: HostRuntime) -> Result<(), Fail> {
     let alloc = rt.alloc();

@@ -6,8 +6,8 @@ use crate::memory::Memory;
 use chained_lines::{Journal, NO_SEAL, NoteError, sound_part};
 use std::process::Abort;
 
-/// For each number of calls that are answered, two for a write: how many bytes were written, how many of them synced, and how many commits were
-/// done.
+/// For each number of calls that are answered, two for a write: how many bytes were written, how many of them synced, and how many commits
+/// were done.
 const AT_CALLS: [(usize, usize, usize); 7] = [
     (0, 0, 0),
     (21, 0, 0),
