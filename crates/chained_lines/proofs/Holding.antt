@@ -60,9 +60,9 @@ pub on_both : {T E P Q R : Type 0} (r : Result T E) → OnOk r P → OnOk r Q �
 on_both (Ok x) p q f = f p q
 on_both (Err e) p q f = tt
 
-pub on_failed : {T E P : Type 0} (r : Result T E) → is_err r ≡ true → OnOk r P
-on_failed (Ok x) failed = absurd (grind (arith, failed))
-on_failed (Err e) failed = tt
+pub on_failed : {T E : Type 0} (P : Type 0) (r : Result T E) → is_err r ≡ true → OnOk r P
+on_failed P (Ok x) failed = absurd (grind (arith, failed))
+on_failed P (Err e) failed = tt
 
 pub on_any : {T E P : Type 0} (r : Result T E) → P → OnOk r P
 on_any (Ok x) p = p

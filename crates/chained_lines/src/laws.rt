@@ -28,7 +28,6 @@ pub fn what_is_read_was_there()
 
 /// Once lines are committed they are read after every crash, first and in order, and behind them the first so many of those that were noted
 /// later, some bytes of which were written.
-#[tactic(auto, using(crate::proofs::Kept::committed_lines_stay))]
 pub fn what_was_committed_stays()
     ensures { (ls more : List Line) (written : List ℕ) (synced : ℕ) (left : List ℕ) → are_lines (ls ++ more) ≡ true
         → IsFrontOf written (ls ++ more) → length (file_of no_seal ls) ≤ synced → synced ≤ length written → IsLeft written synced left
@@ -36,7 +35,6 @@ pub fn what_was_committed_stays()
 {}
 
 /// What a crash leaves is never taken for damage: behind the lines that are read of it no line begins a write.
-#[tactic(auto, using(crate::proofs::Unbegun::left_begins_nothing))]
 pub fn a_crash_is_no_damage()
     ensures { (before : List ℕ) (ls : List Line) (synced : ℕ) (left rest : List ℕ) → are_lines ls ≡ true
         → IsLeft (file_of before ls) synced left → left ≡ file_of before (read_lines before left) ++ rest → later_write rest ≡ None }

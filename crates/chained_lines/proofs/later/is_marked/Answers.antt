@@ -25,4 +25,4 @@ pub returns-else-bytes-eq62 : goal.returns-else-bytes-eq62
 returns-else-bytes-eq62 c =
     let bytes = c.args.bytes.now in
     let isnt = false_from_ne_true (get_or bytes 16 0 == 62) (λ is. c.if-bytes-eq62.false (eqb-true (get_or bytes 16 0) 62 is)) in
-    sym (ap (λ (b : Bool). b && has_no_feed (take 16 bytes)) isnt)
+    isnt ∙ sym (ap (λ (b : Bool). b && has_no_feed (take 16 bytes)) isnt)

@@ -1,10 +1,10 @@
-use Rattle.std.proofs.Common.{refl, ◌≡◌, ℕ, List, [], take, ◌∙◌, sym, subst}
+use Rattle.std.proofs.Common.{refl, ◌≡◌, ◌∙◌, sym, subst}
 use Rattle.std.specs.Io.KnownBytes.{Appends}
 use Rattle.std.proofs.KnownBytes.{Appends-nil}
 use Rattle.std.proofs.lemmas.Bool.{eqb-true}
 use Rattle.std.proofs.lemmas.List.{nil_from_length}
 use Rattle.chained_lines.specs.Inner.{journal_of}
-use Rattle.chained_lines.proofs.Fronts.{front_of}
+use Rattle.chained_lines.proofs.Fronts.{front_of, stored_front}
 use Rattle.chained_lines.proofs.Holding.{holds_stored, keeps_all, on_both, on_failed}
 use Rattle.chained_lines.proofs.journal.Journal.commit.Goals as goal
 
@@ -50,20 +50,16 @@ returns-then-not-self-clause-committed g c =
 
 pub returns-then-not-self-clause-front : goal.returns-then-not-self-clause-front
 returns-then-not-self-clause-front g c = rw (← c.self.view_is) (λ ls holds.
-    let some = c.store-stored.ensures.front in
-    front_of g.S.StableStorage.contents g.S.StableStorage.synced (journal_of c.self.inside) ls some.0 _ holds
-    (subst (λ (l : List ℕ). Appends _ _ (take some.0 l)) c.deref.ensures.value some.1))
+    stored_front g.S.StableStorage.contents g.S.StableStorage.synced (journal_of c.self.inside) ls _ _ c.deref.ensures.value c.store-stored.ensures.front holds)
 
 -- ---- The storage failed.
 
 pub returns-else-not-self-clause-committed : goal.returns-else-not-self-clause-committed
-returns-else-not-self-clause-committed g c = on_failed c.store-stored.result (sym c.is_err-self-inside.ensures ∙ c.if-not-self.false)
+returns-else-not-self-clause-committed g c = on_failed _ c.store-stored.result (sym c.is_err-self-inside.ensures ∙ c.if-not-self.false)
 
 pub returns-else-not-self-clause-emptied : goal.returns-else-not-self-clause-emptied
-returns-else-not-self-clause-emptied g c = on_failed c.store-stored.result (sym c.is_err-self-inside.ensures ∙ c.if-not-self.false)
+returns-else-not-self-clause-emptied g c = on_failed _ c.store-stored.result (sym c.is_err-self-inside.ensures ∙ c.if-not-self.false)
 
 pub returns-else-not-self-clause-front : goal.returns-else-not-self-clause-front
 returns-else-not-self-clause-front g c = rw (← c.self.view_is) (λ ls holds.
-    let some = c.store-stored.ensures.front in
-    front_of g.S.StableStorage.contents g.S.StableStorage.synced (journal_of c.self.inside) ls some.0 _ holds
-    (subst (λ (l : List ℕ). Appends _ _ (take some.0 l)) c.deref.ensures.value some.1))
+    stored_front g.S.StableStorage.contents g.S.StableStorage.synced (journal_of c.self.inside) ls _ _ c.deref.ensures.value c.store-stored.ensures.front holds)
