@@ -1,9 +1,9 @@
 -- Of what was written of the lines that a journal holds.
 use Rattle.std.proofs.Common.{◌≡◌, ℕ, ◌+◌, List, ◌++◌, length, take, ◌∙◌, sym, ap, subst}
-use Rattle.std.specs.Prelude.{Option, Some}
+use Rattle.std.specs.Prelude.{Option}
 use Rattle.std.proofs.Math.Seq.{take-append-add}
 use Rattle.std.specs.Io.KnownBytes.{Appends}
-use Rattle.chained_lines.specs.Journals.{HoldsLines, IsFrontOf, IsKnownFront}
+use Rattle.chained_lines.specs.Journals.{HoldsLines, IsKnownFront}
 use Rattle.chained_lines.specs.Lines.{Line}
 use Rattle.chained_lines.specs.Records.{JournalRecord}
 use Rattle.chained_lines.proofs.Known.{appended}

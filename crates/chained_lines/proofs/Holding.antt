@@ -1,10 +1,10 @@
 -- What a journal holds after each of its calls.
-use Rattle.std.proofs.Common.{refl, ◌≡◌, ℕ, ◌≤◌, Bool, true, false, List, [], ◌∷◌, ◌++◌, length, take, ◌∙◌, sym, ap, arith, append_assoc, subst}
-use Rattle.std.specs.Prelude.{Option, Some, Result, Ok, Err, OnOk, is_err}
+use Rattle.std.proofs.Common.{◌≡◌, ℕ, ◌≤◌, true, false, List, [], ◌∷◌, ◌++◌, length, ◌∙◌, sym, ap, arith, append_assoc, subst}
+use Rattle.std.specs.Prelude.{Option, Result, Ok, Err, OnOk, is_err}
 use Rattle.std.proofs.lemmas.List.{append-nil}
 use Rattle.std.specs.Io.KnownBytes.{Appends}
 use Rattle.chained_lines.specs.Journals.{HoldsLines, KeepsLines}
-use Rattle.chained_lines.specs.Lines.{Line, bytes_of, file_of, has_no_feed, last_seal, no_seal, seal_after}
+use Rattle.chained_lines.specs.Lines.{Line, bytes_of, file_of, has_no_feed, no_seal, seal_after}
 use Rattle.chained_lines.specs.Records.{JournalRecord}
 use Rattle.chained_lines.specs.Storage.{IsSynced}
 use Rattle.chained_lines.proofs.Ends.{file_push, lines_push, seal_push}

@@ -12,6 +12,7 @@ const BY_ANOTHER_PROGRAM: &[u8] =
 
 /// Lines by their numbers: from 0 those of the file, from 4 those of another; how many of them count; and whether what stands behind these
 /// is taken for damage. It is not where it might be a last write.
+#[derive(Clone, Copy)]
 struct Row {
     lines: &'static [usize],
     sound: usize,
@@ -21,22 +22,22 @@ struct Row {
 /// Lines that are swapped, left out, doubled, and of another file.
 fn rows() -> [Row; 12] {
     [
-        row(&[0, 1, 2, 3], 4, false),
-        row(&[4, 5, 6, 7], 4, false),
-        row(&[1, 0, 2, 3], 0, true),
-        row(&[0, 2, 1, 3], 1, true),
-        row(&[1, 2, 3], 0, true),
-        row(&[0, 2, 3], 1, true),
-        row(&[0, 1, 3], 2, false),
-        row(&[0, 0, 1], 1, true),
-        row(&[0, 1, 2, 2, 3], 3, true),
-        row(&[0, 1, 2, 3, 3], 4, false),
-        row(&[0, 5, 6, 7], 1, true),
-        row(&[0, 1, 2, 7], 3, false),
+        read_as(&[0, 1, 2, 3], 4, false),
+        read_as(&[4, 5, 6, 7], 4, false),
+        read_as(&[1, 0, 2, 3], 0, true),
+        read_as(&[0, 2, 1, 3], 1, true),
+        read_as(&[1, 2, 3], 0, true),
+        read_as(&[0, 2, 3], 1, true),
+        read_as(&[0, 1, 3], 2, false),
+        read_as(&[0, 0, 1], 1, true),
+        read_as(&[0, 1, 2, 2, 3], 3, true),
+        read_as(&[0, 1, 2, 3, 3], 4, false),
+        read_as(&[0, 5, 6, 7], 1, true),
+        read_as(&[0, 1, 2, 7], 3, false),
     ]
 }
 
-fn row(lines: &'static [usize], sound: usize, is_damage: bool) -> Row {
+fn read_as(lines: &'static [usize], sound: usize, is_damage: bool) -> Row {
     Row {
         lines,
         sound,
@@ -90,7 +91,11 @@ fn looked_at(text: &[u8]) -> (usize, bool) {
 // The file is what another program makes of its lines.
 #[test]
 fn the_file_is_as_another_program_makes_it(rt: HostRuntime) {
-    claim(&rt, file(rt.alloc()) == BY_ANOTHER_PROGRAM, "the file");
+    claim(
+        &rt,
+        file(rt.alloc()).as_slice() == BY_ANOTHER_PROGRAM,
+        "the file",
+    );
 }
 
 // Each byte that is changed ends what is read at its line. Unless it is in the last write, or the line feed before that, this is taken for

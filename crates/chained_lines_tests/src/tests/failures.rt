@@ -38,7 +38,12 @@ fn each_call_may_fail(rt: HostRuntime) {
         let mut storage = ample(alloc, usize::MAX);
         storage.calls = calls;
         let (storage, commits) = written(alloc, storage);
-        claim_at(&rt, storage.bytes == &file[..bytes], "bytes at", calls);
+        claim_at(
+            &rt,
+            storage.bytes.as_slice() == &file[..bytes],
+            "bytes at",
+            calls,
+        );
         claim_at(
             &rt,
             storage.synced == synced && commits == done,
@@ -74,7 +79,7 @@ fn room_may_end_at_each_byte(rt: HostRuntime) {
         let (storage, done) = written(alloc, storage);
         claim_at(
             &rt,
-            storage.bytes == &file[..room],
+            storage.bytes.as_slice() == &file[..room],
             "front in a room of",
             room,
         );
@@ -106,7 +111,7 @@ fn a_line_feed_is_not_noted(rt: HostRuntime) {
     let storage = journal.into_storage();
     claim(
         &rt,
-        storage.bytes == &file(alloc)[..ENDS[0]],
+        storage.bytes.as_slice() == &file(alloc)[..ENDS[0]],
         "the first line",
     );
 }

@@ -1,4 +1,4 @@
-use Rattle.std.proofs.Common.{refl, ℕ, Bool, ◌+◌, ◌-◌, cond, ◌∷◌, ◌++◌, length, ◌∙◌, sym, ap, arith, length-append}
+use Rattle.std.proofs.Common.{ℕ, Bool, ◌+◌, ◌-◌, cond, ◌∷◌, length, ◌∙◌, sym, ap, arith, length-append}
 use Rattle.std.specs.Prelude.{Some}
 use Rattle.chained_lines.specs.Later.{searching}
 use Rattle.chained_lines.proofs.Search.{search_none, to_feed}

@@ -1,4 +1,4 @@
-use Rattle.std.proofs.Common.{ℕ, length, take, subst, arith, ◌∙◌, sym, ap}
+use Rattle.std.proofs.Common.{ℕ, length, take, subst, arith, ◌∙◌, ap}
 use Rattle.std.specs.Prelude.{◌≡◌, OnOk}
 use Rattle.std.specs.Io.KnownBytes.{Appends}
 use Rattle.std.proofs.lemmas.List.{take_all}

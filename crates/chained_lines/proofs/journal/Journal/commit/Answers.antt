@@ -1,4 +1,4 @@
-use Rattle.std.proofs.Common.{refl, ◌≡◌, ◌∙◌, sym, subst}
+use Rattle.std.proofs.Common.{refl, ◌∙◌, sym, subst}
 use Rattle.std.specs.Io.KnownBytes.{Appends}
 use Rattle.std.proofs.KnownBytes.{Appends-nil}
 use Rattle.std.proofs.lemmas.Bool.{eqb-true}
@@ -55,10 +55,10 @@ returns-then-not-self-clause-front g c = rw (← c.self.view_is) (λ ls holds.
 -- ---- The storage failed.
 
 pub returns-else-not-self-clause-committed : goal.returns-else-not-self-clause-committed
-returns-else-not-self-clause-committed g c = on_failed _ c.store-stored.result (sym c.is_err-self-inside.ensures ∙ c.if-not-self.false)
+returns-else-not-self-clause-committed g c = on_failed _ c.store-stored.result (sym c.is_err-self-inside.ensures.value ∙ c.if-not-self.false)
 
 pub returns-else-not-self-clause-emptied : goal.returns-else-not-self-clause-emptied
-returns-else-not-self-clause-emptied g c = on_failed _ c.store-stored.result (sym c.is_err-self-inside.ensures ∙ c.if-not-self.false)
+returns-else-not-self-clause-emptied g c = on_failed _ c.store-stored.result (sym c.is_err-self-inside.ensures.value ∙ c.if-not-self.false)
 
 pub returns-else-not-self-clause-front : goal.returns-else-not-self-clause-front
 returns-else-not-self-clause-front g c = rw (← c.self.view_is) (λ ls holds.

@@ -2,7 +2,7 @@ use Rattle.std.proofs.Common.{refl, ◌≡◌, ℕ, Bool, true, false, ◌++◌,
 use Rattle.std.specs.Prelude.{◌==◌, not}
 use Rattle.std.proofs.lemmas.Result.{err_from_is_err_and}
 use Rattle.chained_lines.specs.Inner.{journal_of}
-use Rattle.chained_lines.specs.Lines.{Line, bytes_of, has_no_feed, seal_after}
+use Rattle.chained_lines.specs.Lines.{bytes_of, seal_after}
 use Rattle.chained_lines.proofs.Holding.{holds_noted}
 use Rattle.chained_lines.proofs.Splits.{no_feed_is}
 use Rattle.chained_lines.proofs.journal.Journal.note.Goals as goal
