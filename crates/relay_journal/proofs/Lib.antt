@@ -1,0 +1,16 @@
+pub mod Accepting
+pub mod Again
+pub mod Changes
+pub mod Commands
+pub mod Compared
+pub mod Each
+pub mod Fitting
+pub mod Going
+pub mod Leading
+pub mod Missing
+pub mod Orderly
+pub mod Owners
+pub mod Recovered
+pub mod Spaces
+pub mod Steps
+pub mod Sweeps

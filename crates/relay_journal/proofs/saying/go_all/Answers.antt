@@ -1,0 +1,16 @@
+use Rattle.std.proofs.Common.{List, arith, subst}
+use Rattle.std.proofs.lemmas.List.{take_all}
+use Rattle.relay_journal.specs.declared.entry.Entry.{Entry}
+use Rattle.relay_journal.specs.Restarting.{Leads, goes, gone_from}
+use Rattle.relay_journal.proofs.Leading.{each_next}
+use Rattle.relay_journal.proofs.saying.go_all.Goals as goal
+
+pub loop-at-preserved : goal.loop-at-preserved
+loop-at-preserved c = λ h.
+    each_next goes c.args.hall.now c.loop-at.hall c.go.new.hall h c.args.entries.now c.loop-at.at c.index-entries-at.result c.loop-at-test.true c.index-entries-at.is
+    (c.loop-at.invariant h) c.go.ensures
+
+pub returns : goal.returns
+returns c = λ h.
+    let whole = take_all c.loop-at.at c.args.entries.now (omega (arith, c.loop-at-test.false)) in
+    subst (λ (es : List Entry). Leads c.args.hall.now h (gone_from 0 es) c.loop-at.hall) whole (c.loop-at.invariant h)

@@ -1,0 +1,6 @@
+pub mod Bodies
+pub mod Differences
+pub mod Entries
+pub mod Kept
+pub mod Restarting
+pub mod Texts

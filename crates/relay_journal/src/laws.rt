@@ -1,0 +1,67 @@
+//! The entries of a journal stand for the boards of its hall, and a restart leads to these boards again.
+
+ghost use Rattle.std.specs.Prelude.{◌≡◌, ◌≤◌, ◌-◌, ◌^◌, ℕ, true, List, [], take};
+ghost use Rattle.chained_lines.specs.Left.{IsLeft};
+ghost use Rattle.chained_lines.specs.Lines.{Line, are_lines, file_of, no_seal, read_lines};
+ghost use Rattle.c960_game.specs.Limits.{LimitNumbers};
+ghost use Rattle.relay_core.specs.History.{History};
+ghost use Rattle.relay_hall.specs.Record.{HallRecord, nobody_yet};
+ghost use Rattle.relay_hall.specs.Runs.{AllSayWhileThere, HallEvent, HallTold, HallStep, IsOrderly, IsReached};
+ghost use Rattle.relay_journal.specs.declared.entry.Entry.{Entry};
+ghost use Rattle.relay_journal.specs.Bodies.{AreFirstOf, SaysEntries};
+ghost use Rattle.relay_journal.specs.Differences.{missing};
+ghost use Rattle.relay_journal.specs.Entries.{Journals, entries_at};
+ghost use Rattle.relay_journal.specs.Kept.{kept_of, replayed};
+ghost use Rattle.relay_journal.specs.Restarting.{Leads, restart, said_from};
+
+use chained_lines::laws::what_is_left_reads_back;
+
+/// Whatever happens in a hall, the entries that it makes, one after another, stand for its boards: for their names, in the order of opening,
+/// their games and their keys.
+pub fn entries_stand_for_the_boards()
+    ensures { (limits : LimitNumbers) (grace : ℕ) (es : List HallEvent) (ts : List HallTold) (js : List Entry) (k : HallRecord)
+        → Journals (nobody_yet limits grace) es ts js k → kept_of k.floor ≡ replayed [] js }
+{}
+
+/// What is missing in a journal after an event, as boards alone show it, leads to the boards that there are: whoever compares them needs to
+/// know nothing of the event.
+pub fn what_is_missing_leads_to_the_boards()
+    ensures { (k : HallRecord) (e : HallEvent) (t : HallTold) (l : HallRecord) → IsReached k → HallStep k e t l
+        → replayed (kept_of k.floor) (missing (kept_of k.floor) (kept_of l.floor)) ≡ kept_of l.floor }
+{}
+
+/// What is missing in a journal after an event, as boards alone show it, is exactly what the event makes: so what is written by comparing is
+/// accepted again, too.
+pub fn what_is_missing_is_what_an_event_makes()
+    ensures { (k : HallRecord) (e : HallEvent) (t : HallTold) (l : HallRecord) → HallStep k e t l → missing (kept_of k.floor) (kept_of l.floor) ≡ entries_at k e t l }
+{}
+
+/// A hall to which entries are said again, and which accepts each, has the boards that they lead to.
+pub fn what_is_said_again_leads_to_the_boards()
+    ensures { (limits : LimitNumbers) (grace who : ℕ) (es : List Entry) (h : History) (k : HallRecord)
+        → Leads (nobody_yet limits grace) h (said_from who es) k → kept_of k.floor ≡ replayed [] es }
+{}
+
+/// What a hall has made is accepted again by a hall of the same limits, but for want of memory, and so are the first of it, however few a
+/// crash has left: some run accepts each.
+pub fn what_was_made_is_accepted_again()
+    ensures { (limits : LimitNumbers) (grace : ℕ) (es : List HallEvent) (ts : List HallTold) (js : List Entry) (k : HallRecord)
+        → limits.boards ≤ 2 ^ 32 - 1 → Journals (nobody_yet limits grace) es ts js k
+        → (n : ℕ) → (l : HallRecord) × Leads (nobody_yet limits grace) [] (said_from 0 (take n js)) l }
+{}
+
+/// A restart is such a run as `relay_hall::laws::whatever_happens` speaks of: nobody says anything who has gone, and whoever says something
+/// with a key is there.
+pub fn a_restart_is_orderly()
+    ensures orderly { (now : ℕ) (es : List Entry) → IsOrderly (restart now es) }
+    ensures there { (now : ℕ) (es : List Entry) → AllSayWhileThere (λ key. 0) (restart now es) }
+{}
+
+/// Of a journal that a crash has torn the first of its entries are read, none changed and none from elsewhere, and at least those whose
+/// lines were synced.
+pub fn what_is_read_was_made()
+    ensures { (ls : List Line) (es : List Entry) (synced : ℕ) (left : List ℕ) (got : List Entry) → are_lines ls ≡ true → SaysEntries ls es
+        → IsLeft (file_of no_seal ls) synced left → SaysEntries (read_lines no_seal left) got → AreFirstOf ls es synced got }
+{
+    what_is_left_reads_back();
+}
