@@ -8,6 +8,7 @@ pub mod Fitting
 pub mod Going
 pub mod Leading
 pub mod Missing
+pub mod Noting
 pub mod Orderly
 pub mod Owners
 pub mod Recovered

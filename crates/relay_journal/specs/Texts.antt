@@ -11,10 +11,14 @@ use Rattle.c960_game.specs.declared.result.Result.{Result}
 use Rattle.c960_game.specs.declared.result.Result.TheVariants.{WhiteWins, BlackWins, Draw}
 
 abbrev pub open_data : List ℕ → ℕ → Data
-open_data name start = object (member (codes "board") (string name) (member (codes "cmd") (string (codes "open")) (member (codes "start") (number (unsigned start)) no_members)))
+open_data name start =
+    object (member (codes "board") (string name) (member (codes "cmd") (string (codes "open"))
+    (member (codes "start") (number (unsigned start)) no_members)))
 
 abbrev pub submit_data : List ℕ → Triple → Data
-submit_data name m = object (member (codes "board") (string name) (member (codes "cmd") (string (codes "submit")) (member (codes "move") (string (move_text m)) no_members)))
+submit_data name m =
+    object (member (codes "board") (string name) (member (codes "cmd") (string (codes "submit"))
+    (member (codes "move") (string (move_text m)) no_members)))
 
 abbrev pub side_text : Colour → List ℕ
 side_text White = codes "white"
@@ -27,13 +31,19 @@ result_text BlackWins = codes "0-1"
 result_text Draw = codes "1/2-1/2"
 
 abbrev pub alone_data : List ℕ → List ℕ → Data
-alone_data name how = object (member (codes "board") (string name) (member (codes "cmd") (string (codes "end")) (member (codes "how") (string how) no_members)))
+alone_data name how =
+    object (member (codes "board") (string name) (member (codes "cmd") (string (codes "end"))
+    (member (codes "how") (string how) no_members)))
 
 abbrev pub sided_data : List ℕ → List ℕ → Colour → Data
-sided_data name how side = object (member (codes "board") (string name) (member (codes "cmd") (string (codes "end")) (member (codes "how") (string how) (member (codes "side") (string (side_text side)) no_members))))
+sided_data name how side =
+    object (member (codes "board") (string name) (member (codes "cmd") (string (codes "end"))
+    (member (codes "how") (string how) (member (codes "side") (string (side_text side)) no_members))))
 
 abbrev pub decided_data : List ℕ → Result → Data
-decided_data name result = object (member (codes "board") (string name) (member (codes "cmd") (string (codes "end")) (member (codes "how") (string (codes "decided")) (member (codes "result") (string (result_text result)) no_members))))
+decided_data name result =
+    object (member (codes "board") (string name) (member (codes "cmd") (string (codes "end"))
+    (member (codes "how") (string (codes "decided")) (member (codes "result") (string (result_text result)) no_members))))
 
 abbrev pub end_data : List ℕ → Ending → Data
 end_data name (Resigns side) = sided_data name (codes "resign") side

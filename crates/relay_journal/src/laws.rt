@@ -1,6 +1,6 @@
 //! The entries of a journal stand for the boards of its hall, and a restart leads to these boards again.
 
-ghost use Rattle.std.specs.Prelude.{◌≡◌, ◌≤◌, ◌-◌, ◌^◌, ℕ, true, List, [], take};
+ghost use Rattle.std.specs.Prelude.{◌≡◌, ◌≤◌, ◌∷◌, ◌++◌, ◌-◌, ◌^◌, ℕ, true, List, [], take};
 ghost use Rattle.chained_lines.specs.Left.{IsLeft};
 ghost use Rattle.chained_lines.specs.Lines.{Line, are_lines, file_of, no_seal, read_lines};
 ghost use Rattle.c960_game.specs.Limits.{LimitNumbers};
@@ -8,16 +8,17 @@ ghost use Rattle.relay_core.specs.History.{History};
 ghost use Rattle.relay_hall.specs.Record.{HallRecord, nobody_yet};
 ghost use Rattle.relay_hall.specs.Runs.{AllSayWhileThere, HallEvent, HallTold, HallStep, IsOrderly, IsReached};
 ghost use Rattle.relay_journal.specs.declared.entry.Entry.{Entry};
-ghost use Rattle.relay_journal.specs.Bodies.{AreFirstOf, SaysEntries};
+ghost use Rattle.relay_journal.specs.Bodies.{AllBodies, AreFirstOf, SaysEntries, first_body};
 ghost use Rattle.relay_journal.specs.Differences.{missing};
 ghost use Rattle.relay_journal.specs.Entries.{Journals, entries_at};
 ghost use Rattle.relay_journal.specs.Kept.{kept_of, replayed};
 ghost use Rattle.relay_journal.specs.Restarting.{Leads, restart, said_from};
+ghost use Rattle.relay_journal.specs.Standing.{StandFor};
 
 use chained_lines::laws::what_is_left_reads_back;
 
-/// Whatever happens in a hall, the entries that it makes, one after another, stand for its boards: for their names, in the order of opening,
-/// their games and their keys.
+/// Whatever happens in a hall, the entries that it makes, one after another, stand for its boards: for their names, in the order of
+/// opening, their games and their keys.
 pub fn entries_stand_for_the_boards()
     ensures { (limits : LimitNumbers) (grace : ℕ) (es : List HallEvent) (ts : List HallTold) (js : List Entry) (k : HallRecord)
         → Journals (nobody_yet limits grace) es ts js k → kept_of k.floor ≡ replayed [] js }
@@ -30,10 +31,11 @@ pub fn what_is_missing_leads_to_the_boards()
         → replayed (kept_of k.floor) (missing (kept_of k.floor) (kept_of l.floor)) ≡ kept_of l.floor }
 {}
 
-/// What is missing in a journal after an event, as boards alone show it, is exactly what the event makes: so what is written by comparing is
-/// accepted again, too.
+/// What is missing in a journal after an event, as boards alone show it, is exactly what the event makes: so what is written by comparing
+/// is accepted again, too.
 pub fn what_is_missing_is_what_an_event_makes()
-    ensures { (k : HallRecord) (e : HallEvent) (t : HallTold) (l : HallRecord) → HallStep k e t l → missing (kept_of k.floor) (kept_of l.floor) ≡ entries_at k e t l }
+    ensures { (k : HallRecord) (e : HallEvent) (t : HallTold) (l : HallRecord) → HallStep k e t l
+        → missing (kept_of k.floor) (kept_of l.floor) ≡ entries_at k e t l }
 {}
 
 /// A hall to which entries are said again, and which accepts each, has the boards that they lead to.
@@ -65,3 +67,13 @@ pub fn what_is_read_was_made()
 {
     what_is_left_reads_back();
 }
+
+/// Whoever notes behind each event what is missing, as boards alone show it, has a journal that stands for the boards: from the first line
+/// on, after each event, and once a restart has said the entries again.
+pub fn a_journal_follows_its_hall()
+    ensures first { (limits : LimitNumbers) (grace : ℕ) (l : Line) → l.body ≡ first_body → StandFor (l ∷ []) (nobody_yet limits grace).floor }
+    ensures next { (ls more : List Line) (k : HallRecord) (e : HallEvent) (t : HallTold) (l : HallRecord) → IsReached k → HallStep k e t l
+        → StandFor ls k.floor → AllBodies more (missing (kept_of k.floor) (kept_of l.floor)) → StandFor (ls ++ more) l.floor }
+    ensures again { (limits : LimitNumbers) (grace : ℕ) (l : Line) (ls : List Line) (es : List Entry) (k : HallRecord) → l.body ≡ first_body
+        → AllBodies ls es → Leads (nobody_yet limits grace) [] (said_from 0 es) k → StandFor (l ∷ ls) k.floor }
+{}
