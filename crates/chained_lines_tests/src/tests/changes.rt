@@ -1,7 +1,7 @@
 //! What is read of a file that was changed.
 
 use super::claims::{claim, claim_at};
-use super::files::{ENDS, LAST_WRITE, file, whole_lines};
+use super::files::{ENDS, LAST_WRITE, behind, end_of, file, flip, front, whole_lines};
 use chained_lines::{NO_SEAL, Seal, later_write, put_line, sound_part};
 use std::alloc::{AllocError, Global};
 use std::test::Fail;
@@ -63,8 +63,10 @@ fn another(alloc: Global) -> Result<Vec<u8>, AllocError> {
 
 /// A line of a file by its number.
 fn line(file: &[u8], number: usize) -> &[u8] {
-    let begin = if number == 0 { 0 } else { ENDS[number - 1] };
-    &file[begin..ENDS[number]]
+    match ENDS.get(number) {
+        Some(end) => behind(front(file, *end), end_of(number)),
+        None => front(file, 0),
+    }
 }
 
 /// These lines, one after another.
@@ -85,7 +87,7 @@ fn joined(alloc: Global, lines: &[usize]) -> Result<Vec<u8>, AllocError> {
 /// How many lines count, and whether what stands behind them is taken for damage.
 fn looked_at(text: &[u8]) -> (usize, bool) {
     let part = sound_part(text);
-    (part.lines, later_write(&text[part.bytes..]).is_some())
+    (part.lines, later_write(behind(text, part.bytes)).is_some())
 }
 
 // The file is what another program makes of its lines.
@@ -105,7 +107,7 @@ fn each_change_is_seen(rt: HostRuntime) -> Result<(), Fail> {
     let alloc = rt.alloc();
     for at in 0..ENDS[3] {
         let mut other = file(alloc);
-        other[at] ^= 1;
+        flip(&mut other, at);
         let seen = looked_at(&other) == (whole_lines(at), at + 1 < LAST_WRITE);
         claim_at(&rt, seen, "a change at", at);
     }
@@ -132,10 +134,10 @@ fn each_line_has_its_place(rt: HostRuntime) -> Result<(), Fail> {
 #[test]
 fn damage_has_a_place(rt: HostRuntime) -> Result<(), Fail> {
     let mut text = file(rt.alloc());
-    text[3] ^= 1;
+    flip(&mut text, 3);
     let found = later_write(&text).map(|found| (found.line, found.byte));
     claim(&rt, found == Some((1, 21)), "the line behind the first");
-    text[37] = b'?';
+    flip(&mut text, 37);
     let found = later_write(&text).map(|found| (found.line, found.byte));
     claim(&rt, found == Some((3, LAST_WRITE)), "the last line");
     Ok(())

@@ -1,7 +1,7 @@
 //! What is read of a file that was cut short.
 
 use super::claims::claim_at;
-use super::files::{ENDS, ample, file, whole_lines, written};
+use super::files::{ENDS, ample, behind, end_of, file, whole_lines, written};
 use chained_lines::{later_write, sound_part};
 use std::process::Abort;
 use std::test::Fail;
@@ -19,11 +19,11 @@ const BEHIND: [&[u8]; 5] = [
 fn claim_left(rt: &impl Abort, left: &[u8], lines: usize, is_damage: bool, at: usize) {
     let part = sound_part(left);
     claim_at(rt, part.lines == lines, "lines at", at);
-    let end = if lines == 0 { 0 } else { ENDS[lines - 1] };
+    let end = end_of(lines);
     claim_at(rt, part.bytes == end, "bytes at", at);
     claim_at(
         rt,
-        later_write(&left[end..]).is_some() == is_damage,
+        later_write(behind(left, end)).is_some() == is_damage,
         "damage at",
         at,
     );
@@ -35,9 +35,9 @@ fn each_front_is_read(rt: HostRuntime) -> Result<(), Fail> {
     let alloc = rt.alloc();
     let file = file(alloc);
     for cut in 0..=file.len() {
-        for behind in BEHIND {
+        for rest in BEHIND {
             let mut left = file[..cut].to_vec(alloc)?;
-            left.extend_from_slice(behind)?;
+            left.extend_from_slice(rest)?;
             claim_left(&rt, &left, whole_lines(cut), false, cut);
         }
     }

@@ -1,7 +1,7 @@
 //! A storage that fails, or has no more room.
 
 use super::claims::{claim, claim_at};
-use super::files::{ENDS, ample, file, whole_lines, written};
+use super::files::{ENDS, ample, file, front, whole_lines, written};
 use crate::memory::Memory;
 use chained_lines::{Journal, NO_SEAL, NoteError, sound_part};
 use std::process::Abort;
@@ -21,11 +21,19 @@ const AT_CALLS: [(usize, usize, usize); 7] = [
 /// How many lines so many commits have.
 const COMMITTED: [usize; 4] = [0, 1, 3, 4];
 
+/// How many lines so many commits have, or more than there are.
+fn committed(commits: usize) -> usize {
+    match COMMITTED.get(commits) {
+        Some(lines) => *lines,
+        None => usize::MAX,
+    }
+}
+
 /// Whatever a crash leaves of the storage, at least the committed lines are read.
 fn claim_kept(rt: &impl Abort, storage: &Memory, done: usize, at: usize) {
     for left in storage.synced..=storage.bytes.len() {
-        let lines = sound_part(&storage.bytes[..left]).lines;
-        claim_at(rt, COMMITTED[done] <= lines, "kept at", at);
+        let lines = sound_part(front(&storage.bytes, left)).lines;
+        claim_at(rt, committed(done) <= lines, "kept at", at);
     }
 }
 
@@ -40,7 +48,7 @@ fn each_call_may_fail(rt: HostRuntime) {
         let (storage, commits) = written(alloc, storage);
         claim_at(
             &rt,
-            storage.bytes.as_slice() == &file[..bytes],
+            storage.bytes.as_slice() == front(&file, bytes),
             "bytes at",
             calls,
         );
@@ -79,7 +87,7 @@ fn room_may_end_at_each_byte(rt: HostRuntime) {
         let (storage, done) = written(alloc, storage);
         claim_at(
             &rt,
-            storage.bytes.as_slice() == &file[..room],
+            storage.bytes.as_slice() == front(&file, room),
             "front in a room of",
             room,
         );
@@ -111,7 +119,7 @@ fn a_line_feed_is_not_noted(rt: HostRuntime) {
     let storage = journal.into_storage();
     claim(
         &rt,
-        storage.bytes.as_slice() == &file(alloc)[..ENDS[0]],
+        storage.bytes.as_slice() == front(&file(alloc), ENDS[0]),
         "the first line",
     );
 }

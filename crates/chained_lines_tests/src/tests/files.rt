@@ -54,3 +54,31 @@ pub fn file(alloc: Global) -> Vec<u8> {
 pub fn whole_lines(bytes: usize) -> usize {
     ENDS.iter().filter(|end| **end <= bytes).count()
 }
+
+/// How many bytes so many lines have.
+pub fn end_of(lines: usize) -> usize {
+    if lines == 0 {
+        return 0;
+    }
+    match ENDS.get(lines - 1) {
+        Some(end) => *end,
+        None => 0,
+    }
+}
+
+/// The first so many bytes, or all if they are fewer.
+pub fn front(bytes: &[u8], count: usize) -> &[u8] {
+    &bytes[..count.min(bytes.len())]
+}
+
+/// What stands behind so many bytes.
+pub fn behind(bytes: &[u8], count: usize) -> &[u8] {
+    &bytes[count.min(bytes.len())..]
+}
+
+/// Changes one bit of the byte at this place.
+pub fn flip(text: &mut Vec<u8>, at: usize) {
+    if at < text.len() {
+        text[at] ^= 1;
+    }
+}
