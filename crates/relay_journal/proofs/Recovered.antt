@@ -61,7 +61,7 @@ first_bodies (suc n) [] (e ∷ es) all = absurd all
 first_bodies (suc n) (l ∷ ls) [] all = absurd all
 first_bodies (suc n) (l ∷ ls) (e ∷ es) all = (all.0, first_bodies n ls es all.1)
 
-bodies_length : (ls : List Line) (es : List Entry) → AllBodies ls es → length es ≡ length ls
+pub bodies_length : (ls : List Line) (es : List Entry) → AllBodies ls es → length es ≡ length ls
 bodies_length [] [] all = refl
 bodies_length [] (e ∷ es) all = absurd all
 bodies_length (l ∷ ls) [] all = absurd all

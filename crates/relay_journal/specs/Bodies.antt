@@ -1,5 +1,5 @@
 -- What a line of a journal says: who made a step, and the command that asks for it.
-use Rattle.std.specs.Prelude.{◌≡◌, ℕ, ◌+◌, ◌≤◌, ◌==◌, Bool, true, not, cond, List, [], ◌∷◌, ◌++◌, length, take, Option, Some, None, Ok, codes}
+use Rattle.std.specs.Prelude.{◌≡◌, ◌≢◌, ℕ, ◌+◌, ◌≤◌, ◌==◌, Bool, true, not, cond, List, [], ◌∷◌, ◌++◌, length, slice_get, take, Option, Some, None, Ok, codes}
 use Rattle.std.specs.List.{list_all}
 use Rattle.std.specs.Str.{bytes_eq}
 use Rattle.chained_lines.specs.Lines.{Line, file_of, no_seal}
@@ -31,6 +31,10 @@ AllBodies [] (e ∷ es) = ⊥
 AllBodies (l ∷ ls) [] = ⊥
 AllBodies (l ∷ ls) (e ∷ es) = IsBody l.body e × AllBodies ls es
 
+-- the line of this place says no entry
+abbrev pub IsUnread : List Line → ℕ → Type 0
+IsUnread ls at = (l : Line) × (slice_get ls at ≡ Some l) × ((e : Entry) → IsBody l.body e → ⊥)
+
 -- what the first line of a journal says
 abbrev pub first_body : List ℕ
 first_body = codes "relay960 journal 1"
@@ -39,6 +43,10 @@ first_body = codes "relay960 journal 1"
 abbrev pub SaysEntries : List Line → List Entry → Type 0
 SaysEntries [] es = es ≡ []
 SaysEntries (l ∷ ls) es = (l.body ≡ first_body) × AllBodies ls es
+
+-- a first line is there, and says something else
+abbrev pub BeginsOtherwise : List Line → Type 0
+BeginsOtherwise ls = (l : Line) × (slice_get ls 0 ≡ Some l) × (l.body ≢ first_body)
 
 -- these are the first of some entries, and at least those whose lines were synced
 pub record AreFirstOf (ls : List Line) (es : List Entry) (synced : ℕ) (got : List Entry) : Type 0 where

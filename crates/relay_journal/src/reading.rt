@@ -1,8 +1,9 @@
 //! The entries that a file of lines says.
 
-ghost use Rattle.std.specs.Prelude.{IfOk};
+ghost use Rattle.std.specs.Prelude.{◌≡◌, ℕ, drop, IfOk, IsErrOf};
 ghost use Rattle.chained_lines.specs.Lines.{no_seal, read_lines};
-ghost use Rattle.relay_journal.specs.Bodies.{AllBodies, SaysEntries};
+ghost use Rattle.relay_journal.specs.Bodies.{AllBodies, BeginsOtherwise, IsUnread, SaysEntries};
+ghost use Rattle.relay_journal.specs.declared.reading.Unread.TheVariants.{NoEntry, NoJournal, OutOfMemory};
 
 use crate::bodies::entry_in;
 use crate::entry::Entry;
@@ -25,12 +26,16 @@ pub enum Unread {
 }
 
 impl From<AllocError> for Unread {
+    ghost from_gives = { λ _ error. error ≡ OutOfMemory };
+
     fn from(_: AllocError) -> Unread {
         Unread::OutOfMemory
     }
 }
 
 impl<T: Drop> From<AllocFailed<T>> for Unread {
+    ghost from_gives = { λ _ error. error ≡ OutOfMemory };
+
     fn from(_: AllocFailed<T>) -> Unread {
         Unread::OutOfMemory
     }
@@ -42,7 +47,9 @@ impl<T: Drop> From<AllocFailed<T>> for Unread {
 ///
 /// A line that counts says no entry, or there was no memory.
 fn read_behind(alloc: Global, before: &[u8; 16], bytes: &[u8]) -> Result<Vec<Entry>, Unread>
-    ensures { IfOk result (λ entries. AllBodies (read_lines before.now bytes.now) entries.items) }
+    ensures entries { IfOk result (λ entries. AllBodies (read_lines before.now bytes.now) entries.items) }
+    ensures journal { IsErrOf result NoJournal → ⊥ }
+    ensures unread { (at : ℕ) → IsErrOf result (NoEntry at) → IsUnread (read_lines before.now bytes.now) at }
 {
     // A fault of the kit: it lays out an `Entry` in a `Vec` only if the body names the key inside it.
     let _key: Option<Key> = None;
@@ -66,7 +73,9 @@ fn read_behind(alloc: Global, before: &[u8; 16], bytes: &[u8]) -> Result<Vec<Ent
 ///
 /// The first line is another than a journal's, a line that counts says no entry, or there was no memory.
 pub fn read_entries(alloc: Global, bytes: &[u8]) -> Result<Vec<Entry>, Unread>
-    ensures { IfOk result (λ entries. SaysEntries (read_lines no_seal bytes.now) entries.items) }
+    ensures entries { IfOk result (λ entries. SaysEntries (read_lines no_seal bytes.now) entries.items) }
+    ensures journal { IsErrOf result NoJournal → BeginsOtherwise (read_lines no_seal bytes.now) }
+    ensures unread { (at : ℕ) → IsErrOf result (NoEntry at) → IsUnread (drop 1 (read_lines no_seal bytes.now)) at }
 {
     let Some(first) = first_line(&NO_SEAL, bytes) else {
         return Ok(Vec::new(alloc));
