@@ -1,6 +1,7 @@
 //! What a line says, and how it is written.
 
 use super::claims::claim_of;
+use relay_hall::Key;
 use relay_journal::{Entry, body_of, entry_in};
 use std::alloc::{AllocError, Global};
 use std::test::Fail;
@@ -88,6 +89,8 @@ fn is_written(
 // What is written is read, and written again as it was.
 #[test]
 fn what_is_read_is_written_as_it_was(rt: HostRuntime) -> Result<(), Fail> {
+    // A fault of the kit: it lays out an `Entry` only if the body names the key inside it.
+    let _key: Option<Key> = None;
     let alloc = rt.alloc();
     for (owner, command) in WRITTEN {
         let body = said(alloc, owner, command)?;
@@ -101,6 +104,8 @@ fn what_is_read_is_written_as_it_was(rt: HostRuntime) -> Result<(), Fail> {
 // No other text says an entry.
 #[test]
 fn other_texts_say_none(rt: HostRuntime) -> Result<(), Fail> {
+    // A fault of the kit: it lays out an `Entry` only if the body names the key inside it.
+    let _key: Option<Key> = None;
     let alloc = rt.alloc();
     for text in NO_ENTRIES {
         claim_of(
