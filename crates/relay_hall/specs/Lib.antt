@@ -10,5 +10,6 @@ pub mod Hosting
 pub mod Talk
 pub mod Reading
 pub mod Runs
+pub mod Restart
 pub mod Inner
 pub mod Telling

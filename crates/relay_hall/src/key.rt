@@ -13,8 +13,8 @@ const LEAST_BYTES: usize = 16;
 /// The greatest number of bytes of a key.
 const MOST_BYTES: usize = 64;
 
-/// A key: 16 to 64 bytes of `A` to `Z`, `a` to `z`, `0` to `9`, `_` and `-`. It is written nowhere, so it has no `Debug`. It has no
-/// `==`, since only `is_same` may compare it. Contracts see its bytes padded with zeros, 64 in all; no byte of a key is zero.
+/// A key: 16 to 64 bytes of `A` to `Z`, `a` to `z`, `0` to `9`, `_` and `-`. It has no `Debug`, so that no log shows it, and no `==`, since
+/// only `is_same` may compare it. Contracts see its bytes padded with zeros, 64 in all; no byte of a key is zero.
 #[derive(Clone, Copy)]
 pub struct Key {
     bytes: [u8; 64],
@@ -44,6 +44,13 @@ impl Key {
         Some(Key {
             bytes: with_zeros(text),
         })
+    }
+
+    /// Its bytes, padded with zeros.
+    pub fn bytes(&self) -> &[u8; 64]
+        ensures { result.now ≡ self.now }
+    {
+        &self.bytes
     }
 
     /// Whether the keys are the same. All bytes are compared, wherever the first difference is, so that the time reveals nothing.

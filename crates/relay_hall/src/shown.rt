@@ -1,14 +1,15 @@
 //! A board that is looked at.
 
-ghost use Rattle.std.specs.Prelude.{◌≡◌, ◌++◌, drop, OnOk, Some};
+ghost use Rattle.std.specs.Prelude.{◌≡◌, ◌++◌, drop, length, OnOk, Some};
 ghost use Rattle.c960_game.specs.Positions.{position_at};
 ghost use Rattle.relay_hall.specs.Keys.{is_owner};
 ghost use Rattle.relay_hall.specs.Reading.{MovesFrom, last_of, summary_of};
 
 use crate::hosted::Hosted;
 use crate::key::Key;
+use crate::owner::Owner;
 use c960_board::{Move, Position};
-use c960_game::{Outcome, Replaying};
+use c960_game::Outcome;
 use live_board::Board;
 use relay_core::BoardName;
 use relay_messages::BoardSummary;
@@ -39,6 +40,27 @@ impl<'a> Shown<'a> {
         self.name
     }
 
+    /// Who opened it.
+    pub fn owner(&self) -> Owner
+        ensures { result ≡ self.now.owner }
+    {
+        self.hosted.owner
+    }
+
+    /// The number of its start.
+    pub fn start(&self) -> u16
+        ensures { result ≡ self.now.game.start }
+    {
+        self.hosted.board.start()
+    }
+
+    /// How many moves were made.
+    pub fn plies(&self) -> u16
+        ensures { result ≡ length self.now.game.log }
+    {
+        self.hosted.board.len()
+    }
+
     /// How its game ended, once it has.
     pub fn outcome(&self) -> Option<Outcome>
         ensures { result ≡ self.now.game.outcome }
@@ -67,13 +89,6 @@ impl<'a> Shown<'a> {
         ensures { result ≡ position_at self.now.game.start self.now.game.log place }
     {
         self.hosted.board.position_at(place)
-    }
-
-    /// The position after that many moves, to be worked out without the hall, or None exactly if fewer were made.
-    pub fn replay_at(&self, place: u16) -> Option<Replaying>
-        ensures { result ≡ position_at self.now.game.start self.now.game.log place }
-    {
-        self.hosted.board.replay_at(place)
     }
 
     /// Whether it belongs to connections with this key: the connection that opened it had the key.
