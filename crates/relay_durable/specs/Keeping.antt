@@ -1,0 +1,18 @@
+-- That what a hall has is in a journal, and what of it is on the disk.
+use Rattle.std.specs.Prelude.{◌≡◌, ◌≤◌, ℕ, false, List, length, Option, None, Some}
+use Rattle.chained_lines.specs.Lines.{Line, file_of, no_seal}
+use Rattle.relay_hall.specs.Record.{FloorRecord}
+use Rattle.relay_journal.specs.Standing.{StandFor}
+use Rattle.relay_journal.specs.Writing.{IsWritten, ScribeRecord}
+
+-- The bytes of the journal are these lines, which stand for the boards, and all of them are synced, if the bytes are known.
+pub record IsOnDisk {S : Type 0} (contents : S → Option (List ℕ)) (synced : S → ℕ) (s : ScribeRecord S) (f : FloorRecord) : Type 0 where
+  pub lines : List Line
+  pub boards : StandFor lines f
+  pub bytes : (written : List ℕ) → contents s.journal.storage ≡ Some written → written ≡ file_of no_seal lines
+  pub synced_all : (written : List ℕ) → contents s.journal.storage ≡ Some written → length written ≤ synced s.journal.storage
+
+-- while nothing has failed, what was noted stands for the boards
+abbrev pub IsKept : {S : Type 0} → (S → Option (List ℕ)) → (S → ℕ) → Option (ScribeRecord S) → FloorRecord → Type 0
+IsKept contents synced None f = Unit {0}
+IsKept contents synced (Some s) f = s.has_failed ≡ false → IsWritten contents synced s f
