@@ -177,6 +177,13 @@ impl<S: StableStorage> DurableService<S> {
         self.service.knows_full(at, is_full);
     }
 
+    /// As `Service::takes_boards`.
+    pub fn takes_boards(&mut self, takes: bool)
+        ensures { self.new ≡ self.old }
+    {
+        self.service.takes_boards(takes);
+    }
+
     /// As `Service::take_said`.
     pub fn take_said(&mut self, number: u64) -> bool
         ensures { self.new ≡ self.old }
