@@ -1,6 +1,6 @@
 //! What a journal writes to.
 
-ghost use Rattle.std.specs.Prelude.{◌≤◌, ℕ, List, Option, None, OnOk};
+ghost use Rattle.std.specs.Prelude.{◌≡◌, ◌≤◌, ℕ, List, Option, None, OnOk};
 ghost use Rattle.std.specs.Io.{WritesAtMost};
 ghost use Rattle.std.specs.Io.KnownBytes.{Keeps, WriteAppends};
 ghost use Rattle.chained_lines.specs.Storage.{IsSynced, SyncHasCause, WriteHasCause};
@@ -12,7 +12,7 @@ use std::io::{ErrorKind, Write};
 /// A file at whose end bytes are written. What a crash at some moment leaves of it is `IsLeft` of the bytes that were written and of how
 /// many of them were synced before that moment.
 pub trait StableStorage {
-    /// All its bytes, where they are known.
+    /// All its bytes, where they are known. Nothing that is done here makes them known.
     ghost contents: { Self → Option (List ℕ) };
 
     /// How many of them, from the first on, no crash takes away.
@@ -30,6 +30,7 @@ pub trait StableStorage {
         ensures bound { WritesAtMost result bytes.now }
         ensures bytes { WriteAppends (contents self.old) (contents self.new) result bytes.now }
         ensures synced { synced self.old ≤ synced self.new }
+        ensures unknown { contents self.old ≡ None → contents self.new ≡ None }
         ensures cause { WriteHasCause (failures self.old) (failures self.new) result bytes.now };
 
     /// Afterwards no crash takes any of its bytes away.
@@ -42,6 +43,7 @@ pub trait StableStorage {
         ensures bytes { Keeps (contents self.old) (contents self.new) }
         ensures synced { synced self.old ≤ synced self.new }
         ensures all { OnOk result (IsSynced (contents self.new) (synced self.new)) }
+        ensures unknown { contents self.old ≡ None → contents self.new ≡ None }
         ensures cause { SyncHasCause (failures self.old) (failures self.new) result };
 }
 
