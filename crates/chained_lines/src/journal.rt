@@ -114,6 +114,11 @@ impl<S: StableStorage> Journal<S> {
         !self.noted.is_empty()
     }
 
+    /// Whether its storage has room for more than what goes on. It is no promise.
+    pub fn has_room(&self) -> bool {
+        self.storage.has_room()
+    }
+
     /// The storage. What was noted since the last commit is not in it.
     pub fn into_storage(self) -> S
         ensures { result ≡ self.storage }

@@ -117,7 +117,8 @@ impl<S: StableStorage> DurableService<S> {
         self.scribe.is_some()
     }
 
-    /// Writes what was noted to the journal, and syncs it. Afterwards all is settled.
+    /// Writes what was noted to the journal, and syncs it. Afterwards all is settled. If the disk has no room then but for what goes on, no
+    /// boards are opened until it has.
     ///
     /// # Errors
     ///
@@ -127,9 +128,11 @@ impl<S: StableStorage> DurableService<S> {
         ensures failed { OnErr result (is_settled self.new ≡ false) }
         ensures service { self.new.service ≡ self.old.service }
     {
-        match &mut self.scribe {
-            Some(scribe) => scribe.commit(),
-            None => Ok(()),
-        }
+        let Some(scribe) = &mut self.scribe else {
+            return Ok(());
+        };
+        scribe.commit()?;
+        self.service.takes_boards(scribe.has_room());
+        Ok(())
     }
 }

@@ -158,4 +158,9 @@ impl<S: StableStorage> Scribe<S> {
     {
         self.has_failed
     }
+
+    /// Whether its journal has room for more than what goes on. It is no promise.
+    pub fn has_room(&self) -> bool {
+        self.journal.has_room()
+    }
 }
