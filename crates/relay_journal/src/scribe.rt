@@ -152,6 +152,14 @@ impl<S: StableStorage> Scribe<S> {
         !self.has_failed && !self.journal.has_noted()
     }
 
+    /// Its journal. What was noted since the last commit is not in the storage.
+    pub fn into_journal(self) -> Journal<S>
+        ensures { result ≡ self.journal }
+    {
+        let Scribe { journal, .. } = self;
+        journal
+    }
+
     /// Whether something could not be noted, or a commit has failed.
     pub fn has_failed(&self) -> bool
         ensures { result ≡ self.now.has_failed }
