@@ -9,13 +9,13 @@ mod bodies;
 mod entry;
 pub mod laws;
 mod noted;
-mod noting;
 mod reading;
 mod recovering;
 mod saying;
 mod scribe;
 mod texts;
 mod unfit;
+mod writing;
 
 pub use bodies::{body_of, entry_in};
 pub use entry::Entry;
