@@ -8,6 +8,8 @@ ghost use Rattle.relay_core.specs.declared.step.Step.TheVariants.{Open, Submit, 
 ghost use Rattle.relay_messages.specs.Answers.{answer_text};
 ghost use Rattle.relay_messages.specs.declared.answer.Answer.TheVariants.{Fault};
 ghost use Rattle.live_board.specs.Accounts.{account_of};
+ghost use Rattle.live_board.specs.Board.{setup_of};
+ghost use Rattle.live_board.specs.Views.{starting};
 ghost use Rattle.relay_hall.specs.Keys.{is_owner};
 ghost use Rattle.relay_hall.specs.Meeting.{Meets};
 ghost use Rattle.relay_hall.specs.Reading.{place_of, shown_at};
@@ -52,6 +54,8 @@ pub(crate) struct Floor {
     handed: Option<Handed>,
     /// Whether a follow that might be made was refused since that was last asked.
     has_turned_away: bool,
+    /// Whether boards may be opened.
+    takes_boards: bool,
 }
 
 impl Model for Floor {
@@ -112,6 +116,7 @@ impl Floor {
             },
             handed: None,
             has_turned_away: false,
+            takes_boards: true,
         })
     }
 
@@ -124,7 +129,7 @@ impl Floor {
         if let Err(refusal) = may_open(is_named, start, self.boards.len(), self.limits.boards()) {
             return Reply::Refused(refusal);
         }
-        let Ok(live) = Board::open(self.alloc, start, self.limits) else {
+        let Ok(live) = self.begin(start) else {
             return Reply::Refused(Refusal::OutOfMemory);
         };
         let hosted = Hosted {
@@ -135,6 +140,16 @@ impl Floor {
             unreachable!();
         };
         Reply::Opened
+    }
+
+    /// A board with the game of this start, if boards may be opened.
+    fn begin(&self, start: u16) -> Result<Board, Refusal>
+        ensures knows { IfOk result (λ b. b.knows ≡ starting (setup_of start self.now.floor.limits)) }
+    {
+        if !self.takes_boards {
+            return Err(Refusal::OutOfMemory);
+        }
+        Board::open(self.alloc, start, self.limits)
     }
 
     /// Makes a move on a board. Refused: `NoSuchBoard`, `GameOver`, `LogFull`, `Illegal`.
@@ -278,6 +293,13 @@ impl Floor {
         ensures { self.new ≡ self.old }
     {
         mem::replace(&mut self.has_turned_away, false)
+    }
+
+    /// From now on boards may be opened, or may not: then an open that would be accepted is refused for want of memory.
+    pub(crate) fn takes_boards(&mut self, takes: bool)
+        ensures { self.new ≡ self.old }
+    {
+        self.takes_boards = takes;
     }
 
     /// From now on the board of this index is known to have no vacant slot, or is not.

@@ -208,6 +208,14 @@ impl Hall {
         self.floor.knows_full(at, is_full);
     }
 
+    /// From now on boards may be opened, or may not, since there is no room to keep what happens to them: then an open that would be
+    /// accepted is refused for want of memory, as any may be.
+    pub fn takes_boards(&mut self, takes: bool)
+        ensures { self.new ≡ self.old }
+    {
+        self.floor.takes_boards(takes);
+    }
+
     /// Whether any board belongs to connections with the key of this one. None does if it has no key.
     pub fn owns_any(&self, who: &Owner) -> bool
         ensures owns { result ≡ tells_of self.now.floor who.now OwnsAny }

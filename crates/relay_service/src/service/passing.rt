@@ -53,4 +53,11 @@ impl Service {
     {
         self.hall.knows_full(at, is_full);
     }
+
+    /// From now on boards may be opened, or may not: then an open that would be accepted is refused for want of memory, as any may be.
+    pub fn takes_boards(&mut self, takes: bool)
+        ensures { self.new ≡ self.old }
+    {
+        self.hall.takes_boards(takes);
+    }
 }

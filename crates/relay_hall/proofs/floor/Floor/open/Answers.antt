@@ -16,8 +16,8 @@ returns-in-Err c =
     (sym c.in-Err.is ∙ c.may_open.ensures
     ∙ (λ i. first_refusal (open_grounds (c.contains_key-is_named.ensures i) c.args.start (c.len.ensures.len i) (c.boards.ensures.value i)))))
 
-pub returns-in_default-open : goal.returns-in_default-open
-returns-in_default-open c =
+pub returns-in_default-begin : goal.returns-in_default-begin
+returns-in_default-begin c =
     let a = c.self.inside in
     rw (← c.self.view_is)
     (open_none_makes (state_of a) a.boards.entries refl c.args.board c.args.start c.in_default.field-0
