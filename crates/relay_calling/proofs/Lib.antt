@@ -2,6 +2,7 @@ pub mod lemmas
 mod Answering
 mod Arriving
 mod Connections
+mod Digests
 mod Handing
 mod Hearing
 mod Keying

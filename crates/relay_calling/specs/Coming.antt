@@ -19,7 +19,7 @@ comes Asks = false
 comes HandsOver = false
 comes Leaves = false
 
--- who a connection is by a request with this head: it has the key that is named there, if keys are taken
+-- who a connection is by a request with this head: its key is the digest of the one that is named there, if keys are taken
 abbrev pub owner_by : Bool → List ℕ → Owner → Owner
 owner_by takes_keys head who = record who { key = cond takes_keys (key_of head) who.key }
 

@@ -1,6 +1,8 @@
--- The key that a request names: RFC 9112 section 3, RFC 3986 section 3.4.
+-- The key that a request names, and what stands for it: RFC 9112 section 3, RFC 3986 section 3.4, FIPS 180-4.
 use Rattle.std.specs.Prelude.{ℕ, suc, ◌==◌, ◌&&◌, nat_eq, List, [], ◌∷◌, length, drop, codes, cond, not, Option, None, Some}
 use Rattle.std.specs.List.{starts_with, take_while}
+use Rattle.hex.specs.Hex.{encode_lower}
+use Rattle.sha2.specs.Sha256.{sha256}
 use Rattle.relay_hall.specs.Keys.{filled, is_key}
 
 -- the bytes in front of the first of this value, or all; and those behind it, or none
@@ -27,9 +29,13 @@ unfoldable pub fields_of : List ℕ → List (List ℕ)
 fields_of [] = [] ∷ []
 fields_of (b ∷ bytes) = cond (b == 38) ([] ∷ fields_of bytes) (onto_first b (fields_of bytes))
 
--- the key that a field gives: what follows `key=`, if that is a key
+-- what stands for a key from then on: its SHA-256 digest in 64 lower-case hexadecimal digits, which are a key themselves
+abbrev pub digest_of : List ℕ → List ℕ
+digest_of text = encode_lower (sha256 text)
+
+-- the key that a field gives: the digest of what follows `key=`, if that is a key
 abbrev pub key_in : List ℕ → Option (List ℕ)
-key_in field = cond (starts_with nat_eq field (codes "key=") && is_key (drop 4 field)) (Some (filled (drop 4 field))) None
+key_in field = cond (starts_with nat_eq field (codes "key=") && is_key (drop 4 field)) (Some (filled (digest_of (drop 4 field)))) None
 
 -- the first key that a field gives
 abbrev pub first_of : Option (List ℕ) → Option (List ℕ) → Option (List ℕ)

@@ -1,13 +1,15 @@
-//! The key that a request names.
+//! The key that a request names, and what stands for it.
 
 ghost use Rattle.std.specs.Prelude.{◌≡◌, ◌≤◌, length, not, ◌==◌};
 ghost use Rattle.std.specs.List.{position_or_len};
-ghost use Rattle.relay_calling.specs.Keys.{behind_first, fields_of, first_key, in_front, key_in, key_of};
+ghost use Rattle.relay_calling.specs.Keys.{behind_first, digest_of, fields_of, first_key, in_front, key_in, key_of};
 
+use hex::encode_to_slice;
 use relay_hall::Key;
+use sha2::{Digest, Sha256};
 
-/// The key in the target of a request with this head (RFC 9112, section 3). The fields of its query come after the first `?` and are
-/// separated by `&`. The key is the value of the first field that is `key=` followed by a key. Nothing else is looked at.
+/// What stands for the key in the target of a request with this head (RFC 9112, section 3). The fields of its query come after the first
+/// `?` and are separated by `&`. The key is the value of the first field that is `key=` followed by a key. Nothing else is looked at.
 pub(crate) fn key_of(head: &[u8]) -> Option<Key>
     ensures { result ≡ key_of head.now }
 {
@@ -47,7 +49,7 @@ fn place_of(byte: u8, bytes: &[u8]) -> usize
     bytes.len()
 }
 
-/// The first key that a field of this query gives.
+/// What stands for the first key that a field of this query gives.
 fn first_key(query: &[u8]) -> Option<Key>
     ensures { result ≡ first_key (fields_of query.now) }
 {
@@ -64,12 +66,26 @@ fn first_key(query: &[u8]) -> Option<Key>
     }
 }
 
-/// The key that this field gives.
+/// What stands for the key that this field gives.
 fn key_in(field: &[u8]) -> Option<Key>
     ensures { result ≡ key_in field.now }
 {
     if !field.starts_with(b"key=") {
         return None;
     }
-    Key::parse(&field[4..])
+    let text = &field[4..];
+    Key::parse(text)?;
+    Key::parse(&digest_of(text))
+}
+
+/// What stands for a key once its request is read: its SHA-256 digest (FIPS 180-4) in 64 lower-case hexadecimal digits. They are a key
+/// themselves, but another one: whoever sees them cannot come with them.
+fn digest_of(text: &[u8]) -> [u8; 64]
+    ensures { result ≡ digest_of text.now }
+{
+    let mut digits = [0; 64];
+    let Ok(()) = encode_to_slice(Sha256::digest(text).as_slice(), &mut digits) else {
+        unreachable!();
+    };
+    digits
 }

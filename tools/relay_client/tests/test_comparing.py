@@ -1,12 +1,13 @@
 """Whether comparing keys takes as long wherever they differ. No contract speaks of time, and a clock shows it by luck. So valgrind counts
-the instructions that the built program runs to compare the key of a stranger with those of all boards, from which it differs in the first,
-a middle or the last byte."""
+the instructions that the built program runs to compare the key of a stranger with those of all boards. It compares their digests, of which
+nobody can choose more than some digits. So they differ in the first, the third or the fifth."""
 
 import concurrent.futures
+import hashlib
+import itertools
 import pathlib
 import re
 import shutil
-import string
 import tempfile
 import unittest
 
@@ -16,12 +17,11 @@ from relay_client.server import Server
 from relay_client.tests.sessions import owner_of
 from relay_client.texts import NO_BOARD, follows, refused, submits
 
-ALPHABET = string.ascii_letters + string.digits + "_-"
-KEY = ALPHABET  # The longest key that there may be.
-PLACES = 0, len(KEY) // 2, len(KEY) - 1
+KEY = "the-key-of-a-stranger"
+PLACES = 0, 2, 4
 BOARDS, FEWER = 24, 12
 ASKED = 150  # Each time its key is compared with that of every board.
-LEAST = 16  # Instructions at least for comparing two keys of 64 bytes, as many at a time as the processor takes.
+LEAST = 16  # Instructions at least for comparing two digests of 64 digits, as many at a time as the processor takes.
 # The function that compares a key with those of all boards, or the one that asks for that, where a compiler has put the former into it.
 COMPARES = "relay_hall::boards::owns_any", "relay_service::service::Service::is_owner"
 NOT_YOURS = refused(13, "NotYourBoard")
@@ -33,10 +33,17 @@ def counted_function():
     return next(it for it in COMPARES if it.encode() in names)
 
 
+def digest_of(key):
+    return hashlib.sha256(key.encode()).hexdigest()
+
+
 def keys_that_differ(place, count):
-    """This many keys that differ from the stranger's, and from one another, only at this place."""
-    others = [it for it in ALPHABET if it != KEY[place]]
-    return [KEY[:place] + it + KEY[place + 1:] for it in others[:count]]
+    """This many keys whose digests differ from the stranger's at this place first."""
+    digest = digest_of(KEY)
+    keys = (f"the-key-of-owner-{number}" for number in itertools.count())
+    others = ((key, digest_of(key)) for key in keys)
+    fit = (key for key, it in others if it.startswith(digest[:place]) and it[place] != digest[place])
+    return list(itertools.islice(fit, count))
 
 
 def instructions_of_a_stranger(place, boards):

@@ -192,3 +192,29 @@ fn the_first_key_in_the_query_is_the_key(rt: HostRuntime) {
         assert!(rt; owns(&rt, alloc, &hall, *takes_keys, *target) == *is_owner);
     }
 }
+
+/// What `sha256sum` prints of the key of the owner.
+const DIGEST: &[u8; 64] = b"9f9f5111f7b27a781f1f1ddde5ebc2dd2b796bfc7365c9c28b548e564176929f";
+
+/// Whether a connection is known by these digits.
+fn is_known_by(connection: &OperatorConnection, digits: &[u8; 64]) -> bool {
+    match &connection.owner().key {
+        Some(key) => key.bytes() == digits,
+        None => false,
+    }
+}
+
+#[test]
+fn of_a_key_its_digest_is_known(rt: HostRuntime) {
+    let connection = with_target(&rt, rt.alloc(), 2, true, b"/?key=0123456789abcdef");
+    assert!(rt; is_known_by(&connection, DIGEST));
+}
+
+#[test]
+fn a_digest_is_another_key(rt: HostRuntime) {
+    let alloc = rt.alloc();
+    let mut hall = hall(&rt, alloc);
+    opens(&rt, alloc, &mut hall);
+    let target = b"/?key=9f9f5111f7b27a781f1f1ddde5ebc2dd2b796bfc7365c9c28b548e564176929f";
+    assert!(rt; !owns(&rt, alloc, &hall, true, target));
+}
