@@ -1,6 +1,6 @@
 //! How a journal ends.
 
-ghost use Rattle.std.specs.Prelude.{◌≡◌};
+ghost use Rattle.std.specs.Prelude.{◌≡◌, length};
 ghost use Rattle.relay960.specs.JournalEnds.{end_of as end_in, trimmed};
 
 use chained_lines::{LaterWrite, later_write};
@@ -32,13 +32,11 @@ pub(super) fn end_of(rest: &[u8]) -> JournalEnd
 
 /// How many bytes these are without the zeros at their end.
 fn len_without_zeros(bytes: &[u8]) -> usize
-    ensures { result ≡ trimmed bytes.now }
+    ensures { result ≡ trimmed bytes.now (length bytes.now) }
 {
-    let mut len = 0;
-    for at in 0..bytes.len() {
-        if bytes[at] != 0 {
-            len = at + 1;
-        }
+    let mut len = bytes.len();
+    while len > 0 && bytes[len - 1] == 0 {
+        len -= 1;
     }
     len
 }

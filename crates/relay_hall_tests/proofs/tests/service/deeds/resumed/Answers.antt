@@ -1,0 +1,6 @@
+use Rattle.std.proofs.Common.{[], rules, refl}
+use Rattle.relay_hall_tests.proofs.tests.service.deeds.resumed.Goals as goal
+
+pub resume-requires : goal.resume-requires
+resume-requires c =
+    record { events = []; told = []; history = []; run = (refl, search rules); orderly = tt; there = tt; all_gone = λ key. refl; fresh = λ i more. refl }
