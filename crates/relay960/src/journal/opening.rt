@@ -1,15 +1,16 @@
 //! A journal with which a relay goes on.
 
-ghost use Rattle.std.specs.Prelude.{IfOk};
+ghost use Rattle.std.specs.Prelude.{IfOk, List};
+ghost use Rattle.chained_lines.specs.Lines.{Line};
+ghost use Rattle.relay_journal.specs.Bodies.{SaysEntries};
 ghost use Rattle.relay_durable.specs.Keeping.{IsJournalOf};
 
-use crate::failure::Device;
 use crate::journal::contents::{Contents, contents_of, read_all};
 use crate::journal::end::JournalEnd;
 use crate::journal::folder::sync_folder;
 use crate::journal::mending::set_aside;
 use crate::serving::ServeFault;
-use chained_lines::{Journal, StableFile};
+use chained_lines::{Journal, NoteError, StableFile, StableStorage};
 use relay_journal::{Entry, begin};
 use std::alloc::Global;
 use std::fs::{File, Files, OpenOptions, TryLockError};
@@ -65,7 +66,7 @@ pub fn open_journal<'a, R: Files<File = File> + Eprint>(
     alloc: Global,
     path: &'a str,
 ) -> Result<Opened, ServeFault<'a>>
-    ensures { IfOk result (λ o. IsJournalOf StableFile.StableStorage.contents StableFile.StableStorage.synced o.journal o.entries.items) }
+    ensures { IfOk result (λ o. IsJournalOf ⟦<StableFile as StableStorage>⟧.contents ⟦<StableFile as StableStorage>⟧.synced o.journal o.entries.items) }
 {
     let mut file = match lock(rt, path) {
         Ok(file) => file,
@@ -82,11 +83,26 @@ pub fn open_journal<'a, R: Files<File = File> + Eprint>(
             return Err(ServeFault::of_file(path, reason));
         }
     }
+    match opened(alloc, file, len, contents) {
+        Ok(opened) => Ok(opened),
+        Err(_) => Err(ServeFault::OutOfMemory),
+    }
+}
+
+/// The journal in this file, which has so many bytes, and says this. If it has no line, the first is noted.
+///
+/// # Errors
+///
+/// There was no memory.
+fn opened(alloc: Global, file: File, len: usize, contents: Contents) -> Result<Opened, NoteError>
+    ensures { (ls : List Line) → SaysEntries ls contents.entries.items → IfOk result (λ o.
+        IsJournalOf ⟦<StableFile as StableStorage>⟧.contents ⟦<StableFile as StableStorage>⟧.synced o.journal o.entries.items) }
+{
     let Contents { entries, sound, .. } = contents;
     let storage = StableFile::behind(file, sound.bytes as u64, len as u64);
     let mut journal = Journal::behind(alloc, storage, sound.seal);
-    if sound.lines == 0 && begin(&mut journal).is_err() {
-        return Err(ServeFault::OutOfMemory);
+    if sound.lines == 0 {
+        begin(&mut journal)?;
     }
     Ok(Opened { journal, entries })
 }

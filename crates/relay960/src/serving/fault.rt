@@ -9,14 +9,14 @@ use std::alloc::AllocError;
 use std::net::SocketAddr;
 use std::{fmt, io};
 
-/// Why nothing was served, or a journal was not checked. It is shown as `fault 41 Device`, with its number and its name.
+/// Why nothing was served or why serving ended early, or why a journal was not checked. It is shown as `fault 41 Device`, with its number and its name.
 #[derive(Clone, Copy)]
 pub enum ServeFault<'a> {
     /// The server cannot listen on a port, or cannot have its journal.
     Device(Failure<'a>),
     /// The journal could not be read, or is none that a relay can go on with.
     Read(Failure<'a>),
-    /// What is announced could not be written, or the journal.
+    /// What is announced could not be written, or the journal, or what was found in one.
     Write(Failure<'a>),
     /// There was no memory.
     OutOfMemory,
@@ -78,8 +78,7 @@ impl<'a> ServeFault<'a> {
         ensures { result ≡ serve_fault_failure self.now }
     {
         match self {
-            ServeFault::Device(failure) | ServeFault::Read(failure) | ServeFault::Write(failure) =>
-                { Some(*failure) }
+            ServeFault::Device(it) | ServeFault::Read(it) | ServeFault::Write(it) => Some(*it),
             ServeFault::OutOfMemory => None,
         }
     }

@@ -1,13 +1,14 @@
 //! What is served: boards and connections, and the journal that keeps the boards, if there is one.
 
-ghost use Rattle.std.specs.Prelude.{◌≡◌, ◌*◌, nat_lt, true, IfOk, None, is_some};
+ghost use Rattle.std.specs.Prelude.{◌≡◌, ◌*◌, true, IfOk, IsSome, None, is_some};
+ghost use Rattle.relay_durable.specs.Keeping.{IsJournalOf};
 ghost use Rattle.relay_durable.specs.Record.{is_settled};
-ghost use Rattle.relay_service.specs.Record.{begun};
+ghost use Rattle.relay960.specs.Serving.{GoesOn, IsNew};
 
 use crate::failure::Device;
 use crate::journal::{JournalDamage, Opened, line_of, open_journal};
 use crate::serving::fault::ServeFault;
-use chained_lines::StableFile;
+use chained_lines::{StableFile, StableStorage};
 use relay_durable::DurableService;
 use relay_hall::Hall;
 use relay_journal::Unfit;
@@ -37,8 +38,8 @@ pub(super) fn relay_of<'a, R: Files<File = File> + Eprint>(
     alloc: Global,
     service: &Service<'a>,
 ) -> Result<DurableService<StableFile>, ServeFault<'a>>
-    ensures plain { service.now.journal ≡ None → IfOk result (λ relay. relay ≡ record { service = begun service.now.limits (service.now.grace * 1000) (nat_lt 0 service.now.grace); scribe = None }) }
-    ensures kept { IfOk result (λ relay. is_some relay.scribe ≡ is_some service.now.journal) }
+    ensures new { service.now.journal ≡ None → IfOk result (λ relay. IsNew service.now.limits service.now.grace relay) }
+    ensures goes_on { IsSome service.now.journal → IfOk result (λ relay. GoesOn service.now.limits service.now.grace relay.service) }
     ensures settled { IfOk result (λ relay. is_settled relay ≡ true) }
 {
     match service.journal {
@@ -56,7 +57,7 @@ fn new_relay<'a>(
     alloc: Global,
     service: &Service,
 ) -> Result<DurableService<StableFile>, ServeFault<'a>>
-    ensures { IfOk result (λ relay. relay ≡ record { service = begun service.now.limits (service.now.grace * 1000) (nat_lt 0 service.now.grace); scribe = None }) }
+    ensures { IfOk result (λ relay. IsNew service.now.limits service.now.grace relay) }
 {
     match RelayService::new(alloc, service.limits, grace_of(service), service.grace > 0) {
         Ok(relay) => Ok(DurableService::without_journal(alloc, relay)),
@@ -64,7 +65,7 @@ fn new_relay<'a>(
     }
 }
 
-/// The relay that goes on with the journal with this path. Its clock begins at 0.
+/// The relay that goes on with the journal with this path. All that its boards have is on the disk.
 ///
 /// # Errors
 ///
@@ -75,22 +76,11 @@ fn kept_relay<'a, R: Files<File = File> + Eprint>(
     service: &Service,
     path: &'a str,
 ) -> Result<DurableService<StableFile>, ServeFault<'a>>
-    ensures kept { IfOk result (λ relay. is_some relay.scribe ≡ true) }
+    ensures goes_on { IfOk result (λ relay. GoesOn service.now.limits service.now.grace relay.service) }
     ensures settled { IfOk result (λ relay. is_settled relay ≡ true) }
 {
-    let Opened { journal, entries } = open_journal(rt, alloc, path)?;
-    let grace = grace_of(service);
-    let takes_keys = service.grace > 0;
-    let recovered = DurableService::recover(
-        alloc,
-        service.limits,
-        grace,
-        0,
-        takes_keys,
-        &entries,
-        journal,
-    );
-    let mut relay = match recovered {
+    let opened = open_journal(rt, alloc, path)?;
+    let mut relay = match go_on(alloc, service, opened) {
         Ok(relay) => relay,
         Err(Unfit::Refused(at)) => {
             return Err(ServeFault::damaged(path, JournalDamage::Refused(line_of(at))));
@@ -102,6 +92,32 @@ fn kept_relay<'a, R: Files<File = File> + Eprint>(
     }
     report(rt, path, relay.hall());
     Ok(relay)
+}
+
+/// The relay that goes on with a journal. Its clock begins at 0. What has ended is not in the journal yet.
+///
+/// # Errors
+///
+/// A hall with the limits of this service refuses an entry, or there was no memory.
+fn go_on(
+    alloc: Global,
+    service: &Service,
+    opened: Opened,
+) -> Result<DurableService<StableFile>, Unfit>
+    requires journal { IsJournalOf ⟦<StableFile as StableStorage>⟧.contents ⟦<StableFile as StableStorage>⟧.synced opened.journal opened.entries.items }
+    ensures goes_on { IfOk result (λ relay. GoesOn service.now.limits service.now.grace relay.service) }
+    ensures kept { IfOk result (λ relay. is_some relay.scribe ≡ true) }
+{
+    let Opened { journal, entries } = opened;
+    DurableService::recover(
+        alloc,
+        service.limits,
+        grace_of(service),
+        0,
+        service.grace > 0,
+        &entries,
+        journal,
+    )
 }
 
 /// Says on standard error what boards a journal has led to, if any: `journal FILE: 12 boards, 340 moves`.

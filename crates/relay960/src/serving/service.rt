@@ -1,6 +1,6 @@
 //! Serving.
 
-ghost use Rattle.std.specs.Prelude.{◌≡◌, IfOk};
+ghost use Rattle.std.specs.Prelude.{◌≡◌, IfOk, IsErr, MatchResult, Ok};
 ghost use Rattle.relay960.specs.Serving.{MeetsWith, most_of};
 
 use crate::failure::Device;
@@ -19,13 +19,13 @@ use std::sync::Wait;
 use std::thread::Threads;
 use std::time::{Clock, Duration};
 
-/// Listens, writes the line `listening P` to standard output, and `watching A:P` if there is a watch port. Serves until all connections
-/// have gone, or until standard input ends if that is asked for.
+/// Goes on with the journal, if there is one, and listens. Writes the line `listening P` to standard output, and `watching A:P` if there is a
+/// watch port. Serves until all connections have gone, or until standard input ends if that is asked for.
 ///
 /// # Errors
 ///
-/// Nothing was served: the server cannot listen on a port, the system lacks what serving takes, the lines could not be written, or there
-/// was no memory.
+/// Nothing was served: no relay can go on with the journal, the server cannot listen on a port, the system lacks what serving takes, the lines
+/// could not be written, or there was no memory. Or the journal failed while it was served.
 pub fn serve_run<'a, R>(
     rt: &R,
     alloc: Global,
@@ -64,16 +64,24 @@ where
     }
     let (ended, loops) = port.attend(rt, relay, loops, log);
     end_loops(rt, loops);
-    match ended {
-        Ok(end) => Ok(end),
-        Err(reason) => Err(ServeFault::unwritten(journal_of(service), reason)),
-    }
+    or_journal_fault(service, ended)
 }
 
-/// The journal, which has failed.
-fn journal_of<'a>(service: &Service<'a>) -> Device<'a> {
-    // Without one none fails.
-    Device::File(service.journal.unwrap_or(""))
+/// How serving ended, or that its journal failed.
+fn or_journal_fault<'a>(
+    service: &Service<'a>,
+    ended: io::Result<ServeEnd>,
+) -> Result<ServeEnd, ServeFault<'a>>
+    ensures { MatchResult ended (λ end. result ≡ Ok end) (λ _. IsErr result) }
+{
+    match ended {
+        Ok(end) => Ok(end),
+        Err(reason) => {
+            // Without a journal none fails.
+            let journal = Device::File(service.journal.unwrap_or(""));
+            Err(ServeFault::unwritten(journal, reason))
+        }
+    }
 }
 
 /// Listens on the watch port, if there is to be one.
