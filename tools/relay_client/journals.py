@@ -1,5 +1,5 @@
-"""Journals as files: lines, each sealed by a digest over the seal of the line before, its mark and what it says. The first line of each write
-has the mark `>`."""
+"""Journals as files: lines, each sealed by a digest over the seal of the line before, its mark and what it says. The first line of each
+write has the mark `>`."""
 
 import hashlib
 

@@ -57,7 +57,8 @@ GOOD = [
     # A hole in the last write, which a system may leave when the power fails.
     (journal(*WRITES[:2]) + bytes(80) + b"rest", [*BOARDS[1], f"torn at byte {len(journal(*WRITES[:2]))} (84 bytes)"]),
     *[(sealed(opened("b"), over("b", how, **more)), [f"board b: start 518, plies 0, {outcome}", "whole"])
-      for how, more, outcome in (("agreed", {}, "agreed"), ("abandoned", {}, "abandoned"), ("time", {"side": "white"}, "white loses on time"),
+      for how, more, outcome in (("agreed", {}, "agreed"), ("abandoned", {}, "abandoned"),
+                                 ("time", {"side": "white"}, "white loses on time"),
                                  ("decided", {"result": "1/2-1/2"}, "drawn by decision"))],
 ]
 
@@ -143,9 +144,9 @@ def cut_anywhere(file):
 
 
 def changed_anywhere(file):
-    """With any byte changed, a journal is damaged from its line on, as far as a later write shows that it had been synced; in the last write
-    it is torn."""
-    last = len(journal(*WRITES[:-1]))
+    """With any byte changed, a journal is damaged from its line on, if a later write shows that it had been synced. In the last write it is
+    torn. So it is where the line feed before that has changed: then the write begins in the middle of a line."""
+    last = len(journal(*WRITES[:-1])) - 1
     count = 0
     for at in range(len(WHOLE)):
         changed = WHOLE[:at] + bytes([WHOLE[at] ^ 1]) + WHOLE[at + 1:]

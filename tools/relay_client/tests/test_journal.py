@@ -195,7 +195,7 @@ class WhatIsNoJournal(Journals):
 
     def test_empty_files_zeros_and_a_beginning_of_the_first_line_are_new_journals(self):
         for data in b"", bytes(5000), journal([FIRST])[:20], journal([FIRST])[:20] + bytes(100):
-            with self.subTest(data=data):
+            with self.subTest(size=len(data)):
                 self.path.write_bytes(data)
                 with self.serves() as server:
                     owner_of(server, key=KEY)
@@ -259,7 +259,8 @@ class Damage(Journals):
 
 class ADeviceThatFails(Journals):
     def test_nothing_is_answered_once_a_write_has_failed(self):
-        """The file may have no more bytes than its lines have. The program finds the signal of such a limit ignored, as Python does. Peers hear nothing of the turn that failed, not even a close."""
+        """The file may have no more bytes than its lines have. The program finds the signal of such a limit ignored, as Python does. Peers
+        hear nothing of the turn that failed, not even a close."""
         with self.serves(restore_signals=False) as server:
             owner, guest = owner_of(server, key=KEY), guest_of(server)
             size = len(self.path.read_bytes().rstrip(b"\0"))
