@@ -11,8 +11,8 @@ use Rattle.relay_service.specs.declared.connection.Connection.{Connection}
 use Rattle.relay_service.specs.declared.connection.Connection.TheVariants.{Operator, Follower}
 
 -- the hall; the connections that are there, by their numbers; the number of the next one; whether requests may name keys; whether the end
--- of all was called; the limits and the grace with which the hall began; how many of the turns made it again before any connection came; and
--- all turns so far, the first one first
+-- of all was called; the limits and the grace with which the hall began; how many of the turns made it again before any connection came;
+-- and all turns so far, the first one first
 pub record ServiceRecord : Type 0 where
   pub hall : HallRecord
   pub connections : List (ℕ × Connection)
