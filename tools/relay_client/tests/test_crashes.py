@@ -182,7 +182,9 @@ class Story:
         for name, board in self.boards.items():
             if name not in kept:
                 assert not board.is_opened, f"{name} was opened, and is gone"
-                Connection(server.port).asks(follows(name), NO_BOARD)
+                stranger = Connection(server.port)
+                stranger.asks(follows(name), NO_BOARD)
+                stranger.close()
                 continue
             self.is_board_kept(name, board, kept[name], server)
 
@@ -376,11 +378,12 @@ class Faults(Crashes):
 
     def fills(self, file, reason, *statuses, **options):
         """Plays until the file has no room. All that was answered is there at a start with room, on another disk."""
-        moves, names, answered = long_game(1400), ["b1", "b2"], {}
-        with Server("--forever", "--plies", "1500", "--journal", str(file), **options) as server:
+        moves, names, answered, owners = long_game(1400), ["b1", "b2"], {}, []
+        with Server("--forever", "--plies", "1500", "--grace", "60", "--journal", str(file), **options) as server:
             with contextlib.suppress(Gone):
                 for name in names:
                     owner = comes(server.port, KEYS[name])
+                    owners.append(owner)
                     says(owner, opens(name))
                     hears(owner, OPENED)
                     answered[name] = 0
@@ -391,6 +394,8 @@ class Faults(Crashes):
                             hears(owner, played(place))
                             answered[name] += 1
             _, complaint, status = server.ended()
+            for owner in owners:
+                owner.close()
         self.assertIn(status, statuses)
         if status == 3:
             self.assertTrue(complaint.decode().endswith(f"fault 32 Write\n{file}: {reason}\n"), complaint)
@@ -403,7 +408,9 @@ class Faults(Crashes):
                 made = len(kept[name].moves)
                 self.assertGreaterEqual(made, count)
                 self.assertEqual(kept[name].moves, moves[:made])
-                Connection(server.port, key=KEYS[name]).asks(ends(name, "agreed"), ended("agreed"))
+                back = Connection(server.port, key=KEYS[name])
+                back.asks(ends(name, "agreed"), ended("agreed"))
+                back.close()
 
 
 def fault_is_told(crash, how):
