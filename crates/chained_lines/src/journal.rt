@@ -1,6 +1,6 @@
 //! A journal.
 
-ghost use Rattle.std.specs.Prelude.{◌≡◌, ◌≤◌, ◌∷◌, [], ◌++◌, ◌↔◌, ◌==◌, true, false, List, length, vec_len, OnErr, OnOk, IsErr, IsErrOf};
+ghost use Rattle.std.specs.Prelude.{◌≡◌, ◌≤◌, ◌∷◌, [], ◌++◌, ◌↔◌, ◌==◌, true, false, List, length, not, None, OnErr, OnOk, IsErr, IsErrOf};
 ghost use Rattle.chained_lines.specs.Lines.{Line, has_no_feed};
 ghost use Rattle.chained_lines.specs.Storage.{Failed};
 ghost use Rattle.chained_lines.specs.Journals.{HoldsLines, IsFrontOf, IsKnownFront, KeepsLines};
@@ -88,6 +88,7 @@ impl<S: StableStorage> Journal<S> {
         ensures emptied { OnOk result (self.new.noted ≡ []) }
         ensures kept { S.synced self.old.storage ≤ S.synced self.new.storage }
         ensures front { (ls : List Line) → HoldsLines S.contents S.synced self.old ls → IsKnownFront (S.contents self.new.storage) ls }
+        ensures unknown { S.contents self.old.storage ≡ None → S.contents self.new.storage ≡ None }
         ensures cause { self.old.has_failed ≡ false → OnErr result (Failed (S.failures self.old.storage) (S.failures self.new.storage)) }
         ensures failed { OnErr result (self.new.has_failed ≡ true) }
         ensures silent { self.old.has_failed ≡ true → IsErr result × (self.new ≡ self.old) }
@@ -104,6 +105,18 @@ impl<S: StableStorage> Journal<S> {
             self.noted.clear();
         }
         stored
+    }
+
+    /// Whether a line was noted since the last commit.
+    pub fn has_noted(&self) -> bool
+        ensures { result ≡ not (length self.now.noted == 0) }
+    {
+        !self.noted.is_empty()
+    }
+
+    /// Whether its storage has room for more than what goes on. It is no promise.
+    pub fn has_room(&self) -> bool {
+        self.storage.has_room()
     }
 
     /// The storage. What was noted since the last commit is not in it.

@@ -1,6 +1,6 @@
 //! Writing all of some bytes, and syncing them.
 
-ghost use Rattle.std.specs.Prelude.{◌≡◌, ◌≤◌, ℕ, length, take, OnErr, OnOk};
+ghost use Rattle.std.specs.Prelude.{◌≡◌, ◌≤◌, ℕ, length, take, None, OnErr, OnOk};
 ghost use Rattle.std.specs.Io.KnownBytes.{Appends};
 ghost use Rattle.chained_lines.specs.Storage.{Failed, FailedOrNot, IsSynced};
 
@@ -13,6 +13,7 @@ fn append_all<S: StableStorage>(bytes: &[u8], storage: &mut S) -> (usize, io::Re
     ensures all { OnOk result.1 (result.0 ≡ length bytes.now) }
     ensures bytes { Appends (S.contents storage.old) (S.contents storage.new) (take result.0 bytes.now) }
     ensures synced { S.synced storage.old ≤ S.synced storage.new }
+    ensures unknown { S.contents storage.old ≡ None → S.contents storage.new ≡ None }
     ensures later { FailedOrNot (S.failures storage.old) (S.failures storage.new) }
     ensures cause { OnErr result.1 (Failed (S.failures storage.old) (S.failures storage.new)) }
 {
@@ -37,6 +38,7 @@ pub(crate) fn store<S: StableStorage>(bytes: &[u8], storage: &mut S) -> io::Resu
     ensures all { OnOk result (Appends (S.contents storage.old) (S.contents storage.new) bytes.now) }
     ensures durable { OnOk result (IsSynced (S.contents storage.new) (S.synced storage.new)) }
     ensures synced { S.synced storage.old ≤ S.synced storage.new }
+    ensures unknown { S.contents storage.old ≡ None → S.contents storage.new ≡ None }
     ensures cause { OnErr result (Failed (S.failures storage.old) (S.failures storage.new)) }
 {
     append_all(bytes, storage).1?;

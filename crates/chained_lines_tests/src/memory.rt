@@ -46,6 +46,10 @@ impl StableStorage for Memory {
         self.synced = self.synced.max(self.bytes.len());
         Ok(())
     }
+
+    fn has_room(&self) -> bool {
+        true
+    }
 }
 
 /// Counts a call, or fails if none is answered any more.

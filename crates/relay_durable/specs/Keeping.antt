@@ -1,9 +1,14 @@
 -- That what a hall has is in a journal, and what of it is on the disk.
-use Rattle.std.specs.Prelude.{◌≡◌, ◌≤◌, ℕ, false, List, length, Option, None, Some}
+use Rattle.std.specs.Prelude.{◌≡◌, ◌≤◌, ◌⊎◌, ℕ, false, List, ◌∷◌, length, Option, None, Some}
 use Rattle.chained_lines.specs.Lines.{Line, file_of, no_seal}
-use Rattle.relay_hall.specs.Record.{FloorRecord}
+use Rattle.relay_hall.specs.Record.{FloorRecord, HallRecord}
+use Rattle.relay_hall.specs.Runs.{HallEvent, HallStep, HallTold}
 use Rattle.relay_journal.specs.Standing.{StandFor}
-use Rattle.relay_journal.specs.Writing.{IsWritten, ScribeRecord}
+use Rattle.relay_journal.specs.Scribes.{ScribeRecord}
+use Rattle.relay_journal.specs.Writing.{HoldsIfKnown, IsWritten}
+use Rattle.relay_journal.specs.Bodies.{SaysEntries}
+use Rattle.relay_journal.specs.declared.entry.Entry.{Entry}
+use Rattle.chained_lines.specs.Records.{JournalRecord}
 
 -- The bytes of the journal are these lines, which stand for the boards, and all of them are synced, if the bytes are known.
 pub record IsOnDisk {S : Type 0} (contents : S → Option (List ℕ)) (synced : S → ℕ) (s : ScribeRecord S) (f : FloorRecord) : Type 0 where
@@ -16,3 +21,14 @@ pub record IsOnDisk {S : Type 0} (contents : S → Option (List ℕ)) (synced : 
 abbrev pub IsKept : {S : Type 0} → (S → Option (List ℕ)) → (S → ℕ) → Option (ScribeRecord S) → FloorRecord → Type 0
 IsKept contents synced None f = Unit {0}
 IsKept contents synced (Some s) f = s.has_failed ≡ false → IsWritten contents synced s f
+
+-- The journal says these entries behind its first line, and holds the lines that do, if its bytes are known.
+pub record IsJournalOf {S : Type 0} (contents : S → Option (List ℕ)) (synced : S → ℕ) (j : JournalRecord S) (es : List Entry) : Type 0 where
+  pub first : Line
+  pub others : List Line
+  pub said : SaysEntries (first ∷ others) es
+  pub holds : HoldsIfKnown contents synced j (first ∷ others)
+
+-- one event has passed in a hall, or none
+abbrev pub IsOneEvent : HallRecord → HallRecord → Type 0
+IsOneEvent k l = ((e : HallEvent) × (told : HallTold) × HallStep k e told l) ⊎ (l ≡ k)

@@ -1,6 +1,6 @@
 -- What contracts see of a service and its journal.
-use Rattle.std.specs.Prelude.{Bool, true, Option, None, Some}
-use Rattle.relay_journal.specs.Writing.{ScribeRecord, is_settled_scribe}
+use Rattle.std.specs.Prelude.{◌==◌, ◌&&◌, Bool, true, length, not, Option, None, Some}
+use Rattle.relay_journal.specs.Scribes.{ScribeRecord}
 use Rattle.relay_service.specs.Record.{ServiceRecord}
 
 -- the service, and who writes its journal, if there is one
@@ -11,7 +11,7 @@ pub record DurableRecord (S : Type 0) : Type 0 where
 -- all that its boards have is on the disk, as far as it is known: nothing was noted since the last commit, and nothing has failed
 abbrev pub is_settled_by : {S : Type 0} → Option (ScribeRecord S) → Bool
 is_settled_by None = true
-is_settled_by (Some s) = is_settled_scribe s
+is_settled_by (Some s) = not s.has_failed && (length s.journal.noted == 0)
 
 abbrev pub is_settled : {S : Type 0} → DurableRecord S → Bool
 is_settled d = is_settled_by d.scribe

@@ -1,9 +1,12 @@
 //! A service and its journal, as one value.
 
-ghost use Rattle.std.specs.Prelude.{◌≡◌, ◌*◌, None, IfOk, OnErr, OnOk};
-ghost use Rattle.chained_lines.specs.Lines.{Line};
-ghost use Rattle.relay_durable.specs.Record.{DurableRecord, is_settled};
-ghost use Rattle.relay_durable.specs.Keeping.{Keeps};
+ghost use Rattle.std.specs.Prelude.{◌≡◌, ℕ, None, IfOk, IsErrOf, OnErr, OnOk, false, is_some, length, true};
+ghost use Rattle.relay_hall.specs.Record.{HallRecord, nobody_yet};
+ghost use Rattle.relay_journal.specs.Restarting.{IsRefusedAt, IsRestarted};
+ghost use Rattle.relay_journal.specs.declared.unfit.Unfit.TheVariants.{Refused};
+ghost use Rattle.relay_service.specs.Resumed.{IsResumed};
+ghost use Rattle.relay_durable.specs.Keeping.{IsJournalOf, IsKept, IsOneEvent};
+ghost use Rattle.relay_durable.specs.Record.{is_settled};
 
 mod changing;
 mod looking;
@@ -14,7 +17,7 @@ use chained_lines::{Journal, StableStorage};
 use relay_hall::Hall;
 use relay_journal::{Entry, Scribe, Unfit, recover};
 use relay_service::Service;
-use std::alloc::{AllocError, Global};
+use std::alloc::Global;
 use std::io;
 use std::marker::Model;
 
@@ -41,7 +44,51 @@ impl<S: StableStorage> Model for DurableService<S> {
     ghost invariant = { IsDurable S.contents S.synced };
 }
 
+/// Notes what is missing in the journal, if there is one, behind an event of the hall or none. If that fails it does for good, and no commit
+/// succeeds any more.
+fn note<S: StableStorage>(alloc: Global, scribe: &mut Option<Scribe<S>>, hall: &Hall)
+    ensures { (k : HallRecord) → IsOneEvent k hall.now → IsKept S.contents S.synced scribe.old k.floor
+        → IsKept S.contents S.synced scribe.new hall.now.floor }
+{
+    if let Some(scribe) = scribe {
+        let _ = scribe.note(alloc, hall);
+    }
+}
+
 impl<S: StableStorage> DurableService<S> {
+    /// The service without connections whose boards these entries of a journal lead to, at this time, in which every operator was lost:
+    /// boards of a key wait for the whole grace, and games that nobody can come back to are ended as abandoned. That journal goes on, with
+    /// these ends: they are noted, and not committed yet.
+    ///
+    /// # Errors
+    ///
+    /// An entry was refused, or there was no memory.
+    pub fn recover(
+        alloc: Global,
+        limits: Limits,
+        grace: u64,
+        now: u64,
+        takes_keys: bool,
+        entries: &[Entry],
+        journal: Journal<S>,
+    ) -> Result<Self, Unfit>
+    where
+        S: Drop,
+        requires journal { IsJournalOf S.contents S.synced journal entries.now }
+        ensures restarted { IfOk result (λ d. IsRestarted limits grace now entries.now d.service.hall) }
+        ensures resumed { IfOk result (λ d. IsResumed limits grace (length entries.now) takes_keys d.service.hall d.service) }
+        ensures journal { IfOk result (λ d. is_some d.scribe ≡ true) }
+        ensures refused { (at : ℕ) → IsErrOf result (Refused at) → IsRefusedAt (nobody_yet limits grace) entries.now at }
+    {
+        let (hall, scribe) = recover(alloc, limits, grace, now, entries, journal)?;
+        let next = entries.len() as u64;
+        Ok(DurableService {
+            alloc,
+            service: Service::resume(alloc, hall, next, takes_keys, &limits, grace),
+            scribe: Some(scribe),
+        })
+    }
+
     /// This service without a journal: all is settled at any time.
     pub fn without_journal(alloc: Global, service: Service) -> Self
         ensures { result ≡ record { service = service; scribe = None } }
@@ -70,7 +117,8 @@ impl<S: StableStorage> DurableService<S> {
         self.scribe.is_some()
     }
 
-    /// Writes what was noted to the journal, and syncs it. Afterwards all is settled.
+    /// Writes what was noted to the journal, and syncs it. Afterwards all is settled. If the disk has no room then but for what goes on, no
+    /// boards are opened until it has.
     ///
     /// # Errors
     ///
@@ -80,16 +128,11 @@ impl<S: StableStorage> DurableService<S> {
         ensures failed { OnErr result (is_settled self.new ≡ false) }
         ensures service { self.new.service ≡ self.old.service }
     {
-        match &mut self.scribe {
-            Some(scribe) => scribe.commit(),
-            None => Ok(()),
-        }
-    }
-
-    /// Notes what is missing in the journal, behind an event of the hall. If that fails it does for good, and no commit succeeds any more.
-    fn note(&mut self) {
-        if let Some(scribe) = &mut self.scribe {
-            let _ = scribe.note(self.alloc, self.service.hall());
-        }
+        let Some(scribe) = &mut self.scribe else {
+            return Ok(());
+        };
+        scribe.commit()?;
+        self.service.takes_boards(scribe.has_room());
+        Ok(())
     }
 }

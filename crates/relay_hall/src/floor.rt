@@ -92,6 +92,16 @@ fn ended(answer: Result<Outcome, Refusal>) -> Reply
     }
 }
 
+/// A board with the game of this start, if boards may be opened.
+fn begin(takes_boards: bool, alloc: Global, start: u16, limits: Limits) -> Result<Board, Refusal>
+    ensures knows { IfOk result (λ b. b.knows ≡ starting (setup_of start limits)) }
+{
+    if !takes_boards {
+        return Err(Refusal::OutOfMemory);
+    }
+    Board::open(alloc, start, limits)
+}
+
 impl Floor {
     /// No boards, with room for as many as the limits allow.
     ///
@@ -129,7 +139,7 @@ impl Floor {
         if let Err(refusal) = may_open(is_named, start, self.boards.len(), self.limits.boards()) {
             return Reply::Refused(refusal);
         }
-        let Ok(live) = self.begin(start) else {
+        let Ok(live) = begin(self.takes_boards, self.alloc, start, self.limits) else {
             return Reply::Refused(Refusal::OutOfMemory);
         };
         let hosted = Hosted {
@@ -140,16 +150,6 @@ impl Floor {
             unreachable!();
         };
         Reply::Opened
-    }
-
-    /// A board with the game of this start, if boards may be opened.
-    fn begin(&self, start: u16) -> Result<Board, Refusal>
-        ensures knows { IfOk result (λ b. b.knows ≡ starting (setup_of start self.now.floor.limits)) }
-    {
-        if !self.takes_boards {
-            return Err(Refusal::OutOfMemory);
-        }
-        Board::open(self.alloc, start, self.limits)
     }
 
     /// Makes a move on a board. Refused: `NoSuchBoard`, `GameOver`, `LogFull`, `Illegal`.

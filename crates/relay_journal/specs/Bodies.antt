@@ -15,6 +15,11 @@ has_no_space text = list_all (λ b. not (b == 32)) text
 abbrev pub key_in : List ℕ → Option (Option (List ℕ))
 key_in text = cond (bytes_eq text (codes "-")) (Some None) (cond (is_key text) (Some (Some (filled text))) None)
 
+-- whether lines are made of an owner with this key, padded with zeros: it has all 64 bytes, or there is none
+abbrev pub is_written : Option (List ℕ) → Bool
+is_written None = true
+is_written (Some key) = is_key key
+
 -- the key of an open, or `-`; a space; and the command as in a script
 pub record IsBody (body : List ℕ) (e : Entry) : Type 0 where
   pub owner : List ℕ

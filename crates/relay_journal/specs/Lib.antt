@@ -1,7 +1,11 @@
+pub mod Behind
 pub mod Bodies
 pub mod Differences
 pub mod Entries
+pub mod Inner
 pub mod Kept
 pub mod Restarting
+pub mod Scribes
 pub mod Standing
 pub mod Texts
+pub mod Writing

@@ -1,9 +1,9 @@
 //! What a line of a journal says.
 
-ghost use Rattle.std.specs.Prelude.{◌≡◌, ◌≢◌, ◌++◌, ◌∷◌, false, None, Some, IfOk, IfSome};
+ghost use Rattle.std.specs.Prelude.{◌≡◌, ◌≢◌, ◌++◌, ◌∷◌, false, None, Some, IfOk, IfSome, is_some};
 ghost use Rattle.relay_messages.specs.declared.fault.MessageFault.TheVariants.{OutOfMemory};
 ghost use Rattle.relay_journal.specs.declared.entry.Entry.{Entry as Kept};
-ghost use Rattle.relay_journal.specs.Bodies.{IsBody, key_in};
+ghost use Rattle.relay_journal.specs.Bodies.{IsBody, is_written, key_in};
 ghost use Rattle.relay_journal.specs.Kept.{key_of};
 
 use crate::entry::Entry;
@@ -24,6 +24,19 @@ fn owner_in(text: &[u8]) -> Option<Option<Key>>
         Some(key) => Some(Some(key)),
         None => None,
     }
+}
+
+/// What a line has of an owner with this key, or `-` for none; or None if the key has fewer than 64 bytes, of which no line is made.
+pub(crate) fn owner_text(key: &Option<Key>) -> Option<&[u8]>
+    ensures text { IfSome result (λ text. key_in text.now ≡ Some key.now) }
+    ensures some { is_some result ≡ is_written key.now }
+{
+    let Some(key) = key else {
+        return Some(b"-");
+    };
+    let text = key.bytes().as_slice();
+    Key::parse(text)?;
+    Some(text)
 }
 
 /// Whether this is no fault of the text.

@@ -8,9 +8,12 @@
 mod bodies;
 mod entry;
 pub mod laws;
+mod noted;
+mod noting;
 mod reading;
 mod recovering;
 mod saying;
+mod scribe;
 mod texts;
 mod unfit;
 
@@ -18,5 +21,6 @@ pub use bodies::{body_of, entry_in};
 pub use entry::Entry;
 pub use reading::{FIRST_BODY, Unread, read_entries};
 pub use recovering::recover;
+pub use scribe::{Scribe, begin};
 pub use texts::command_of;
 pub use unfit::Unfit;

@@ -6,15 +6,18 @@ ghost use Rattle.c960_game.specs.declared.refusal.Refusal.TheVariants.{OutOfMemo
 ghost use Rattle.relay_core.specs.declared.reply.Reply.TheVariants.{Refused as RefusedBy};
 ghost use Rattle.relay_core.specs.History.{History, is_accepted};
 ghost use Rattle.relay_journal.specs.Restarting.{IsRefusedAt, IsRefusedBy, Leads, comes, goes, gone_from, said_again, said_from};
+ghost use Rattle.relay_journal.specs.Writing.{IsWritten};
 ghost use Rattle.relay_journal.specs.declared.unfit.Unfit.TheVariants.{Refused as RefusedAt};
 ghost use Rattle.relay_journal.specs.declared.saying.Unsaid.TheVariants.{OutOfMemory, Refused};
 
 use crate::entry::Entry;
+use crate::scribe::Scribe;
 use crate::unfit::Unfit;
 use c960_game::Refusal;
+use chained_lines::{NoteError, StableStorage};
 use relay_core::Reply;
 use relay_hall::{Hall, Key, Owner};
-use std::alloc::AllocError;
+use std::alloc::{AllocError, Global};
 
 /// Why an entry was not made again.
 #[derive(Clone, Copy)]
@@ -95,22 +98,49 @@ pub(crate) fn say_all(hall: &mut Hall, entries: &[Entry]) -> Result<(), Unfit>
     Ok(())
 }
 
-/// The connection of this number that said an entry goes, if it opened a board.
-fn go(hall: &mut Hall, who: u64, entry: &Entry)
-    ensures { (h : History) → Leads hall.old h (goes who entry.now) hall.new }
+/// The connection of this number that said an entry goes, if it opened a board, and what that ends is noted.
+///
+/// # Errors
+///
+/// The scribe failed.
+fn go<S: StableStorage>(
+    alloc: Global,
+    hall: &mut Hall,
+    scribe: &mut Scribe<S>,
+    who: u64,
+    entry: &Entry,
+) -> Result<(), NoteError>
+    ensures goes { (h : History) → Leads hall.old h (goes who entry.now) hall.new }
+    ensures written { IsWritten S.contents S.synced scribe.old hall.old.floor
+        → OnOk result (IsWritten S.contents S.synced scribe.new hall.new.floor) }
 {
     match *entry {
-        Entry::Opens(_, _, key) => hall.leave(&Owner { key, opener: who }),
-        Entry::Plays(..) => {}
-        Entry::Ends(..) => {}
+        Entry::Opens(_, _, key) => {
+            hall.leave(&Owner { key, opener: who });
+            scribe.note(alloc, hall)
+        }
+        Entry::Plays(..) => Ok(()),
+        Entry::Ends(..) => Ok(()),
     }
 }
 
 /// All of them go.
-pub(crate) fn go_all(hall: &mut Hall, entries: &[Entry])
-    ensures { (h : History) → Leads hall.old h (gone_from 0 entries.now) hall.new }
+///
+/// # Errors
+///
+/// The scribe failed.
+pub(crate) fn go_all<S: StableStorage>(
+    alloc: Global,
+    hall: &mut Hall,
+    scribe: &mut Scribe<S>,
+    entries: &[Entry],
+) -> Result<(), NoteError>
+    ensures gone { OnOk result ((h : History) → Leads hall.old h (gone_from 0 entries.now) hall.new) }
+    ensures written { IsWritten S.contents S.synced scribe.old hall.old.floor
+        → OnOk result (IsWritten S.contents S.synced scribe.new hall.new.floor) }
 {
     for at in 0..entries.len() {
-        go(hall, at as u64, &entries[at]);
+        go(alloc, hall, scribe, at as u64, &entries[at])?;
     }
+    Ok(())
 }

@@ -3,6 +3,7 @@
 ghost use Rattle.std.specs.Prelude.{◌≡◌};
 ghost use Rattle.relay_journal.specs.declared.unfit.Unfit.TheVariants.{OutOfMemory as NoMemory};
 
+use chained_lines::NoteError;
 use std::alloc::AllocError;
 
 /// Why no hall could be made of entries.
@@ -18,6 +19,14 @@ impl From<AllocError> for Unfit {
     ghost from_gives = { λ _ error. error ≡ NoMemory };
 
     fn from(_: AllocError) -> Unfit {
+        Unfit::OutOfMemory
+    }
+}
+
+impl From<NoteError> for Unfit {
+    ghost from_gives = { λ _ error. error ≡ NoMemory };
+
+    fn from(_: NoteError) -> Unfit {
         Unfit::OutOfMemory
     }
 }

@@ -8,8 +8,9 @@ ghost use Rattle.relay_hall.specs.Runs.{Ends, Shuts, Time};
 ghost use Rattle.relay_service.specs.Calls.{AnswersAt, DisconnectsAt, FailsAt, LeavesAt, Loses, Passes, PushFailsAt, PushesAt, PutsAt, ReceivesAt, Replaces, SendsAt};
 ghost use Rattle.relay_service.specs.Record.{opened};
 
-use crate::durable_service::DurableService;
+use crate::durable_service::{DurableService, note};
 use chained_lines::StableStorage;
+use relay_calling::laws::one_step_at_most;
 use relay_frames::Code;
 use std::alloc::AllocError;
 
@@ -51,8 +52,9 @@ impl<S: StableStorage> DurableService<S> {
         ensures ok { IfOk result (λ some. AnswersAt self.old.service number some self.new.service) }
         ensures err { OnErr result (FailsAt self.old.service number self.new.service) }
     {
+        one_step_at_most();
         let answered = self.service.answer(number);
-        self.note();
+        note(self.alloc, &mut self.scribe, self.service.hall());
         answered
     }
 
@@ -121,7 +123,7 @@ impl<S: StableStorage> DurableService<S> {
         ensures { LeavesAt self.old.service number self.new.service }
     {
         self.service.leave(number);
-        self.note();
+        note(self.alloc, &mut self.scribe, self.service.hall());
     }
 
     /// As `Service::disconnect`.
@@ -129,7 +131,7 @@ impl<S: StableStorage> DurableService<S> {
         ensures { DisconnectsAt self.old.service number self.new.service }
     {
         self.service.disconnect(number);
-        self.note();
+        note(self.alloc, &mut self.scribe, self.service.hall());
     }
 
     /// As `Service::tick`.
@@ -137,7 +139,7 @@ impl<S: StableStorage> DurableService<S> {
         ensures { Passes self.old.service (Time millis) self.new.service }
     {
         self.service.tick(millis);
-        self.note();
+        note(self.alloc, &mut self.scribe, self.service.hall());
     }
 
     /// As `Service::shut`.
@@ -145,7 +147,7 @@ impl<S: StableStorage> DurableService<S> {
         ensures { Passes self.old.service Shuts self.new.service }
     {
         self.service.shut();
-        self.note();
+        note(self.alloc, &mut self.scribe, self.service.hall());
     }
 
     /// As `Service::end_all`.
@@ -153,7 +155,7 @@ impl<S: StableStorage> DurableService<S> {
         ensures { Passes (record self.old.service { is_ending = true }) Ends self.new.service }
     {
         self.service.end_all();
-        self.note();
+        note(self.alloc, &mut self.scribe, self.service.hall());
     }
 
     /// As `Service::take_changed`.

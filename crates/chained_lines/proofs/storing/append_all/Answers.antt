@@ -18,11 +18,12 @@ loop-written-preserved g c =
       within = omega arith;
       appended = subst (Appends _ _) joined (Appends-trans _ _ _ _ _ was.appended c.in-Ok.ensures.bytes);
       kept = omega (arith, was.kept, c.in-Ok.ensures.synced);
+      unknown = λ none. c.in-Ok.ensures.unknown (was.unknown none);
       later = later_failures _ _ _ was.later c.in-Ok.ensures.cause.later;
     }
 
 pub loop-written-init : goal.loop-written-init
-loop-written-init g c = record { within = omega arith; appended = Appends-nil _; kept = omega arith; later = same_failures _ }
+loop-written-init g c = record { within = omega arith; appended = Appends-nil _; kept = omega arith; unknown = λ none. none; later = same_failures _ }
 
 pub returns-in-Err-clause-bytes : goal.returns-in-Err-clause-bytes
 returns-in-Err-clause-bytes g c = appends_kept _ _ _ _ c.loop-written.invariant.appended c.in-Err.ensures.bytes

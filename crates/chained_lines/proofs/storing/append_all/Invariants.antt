@@ -1,6 +1,6 @@
 -- The loop ends, since each turn writes some bytes; what is written is in the storage.
-use Rattle.std.proofs.Common.{ℕ, ◌-◌, ◌≤◌, List, length, take}
-use Rattle.std.specs.Prelude.{Option}
+use Rattle.std.proofs.Common.{◌≡◌, ℕ, ◌-◌, ◌≤◌, List, length, take}
+use Rattle.std.specs.Prelude.{Option, None}
 use Rattle.std.specs.Io.KnownBytes.{Appends}
 use Rattle.chained_lines.specs.Storage.{FailedOrNot}
 use Rattle.chained_lines.proofs.storing.append_all.Given as goal
@@ -9,6 +9,7 @@ pub record HasWritten {S : Type 0} (contents : S → Option (List ℕ)) (synced 
   pub within : written ≤ length bytes
   pub appended : Appends (contents old) (contents new) (take written bytes)
   pub kept : synced old ≤ synced new
+  pub unknown : contents old ≡ None → contents new ≡ None
   pub later : FailedOrNot (failures old) (failures new)
 
 abbrev pub invariant-loop-written : goal.invariant-loop-written

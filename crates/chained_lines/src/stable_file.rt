@@ -1,0 +1,93 @@
+//! A file on a disk that keeps lines.
+
+ghost use Rattle.std.specs.Prelude.{None};
+
+use crate::stable_storage::StableStorage;
+use std::fs::File;
+use std::io;
+use std::io::ErrorKind;
+use std::os::unix::fs::FileExt;
+
+/// With fewer bytes of zeros than these behind what was written more are put there.
+const LEAST_ROOM_BYTES: u64 = 32_768;
+
+/// How many bytes of zeros are written at a time, and how often at once.
+const ZEROS: [u8; 4096] = [0; 4096];
+
+const PIECES: u32 = 16;
+
+/// A file, and zeros behind what was written to it: so a disk that is full is noticed while there is room for what goes on, and a sync need
+/// not write how long the file is. As of std's files, nothing is claimed of its bytes: that the system's files are stable storage is
+/// trusted.
+#[derive(Drop)]
+pub struct StableFile {
+    file: File,
+    /// How many bytes were written.
+    written: u64,
+    /// How many bytes it has: those, and then zeros.
+    len: u64,
+    /// Whether the disk had room for zeros when they were put there last.
+    has_room: bool,
+}
+
+impl StableFile {
+    /// A file that can be written, of which so many bytes are kept, and which has `len` bytes: all others are zeros.
+    pub fn behind(file: File, kept: u64, len: u64) -> StableFile {
+        StableFile {
+            file,
+            written: kept,
+            len,
+            has_room: true,
+        }
+    }
+
+    /// How many bytes of zeros stand behind what was written.
+    fn room(&self) -> u64 {
+        self.len.saturating_sub(self.written)
+    }
+
+    /// Puts zeros behind what was written, if there are few, as far as the disk has room for them.
+    fn reserve(&mut self) {
+        if self.room() < LEAST_ROOM_BYTES {
+            self.len = self.len.max(self.written);
+            for _ in 0..PIECES {
+                let Ok(n) = self.file.write_at(&ZEROS, self.len) else {
+                    break;
+                };
+                self.len = self.len.saturating_add(n as u64);
+            }
+        }
+        self.has_room = self.room() >= LEAST_ROOM_BYTES;
+    }
+}
+
+impl StableStorage for StableFile {
+    ghost contents = { λ _. None };
+
+    ghost synced = { λ _. 0 };
+
+    ghost failures = { λ _. None };
+
+    fn append(&mut self, bytes: &[u8]) -> io::Result<usize> {
+        for _ in 0..u64::MAX {
+            match self.file.write_at(bytes, self.written) {
+                Err(error) if error.kind() == ErrorKind::Interrupted => {}
+                Ok(n) => {
+                    self.written = self.written.saturating_add(n as u64);
+                    return Ok(n);
+                }
+                Err(error) => return Err(error),
+            }
+        }
+        Err(io::Error::from(ErrorKind::Interrupted))
+    }
+
+    fn sync(&mut self) -> io::Result<()> {
+        self.reserve();
+        self.file.sync_data()
+    }
+
+    fn has_room(&self) -> bool {
+        self.has_room
+    }
+}
