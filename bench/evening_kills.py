@@ -1,8 +1,8 @@
 """An evening of games on a server with a journal that is killed again and again and started with the same file, for evening.py.
 
 All operators but one have a key: they come back to their games, and send what was on its way once more. A game of the one without a key
-ends as abandoned, and it opens another board. Those who follow, on the main port or on the watch port, come again from the place for which they
-wait. At the end each game is compared with what was played, as PGN too (kept_games.py).
+ends as abandoned, and it opens another board. Those who follow, on the main port or on the watch port, come again from the place for which
+they wait. At the end each game is compared with what was played, as PGN too (kept_games.py).
 """
 import asyncio
 import itertools

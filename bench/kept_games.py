@@ -1,5 +1,5 @@
-"""The games of a server with a journal that was killed again and again, as its journal, its texts and their PGN have them at the end, beside
-what their operators played; for evening.py and soak.py.
+"""The games of a server with a journal that was killed again and again, as its journal, its texts and their PGN have them at the end,
+beside what their operators played; for evening.py and soak.py.
 """
 import collections
 import json

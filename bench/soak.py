@@ -149,9 +149,10 @@ def observe(port, boards, positions, comes_again=False):
     no less, the first time on a connection, if it comes again where one ends."""
     known, over, count = {}, set(), 0
     while over != set(boards):
-        observer, first = Connection(port), set()
-        observer.send(BOARDS)
+        observer, first = None, set()
         try:
+            observer = Connection(port)
+            observer.send(BOARDS)
             while over != set(boards):
                 text = observer.receive()
                 it = json.loads(text)
@@ -168,7 +169,8 @@ def observe(port, boards, positions, comes_again=False):
             if not comes_again or not is_end(wrong):
                 raise
             time.sleep(0.1)
-        observer.close()
+        if observer:
+            observer.close()
     return count
 
 

@@ -1,4 +1,4 @@
-"""Journals of `relay960 serve --journal`, read and written without the program: each line is sealed by a digest over all lines before it."""
+"""Journals of `relay960 serve --journal`, read and written without the program: a digest over all lines before it seals each line."""
 
 import collections
 import hashlib
@@ -58,13 +58,19 @@ def later_write(data, behind):
     return None
 
 
+def without_zeros(data):
+    """The bytes without the zeros at their end, which are put there ahead of what will be written."""
+    return data.rstrip(b"\0")
+
+
 def rest_of(data):
     """What stands behind the lines that count; nothing if that is nothing, or zeros."""
     at = sound_size(lines_in(data))
-    if not data[at:].strip(b"\0"):
+    size = len(without_zeros(data[at:]))
+    if size == 0:
         return None
     later = later_write(data, at)
-    return Rest(later is not None, at, len(data) - at, later)
+    return Rest(later is not None, at, size, later)
 
 
 def key_kept(key):

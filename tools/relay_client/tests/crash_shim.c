@@ -4,12 +4,14 @@
 //   before, after   the process is killed before it, or behind it
 //   part            a write writes half of its bytes, and the process is killed; before any other call
 //   short           a write writes half of its bytes, and all goes on
-//   ENOSPC, EIO     it fails in this way and does nothing; or EINTR, of which no two writes on end are
+//   ENOSPC, EIO     it fails in this way and does nothing
+//   EINTR           so too; of each write only every other one
 //   half-ENOSPC     a write writes half of its bytes, and all later ones fail
 //
 // CRASH_LOG gets a line for each of these calls before it is done: its number, its name, how many bytes it is of, and whether it is of the
-// `file`, of `another` file, or of the `folder`. Behind a sync of the file that succeeded there is the line `synced BYTES`: how long the
-// file was before it, so this much of it is on the disk.
+// `file`, of `another` file, or of the `folder`. A write of zeros alone, which are put ahead of what will be written, is called `zeros`, and
+// is no write else. Behind a sync of the file that succeeded there is the line `synced BYTES`: how many bytes it had before it without the
+// zeros at its end, so these are on the disk.
 #define _GNU_SOURCE
 #include <errno.h>
 #include <fcntl.h>
@@ -18,7 +20,6 @@
 #include <stdio.h>
 #include <stdlib.h>
 #include <string.h>
-#include <sys/stat.h>
 #include <sys/syscall.h>
 #include <sys/uio.h>
 #include <unistd.h>
@@ -82,14 +83,36 @@ static enum how counted(const char *name, long size, enum whose of) {
         return how == FAILS && !has_failed ? NOT : how;
     }
     if (number != at) return NOT;
-    if (how == BEFORE || (how == PART && !strstr(name, "write"))) die();
+    if (how == BEFORE || (how == PART && !strstr(name, "write") && strcmp(name, "zeros"))) die();
     return how;
+}
+
+static int are_zeros(const char *bytes, size_t size) {
+    for (size_t i = 0; i < size; i++)
+        if (bytes[i]) return 0;
+    return size > 0;
+}
+
+// How many bytes the file has without the zeros at its end.
+static long length_without_zeros(int fd) {
+    char link[32], bytes[4096];
+    long length = 0, before = 0;
+    ssize_t n;
+    snprintf(link, sizeof link, "/proc/self/fd/%d", fd);
+    int again = syscall(SYS_openat, AT_FDCWD, link, O_RDONLY | O_CLOEXEC);
+    while ((n = syscall(SYS_read, again, bytes, sizeof bytes)) > 0) {
+        for (ssize_t i = 0; i < n; i++)
+            if (bytes[i]) length = before + i + 1;
+        before += n;
+    }
+    close(again);
+    return length;
 }
 
 static ssize_t writes(int fd, const void *bytes, size_t size, const char *name, off_t place) {
     enum whose of = whose(fd);
     if (of == NONE) return place < 0 ? syscall(SYS_write, fd, bytes, size) : syscall(SYS_pwrite64, fd, bytes, size, place);
-    enum how now = counted(name, size, of);
+    enum how now = counted(are_zeros(bytes, size) ? "zeros" : name, size, of);
     if (is_full || now == FAILS) {
         errno = error;
         return -1;
@@ -117,16 +140,15 @@ ssize_t writev(int fd, const struct iovec *pieces, int n) {
 static int syncs(int fd, const char *name, long call) {
     enum whose of = whose(fd);
     if (of == NONE) return syscall(call, fd);
-    struct stat is;
     char line[64];
-    fstat(fd, &is);
-    enum how now = counted(name, is.st_size, of);
+    long size = of == FOLDER ? 0 : length_without_zeros(fd);
+    enum how now = counted(name, size, of);
     if (now == FAILS) {
         errno = error;
         return -1;
     }
     int done = syscall(call, fd);
-    if (done == 0 && of == THE_FILE) note(line, snprintf(line, sizeof line, "synced %ld\n", (long)is.st_size));
+    if (done == 0 && of == THE_FILE) note(line, snprintf(line, sizeof line, "synced %ld\n", size));
     if (now == AFTER) die();
     return done;
 }

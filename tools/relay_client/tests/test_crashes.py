@@ -6,6 +6,7 @@ The calls on the journal are counted, and each is made to fail in turn, by crash
 import concurrent.futures
 import contextlib
 import functools
+import itertools
 import os
 import pathlib
 import shutil
@@ -20,15 +21,17 @@ from relay_client.program import fens
 from relay_client.server import NotListening, Server
 from relay_client.tests.sessions import moves_without_a_draw
 from relay_client.tests.test_watching_loops import long_game
-from relay_client.texts import NO_BOARD, OPENED, START_518, ended, ends, following, follows, moved, opens, over, played, submits
+from relay_client.texts import NO_BOARD, NO_MEMORY, OPENED, START_518, ended, ends, following, follows, moved, opens, over, played, submits
 
 SHIM = pathlib.Path(__file__).resolve().parent / "crash_shim.c"
 KEYS = {"b1": "a-key-of-the-first-board", "b2": "a-key-of-the-second-board", "b3": None}
 MOVES = list(moves_without_a_draw())
 DONE = "close 1000"
 ROUNDS = 15
+WRITES = "write", "pwrite", "writev"
 SIDE_BY_SIDE = 4
 SOON = 10  # Seconds within which what happens at once has happened, on a busy machine too.
+MANY_PLIES = "--forever", "--plies", "1500", "--boards", "256", "--grace", "60"
 KILLS = "before", "after", "part"
 # How much of what was not synced a crash leaves: nothing as where the power fails, half of it, or all as where the process alone ends.
 LEAVES = 0, 1, 2
@@ -259,12 +262,14 @@ class Crash:
         told = [line.split()[1] for line in self.log.read_text().splitlines() if line.startswith("synced")]
         return int(told[-1]) if told else 0
 
-    def leaves(self, much):
-        """Of what was not synced the disk has this many halves."""
+    def leaves(self, much, synced=0):
+        """Of what was not synced the disk has this many halves, and zeros in place of the others. So much was synced before."""
         if self.file.exists():
-            size = self.file.stat().st_size
-            synced = min(self.synced(), size)
-            os.truncate(self.file, synced + (size - synced) * much // 2)
+            data = self.file.read_bytes()
+            size = len(journals.without_zeros(data))
+            synced = min(max(self.synced(), synced), size)
+            kept = synced + (size - synced) * much // 2
+            self.file.write_bytes(data[:kept] + bytes(len(data) - kept))
 
     def is_kept(self, story):
         """Another start, without a fault, has all that was said."""
@@ -316,12 +321,12 @@ class Kills(Crashes):
         self.side_by_side(is_killed, [(at, how) for at in range(1, len(calls) + 1) for how in KILLS])
 
     def test_each_answer_comes_once_it_is_synced(self):
-        """What was not written yet is written, and then synced, before any call on a connection. The folder of a new file is synced, too."""
+        """Nothing is left to be written or synced when all has been told. The folder of a new file is synced, too."""
         crash = self.crash("whole")
         self.assertTrue(crash.runs(Story(rounds=2, together=False)))
         calls = crash.calls()
         self.assertEqual(calls[-1][0], "fdatasync")
-        self.assertEqual(crash.synced(), crash.file.stat().st_size)
+        self.assertEqual(crash.synced(), len(journals.without_zeros(crash.file.read_bytes())))
         self.assertIn("folder", [of for _, _, of in calls])
         self.assertIsNone(journals.rest_of(crash.file.read_bytes()))
         self.assertEqual(crash.file.stat().st_mode & 0o777, 0o600)
@@ -346,7 +351,10 @@ class Faults(Crashes):
 
         def fails(at, how):
             crash, story = self.crash(at, how), Story(3, together=False)
-            assert not crash.runs(story, at, how), "it goes on"
+            if crash.runs(story, at, how):
+                # Zeros are put ahead where there is room for them.
+                assert calls[at - 1][0] == "zeros", "it goes on"
+                return
             fault_is_told(crash, how.removeprefix("half-"))
             further = crash.calls()[at:]
             # The rest of what was written in part is tried, and fails.
@@ -354,12 +362,13 @@ class Faults(Crashes):
             crash.leaves(LEAVES[at % len(LEAVES)])
             crash.is_kept(story)
 
-        cases = [(at, how) for at in range(1, len(calls) + 1) for how in REASONS]
-        cases += [(at, "half-ENOSPC") for at, call in enumerate(calls, 1) if call[0].startswith(("write", "pwrite"))]
+        zeros = [at for at, call in enumerate(calls, 1) if call[0] == "zeros"]
+        cases = [(at, how) for at in range(1, len(calls) + 1) for how in REASONS if at not in zeros[1:]]
+        cases += [(at, "half-ENOSPC") for at, call in enumerate(calls, 1) if call[0] in WRITES]
         self.side_by_side(fails, cases)
 
     def test_a_disk_that_is_full_ends_the_server_and_with_room_all_is_there(self):
-        """128 KiB have room for some 1,900 moves."""
+        """128 KiB have room for some 1,900 moves. Before the end no board is opened any more."""
         if os.geteuid() != 0:
             self.skipTest("only root may mount a small disk")
         disk = self.room / "disk"
@@ -368,49 +377,54 @@ class Faults(Crashes):
         if subprocess.run(words, capture_output=True).returncode != 0:
             self.skipTest("no small disk can be mounted here")
         self.addCleanup(subprocess.run, ["umount", "-l", disk], check=True)
-        self.fills(disk / "games", "No space left on device (os error 28)", 3)
+        after_refusal = self.fills(disk / "games", ["No space left on device (os error 28)"])
+        self.assertGreater(after_refusal, 300)
 
     def test_a_file_that_may_not_grow_ends_the_server_and_with_room_all_is_there(self):
-        """The system ends a process by a signal that writes more than it may, unless that looks for the error."""
+        """The system ends a process by a signal that writes more than it may."""
         if not shutil.which("prlimit"):
             self.skipTest("prlimit is missing")
-        self.fills(self.room / "games", "File too large (os error 27)", 3, -signal.SIGXFSZ, before=("prlimit", "--fsize=50000"))
+        self.fills(self.room / "games", ["File too large (os error 27)", -signal.SIGXFSZ], before=("prlimit", "--fsize=100000"))
 
-    def fills(self, file, reason, *statuses, **options):
-        """Plays until the file has no room. All that was answered is there at a start with room, on another disk."""
-        moves, names, answered, owners = long_game(1400), ["b1", "b2"], {}, []
-        with Server("--forever", "--plies", "1500", "--grace", "60", "--journal", str(file), **options) as server:
+    def fills(self, file, ends_as, **options):
+        """Plays until the file has no room. All that was answered is there at a start with room, on another disk. How many moves were
+        answered after an open was refused for want of room."""
+        moves, answered, after_refusal, is_refused = long_game(1400), {}, 0, False
+        with contextlib.ExitStack() as stack:
+            server = stack.enter_context(Server(*MANY_PLIES, "--journal", str(file), **options))
+            owners = {name: stack.enter_context(contextlib.closing(Connection(server.port, key=KEYS[name]))) for name in ("b1", "b2")}
+            for name, owner in owners.items():
+                owner.asks(opens(name), OPENED)
+                answered[name] = 0
             with contextlib.suppress(Gone):
-                for name in names:
-                    owner = comes(server.port, KEYS[name])
-                    owners.append(owner)
-                    says(owner, opens(name))
-                    hears(owner, OPENED)
-                    answered[name] = 0
-                    for at in range(0, len(moves), 50):
+                for (name, owner), at in itertools.product(owners.items(), range(0, len(moves), 50)):
+                    with unless_gone():
+                        owner.send(*(submits(name, move) for move in moves[at:at + 50]))
+                    for place in range(at, at + 50):
+                        hears(owner, played(place))
+                        answered[name] += 1
+                        after_refusal += is_refused
+                    if not is_refused:
+                        says(owner, opens(f"{name}_{at}"))
                         with unless_gone():
-                            owner.send(*(submits(name, move) for move in moves[at:at + 50]))
-                        for place in range(at, at + 50):
-                            hears(owner, played(place))
-                            answered[name] += 1
+                            is_refused = owner.receive() == NO_MEMORY
             _, complaint, status = server.ended()
-            for owner in owners:
-                owner.close()
-        self.assertIn(status, statuses)
         if status == 3:
-            self.assertTrue(complaint.decode().endswith(f"fault 32 Write\n{file}: {reason}\n"), complaint)
+            self.assertIn(complaint.decode(), [f"fault 32 Write\n{file}: {reason}\n" for reason in ends_as])
+        else:
+            self.assertIn(status, ends_as)
         self.assertGreater(sum(answered.values()), 400)
         roomy = self.room / "roomy"
         shutil.copy(file, roomy)
-        with Server("--forever", "--plies", "1500", "--grace", "60", "--journal", str(roomy)) as server:
+        with Server(*MANY_PLIES, "--journal", str(roomy)) as server:
             kept = journals.boards_in(journals.lines_in(roomy.read_bytes()))
             for name, count in answered.items():
                 made = len(kept[name].moves)
                 self.assertGreaterEqual(made, count)
                 self.assertEqual(kept[name].moves, moves[:made])
-                back = Connection(server.port, key=KEYS[name])
-                back.asks(ends(name, "agreed"), ended("agreed"))
-                back.close()
+                with contextlib.closing(Connection(server.port, key=KEYS[name])) as back:
+                    back.asks(ends(name, "agreed"), ended("agreed"))
+        return after_refusal
 
 
 def fault_is_told(crash, how):
@@ -426,26 +440,23 @@ class NextStarts(Crashes):
         super().setUp()
         whole = self.crash("whole")
         self.assertTrue(whole.runs(Story(6, together=False)))
-        writes = [at for at, (name, _, _) in enumerate(whole.calls(), 1) if name.startswith("write")]
+        writes = [at for at, (name, _, _) in enumerate(whole.calls(), 1) if name in WRITES]
         # The fifth last write is a move of the third board, before any end.
         self.first, self.story = self.crash("first"), Story(6, together=False)
         self.assertFalse(self.first.runs(self.story, writes[-5], "part"))
         self.data = self.first.file.read_bytes()
         self.rest = journals.rest_of(self.data)
         self.assertTrue(self.rest and not self.rest.is_damage)
-        self.torn = self.data[self.rest.at:]
+        self.torn = self.data[self.rest.at:self.rest.at + self.rest.size]
 
     def starts(self, at, how, much=2):
         """A start with that file, with such a fault. Whether the server came to listen."""
         crash = self.crash("again", at, how)
         crash.file.write_bytes(self.data)
         crash.file.chmod(0o600)
-        began = len(self.data) if much == 2 else self.first.synced()
         told = crash.runs(NoStory(), at, how, grace=3600)
         if not told and how in KILLS:
-            size = crash.file.stat().st_size
-            synced = min(max(crash.synced(), min(began, self.rest.at)), size)
-            os.truncate(crash.file, synced + (size - synced) * much // 2)
+            crash.leaves(much, self.rest.at)
         return crash, told
 
     def has_torn_tail(self, crash):
@@ -460,7 +471,7 @@ class NextStarts(Crashes):
         calls = [(name, of) for name, _, of in crash.calls()]
         cut = calls.index(("ftruncate", "file"))
         synced = [at for at, (name, of) in enumerate(calls) if of == "another" and name in ("fsync", "fdatasync")]
-        written = [at for at, (name, of) in enumerate(calls) if of == "another" and name.startswith("write")]
+        written = [at for at, (name, of) in enumerate(calls) if of == "another" and name in WRITES]
         self.assertLess(max(written), min(synced))
         self.assertLess(max(synced), cut)
         self.assertTrue(any(of == "folder" for _, of in calls[:cut]), calls)
