@@ -8,10 +8,10 @@
 //   EINTR           so too; of each write only every other one
 //   half-ENOSPC     a write writes half of its bytes, and all later ones fail
 //
-// CRASH_LOG gets a line for each of these calls before it is done: its number, its name, how many bytes it is of, and whether it is of the
-// `file`, of `another` file, or of the `folder`. A write of zeros alone, which are put ahead of what will be written, is called `zeros`, and
-// is no write else. Behind a sync of the file that succeeded there is the line `synced BYTES`: how many bytes it had before it without the
-// zeros at its end, so these are on the disk.
+// CRASH_LOG gets a line for each of these calls before it is done: its number, its name, how many bytes it is of, and whether it is of
+// the `file`, of `another` file, or of the `folder`. A write of zeros alone, which are put ahead of what will be written, is called
+// `zeros`, and is no write else. Behind a sync of the file that succeeded there is the line `synced BYTES`: how many bytes it had before it
+// without the zeros at its end, so these are on the disk.
 #define _GNU_SOURCE
 #include <errno.h>
 #include <fcntl.h>
