@@ -11,7 +11,7 @@
 // CRASH_LOG gets a line for each of these calls before it is done: its number, its name, how many bytes it is of, and whether it is of
 // the `file`, of `another` file, or of the `folder`. A write of zeros alone, which are put ahead of what will be written, is called
 // `zeros`, and is no write else. Behind a sync of the file that succeeded there is the line `synced BYTES`: how many bytes it had before it
-// without the zeros at its end, so these are on the disk.
+// without the zeros at its end, so these are on the disk. Each sync of the file takes CRASH_SLOW milliseconds more.
 #define _GNU_SOURCE
 #include <errno.h>
 #include <fcntl.h>
@@ -30,12 +30,12 @@ enum how { NOT, BEFORE, AFTER, PART, SHORT, FAILS, FILLS };
 static const char *const WORDS[] = {"none", "file", "another", "folder"};
 static const char *file, *how_word;
 static char folder[PATH_MAX];
-static long at, count;
+static long at, count, slow;
 static int log_fd = -1, is_full, error;
 static enum how how;
 
 __attribute__((constructor)) static void begin(void) {
-    const char *at_word = getenv("CRASH_AT"), *log = getenv("CRASH_LOG");
+    const char *at_word = getenv("CRASH_AT"), *slow_word = getenv("CRASH_SLOW"), *log = getenv("CRASH_LOG");
     file = getenv("CRASH_FILE");
     how_word = getenv("CRASH_HOW");
     if (!file) return;
@@ -43,6 +43,7 @@ __attribute__((constructor)) static void begin(void) {
     char *slash = strrchr(folder, '/');
     if (slash) *slash = 0;
     at = at_word ? atol(at_word) : 0;
+    slow = slow_word ? atol(slow_word) : 0;
     if (log) log_fd = open(log, O_WRONLY | O_CREAT | O_APPEND | O_CLOEXEC, 0600);
     if (!how_word) return;
     error = strstr(how_word, "ENOSPC") ? ENOSPC : strstr(how_word, "EINTR") ? EINTR : EIO;
@@ -147,6 +148,7 @@ static int syncs(int fd, const char *name, long call) {
         errno = error;
         return -1;
     }
+    if (of == THE_FILE) usleep(1000 * slow);
     int done = syscall(call, fd);
     if (done == 0 && of == THE_FILE) note(line, snprintf(line, sizeof line, "synced %ld\n", size));
     if (now == AFTER) die();

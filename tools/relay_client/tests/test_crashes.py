@@ -13,6 +13,7 @@ import shutil
 import signal
 import subprocess
 import tempfile
+import time
 import unittest
 
 from relay_client import journals
@@ -21,13 +22,16 @@ from relay_client.program import fens
 from relay_client.server import NotListening, Server
 from relay_client.tests.sessions import moves_without_a_draw
 from relay_client.tests.test_watching_loops import long_game
-from relay_client.texts import NO_BOARD, NO_MEMORY, OPENED, START_518, ended, ends, following, follows, moved, opens, over, played, submits
+from relay_client.texts import (BOARDS, NO_BOARD, NO_MEMORY, OPENED, START_518, ended, ends, following, follows, moved, opens, over,
+                                played, stands, submits)
+from relay_client.waiting import is_readable
 
 SHIM = pathlib.Path(__file__).resolve().parent / "crash_shim.c"
 KEYS = {"b1": "a-key-of-the-first-board", "b2": "a-key-of-the-second-board", "b3": None}
 MOVES = list(moves_without_a_draw())
 DONE = "close 1000"
 ROUNDS = 15
+SLOW_MILLIS = 600
 WRITES = "write", "pwrite", "writev"
 SIDE_BY_SIDE = 4
 SOON = 10  # Seconds within which what happens at once has happened, on a busy machine too.
@@ -234,13 +238,16 @@ class Crash:
         self.file, self.log = folder / "games", folder / "calls"
         self.status = self.complaint = None
 
+    def around(self, at=0, how="none", slow=0):
+        """The environment in which the call of that number is done in that way."""
+        return {**os.environ, "LD_PRELOAD": str(self.shim), "CRASH_FILE": str(self.file), "CRASH_LOG": str(self.log),
+                "CRASH_AT": str(at), "CRASH_HOW": how, "CRASH_SLOW": str(slow)}
+
     def runs(self, story, at=0, how="none", grace=1):
         """Starts the server, and tells it the story; whether it was told whole."""
-        around = {**os.environ, "LD_PRELOAD": str(self.shim), "CRASH_FILE": str(self.file), "CRASH_LOG": str(self.log),
-                  "CRASH_AT": str(at), "CRASH_HOW": how}
         words = "--forever", "--grace", str(grace), "--journal", str(self.file)
         try:
-            server = Server(*words, watch=True, env=around)
+            server = Server(*words, watch=True, env=self.around(at, how))
         except NotListening as ended_early:
             _, self.complaint, self.status = ended_early.args
             return False
@@ -330,6 +337,36 @@ class Kills(Crashes):
         self.assertIn("folder", [of for _, _, of in calls])
         self.assertIsNone(journals.rest_of(crash.file.read_bytes()))
         self.assertEqual(crash.file.stat().st_mode & 0o777, 0o600)
+
+    def test_nobody_hears_of_what_is_not_synced_yet(self):
+        """Each sync takes a while. Meanwhile neither those who watch nor newcomers learn of the move."""
+        crash = self.crash("slow")
+        words = "--forever", "--grace", "60", "--journal", str(crash.file)
+        with Server(*words, watch=True, env=crash.around(slow=SLOW_MILLIS)) as server, contextlib.ExitStack() as stack:
+            def peer(port, line, *answers, key=None):
+                connection = stack.enter_context(contextlib.closing(Connection(port, key=key)))
+                connection.send(line)
+                connection.hears(*answers)
+                return connection
+
+            owner = peer(server.port, opens("b1"), OPENED, key=KEYS["b1"])
+            followers = [peer(port, follows("b1"), following()) for port in (server.port, server.watch_port)]
+            observer = peer(server.watch_port, BOARDS, stands("b1"))
+            for place, move in enumerate(MOVES[:3]):
+                before, synced = position(place), crash.synced()
+                owner.send(submits("b1", move))
+                time.sleep(SLOW_MILLIS / 4000)
+                late = peer(server.watch_port, follows("b1"), following(place, before))
+                last = {"last": MOVES[place - 1], "plies": place} if place else {}
+                peer(server.watch_port, BOARDS, stands("b1", fen=before, **last)).close()
+                self.assertFalse(any(is_readable(it.stream, 0) for it in (owner, *followers, late, observer)))
+                self.assertEqual(crash.synced(), synced, "the sync was over too soon for this test")
+                owner.hears(played(place))
+                self.assertGreater(crash.synced(), synced)
+                for follower in [*followers, late]:
+                    follower.hears(moved(move, place))
+                observer.hears(stands("b1", fen=position(place + 1), last=move, plies=place + 1))
+                late.close()
 
     def test_a_write_that_takes_a_part_or_is_interrupted_is_gone_on_with(self):
         """Each write takes half of its bytes, or every other one is interrupted."""
