@@ -325,7 +325,7 @@ def soak(server, given, room, reader):
         print(f"{owners.kills} kills; {said['losses']} times a spectator came again after one, and {owners.found_done} moves and ends that "
               "were sent again had been made")
         games = [Played(board, 518, MOVES[:count], count, {"agreed"}) for board in owners.keys]
-        if wrong := what_is_wrong(server.port, f"{room}/games", games):
+        if wrong := what_is_wrong(server.watch_port, f"{room}/games", games):
             raise SystemExit("\n".join(wrong[:5]))
     if not comes_down(server, held):
         raise SystemExit(f"{descriptors(server)} descriptors are open, and {held} were before")
@@ -351,7 +351,7 @@ def main():
         subprocess.run(["cc", "-O2", "-Wall", "-o", reader, str(HERE / "native/spectators.c")], check=True)
         options = "--forever", "--boards", "256", "--plies", "16384", "--watch-threads", given.threads
         if given.kill_each:
-            options += "--grace", "3600", "--capacity", "4096", "--journal", f"{room}/games"
+            options += "--grace", "3600", "--journal", f"{room}/games"
         # Of its spectators, who come and go, each 20,000 go to another address of loopback.
         with Server(*options, watch=True, watch_at="0.0.0.0") as server:
             soak(server, given, room, reader)

@@ -13,6 +13,7 @@ import tempfile
 import unittest
 
 from relay_client import journals
+from relay_client.ports import free_port
 from relay_client.program import PATIENCE, PROGRAM
 from relay_client.server import NotListening, Server
 from relay_client.texts import ends, opens, submits
@@ -68,7 +69,7 @@ def refusal(file):
 
 def changes():
     """Each change that is tried: what is done, and the bytes then."""
-    other = journals.sealed([*WRITES[:2], [journals.body(opens("other"), KEYS["b1"])] * 4, *WRITES[3:]])
+    other = journals.sealed([*WRITES[:2], [journals.body(opens("other"), KEYS["b1"])], *WRITES[3:]])
     for at in range(len(WHOLE)):
         yield f"cut at {at}", WHOLE[:at]
         yield f"cut at {at}, zeros behind", WHOLE[:at] + b"\0" * 70
@@ -153,7 +154,7 @@ class WhatStarts(Changed):
             server.process.kill()
             said = server.ended()[1].decode()
         rest = journals.rest_of(WHOLE[:-5])
-        lines = [line for line in said.splitlines() if "torn" in line]
+        lines = [line for line in said.splitlines() if "torn at" in line]
         self.assertEqual(len(lines), 1, said)
         self.assertTrue({str(rest.at), str(rest.size)} <= set(re.findall(r"\d+", lines[0])), said)
         self.assertIn(str(file), lines[0])
@@ -202,7 +203,7 @@ class OtherFiles(Changed):
     def test_a_fifo_is_refused_and_nothing_waits_for_its_other_end(self):
         fifo = self.room / "fifo"
         os.mkfifo(fifo)
-        words = [PROGRAM, "serve", "--port", "0", "--journal", fifo]
+        words = [PROGRAM, "serve", "--port", str(free_port()), "--journal", fifo]
         run = subprocess.run(words, capture_output=True, text=True, timeout=SOON)
         self.assertEqual(run.returncode, 3, run)
         self.assertIn(str(fifo), run.stderr)
@@ -217,7 +218,7 @@ class OtherFiles(Changed):
         program.chmod(0o755)
         file = self.file("read-only", WHOLE)
         file.chmod(0o444)
-        words = [program, "serve", "--port", "0", "--journal", file]
+        words = [program, "serve", "--port", str(free_port()), "--journal", file]
         run = subprocess.run(words, capture_output=True, text=True, timeout=SOON, user="nobody")
         self.assertEqual((run.stderr, run.returncode), (f"fault 41 Device\n{file}: Permission denied (os error 13)\n", 3))
         self.assertEqual(file.read_bytes(), WHOLE)
