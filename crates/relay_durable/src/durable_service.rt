@@ -26,7 +26,7 @@ use std::marker::Model;
 /// Behind each event of the hall what is missing in the journal is noted. `commit` writes and syncs what was noted. Until then nothing is
 /// due to anybody.
 #[derive(Drop)]
-pub struct DurableService<S> {
+pub struct DurableService<S: StableStorage> {
     alloc: Global,
     service: Service,
     scribe: Option<Scribe<S>>,

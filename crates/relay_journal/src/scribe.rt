@@ -1,6 +1,6 @@
 //! Whoever keeps a journal of a hall.
 
-ghost use Rattle.std.specs.Prelude.{◌≡◌, ◌≤◌, ◌∷◌, ◌==◌, ◌&&◌, [], true, false, not, length, None, IfOk, IsErr, OnErr, OnOk};
+ghost use Rattle.std.specs.Prelude.{◌≡◌, ◌≤◌, ◌∷◌, ◌==◌, ◌&&◌, [], true, false, not, length, List, None, IfOk, IsErr, OnErr, OnOk};
 ghost use Rattle.chained_lines.specs.Journals.{HoldsLines, KeepsLines, IsKnownFront};
 ghost use Rattle.chained_lines.specs.Lines.{Line};
 ghost use Rattle.chained_lines.specs.Storage.{Failed};
@@ -13,8 +13,8 @@ ghost use Rattle.relay_journal.specs.Scribes.{noted_in};
 ghost use Rattle.relay_journal.specs.Writing.{HoldsIfKnown, IsWritten};
 
 use crate::noted::{Noted, keep_noted};
-use crate::noting::note_all;
 use crate::reading::FIRST_BODY;
+use crate::writing::note_all;
 use chained_lines::{Journal, NoteError, StableStorage};
 use relay_hall::Hall;
 use std::alloc::{AllocError, Global};
@@ -150,6 +150,14 @@ impl<S: StableStorage> Scribe<S> {
         ensures { result ≡ (not self.now.has_failed && (length self.now.journal.noted == 0)) }
     {
         !self.has_failed && !self.journal.has_noted()
+    }
+
+    /// Its journal. What was noted since the last commit is not in the storage.
+    pub fn into_journal(self) -> Journal<S>
+        ensures { result ≡ self.journal }
+    {
+        let Scribe { journal, .. } = self;
+        journal
     }
 
     /// Whether something could not be noted, or a commit has failed.
