@@ -27,7 +27,8 @@ pub enum Course<'a> {
     Checks(&'a str),
 }
 
-/// Does what the arguments ask for and returns the status, unless they ask to serve or to check a journal. The first argument is the program's name.
+/// Does what the arguments ask for and returns the status, unless they ask to serve or to check a journal. The first argument is the
+/// program's name.
 pub fn course_of<'a, R: Input + Print + Eprint, S: AsStr>(
     rt: &R,
     alloc: Global,

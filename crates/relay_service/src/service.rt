@@ -150,8 +150,8 @@ impl Service {
     }
 
     /// The hall, to be looked at. It is what the turns so far make of an empty hall, in an orderly run. The first of them are those by
-    /// which it was made again, if it was. So each of its games is legal, and one that goes on has somebody: its opener has not gone, or its
-    /// key is held or in time. As many hold a key as came with it by the turns and have not gone.
+    /// which it was made again, if it was. So each of its games is legal, and one that goes on has somebody: its opener has not gone, or
+    /// its key is held or in time. As many hold a key as came with it by the turns and have not gone.
     pub fn hall(&self) -> &Hall
         ensures hall { result.now ≡ self.now.hall }
         ensures run { IsOrderlyService self.now }

@@ -24,8 +24,8 @@ use std::io::Write;
 /// ```
 ///
 /// or `torn at byte 312 (40 bytes)`, which the next start sets aside, or `damaged at line 5, byte 312; a later write begins at line 7, byte
-/// 430`, and then the boards are those of the lines before. The status is `Done` for the first two, and `DeviceFailed` for a damaged journal
-/// or for a file that cannot be read or is no journal.
+/// 430`, and then the boards are those of the lines before. The status is `Done` for the first two, and `DeviceFailed` for a damaged
+/// journal or for a file that cannot be read or is no journal.
 ///
 /// The file is only read, and not locked, so it may be in use: then the last write may look torn.
 pub fn check_journal<R: Files<File = File> + Print + Eprint>(

@@ -51,8 +51,8 @@ fn keep<R: Files<File = File>>(rt: &R, alloc: Global, path: &str, bytes: &[u8]) 
     sync_folder(rt, path)
 }
 
-/// Takes the bytes of a write that was cut short, which stand at the end of a journal from this byte on, out of it. They are kept in the file
-/// `FILE.torn-AT`, and that is said on standard error.
+/// Takes the bytes of a write that was cut short, which stand at the end of a journal from this byte on, out of it. They are kept in the
+/// file `FILE.torn-AT`, and that is said on standard error.
 ///
 /// # Errors
 ///

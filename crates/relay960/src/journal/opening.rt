@@ -54,13 +54,13 @@ fn lock<R: Files<File = File>>(rt: &R, path: &str) -> io::Result<File> {
     }
 }
 
-/// Opens the journal with this path, or makes one. Nobody else can write to it while the process lasts. A write at its end that was cut short
-/// is set aside. In a new one the first line is noted, but not committed yet.
+/// Opens the journal with this path, or makes one. Nobody else can write to it while the process lasts. A write at its end that was cut
+/// short is set aside. In a new one the first line is noted, but not committed yet.
 ///
 /// # Errors
 ///
-/// The file could not be opened, locked, read or mended, it is no journal or a damaged one, or there was no memory. A damaged journal is left
-/// as it is.
+/// The file could not be opened, locked, read or mended, it is no journal or a damaged one, or there was no memory. A damaged journal is
+/// left as it is.
 pub fn open_journal<'a, R: Files<File = File> + Eprint>(
     rt: &R,
     alloc: Global,

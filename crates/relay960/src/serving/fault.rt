@@ -9,7 +9,8 @@ use std::alloc::AllocError;
 use std::net::SocketAddr;
 use std::{fmt, io};
 
-/// Why nothing was served or why serving ended early, or why a journal was not checked. It is shown as `fault 41 Device`, with its number and its name.
+/// Why nothing was served or why serving ended early, or why a journal was not checked. It is shown as `fault 41 Device`, with its number
+/// and its name.
 #[derive(Clone, Copy)]
 pub enum ServeFault<'a> {
     /// The server cannot listen on a port, or cannot have its journal.

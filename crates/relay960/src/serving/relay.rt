@@ -27,8 +27,8 @@ fn grace_of(service: &Service) -> u64
     u64::from(service.grace) * SECOND_MILLIS
 }
 
-/// The boards and connections of the main port. Without a journal there are none yet; with one there are the boards that it leads to, and all
-/// that they have is on the disk.
+/// The boards and connections of the main port. Without a journal there are none yet; with one there are the boards that it leads to, and
+/// all that they have is on the disk.
 ///
 /// # Errors
 ///

@@ -19,13 +19,13 @@ use std::sync::Wait;
 use std::thread::Threads;
 use std::time::{Clock, Duration};
 
-/// Goes on with the journal, if there is one, and listens. Writes the line `listening P` to standard output, and `watching A:P` if there is a
-/// watch port. Serves until all connections have gone, or until standard input ends if that is asked for.
+/// Goes on with the journal, if there is one, and listens. Writes the line `listening P` to standard output, and `watching A:P` if there is
+/// a watch port. Serves until all connections have gone, or until standard input ends if that is asked for.
 ///
 /// # Errors
 ///
-/// Nothing was served: no relay can go on with the journal, the server cannot listen on a port, the system lacks what serving takes, the lines
-/// could not be written, or there was no memory. Or the journal failed while it was served.
+/// Nothing was served: no relay can go on with the journal, the server cannot listen on a port, the system lacks what serving takes, the
+/// lines could not be written, or there was no memory. Or the journal failed while it was served.
 pub fn serve_run<'a, R>(
     rt: &R,
     alloc: Global,

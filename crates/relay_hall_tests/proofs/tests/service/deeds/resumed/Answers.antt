@@ -1,14 +1,8 @@
 use Rattle.std.proofs.Common.{[], rules, refl}
 use Rattle.relay_hall_tests.proofs.tests.service.deeds.resumed.Goals as goal
 
-<<<<<<< HEAD
-pub resume-requires : goal.resume-requires
-resume-requires c =
-    record { events = []; told = []; history = []; run = (refl, search rules); orderly = tt; there = tt; all_gone = λ key. refl; fresh = λ i more. refl }
-=======
 -- nothing has happened
 pub resume-requires : goal.resume-requires
 resume-requires c later = record {
   restart = record { events = []; told = []; history = []; run = (refl, search rules); orderly = tt; there = tt; all_gone = λ key. refl; fresh = λ i more. refl };
 }
->>>>>>> 454ad780319d4d8ae6f3c156a9b9f3006cf03a18
