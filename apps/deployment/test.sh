@@ -2,8 +2,8 @@
 # Tries the Debian package and what a site does with it, on loopback: the package is made, installed under a folder of the trial, and run
 # from there; the units and the manual page are looked at; the smallest site, whose nginx has no module; a site's nginx with TLS that
 # includes the two files for everything, with a certificate and a password made for the trial; spectators come to the watch port; a renewed
-# certificate is taken over, and the relay is restarted in the middle of a game. RELAY960 names another program than the built one. Its
-# last line says what came. Words are the names of tests of the site: ./test.sh game watch, or ./test.sh smallest
+# certificate is taken over, and the relay is restarted in the middle of a game, with its journal. RELAY960 names another program than the
+# built one. Its last line says what came. Words are the names of tests of the site: ./test.sh game watch, or ./test.sh smallest
 set -eu
 cd "$(dirname "$0")"
 top=$(cd ../.. && pwd)
@@ -43,7 +43,7 @@ fi
 [ "$("$root/usr/bin/relay960" start 518)" = "rnbqkbnr/pppppppp/8/8/8/8/PPPPPPPP/RNBQKBNR w HAha - 0 1" ]
 # Its files name each other by where they are on a site.
 sed -i "s|/usr/share/relay960|$root&|g; s|/etc/relay960|$root&|g; s|/usr/lib/relay960|$root&|g; s|/usr/bin/relay960|$root&|g
-s|/var/log/nginx/|$run/|g; s|/srv/relay960|$root&|g" \
+s|/var/log/nginx/|$run/|g; s|/srv/relay960|$root&|g; s|/var/lib/relay960|$root&|g" \
     "$root"/etc/relay960/nginx/*.conf "$root"/usr/lib/systemd/system/*.service "$root/usr/share/relay960/site.conf"
 echo "ok      package"
 systemd-analyze verify --man=no "$root"/usr/lib/systemd/system/*.service
@@ -136,9 +136,10 @@ esac
 END
 chmod +x "$run/bin/systemctl"
 echo hall > "$root/etc/relay960/feed"
+mkdir -p "$root/var/lib/relay960"  # The unit's StateDirectory.
 "$run/bin/systemctl" restart relay960
 "$run/bin/systemctl" restart relay960-feed
-export SITE_FEED="$root/etc/relay960/feed"
+export SITE_FEED="$root/etc/relay960/feed" SITE_JOURNAL="$root/var/lib/relay960/journal"
 export SITE_HOOK="$root/usr/lib/relay960/certificate-renewed" SITE_FOLDER="$site" SITE_LOGS="$run"
 if ! { ports wait 9444 9600 9601 9980 && /usr/bin/python3 test_smallest.py "$site/certificate.pem" "$root"; }; then
     tail -n 5 "$run"/*.log
@@ -146,6 +147,8 @@ if ! { ports wait 9444 9600 9601 9980 && /usr/bin/python3 test_smallest.py "$sit
     exit 1
 fi
 [ "$*" != smallest ] || { echo "passed: package, units, manual pages, the smallest site"; exit 0; }
+"$run/bin/systemctl" stop relay960
+rm "$SITE_JOURNAL"
 "$run/bin/systemctl" restart relay960  # What comes now begins without boards.
 if ports wait 9110 9443 9600 9601 && PATH="$run/bin:$PATH" /usr/bin/python3 test_site.py "$site/certificate.pem" "$@"; then
     echo "passed: package, units, manual pages, the smallest site, nginx with TLS, the watch port, a renewed certificate, a restarted relay"

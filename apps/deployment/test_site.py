@@ -230,23 +230,37 @@ def try_handshakes():
 
 
 async def try_end():
-    """The unit's end in order: who follows gets the end of the game, everybody else 1001, and newcomers nobody."""
-    operator = await connected()
-    await play(operator, "stopped", ["e2e4"])
-    follower = await watch({"cmd": "follow", "board": "stopped", "spectator": 1, "from": 0})
+    """The unit's end in order: everybody gets 1001, and newcomers nobody. Started again, the relay has the boards of its journal: one whose
+    operator has a key goes on, one without has ended. Nobody else may read the journal, and it has no key."""
+    key = new_key()
+    target, kept = target_of(key)[1:], pathlib.Path(os.environ["SITE_JOURNAL"])
+    stranger = await connected()
+    await play(stranger, "keyless", ["d2d4"])
+    operator = await connected(target)
+    await play(operator, "kept", ["e2e4"])
+    follower = await watch({"cmd": "follow", "board": "kept", "spectator": 1, "from": 0})
     all_boards = await watch({"cmd": "boards"})
     silent = await websockets.connect(f"{WIRE}/watch", ssl=tls(), compression=None)
     assert [(await hear(follower))["reply"] for _ in range(2)] == ["following", "move"]
-    while (await hear(all_boards))["board"] != "stopped":
+    while (await hear(all_boards))["board"] != "kept":
         pass
     await asyncio.to_thread(subprocess.run, ["systemctl", "stop", "relay960"], check=True)
-    assert [await hear(follower) for _ in range(2)] == [{"outcome": "abandoned", "reply": "over"}, 1000]
-    last = await hear(all_boards)
-    assert (last["board"], last["outcome"]) == ("stopped", "abandoned"), last
-    assert [await hear(it) for it in (all_boards, silent, operator)] == [1001] * 3
+    assert [await hear(it) for it in (follower, silent, operator, stranger)] == [1001] * 4
+    while (last := await hear(all_boards)) != 1001:
+        assert last["board"] == "keyless", last
     assert await answered("/watch") == 502
+    assert (kept.stat().st_mode & 0o777, key in kept.read_text()) == (0o600, False)
     await asyncio.to_thread(subprocess.run, ["systemctl", "restart", "relay960"], check=True)
-    await (await connected()).close()
+    operator = await connected(target)
+    follower = await watch({"cmd": "follow", "board": "kept", "spectator": 1, "from": 1})
+    assert (await hear(follower))["joined"] == 1
+    await operator.send(json.dumps({"cmd": "submit", "board": "kept", "move": "e7e5"}))
+    assert json.loads(await operator.recv()) == {"outcome": None, "place": 1, "reply": "played"}
+    assert await hear(follower) == {"move": "e7e5", "place": 1, "reply": "move"}
+    ended = await watch({"cmd": "follow", "board": "keyless", "spectator": 1})
+    assert [(await hear(ended)).get("outcome") for _ in range(2)] == [None, "abandoned"]
+    for it in (follower, ended, operator):
+        await it.close()
 
 
 async def try_all():
@@ -360,11 +374,11 @@ async def play(operator, board, moves):
         assert answer["reply"] in ("opened", "played"), (board, command, answer)
 
 
-async def connected():
+async def connected(arguments=""):
     """An operator's connection, as soon as the relay takes one."""
     for _ in range(100):
         try:
-            return await websockets.connect(f"{WIRE}/operators/relay", ssl=tls(), extra_headers=LOGIN, compression=None)
+            return await websockets.connect(f"{WIRE}/operators/relay{arguments}", ssl=tls(), extra_headers=LOGIN, compression=None)
         except (OSError, websockets.WebSocketException):
             await asyncio.sleep(0.1)
     raise AssertionError("the relay took no connection")

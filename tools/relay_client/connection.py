@@ -12,18 +12,24 @@ SO_ATTACH_FILTER = 26  # Linux, asm-generic/socket.h.
 TAKE_NOTHING = struct.pack("HBBI", 6, 0, 0, 0)  # A filter of sockets in one step: it says that no byte is kept.
 
 
+def stream_to(host, port, room=None, segment=None, patience=PATIENCE):
+    """A stream of TCP; with little room for what it receives, or in segments of this many bytes, if given. With small segments the system
+    keeps far fewer bytes for a peer that reads nothing. What it sends and receives may each take so many seconds."""
+    stream = socket.socket(socket.AF_INET6 if ":" in host else socket.AF_INET)
+    if segment:
+        stream.setsockopt(socket.IPPROTO_TCP, socket.TCP_MAXSEG, segment)
+    if room:
+        stream.setsockopt(socket.SOL_SOCKET, socket.SO_RCVBUF, room)
+    stream.settimeout(patience)
+    stream.connect((host, port))
+    return stream
+
+
 class Connection:
-    def __init__(self, port, room=None, key=None, target=None, segment=None, host="127.0.0.1", patience=PATIENCE):
-        """A connection; with little room for what it receives, with a key, with another target of its request, in segments of this many
-        bytes, or to another address, if given. With small segments the system keeps far fewer bytes for a peer that reads nothing. What it
-        sends and receives may each take so many seconds."""
-        self.stream = socket.socket(socket.AF_INET6 if ":" in host else socket.AF_INET)
-        if segment:
-            self.stream.setsockopt(socket.IPPROTO_TCP, socket.TCP_MAXSEG, segment)
-        if room:
-            self.stream.setsockopt(socket.SOL_SOCKET, socket.SO_RCVBUF, room)
-        self.stream.settimeout(patience)
-        self.stream.connect((host, port))
+    def __init__(self, port, key=None, target=None, host="127.0.0.1", **how):
+        """A connection; with a key, with another target of its request, or to another address, if given. Its stream is made as `how`
+        says."""
+        self.stream = stream_to(host, port, **how)
         self.stream.sendall(request(target or target_of(key)))
         head = b""
         while not head.endswith(b"\r\n\r\n"):

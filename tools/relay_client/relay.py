@@ -7,8 +7,8 @@ from relay_client.server import Server
 
 
 class Relay:
-    """`relay960 serve` with these options, and with a watch port if that is wanted; its queues hold as many moves as the documents' own
-    commands give them."""
+    """`relay960 serve` with these options, of which one that is true takes no value, and with a watch port if that is wanted; its queues
+    hold as many moves as the documents' own commands give them."""
 
     running = []
 
@@ -27,7 +27,7 @@ class Relay:
         return f"ws://127.0.0.1:{self.watch_port}"
 
     async def start(self):
-        words = [word for name, value in self.options.items() for word in (f"--{name}", str(value))]
+        words = [word for name, value in self.options.items() for word in (f"--{name}", str(value))[:1 if value is True else 2]]
         self.server = await asyncio.to_thread(Server, *words, port=self.port, watch=self.watch_port or False)
         Relay.running.append(self)
         return self

@@ -1,8 +1,10 @@
-"""A wire of TCP between a client and a relay that can be cut and mended, or lose what it carries, while the relay goes on."""
+"""A wire of TCP between a client and a relay that can be cut and mended, lose what it carries or be held, while the relay goes on."""
 
 import asyncio
+import contextlib
 import time
 
+from relay_client.connection import stream_to
 from relay_client.ports import free_port
 from relay_client.program import PATIENCE
 
@@ -10,8 +12,10 @@ UP, DOWN = "up", "down"
 
 
 class Wire:
-    def __init__(self, port):
+    def __init__(self, port, **how):
+        """A wire to the relay at this port, whose streams to the relay are made as `how` says."""
         self.goal = port
+        self.how = how
         self.port = free_port()
         self.server = None
         self.writers = set()
@@ -36,7 +40,7 @@ class Wire:
 
     async def carry(self, reader, writer):
         try:
-            far_reader, far_writer = await asyncio.open_connection("127.0.0.1", self.goal)
+            far_reader, far_writer = await asyncio.open_connection(sock=stream_to("127.0.0.1", self.goal, **self.how))
         except OSError:
             writer.close()
             return
@@ -62,6 +66,18 @@ class Wire:
         """Loses without a word what comes on these ways, from the piece on that has the word, as a cable that was pulled does."""
         self.has_lost.clear()
         self.losses = dict.fromkeys(ways, word)
+
+    @contextlib.contextmanager
+    def held(self):
+        """Within this block the connections that there are carry nothing, and nothing of them is lost."""
+        transports = [it.transport for it in self.writers]
+        for it in transports:
+            it.pause_reading()
+        try:
+            yield
+        finally:
+            for it in transports:
+                it.resume_reading()
 
     def drop(self):
         """Loses the connections that there are; new ones are carried."""

@@ -340,10 +340,10 @@ async def try_late(browser):
     """A spectator that comes after 80 moves sees the whole game, at a relay that is started as the unit starts it. Before, the documents'
     own commands kept 64 moves, and it began at the present."""
     words = re.search(r"^ExecStart=.* serve (.*)$", UNIT.read_text(), re.M)[1].split()
-    # The tests' relay counts its connections, and ends with them.
+    # The tests' relay counts its connections, ends with them, and keeps no journal.
     for word in "--forever", "--until-input-ends":
         words.remove(word)
-    options = {name.removeprefix("--"): value for name, value in zip(words[::2], words[1::2]) if name != "--port"}
+    options = {name.removeprefix("--"): value for name, value in zip(words[::2], words[1::2]) if name not in ("--port", "--journal")}
     relay = await Relay(**options).start()
     moves = []
     for file in "abcdeh":

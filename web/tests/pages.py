@@ -28,6 +28,8 @@ from relay_client.client import Client
 from relay_client.firefox import Firefox
 from relay_client.program import Player, fens, start_fen
 from relay_client.relay import Relay
+from relay_client.tests.test_log import Reader
+from relay_client.tests.test_watching_loops import SLOW, long_game
 from relay_client.webkit import WebKit
 from relay_client.wire import Wire
 from steps import (WEB, enter, listed, open_table, placement, said, say_end, shows, state, text, to_square, unfold, until_moves,
@@ -744,59 +746,53 @@ async def try_wire(browser):
     await wire.cut()
 
 
+# How many moves the relay keeps for a page, how many a game has, and how many come at once, so that few come between a cut and its line.
+CAPACITY, MOST, BURST = 256, 3875, 10
+GAPS = '[...document.querySelectorAll("#moves .gap")].map((it) => it.textContent)'
+FELL = 'document.querySelector("#notices").textContent.match(/after (\\d+) half-moves, because this page fell behind \\(4001\\)/)[1]'
+
+
+async def fall_behind(client, board, wire, log, more):
+    """Plays on while a page's wire is held, until the relay has cut the page off, and then so many moves more; the moves."""
+    game, count = long_game(MOST), 0
+    cut = asyncio.create_task(asyncio.to_thread(log.reads, f"{board} has cut a follower off", 60))
+    with wire.held():
+        while not cut.done() and count + BURST + more <= MOST:
+            await client.burst(board, game[count:count + BURST])
+            count += BURST
+            await asyncio.wait([cut], timeout=0.05)
+        await cut
+        await client.burst(board, game[count:count + more])
+    return game[:count + more]
+
+
 async def try_behind(browser):
-    """A follower that falls behind is closed with 4001; the page says so, comes back, and says what it missed."""
-    relay = await Relay(capacity=1, plies=16384).start()
-    client = await Client.to(relay.address)
-    await client.open("b1")
-    seer = await watch(browser, relay, "b1")
-    await until_state(seer, "live")
-    await seer.run('window.states = []; new MutationObserver(() => states.push(document.querySelector("#state").dataset.state))'
-                   '.observe(document.querySelector("#state"), {attributes: true})')
-    moves = []
-    for _ in range(40):
-        burst = fresh_burst(len(moves))
-        if not burst:
-            break
-        await client.burst("b1", burst)
-        moves += burst
-        await asyncio.sleep(0.2)
-        if "behind" in await seer.run("states"):
-            break
-    assert "behind" in await seer.run("states"), "no follower fell behind"
-    await until_state(seer, "live")
-    await asyncio.sleep(0.3)
-    await client.submit("b1", *(last := fresh_burst(len(moves))[:1]))
-    moves += last
-    await seer.until(f'document.querySelector("#fen").value === {json.dumps(fens(518, moves)[-1])}')
-    assert "4001" in await text(seer, "#notices")
-    had = await listed(seer)
-    places = [place for place, _ in had]
-    assert places == sorted(set(places)), "a place is shown twice"
-    assert all(moves[place] == move for place, move in had)
-    assert await placement(seer) == fens(518, moves)[-1].split(" ")[0]
-    missing = sorted(set(range(len(moves))) - set(places))
-    assert not missing or "missed" in await text(seer, "#moves"), missing
-    print(f"    {len(moves)} moves, {len(missing)} of them missed and said to be")
-    await seer.close()
+    """A page that takes nothing falls behind and is closed with 4001. It says so, comes back, and goes on from its place; or, where the
+    relay no longer has that, from the current position, and says what it missed."""
+    relay = await Relay(log=True, capacity=CAPACITY, plies=MOST + 1).start()
+    client, log = await Client.to(relay.address), Reader(relay.server)
+    for board, more in ("b1", 1), ("b2", CAPACITY + 1):
+        wire = await Wire(relay.port, **SLOW).mend()
+        await client.open(board)
+        seer = await watch(browser, relay, board, address=wire.address)
+        await until_state(seer, "live")
+        await seer.run('window.states = []; new MutationObserver(() => states.push(document.querySelector("#state").dataset.state))'
+                       '.observe(document.querySelector("#state"), {attributes: true})')
+        moves = await fall_behind(client, board, wire, log, more)
+        await seer.until('states.includes("behind") && states.at(-1) === "live"')
+        closing = int(await seer.run(FELL))
+        await client.submit(board, *(last := long_game(len(moves) + 1)[-1:]))
+        missed = len(moves) - closing if more > CAPACITY else 0
+        await seer.until(f'document.querySelector("#fen").value === {json.dumps(fens(518, moves + last)[-1])}')
+        had = [[place, move] for place, move in enumerate(moves + last) if not closing <= place < closing + missed]
+        assert await listed(seer) == had, (closing, len(moves), len(await listed(seer)))
+        assert await seer.run(GAPS) == ([f"{missed} half-moves were missed."] if missed else []), missed
+        assert await placement(seer) == fens(518, moves + last)[-1].split(" ")[0]
+        assert not seer.faults, seer.faults
+        print(f"    cut off after {closing} of {len(moves)} moves, {missed} of them missed and said to be")
+        await seer.close()
+        await wire.cut()
     await client.close()
-
-
-def fresh_burst(done):
-    """The next moves of a long game in which no position stands five times: the rooks go round while the knights hop."""
-    return LONG[done:done + 60]
-
-
-def long_game():
-    hop = ["g1f3", "g8f6", "f3g1", "f6g8"]
-    moves = ["b1c3", "b8c6"]
-    for pawns in ("a2a3 a7a6", "b2b3 b7b6", "d2d3 d7d6", "e2e3 e7e6", "g2g3 g7g6", "h2h3 h7h6", "a3a4 a6a5", "d3d4 d6d5", "g3g4 g6g5",
-                  "h3h4 h6h5", "b3b4 b6b5", "e3e4 e6e5"):
-        moves += pawns.split() + hop * 3
-    return moves
-
-
-LONG = long_game()
 
 
 async def try_crash(browser):

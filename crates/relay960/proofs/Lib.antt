@@ -1,2 +1,3 @@
 pub mod EndFacts
 mod Meeting
+mod Opening

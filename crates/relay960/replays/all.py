@@ -8,6 +8,7 @@ sys.path.append(str(pathlib.Path(__file__).resolve().parents[3] / "tools"))
 
 import devices
 import games
+import journals
 import limits
 import messages
 import relays
@@ -25,6 +26,7 @@ def main():
             run.try_it()
         count += len(table.RUNS)
     count += streams.closed_outputs() + streams.unreadable_inputs() + devices.all_devices() + services.all_services()
+    count += journals.all_journals()
     print(f"crates/relay960/replays: {count} runs replayed")
 
 

@@ -7,12 +7,13 @@ HELP = b"""A relay for live Chess960 games
 Usage: relay960 [COMMAND]
 
 Commands:
-  start   Print the starting position N in Shredder-FEN
-  moves   Print the legal moves and the state of the position FEN
-  play    Play the game of start N: read a move a line, print the position after it
-  script  Run a relay: read a command a line as JSON, print its answer
-  serve   Serve a relay over WebSocket: answer commands, push moves to followers
-  help    Print this message or the help of the given subcommand(s)
+  start    Print the starting position N in Shredder-FEN
+  moves    Print the legal moves and the state of the position FEN
+  play     Play the game of start N: read a move a line, print the position after it
+  script   Run a relay: read a command a line as JSON, print its answer
+  serve    Serve a relay over WebSocket: answer commands, push moves to followers
+  journal  Check a journal: print its boards, and how it ends
+  help     Print this message or the help of the given subcommand(s)
 
 Options:
   -h, --help     Print help
@@ -82,11 +83,23 @@ Options:
       --watch <ADDRESS:PORT>           The address and port on which spectators may only watch; without it there is none
       --watch-threads <watch-threads>  How many threads serve the spectators of --watch [default: 2]
       --watch-most <watch-most>        How many spectators of --watch there may be at once [default: 100000]
+      --journal <FILE>                 The file that keeps all games, so that the next start goes on with them; without it none is
       --boards <boards>                How many boards there may be [default: 16]
       --followers <followers>          How many followers a board may have [default: 64]
       --capacity <capacity>            How many moves a follower's queue holds [default: 64]
       --plies <plies>                  How many plies a game may have [default: 1024]
   -h, --help                           Print help
+"""
+
+JOURNAL_HELP = b"""Check a journal: print its boards, and how it ends
+
+Usage: relay960 journal <FILE>
+
+Arguments:
+  <FILE>  A journal of serve; it may be in use
+
+Options:
+  -h, --help  Print help
 """
 
 
@@ -118,11 +131,15 @@ TEXTS = [
     (("play", "--help"), PLAY_HELP),
     (("script", "--help"), SCRIPT_HELP),
     (("serve", "--help"), SERVE_HELP),
+    (("journal", "--help"), JOURNAL_HELP),
     (("nonsense",), error("unrecognized subcommand 'nonsense'", "[COMMAND]")),
     ((b"\xff",), error("invalid UTF-8 was detected in one or more arguments", "[COMMAND]")),
     (("start",), missing("start", "N")),
     (("moves",), missing("moves", "FEN")),
     (("play",), missing("play", "N")),
+    (("journal",), missing("journal", "FILE")),
+    (("journal", "a", "b"), error("unexpected argument 'b' found", "journal <FILE>")),
+    (("serve", "--journal"), error("a value is required for '--journal <FILE>' but none was supplied")),
     (("start", "x"), no_number("x", "<N>")),
     (("start", "0x5"), no_number("0x5", "<N>")),
     (("play", "x"), no_number("x", "<N>")),

@@ -3,3 +3,4 @@ pub mod ServeFaults
 pub mod Serving
 pub mod Reports
 pub mod Failures
+pub mod JournalEnds

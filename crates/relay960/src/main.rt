@@ -2,11 +2,13 @@
 #![tactic(auto)]
 
 mod failure;
+mod journal;
 mod program;
 mod recorder;
 mod report;
 mod serving;
 
+use journal::check_journal;
 use program::{Course, course_of};
 use relay960_words::{status_of_no_text, status_without_memory};
 use serving::{serve_run, status_of_end};
@@ -21,6 +23,7 @@ fn main(rt: HostRuntime) -> ExitCode {
             Ok(words) => match course_of(&rt, alloc, words.as_slice()) {
                 Course::Ended(status) => status,
                 Course::Serves(service) => status_of_end(&rt, serve_run(&rt, alloc, &service)),
+                Course::Checks(path) => check_journal(&rt, alloc, path),
             },
             Err(_) => status_without_memory(&rt),
         },

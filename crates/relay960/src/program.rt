@@ -4,7 +4,7 @@ ghost use Rattle.std.specs.Prelude.{◌≡◌, MatchResult, cond};
 ghost use Rattle.relay960.specs.Failures.{first_failure};
 ghost use Rattle.relay960.specs.Statuses.{Ends, EndsSomehow, end_status, fault_status};
 
-use crate::failure::{Device, Failure};
+use crate::failure::{Device, Failure, Reason};
 use crate::recorder::ErrorRecorder;
 use crate::report::Report;
 use relay960_engines::{
@@ -18,22 +18,26 @@ use std::io::{Read, Write};
 
 /// The result of reading the arguments.
 #[derive(Clone, Copy)]
-pub enum Course {
+pub enum Course<'a> {
     /// What they ask for is done, with this status.
     Ended(Status),
     /// They ask to serve.
-    Serves(Service),
+    Serves(Service<'a>),
+    /// They ask to check the journal with this path.
+    Checks(&'a str),
 }
 
-/// Does what the arguments ask for and returns the status, unless they ask to serve. The first argument is the program's name.
-pub fn course_of<R: Input + Print + Eprint, S: AsStr>(
+/// Does what the arguments ask for and returns the status, unless they ask to serve or to check a journal. The first argument is the
+/// program's name.
+pub fn course_of<'a, R: Input + Print + Eprint, S: AsStr>(
     rt: &R,
     alloc: Global,
-    words: &[S],
-) -> Course {
+    words: &'a [S],
+) -> Course<'a> {
     match order_of(rt, alloc, words) {
         Ok(Order::Run(job)) => Course::Ended(status_over_streams(rt, alloc, &job)),
         Ok(Order::Serve(service)) => Course::Serves(service),
+        Ok(Order::Journal(path)) => Course::Checks(path),
         Err(status) => Course::Ended(status),
     }
 }
@@ -50,7 +54,7 @@ fn status_over_streams<R: Input + Print + Eprint>(rt: &R, alloc: Global, job: &J
 }
 
 /// What failed, of a reader and a writer with these errors.
-fn failure_of(reading: Option<io::Error>, writing: Option<io::Error>) -> Option<Failure>
+fn failure_of(reading: Option<io::Error>, writing: Option<io::Error>) -> Option<Failure<'static>>
     ensures { result ≡ first_failure reading writing }
 {
     let (device, reason) = match (reading, writing) {
@@ -58,7 +62,10 @@ fn failure_of(reading: Option<io::Error>, writing: Option<io::Error>) -> Option<
         (None, Some(reason)) => (Device::Output, reason),
         (None, None) => return None,
     };
-    Some(Failure { device, reason })
+    Some(Failure {
+        device,
+        reason: Reason::System(reason),
+    })
 }
 
 /// Does the job over any reader and writer, and returns the status. The bounds of `play` and `script` are the greatest ones.
@@ -126,7 +133,7 @@ fn after_lines(ran: Result<u64, RunFault>) -> Result<Status, RunFault>
 fn status_of_run<E: Eprint>(
     err: &E,
     ran: Result<Status, RunFault>,
-    failure: Option<Failure>,
+    failure: Option<Failure<'_>>,
 ) -> Status
     ensures { result ≡ end_status ran }
 {

@@ -1,6 +1,6 @@
 -- The command-line arguments: which commands and options the program has, and what each list of arguments asks for. How a command reads its
 -- arguments is `clap`'s matter (`App`, `matches_of`, `subcommand_of`).
-use Rattle.std.specs.Prelude.{ℕ, Bool, ◌≡◌, ◌≢◌, ◌⊎◌, if◌then◌else◌, List, [], ◌∷◌, find, Option, Some, None, option_and_then, pos, true, false, codes}
+use Rattle.std.specs.Prelude.{ℕ, Bool, ◌≡◌, ◌≢◌, ◌⊎◌, if◌then◌else◌, List, [], ◌∷◌, find, Option, Some, None, option_and_then, option_map, pos, true, false, codes}
 use Rattle.std.specs.Str.{bytes_eq}
 use Rattle.std.specs.Str.Parse.{IsNumeral, digits_value, without_leading_plus}
 use Rattle.std.specs.Net.Grammar.{IsSocketText}
@@ -15,7 +15,7 @@ use Rattle.clap.specs.declared.parser.matches.ValueSource.TheVariants.{CommandLi
 use Rattle.relay960_words.specs.declared.order.Connections.{Connections}
 use Rattle.relay960_words.specs.declared.order.Connections.TheVariants.{Count, Forever}
 use Rattle.relay960_words.specs.declared.order.Order.{Order}
-use Rattle.relay960_words.specs.declared.order.Order.TheVariants.{Run, Serve}
+use Rattle.relay960_words.specs.declared.order.Order.TheVariants.{Run, Serve, Journal}
 use Rattle.relay960_words.specs.declared.order.Job.TheVariants.{Start, Moves, Play, Script, Version}
 use Rattle.relay960_words.specs.declared.order.Service.{Service}
 use Rattle.relay960_words.specs.declared.order.WatchPort.{WatchPort}
@@ -57,7 +57,7 @@ with_limits a = with_rule (with_rule (with_rule (with_rule a
 
 -- a command with the options of a service, except those of its limits
 abbrev pub with_service : App → App
-with_service a = with_rule (with_rule (with_rule (with_rule (with_rule (with_rule (with_rule (with_rule (with_rule (with_rule a
+with_service a = with_rule (with_rule (with_rule (with_rule (with_rule (with_rule (with_rule (with_rule (with_rule (with_rule (with_rule a
     (option_rule (codes "port") 1 65535 (codes "9600")))
     (option_rule (codes "connections") 1 1000000 (codes "1000000")))
     (flag_rule (codes "forever")))
@@ -67,7 +67,8 @@ with_service a = with_rule (with_rule (with_rule (with_rule (with_rule (with_rul
     (flag_rule (codes "log")))
     (text_rule (codes "watch")))
     (option_rule (codes "watch-threads") 1 64 (codes "2")))
-    (option_rule (codes "watch-most") 1 1000000 (codes "100000"))
+    (option_rule (codes "watch-most") 1 1000000 (codes "100000")))
+    (text_rule (codes "journal"))
 
 abbrev pub start_command : App
 start_command = with_rule (new_app (codes "start")) number_rule
@@ -84,13 +85,20 @@ script_command = with_limits (new_app (codes "script"))
 abbrev pub serve_command : App
 serve_command = with_limits (with_service (new_app (codes "serve")))
 
+-- the path of a journal, which is required
+abbrev pub file_rule : Rule
+file_rule = record (new_rule (codes "FILE")) { action = Some Set; required = true }
+
+abbrev pub journal_command : App
+journal_command = with_rule (new_app (codes "journal")) file_rule
+
 -- the program's own name, with a version
 abbrev pub versioned : App
 versioned = record (new_app (codes "relay960")) { top = record (new_app (codes "relay960")).top { has_version = true } }
 
 abbrev pub program : App
-program = with_subcommand (with_subcommand (with_subcommand (with_subcommand (with_subcommand versioned
-    start_command.top) moves_command.top) play_command.top) script_command.top) serve_command.top
+program = with_subcommand (with_subcommand (with_subcommand (with_subcommand (with_subcommand (with_subcommand versioned
+    start_command.top) moves_command.top) play_command.top) script_command.top) serve_command.top) journal_command.top
 
 -- ---- what the arguments ask for
 
@@ -140,6 +148,7 @@ pub record HasService (rows : List Row) (s : Service) : Type 0 where
   pub log : HasFlag rows (codes "log") s.log
   pub limits : HasLimits rows s.limits
   pub watch : HasWatch rows s.watch
+  pub journal : option_map (λ path. path.now) s.journal ≡ first_of (codes "journal") rows
 
 -- a command of that name, with these entries, asks for the order
 abbrev pub AsksFor : Text → List Row → Order → Type 0
@@ -149,6 +158,7 @@ AsksFor name rows (Run (Play n)) = (name ≡ codes "play") × HasNumber rows (co
 AsksFor name rows (Run (Script limits)) = (name ≡ codes "script") × HasLimits rows limits
 AsksFor name rows (Run Version) = ⊥
 AsksFor name rows (Serve s) = (name ≡ codes "serve") × HasService rows s
+AsksFor name rows (Journal path) = (name ≡ codes "journal") × (first_of (codes "FILE") rows ≡ Some path.now)
 
 -- the order is what is asked for: by a command with its entries, or by arguments that name none
 abbrev pub CommandAsksFor : Option (Text × List Row) → List Text → Order → Type 0

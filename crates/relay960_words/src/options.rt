@@ -112,6 +112,8 @@ pub(crate) fn with_service<'a>(
     let watch = "The address and port on which spectators may only watch; without it there is none";
     let watch_threads = "How many threads serve the spectators of --watch";
     let watch_most = "How many spectators of --watch there may be at once";
+    let journal =
+        "The file that keeps all games, so that the next start goes on with them; without it none is";
     let idle =
         "How many seconds a peer that owns and follows nothing may send nothing; 0: without an end";
     let log =
@@ -126,5 +128,6 @@ pub(crate) fn with_service<'a>(
         .arg(flag_option(alloc, "log", log))?
         .arg(text_option(alloc, "watch", "ADDRESS:PORT", watch))?
         .arg(number_option(alloc, "watch-threads", watch_threads, 1, 64, "2"))?
-        .arg(number_option(alloc, "watch-most", watch_most, 1, 1_000_000, "100000"))
+        .arg(number_option(alloc, "watch-most", watch_most, 1, 1_000_000, "100000"))?
+        .arg(text_option(alloc, "journal", "FILE", journal))
 }

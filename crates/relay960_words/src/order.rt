@@ -9,7 +9,9 @@ pub enum Order<'a> {
     /// To do a job over the program's own streams.
     Run(Job<'a>),
     /// To serve.
-    Serve(Service),
+    Serve(Service<'a>),
+    /// To check the journal with this path.
+    Journal(&'a str),
 }
 
 /// A job with a reader and a writer.
@@ -29,7 +31,7 @@ pub enum Job<'a> {
 
 /// What is served: a relay with these limits, on this port of 127.0.0.1.
 #[derive(Clone, Copy)]
-pub struct Service {
+pub struct Service<'a> {
     /// The port.
     pub port: u16,
     /// How many connections are accepted.
@@ -46,6 +48,8 @@ pub struct Service {
     pub limits: Limits,
     /// The watch port, if there is one.
     pub watch: Option<WatchPort>,
+    /// The path of the journal, if there is one.
+    pub journal: Option<&'a str>,
 }
 
 /// The watch port: another port, on which spectators may only watch.

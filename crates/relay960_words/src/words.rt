@@ -77,18 +77,37 @@ fn serve_command<'a>(alloc: Global) -> Result<Command<'a>, AllocError>
     with_limits(alloc, with_service(alloc, command)?)
 }
 
-fn program_command<'a>(alloc: Global) -> Result<Command<'a>, AllocError>
-    ensures { IfOk result (λ c. app_of c ≡ line.program) }
+fn journal_command<'a>(alloc: Global) -> Result<Command<'a>, AllocError>
+    ensures { IfOk result (λ c. app_of c ≡ line.journal_command) }
+{
+    let file = Arg::new(alloc, "FILE")
+        .help("A journal of serve; it may be in use")
+        .required(true)
+        .action(ArgAction::Set);
+    Command::new(alloc, "journal")
+        .about("Check a journal: print its boards, and how it ends")
+        .arg(file)
+}
+
+fn versioned_command<'a>(alloc: Global) -> Command<'a>
+    ensures { app_of result ≡ line.versioned }
 {
     Command::new(alloc, "relay960")
         .about("A relay for live Chess960 games")
         .version(VERSION)
         .after_help("Without a command: script, with the default limits")
+}
+
+fn program_command<'a>(alloc: Global) -> Result<Command<'a>, AllocError>
+    ensures { IfOk result (λ c. app_of c ≡ line.program) }
+{
+    versioned_command(alloc)
         .subcommand(start_command(alloc)?)?
         .subcommand(moves_command(alloc)?)?
         .subcommand(play_command(alloc)?)?
         .subcommand(script_command(alloc)?)?
-        .subcommand(serve_command(alloc)?)
+        .subcommand(serve_command(alloc)?)?
+        .subcommand(journal_command(alloc)?)
 }
 
 /// What the arguments ask for. The first of them is the program's name.
@@ -155,6 +174,7 @@ fn command_order<'a>(alloc: Global, name: &str, given: &ArgMatches<'a>) -> Resul
         "play" => Ok(Order::Run(Job::Play(value_of(alloc, given, "N")?))),
         "script" => Ok(Order::Run(Job::Script(limits_of(alloc, given)?))),
         "serve" => Ok(Order::Serve(service_of(alloc, given)?)),
+        "journal" => Ok(Order::Journal(text_of(alloc, given, "FILE")?)),
         // `clap` has made sure that it is one of these.
         _ => Err(program_error(
             alloc,
@@ -223,7 +243,7 @@ fn connections_of(alloc: Global, given: &ArgMatches) -> Result<Connections, Erro
 }
 
 /// The service that is given.
-fn service_of(alloc: Global, given: &ArgMatches) -> Result<Service, Error>
+fn service_of<'a>(alloc: Global, given: &ArgMatches<'a>) -> Result<Service<'a>, Error>
     ensures { IfOk result (line.HasService (rows_of (found_of given.now))) }
 {
     Ok(Service {
@@ -235,6 +255,7 @@ fn service_of(alloc: Global, given: &ArgMatches) -> Result<Service, Error>
         log: flag_of(alloc, given, "log")?,
         limits: limits_of(alloc, given)?,
         watch: watch_of(alloc, given)?,
+        journal: given.get_str("journal"),
     })
 }
 

@@ -26,7 +26,7 @@ use std::marker::Model;
 /// Behind each event of the hall what is missing in the journal is noted. `commit` writes and syncs what was noted. Until then nothing is
 /// due to anybody.
 #[derive(Drop)]
-pub struct DurableService<S> {
+pub struct DurableService<S: StableStorage> {
     alloc: Global,
     service: Service,
     scribe: Option<Scribe<S>>,
@@ -44,8 +44,8 @@ impl<S: StableStorage> Model for DurableService<S> {
     ghost invariant = { IsDurable S.contents S.synced };
 }
 
-/// Notes what is missing in the journal, if there is one, behind an event of the hall or none. If that fails it does for good, and no commit
-/// succeeds any more.
+/// Notes what is missing in the journal, if there is one, behind an event of the hall or none. If that fails it does for good, and no
+/// commit succeeds any more.
 fn note<S: StableStorage>(alloc: Global, scribe: &mut Option<Scribe<S>>, hall: &Hall)
     ensures { (k : HallRecord) → IsOneEvent k hall.now → IsKept S.contents S.synced scribe.old k.floor
         → IsKept S.contents S.synced scribe.new hall.now.floor }

@@ -5,8 +5,8 @@ use Rattle.relay_core.specs.History.{History}
 use Rattle.relay_hall.specs.Record.{HallRecord, nobody_yet}
 use Rattle.relay_hall.specs.Runs.{AllSayWhileThere, HallEvent, HallRuns, HallTold, IsOrderly, counts_after, has_gone}
 
--- Some events led from nobody to this hall. Nobody says anything after going, and with a key nobody does who has not come; all who came with
--- a key have gone, and nobody went by a number from `next` on.
+-- Some events led from nobody to this hall. Nobody says anything after going, and with a key nobody does who has not come; all who came
+-- with a key have gone, and nobody went by a number from `next` on.
 pub record IsRestart (limits : LimitNumbers) (grace next : ℕ) (hall : HallRecord) : Type 0 where
   pub events : List HallEvent
   pub told : List HallTold

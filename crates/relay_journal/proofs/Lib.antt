@@ -1,5 +1,6 @@
 pub mod Accepting
 pub mod Again
+pub mod Behind
 pub mod Changes
 pub mod Commands
 pub mod Compared
@@ -7,6 +8,7 @@ pub mod Each
 pub mod Fitting
 pub mod Going
 pub mod Leading
+pub mod Left
 pub mod Missing
 pub mod Noting
 pub mod Orderly
@@ -15,3 +17,4 @@ pub mod Recovered
 pub mod Spaces
 pub mod Steps
 pub mod Sweeps
+pub mod Written

@@ -1,9 +1,10 @@
 -- What the owner and the command of a body say, and the entry that they make.
-use Rattle.std.proofs.Common.{refl, ◌≡◌, ℕ, Bool, true, false, cond, List, [], ◌∷◌, Option, Some, None, ◌∙◌, ap, arith}
-use Rattle.std.specs.Prelude.{◌==◌, ◌&&◌, not, nat_le, length, codes, IfSome}
+use Rattle.std.proofs.Common.{refl, ◌≡◌, ℕ, Bool, true, false, cond, List, [], ◌∷◌, ◌++◌, Option, Some, None, ◌∙◌, ap, arith}
+use Rattle.std.specs.Prelude.{◌==◌, ◌&&◌, not, ◌-◌, nat_le, length, replicate, codes, IfSome}
 use Rattle.std.specs.List.{list_all}
 use Rattle.std.specs.Str.{bytes_eq}
 use Rattle.std.proofs.lemmas.Bool.{and_parts}
+use Rattle.std.proofs.lemmas.List.{append-nil}
 use Rattle.std.proofs.lemmas.Option.{none-some, same_Some}
 use Rattle.std.proofs.lemmas.Slice.Eq.{bytes_eq-Decides}
 use Rattle.relay_core.specs.declared.step.Step.{Step}
@@ -41,6 +42,20 @@ owner_no_space text key is = by_dash (bytes_eq text (codes "-")) refl is
     by_dash : (t : Bool) → bytes_eq text (codes "-") ≡ t → cond t (Some None) (cond (is_key text) (Some (Some (filled text))) None) ≡ Some key → has_no_space text ≡ true
     by_dash true dash some = ap has_no_space ((bytes_eq-Decides text (codes "-")).0 dash)
     by_dash false dash some = by_key (is_key text) refl some
+
+-- ---- All bytes of a key tell it.
+
+pub text_of_key : (text : List ℕ) → length text ≡ 64 → is_key text ≡ true → key_in text ≡ Some (Some text)
+text_of_key text size is = by_dash (bytes_eq text (codes "-")) refl
+  where
+    whole : filled text ≡ text
+    whole = ap (λ (n : ℕ). text ++ replicate (64 - n) 0) size ∙ append-nil text
+
+    by_dash : (t : Bool) → bytes_eq text (codes "-") ≡ t → cond t (Some None) (cond (is_key text) (Some (Some (filled text))) None) ≡ Some (Some text)
+    by_dash true dash =
+        let one = ap length ((bytes_eq-Decides text (codes "-")).0 dash) in
+        absurd (omega (arith, size, one))
+    by_dash false other = ap (λ (t : Bool). cond t (Some (Some (filled text))) None) is ∙ ap (λ (t : List ℕ). Some (Some t)) whole
 
 -- ---- A key and a step are of one entry.
 

@@ -1,5 +1,5 @@
 -- What a line of a journal says: who made a step, and the command that asks for it.
-use Rattle.std.specs.Prelude.{◌≡◌, ◌≢◌, ℕ, ◌+◌, ◌≤◌, ◌==◌, Bool, true, not, cond, List, [], ◌∷◌, ◌++◌, length, slice_get, take, Option, Some, None, Ok, codes}
+use Rattle.std.specs.Prelude.{◌≡◌, ◌≢◌, ℕ, ◌+◌, ◌≤◌, ◌==◌, ◌&&◌, Bool, true, not, cond, List, [], ◌∷◌, ◌++◌, length, slice_get, take, Option, Some, None, Ok, codes}
 use Rattle.std.specs.List.{list_all}
 use Rattle.std.specs.Str.{bytes_eq}
 use Rattle.chained_lines.specs.Lines.{Line, file_of, no_seal}
@@ -15,10 +15,14 @@ has_no_space text = list_all (λ b. not (b == 32)) text
 abbrev pub key_in : List ℕ → Option (Option (List ℕ))
 key_in text = cond (bytes_eq text (codes "-")) (Some None) (cond (is_key text) (Some (Some (filled text))) None)
 
+-- whether a text is a key of 64 bytes, behind which no zeros are
+abbrev pub is_whole : List ℕ → Bool
+is_whole text = (length text == 64) && is_key text
+
 -- whether lines are made of an owner with this key, padded with zeros: it has all 64 bytes, or there is none
 abbrev pub is_written : Option (List ℕ) → Bool
 is_written None = true
-is_written (Some key) = is_key key
+is_written (Some key) = is_whole key
 
 -- the key of an open, or `-`; a space; and the command as in a script
 pub record IsBody (body : List ℕ) (e : Entry) : Type 0 where

@@ -3,7 +3,7 @@
 ghost use Rattle.std.specs.Prelude.{◌≡◌, ◌≢◌, ◌++◌, ◌∷◌, false, None, Some, IfOk, IfSome, is_some};
 ghost use Rattle.relay_messages.specs.declared.fault.MessageFault.TheVariants.{OutOfMemory};
 ghost use Rattle.relay_journal.specs.declared.entry.Entry.{Entry as Kept};
-ghost use Rattle.relay_journal.specs.Bodies.{IsBody, is_written, key_in};
+ghost use Rattle.relay_journal.specs.Bodies.{IsBody, is_whole, is_written, key_in};
 ghost use Rattle.relay_journal.specs.Kept.{key_of};
 
 use crate::entry::Entry;
@@ -26,6 +26,13 @@ fn owner_in(text: &[u8]) -> Option<Option<Key>>
     }
 }
 
+/// Whether the text is a key of 64 bytes, behind which no zeros are.
+fn is_whole(text: &[u8]) -> bool
+    ensures { result ≡ is_whole text.now }
+{
+    text.len() == 64 && Key::parse(text).is_some()
+}
+
 /// What a line has of an owner with this key, or `-` for none; or None if the key has fewer than 64 bytes, of which no line is made.
 pub(crate) fn owner_text(key: &Option<Key>) -> Option<&[u8]>
     ensures text { IfSome result (λ text. key_in text.now ≡ Some key.now) }
@@ -35,8 +42,7 @@ pub(crate) fn owner_text(key: &Option<Key>) -> Option<&[u8]>
         return Some(b"-");
     };
     let text = key.bytes().as_slice();
-    Key::parse(text)?;
-    Some(text)
+    if is_whole(text) { Some(text) } else { None }
 }
 
 /// Whether this is no fault of the text.

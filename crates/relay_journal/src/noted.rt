@@ -1,6 +1,6 @@
 //! What was noted of boards.
 
-ghost use Rattle.std.specs.Prelude.{◌≡◌, OnOk};
+ghost use Rattle.std.specs.Prelude.{◌≡◌, ◌==◌, ◌&&◌, length, slice_get, OnOk};
 ghost use Rattle.relay_journal.specs.Behind.{kept_shown};
 ghost use Rattle.relay_journal.specs.Scribes.{noted_in, noted_of};
 
@@ -26,6 +26,20 @@ impl Noted {
             is_over: shown.outcome().is_some(),
         }
     }
+
+    /// Whether the end of this board's game was noted, and no move is missing.
+    pub(crate) fn has_end_of(&self, shown: &Shown<'_>) -> bool
+        ensures { result ≡ (self.now.is_over && (self.now.plies == length shown.now.game.log)) }
+    {
+        self.is_over && self.plies == shown.plies()
+    }
+}
+
+/// What was noted of the board of this index, or None if nothing was.
+pub(crate) fn noted_at(noted: &[Noted], at: usize) -> Option<Noted>
+    ensures { result ≡ slice_get noted.now at }
+{
+    noted.get(at).copied()
 }
 
 /// Keeps that nothing is missing of the boards of this hall.

@@ -1,6 +1,6 @@
 //! Whoever keeps a journal of a hall.
 
-ghost use Rattle.std.specs.Prelude.{◌≡◌, ◌≤◌, ◌∷◌, ◌==◌, ◌&&◌, [], true, false, not, length, None, IfOk, IsErr, OnErr, OnOk};
+ghost use Rattle.std.specs.Prelude.{◌≡◌, ◌≤◌, ◌∷◌, ◌==◌, ◌&&◌, [], true, false, not, length, List, None, IfOk, IsErr, OnErr, OnOk};
 ghost use Rattle.chained_lines.specs.Journals.{HoldsLines, KeepsLines, IsKnownFront};
 ghost use Rattle.chained_lines.specs.Lines.{Line};
 ghost use Rattle.chained_lines.specs.Storage.{Failed};
@@ -13,8 +13,8 @@ ghost use Rattle.relay_journal.specs.Scribes.{noted_in};
 ghost use Rattle.relay_journal.specs.Writing.{HoldsIfKnown, IsWritten};
 
 use crate::noted::{Noted, keep_noted};
-use crate::noting::note_all;
 use crate::reading::FIRST_BODY;
+use crate::writing::note_all;
 use chained_lines::{Journal, NoteError, StableStorage};
 use relay_hall::Hall;
 use std::alloc::{AllocError, Global};
@@ -103,9 +103,10 @@ impl<S: StableStorage> Scribe<S> {
     /// There was no memory, or no line tells the key of an owner: one that has fewer than 64 bytes. From then on it fails, and nothing is
     /// committed: what is not noted would be missing in what comes behind it.
     pub fn note(&mut self, alloc: Global, hall: &Hall) -> Result<(), NoteError>
-        ensures event { (k : HallRecord) (e : HallEvent) (t : HallTold) → HallStep k e t hall.now → IsWritten S.contents S.synced self.old k.floor
+        ensures event { (k : HallRecord) (e : HallEvent) (t : HallTold) → HallStep k e t hall.now
+            → IsWritten S.contents S.synced self.old k.floor → OnOk result (IsWritten S.contents S.synced self.new hall.now.floor) }
+        ensures nothing { IsWritten S.contents S.synced self.old hall.now.floor
             → OnOk result (IsWritten S.contents S.synced self.new hall.now.floor) }
-        ensures nothing { IsWritten S.contents S.synced self.old hall.now.floor → OnOk result (IsWritten S.contents S.synced self.new hall.now.floor) }
         ensures storage { self.new.journal.storage ≡ self.old.journal.storage }
         ensures failed { OnErr result (self.new.has_failed ≡ true) }
         ensures silent { self.old.has_failed ≡ true → IsErr result × (self.new ≡ self.old) }
@@ -124,7 +125,8 @@ impl<S: StableStorage> Scribe<S> {
     ///
     /// The storage failed, or something had failed before. What was committed before is kept even so. From then on nothing is written.
     pub fn commit(&mut self) -> io::Result<()>
-        ensures written { (f : FloorRecord) → IsWritten S.contents S.synced self.old f → OnOk result (IsWritten S.contents S.synced self.new f) }
+        ensures written { (f : FloorRecord) → IsWritten S.contents S.synced self.old f
+            → OnOk result (IsWritten S.contents S.synced self.new f) }
         ensures committed { OnOk result ((ls : List Line) → HoldsLines S.contents S.synced self.old.journal ls
             → HoldsLines S.contents S.synced self.new.journal ls × KeepsLines S.synced self.new.journal ls) }
         ensures emptied { OnOk result (self.new.journal.noted ≡ []) }
@@ -150,6 +152,14 @@ impl<S: StableStorage> Scribe<S> {
         ensures { result ≡ (not self.now.has_failed && (length self.now.journal.noted == 0)) }
     {
         !self.has_failed && !self.journal.has_noted()
+    }
+
+    /// Its journal. What was noted since the last commit is not in the storage.
+    pub fn into_journal(self) -> Journal<S>
+        ensures { result ≡ self.journal }
+    {
+        let Scribe { journal, .. } = self;
+        journal
     }
 
     /// Whether something could not be noted, or a commit has failed.

@@ -10,6 +10,7 @@ mod Keeping
 mod Led
 mod Ordering
 mod Owners
+mod Resuming
 mod Rights
 mod Serving
 mod Taking

@@ -35,31 +35,31 @@ use Rattle.relay_service.proofs.Rights.{made_own, may_rightly, opened_still, run
 
 -- ---- The run.
 
-abbrev book_then : (limits : LimitNumbers) (grace : ℕ) (turns : List Turn) (k : HallRecord) (b : IsOrderlyRun limits grace turns k) (x : Turn) (e : HallEvent) (t : HallTold) (l : HallRecord)
+abbrev book_then : (limits : LimitNumbers) (grace restarted : ℕ) (turns : List Turn) (k : HallRecord) (b : IsOrderlyRun limits grace restarted turns k) (x : Turn) (e : HallEvent) (t : HallTold) (l : HallRecord)
     → MadeBy x (e ∷ []) [] → HallStep k e t l → ((w : ℕ) → has_gone w b.events ≡ true → says_now w e ≡ false) → SaysWhileThere (counts_after (λ key. 0) b.events) e
-    → IsRightful k e → IsOrderlyRun limits grace (turns ++ x ∷ []) l
-book_then limits grace turns k b x e t l made step quiet says right = record {
+    → IsRightful k e → IsOrderlyRun limits grace restarted (turns ++ x ∷ []) l
+book_then limits grace restarted turns k b x e t l made step quiet says right = record {
   events = b.events ++ e ∷ [];
   told = b.told ++ t ∷ [];
   history = history_after k e t l b.history;
-  run = (run_then (nobody_yet limits grace) [] b.events b.told b.history k b.run b.rightful e t l step right).0;
+  run = (run_then restarted (nobody_yet limits grace) [] b.events b.told b.history k b.run b.rightful e t l step right).0;
   made = made_then turns x b.events (e ∷ []) b.made made;
   orderly = orderly_then b.events e b.orderly quiet;
   there = say_then (λ key. 0) b.events e b.there says;
-  rightful = (run_then (nobody_yet limits grace) [] b.events b.told b.history k b.run b.rightful e t l step right).1;
+  rightful = (run_then restarted (nobody_yet limits grace) [] b.events b.told b.history k b.run b.rightful e t l step right).1;
 }
 
-abbrev book_still : (limits : LimitNumbers) (grace : ℕ) (turns : List Turn) (k : HallRecord) (b : IsOrderlyRun limits grace turns k) (x : Turn) (l : HallRecord)
-    → MadeBy x [] [] → l ≡ k → IsOrderlyRun limits grace (turns ++ x ∷ []) l
-book_still limits grace turns k b x l made same = record {
+abbrev book_still : (limits : LimitNumbers) (grace restarted : ℕ) (turns : List Turn) (k : HallRecord) (b : IsOrderlyRun limits grace restarted turns k) (x : Turn) (l : HallRecord)
+    → MadeBy x [] [] → l ≡ k → IsOrderlyRun limits grace restarted (turns ++ x ∷ []) l
+book_still limits grace restarted turns k b x l made same = record {
   events = b.events;
   told = b.told;
   history = b.history;
-  run = (run_as limits grace b.events b.told b.history k l same b.run b.rightful).0;
+  run = (run_as restarted limits grace b.events b.told b.history k l same b.run b.rightful).0;
   made = subst (AreMadeBy (turns ++ x ∷ [])) (append-nil b.events) (made_then turns x b.events [] b.made made);
   orderly = b.orderly;
   there = b.there;
-  rightful = (run_as limits grace b.events b.told b.history k l same b.run b.rightful).1;
+  rightful = (run_as restarted limits grace b.events b.told b.history k l same b.run b.rightful).1;
 }
 
 -- ---- Who is in the hall.
@@ -191,7 +191,7 @@ pub ordered_still : (s : ServiceRecord) (number : ℕ) (x : Deed) (t : ServiceRe
 ordered_still s number x t o d none made same own =
     let u : ServiceRecord = record s { hall = t.hall; connections = t.connections; turns = s.turns ++ happens number x ∷ [] } in
     let is : IsOrdered u = record {
-      book = book_still s.limits s.grace s.turns s.hall o.book (happens number x) t.hall made same;
+      book = book_still s.limits s.grace s.restarted s.turns s.hall o.book (happens number x) t.hall made same;
       fresh = o.fresh;
       here = o.here;
       counted = o.counted;
@@ -222,7 +222,7 @@ ordered_says s number x t o d present none step reply handed makes made may now-
     let says : SaysWhileThere (counts_after (λ key. 0) o.book.events) e =
     λ key at. subst (λ (n : ℕ). 0 < n) (sym (o.counted key)) (is_here o.here number key (z.listed key at)) in
     let is : IsOrdered u = record {
-      book = book_then s.limits s.grace s.turns s.hall o.book (happens number x) e (Replied reply handed) t.hall made makes
+      book = book_then s.limits s.grace s.restarted s.turns s.hall o.book (happens number x) e (Replied reply handed) t.hall made makes
           (λ w gone. quiet w (nat_eq number w) refl gone z) says (may_rightly s.hall.floor d.does.connection.who d.does.connection.boards step own may);
       fresh = λ i more. not_gone_then i o.book.events e (o.fresh i more) refl;
       here = o.here;
@@ -253,7 +253,7 @@ ordered_by_arrival s number bytes mid key t o d present arrives p =
     o.seated number d.does.connection.who (owner_before s number (came bytes) mid d present) in
     let now : List (ℕ × List ℕ) = (number, key) ∷ o.here in
     let is : IsOrdered u = record {
-      book = book_then s.limits s.grace turns mid.hall (book_still s.limits s.grace s.turns s.hall o.book (happens number (came bytes)) mid.hall refl d.hall)
+      book = book_then s.limits s.grace s.restarted turns mid.hall (book_still s.limits s.grace s.restarted s.turns s.hall o.book (happens number (came bytes)) mid.hall refl d.hall)
           (passes (Comes key) Silent) e Silent t.hall refl p.step (λ w gone. refl) tt tt;
       fresh = λ i more. not_gone_then i o.book.events e (o.fresh i more) refl;
       here = now;
@@ -296,7 +296,7 @@ departing_with s number who c t o below l nobody names now counted among =
     let e : HallEvent = Goes who in
     let z : IsSeated o.book.events o.here number who = o.seated number who l.there in
     let is : IsOrdered u = record {
-      book = book_then s.limits s.grace s.turns s.hall o.book (passes e Silent) e Silent t.hall refl l.step (λ w gone. refl) tt tt;
+      book = book_then s.limits s.grace s.restarted s.turns s.hall o.book (passes e Silent) e Silent t.hall refl l.step (λ w gone. refl) tt tt;
       fresh = λ i more. not_gone_then i o.book.events e (o.fresh i more) (not_left i who number z.numbered (unlike number i (less i more)));
       here = now;
       counted = λ q. counts_then (λ key. 0) o.book.events e q ∙ counted q;
@@ -336,7 +336,7 @@ pub ordered_by_pass : (s : ServiceRecord) (e : HallEvent) (t : ServiceRecord) �
 ordered_by_pass s e t o p says goes counts there right =
     let u : ServiceRecord = record s { hall = t.hall; turns = s.turns ++ passes e Silent ∷ [] } in
     let is : IsOrdered u = record {
-      book = book_then s.limits s.grace s.turns s.hall o.book (passes e Silent) e Silent t.hall refl p.step (λ w gone. says w) (there (counts_after (λ key. 0) o.book.events)) right;
+      book = book_then s.limits s.grace s.restarted s.turns s.hall o.book (passes e Silent) e Silent t.hall refl p.step (λ w gone. says w) (there (counts_after (λ key. 0) o.book.events)) right;
       fresh = λ i more. not_gone_then i o.book.events e (o.fresh i more) (goes i);
       here = o.here;
       counted = λ q. counts_then (λ key. 0) o.book.events e q ∙ (counts (counts_after (λ key. 0) o.book.events) q ∙ o.counted q);
@@ -356,7 +356,7 @@ ordered_lost s number bytes c mid connections o replaced gone =
     let left : IsOrdered (record s { connections = connections }) =
     ordered_without s number connections o (λ q. gone q ∙ once (nat_eq number q) (connection_in s.connections q) (connection_in mid q) (replaced q)) in
     record {
-      book = book_still s.limits s.grace s.turns s.hall o.book (happens number (came bytes)) s.hall refl refl;
+      book = book_still s.limits s.grace s.restarted s.turns s.hall o.book (happens number (came bytes)) s.hall refl refl;
       fresh = left.fresh;
       here = left.here;
       counted = left.counted;

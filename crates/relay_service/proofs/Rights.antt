@@ -1,5 +1,5 @@
 -- Whoever moves or ends a board owns it: a step is made only if its connection may make it.
-use Rattle.std.proofs.Common.{◌≡◌, ◌⊎◌, ◌||◌, ℕ, Bool, true, false, true≢false, cond, List, [], ◌∷◌, ◌++◌, append-nil, length, is_some, Option, None, Some, option_map, Result, Ok, Err, inl, inr, refl, sym, ap, ◌∙◌, subst}
+use Rattle.std.proofs.Common.{◌≡◌, ◌⊎◌, ◌||◌, ℕ, zero, suc, Bool, true, false, true≢false, cond, List, [], ◌∷◌, ◌++◌, append-nil, length, is_some, Option, None, Some, option_map, Result, Ok, Err, inl, inr, refl, sym, ap, ◌∙◌, subst}
 use Rattle.std.proofs.lemmas.Option.{none-some}
 use Rattle.std.specs.Map.{lookup}
 use Rattle.c960_game.specs.declared.refusal.Refusal.{Refusal}
@@ -31,25 +31,31 @@ use Rattle.relay_service.specs.Rights.{AreRightful, IsRightful, IsRightfulStep, 
 
 -- ---- A run.
 
--- one event more, of whoever had the right
-pub run_then : (k : HallRecord) (h : History) (es : List HallEvent) (ts : List HallTold) (g : History) (l : HallRecord) (r : HallRuns k h es ts g l) → AreRightful k h es ts g l r
+-- one event more, of whoever had the right; so many of the first need none
+pub run_then : (n : ℕ) (k : HallRecord) (h : History) (es : List HallEvent) (ts : List HallTold) (g : History) (l : HallRecord) (r : HallRuns k h es ts g l) → AreRightful n k h es ts g l r
     → (e : HallEvent) (t : HallTold) (m : HallRecord) → HallStep l e t m → IsRightful l e
-    → (q : HallRuns k h (es ++ e ∷ []) (ts ++ t ∷ []) (history_after l e t m g) m) × AreRightful k h (es ++ e ∷ []) (ts ++ t ∷ []) (history_after l e t m g) m q
-run_then k h [] [] g l (g-is, l-is) rights e t m s right = (
+    → (q : HallRuns k h (es ++ e ∷ []) (ts ++ t ∷ []) (history_after l e t m g) m) × AreRightful n k h (es ++ e ∷ []) (ts ++ t ∷ []) (history_after l e t m g) m q
+run_then n k h [] [] g l (g-is, l-is) rights e t m s right = (
   (m, subst (λ (x : HallRecord). HallStep x e t m) l-is s, ((λ i. history_after (l-is i) e t m (g-is i)), refl)),
-  (subst (λ (x : HallRecord). IsRightful x e) l-is right, tt),
+  last n,
 )
-run_then k h [] (u ∷ ts) g l r rights e t m s right = absurd r
-run_then k h (d ∷ es) [] g l r rights e t m s right = absurd r
-run_then k h (d ∷ es) (u ∷ ts) g l (mid, first, r) (one, rights) e t m s right =
-    let q = run_then mid (history_after k d u mid h) es ts g l r rights e t m s right in ((mid, first, q.0), (one, q.1))
+  where
+    last : (n : ℕ) → AreRightful n k h (e ∷ []) (t ∷ []) (history_after l e t m g) m (m, subst (λ (x : HallRecord). HallStep x e t m) l-is s, ((λ i. history_after (l-is i) e t m (g-is i)), refl))
+    last zero = (subst (λ (x : HallRecord). IsRightful x e) l-is right, tt)
+    last (suc n) = tt
+run_then n k h [] (u ∷ ts) g l r rights e t m s right = absurd r
+run_then n k h (d ∷ es) [] g l r rights e t m s right = absurd r
+run_then zero k h (d ∷ es) (u ∷ ts) g l (mid, first, r) (one, rights) e t m s right =
+    let q = run_then zero mid (history_after k d u mid h) es ts g l r rights e t m s right in ((mid, first, q.0), (one, q.1))
+run_then (suc n) k h (d ∷ es) (u ∷ ts) g l (mid, first, r) rights e t m s right =
+    let q = run_then n mid (history_after k d u mid h) es ts g l r rights e t m s right in ((mid, first, q.0), q.1)
 
 -- the same hall
-pub run_as : (limits : LimitNumbers) (grace : ℕ) (es : List HallEvent) (ts : List HallTold) (h : History) (k l : HallRecord) → l ≡ k → (r : HallRuns (nobody_yet limits grace) [] es ts h k)
-    → AreRightful (nobody_yet limits grace) [] es ts h k r
-    → (q : HallRuns (nobody_yet limits grace) [] es ts h l) × AreRightful (nobody_yet limits grace) [] es ts h l q
-run_as limits grace es ts h k l same r rights =
-    subst (λ (m : HallRecord). (q : HallRuns (nobody_yet limits grace) [] es ts h m) × AreRightful (nobody_yet limits grace) [] es ts h m q) (sym same) (r, rights)
+pub run_as : (n : ℕ) (limits : LimitNumbers) (grace : ℕ) (es : List HallEvent) (ts : List HallTold) (h : History) (k l : HallRecord) → l ≡ k → (r : HallRuns (nobody_yet limits grace) [] es ts h k)
+    → AreRightful n (nobody_yet limits grace) [] es ts h k r
+    → (q : HallRuns (nobody_yet limits grace) [] es ts h l) × AreRightful n (nobody_yet limits grace) [] es ts h l q
+run_as n limits grace es ts h k l same r rights =
+    subst (λ (m : HallRecord). (q : HallRuns (nobody_yet limits grace) [] es ts h m) × AreRightful n (nobody_yet limits grace) [] es ts h m q) (sym same) (r, rights)
 
 -- ---- What a text makes, with the right to it.
 

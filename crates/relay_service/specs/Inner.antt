@@ -1,5 +1,5 @@
 -- What a service shows of its fields, and what is kept true of it.
-use Rattle.std.specs.Prelude.{◌≡◌, ◌≤◌, ◌<◌, ◌+◌, ℕ, nat_eq, Bool, cond, true, false, List, [], ◌∷◌, Some, None}
+use Rattle.std.specs.Prelude.{◌≡◌, ◌≤◌, ◌<◌, ◌+◌, ℕ, nat_eq, Bool, cond, true, false, List, [], ◌∷◌, length, Some, None}
 use Rattle.std.specs.Map.{lookup}
 use Rattle.c960_game.specs.Limits.{LimitNumbers}
 use Rattle.relay_core.specs.Name.{same_name}
@@ -28,6 +28,7 @@ service_of a = record {
   is_ending = a.is_ending;
   limits = a.limits.value;
   grace = a.grace.value;
+  restarted = length a.restarted.value.items;
   turns = a.turns.items;
 }
 
@@ -40,7 +41,8 @@ abbrev pub IsOperatorOf : OperatorRecord → Connection → Type 0
 IsOperatorOf d (Operator c here) = d ≡ c
 IsOperatorOf d (Follower f who here) = (d.who ≡ who) × (d.stage ≡ HandsOver) × (d.due ≡ f.delivery.opening)
 
--- The turns lead from an empty hall and newcomers to this hall and these connections; numbers from the next on were never used.
+-- The turns lead from an empty hall and newcomers to this hall and these connections; numbers from the next on were never used. Turns by
+-- which a hall was made again are no deeds, so that all are newcomers behind them.
 pub record IsLedTo (s : ServiceRecord) : Type 0 where
   pub peers : ℕ → OperatorRecord
   pub run : Turns (beginning s.limits s.grace s.takes_keys) s.turns (record { hall = s.hall; peers = peers })

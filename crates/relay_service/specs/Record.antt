@@ -11,7 +11,8 @@ use Rattle.relay_service.specs.declared.connection.Connection.{Connection}
 use Rattle.relay_service.specs.declared.connection.Connection.TheVariants.{Operator, Follower}
 
 -- the hall; the connections that are there, by their numbers; the number of the next one; whether requests may name keys; whether the end
--- of all was called; the limits and the grace with which the hall began; and all turns so far, the first one first
+-- of all was called; the limits and the grace with which the hall began; how many of the turns made it again before any connection came;
+-- and all turns so far, the first one first
 pub record ServiceRecord : Type 0 where
   pub hall : HallRecord
   pub connections : List (ℕ × Connection)
@@ -20,6 +21,7 @@ pub record ServiceRecord : Type 0 where
   pub is_ending : Bool
   pub limits : LimitNumbers
   pub grace : ℕ
+  pub restarted : ℕ
   pub turns : List Turn
 
 -- there are no boards and no connections yet, and nothing was done
@@ -32,6 +34,7 @@ begun limits grace takes_keys = record {
   is_ending = false;
   limits = limits;
   grace = grace;
+  restarted = 0;
   turns = [];
 }
 

@@ -1,5 +1,5 @@
 -- Who may move and end the boards of a hall.
-use Rattle.std.specs.Prelude.{◌≡◌, ◌⊎◌, ℕ, true, List, [], ◌∷◌, Some}
+use Rattle.std.specs.Prelude.{◌≡◌, ◌⊎◌, ℕ, zero, suc, true, List, [], ◌∷◌, Some}
 use Rattle.std.specs.Map.{lookup}
 use Rattle.relay_core.specs.declared.step.Step.{Step}
 use Rattle.relay_core.specs.declared.step.Step.TheVariants.{Open, Submit, End, Follow, Take, Leave}
@@ -31,9 +31,10 @@ IsRightful k (Time t) = Unit {0}
 IsRightful k Shuts = Unit {0}
 IsRightful k Ends = Unit {0}
 
--- each event of a run, at the hall as it stood
-abbrev pub AreRightful : (k : HallRecord) (h : History) (es : List HallEvent) (ts : List HallTold) (g : History) (l : HallRecord) → HallRuns k h es ts g l → Type 0
-AreRightful k h [] [] g l r = Unit {0}
-AreRightful k h [] (t ∷ ts) g l r = Unit {0}
-AreRightful k h (e ∷ es) [] g l r = Unit {0}
-AreRightful k h (e ∷ es) (t ∷ ts) g l r = IsRightful k e × AreRightful r.0 (history_after k e t r.0 h) es ts g l r.2
+-- each event of a run behind so many, at the hall as it stood: the first of them made the hall again, and need no right
+abbrev pub AreRightful : ℕ → (k : HallRecord) (h : History) (es : List HallEvent) (ts : List HallTold) (g : History) (l : HallRecord) → HallRuns k h es ts g l → Type 0
+AreRightful n k h [] [] g l r = Unit {0}
+AreRightful n k h [] (t ∷ ts) g l r = Unit {0}
+AreRightful n k h (e ∷ es) [] g l r = Unit {0}
+AreRightful zero k h (e ∷ es) (t ∷ ts) g l r = IsRightful k e × AreRightful 0 r.0 (history_after k e t r.0 h) es ts g l r.2
+AreRightful (suc n) k h (e ∷ es) (t ∷ ts) g l r = AreRightful n r.0 (history_after k e t r.0 h) es ts g l r.2

@@ -29,9 +29,9 @@ abbrev pub AreMadeBy : List Turn → List HallEvent → Type 0
 AreMadeBy [] events = events ≡ []
 AreMadeBy (x ∷ xs) events = (rest : List HallEvent) × MadeBy x events rest × AreMadeBy xs rest
 
--- The turns are a run of the hall from an empty one. Nobody says anything after going, and with a key nobody does who has not come. Whoever
--- makes a move or ends a game owns its board.
-pub record IsOrderlyRun (limits : LimitNumbers) (grace : ℕ) (turns : List Turn) (hall : HallRecord) : Type 0 where
+-- The turns are a run of the hall from an empty one, and so many of them made it again before any connection came. Nobody says anything
+-- after going, and with a key nobody does who has not come. Behind those turns, whoever makes a move or ends a game owns its board.
+pub record IsOrderlyRun (limits : LimitNumbers) (grace restarted : ℕ) (turns : List Turn) (hall : HallRecord) : Type 0 where
   pub events : List HallEvent
   pub told : List HallTold
   pub history : History
@@ -39,10 +39,10 @@ pub record IsOrderlyRun (limits : LimitNumbers) (grace : ℕ) (turns : List Turn
   pub made : AreMadeBy turns events
   pub orderly : IsOrderly events
   pub there : AllSayWhileThere (λ key. 0) events
-  pub rightful : AreRightful (nobody_yet limits grace) [] events told history hall run
+  pub rightful : AreRightful restarted (nobody_yet limits grace) [] events told history hall run
 
 abbrev pub IsOrderlyService : ServiceRecord → Type 0
-IsOrderlyService s = IsOrderlyRun s.limits s.grace s.turns s.hall
+IsOrderlyService s = IsOrderlyRun s.limits s.grace s.restarted s.turns s.hall
 
 -- by one of the turns the connection of this number, without a key, has gone from the hall
 abbrev pub leaves_by : ℕ → Turn → Bool

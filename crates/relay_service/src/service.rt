@@ -6,10 +6,12 @@ ghost use Rattle.c960_game.specs.Game960.{Game960};
 ghost use Rattle.relay_core.specs.Name.{same_name};
 ghost use Rattle.relay_hall.specs.Holders.{presence_of};
 ghost use Rattle.relay_hall.specs.Record.{HallBoard};
+ghost use Rattle.relay_hall.specs.Restart.{IsRestart};
 ghost use Rattle.relay_hall.specs.Runs.{IsInTime, present};
 ghost use Rattle.relay_calling.specs.Connections.{deeds_of};
 ghost use Rattle.relay_service.specs.Calls.{Replaces};
 ghost use Rattle.relay_service.specs.Record.{begun, opened};
+ghost use Rattle.relay_service.specs.Resumed.{IsResumed};
 ghost use Rattle.relay_service.specs.Runs.{IsOrderlyService, has_left, holders_after};
 
 mod answering;
@@ -47,6 +49,8 @@ pub struct Service {
     last: LastText,
     limits: Snapshot<Limits>,
     grace: Snapshot<u64>,
+    /// The turns that made the hall again before any connection came, which are the first of all.
+    restarted: Snapshot<Turns>,
     turns: Turns,
 }
 
@@ -76,6 +80,7 @@ impl Service {
     ) -> Result<Service, AllocError>
         ensures { IfOk result (λ s. s ≡ begun limits grace takes_keys) }
     {
+        let turns = Turns::new();
         Ok(Service {
             alloc,
             hall: Hall::new(alloc, limits, grace)?,
@@ -86,8 +91,38 @@ impl Service {
             last: LastText::new(alloc),
             limits: Snapshot::of(&limits),
             grace: Snapshot::of(&grace),
-            turns: Turns::new(),
+            restarted: Snapshot::of(&turns),
+            turns,
         })
+    }
+
+    /// A service that goes on with the boards of a hall that was made again before any connection came. Its connections have numbers from
+    /// `next` on.
+    pub fn resume(
+        alloc: Global,
+        hall: Hall,
+        next: u64,
+        takes_keys: bool,
+        limits: &Limits,
+        grace: u64,
+    ) -> Service
+        requires restart { IsRestart limits.now grace next hall }
+        ensures { IsResumed limits.now grace next takes_keys hall result }
+    {
+        let turns = Turns::of_restart(limits, &grace, &next, &hall);
+        Service {
+            alloc,
+            hall,
+            connections: IndexMap::new(alloc),
+            next,
+            takes_keys,
+            is_ending: false,
+            last: LastText::new(alloc),
+            limits: Snapshot::of(limits),
+            grace: Snapshot::of(&grace),
+            restarted: Snapshot::of(&turns),
+            turns,
+        }
     }
 
     /// A connection has come, of which nothing was read yet. Returns its number, which was never used before.
@@ -114,9 +149,9 @@ impl Service {
         Ok(number)
     }
 
-    /// The hall, to be looked at. It is what the turns so far make of an empty hall, in an orderly run: so each of its games is legal, and
-    /// one that goes on has somebody: its opener has not gone, or its key is held or in time. As many hold a key as came with it by the
-    /// turns and have not gone.
+    /// The hall, to be looked at. It is what the turns so far make of an empty hall, in an orderly run. The first of them are those by
+    /// which it was made again, if it was. So each of its games is legal, and one that goes on has somebody: its opener has not gone, or
+    /// its key is held or in time. As many hold a key as came with it by the turns and have not gone.
     pub fn hall(&self) -> &Hall
         ensures hall { result.now ≡ self.now.hall }
         ensures run { IsOrderlyService self.now }

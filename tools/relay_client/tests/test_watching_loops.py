@@ -46,10 +46,11 @@ DATA_SEGMENTS_IN = 152  # Where Linux's tcp_info has how many segments with data
 
 
 def long_game(count):
-    """This many moves, of at most 1,492: between two pawns' moves the pieces go in a circle of 40 positions."""
+    """This many moves, of at most 3,876: between two pawns' moves the pieces go in a circle of 40 positions."""
     pieces = [itertools.cycle("a1a2 g1f3 a2a3 f3g1 a3a1".split()), itertools.cycle("a8a7 g8f6 a7a8 f6g8".split())]
     moves = []
-    for at, pawn in enumerate("a2a3 a7a6 a3a4 a6a5 b2b3 b7b6 b3b4 b6b5 c2c3 c7c6 c3c4 c6c5".split()):
+    pawns = " ".join("a2a3 a7a6 a3a4 a6a5".replace("a", file) for file in "abcdegh")
+    for at, pawn in enumerate(pawns.split()):
         moves.append(pawn)
         # The rooks have a way out from the third move on.
         moves += [next(pieces[(at + 1 + ply) % 2]) for ply in range(148 if at > 1 else 0)]

@@ -1,17 +1,17 @@
 //! Serving.
 
-ghost use Rattle.std.specs.Prelude.{◌≡◌, ◌*◌, nat_lt, IfOk};
-ghost use Rattle.relay_service.specs.Record.{begun};
+ghost use Rattle.std.specs.Prelude.{◌≡◌, IfOk, IsErr, MatchResult, Ok};
 ghost use Rattle.relay960.specs.Serving.{MeetsWith, most_of};
 
-use crate::failure::{Device, Failure};
+use crate::failure::Device;
 use crate::serving::fault::ServeFault;
+use crate::serving::relay::relay_of;
 use crate::serving::watching::{Loops, Watch};
 use main_port::{MainPort, ServeEnd, Settings};
-use relay_service::Service as RelayService;
 use relay960_words::{Connections, Service};
 use server_loop::Log;
 use std::alloc::Global;
+use std::fs::{File, Files};
 use std::io;
 use std::io::{ErrorKind, StdinLock, Write};
 use std::net::{Ipv4Addr, Net, SocketAddr, TcpListener, TcpStream};
@@ -19,20 +19,22 @@ use std::sync::Wait;
 use std::thread::Threads;
 use std::time::{Clock, Duration};
 
-/// How many milliseconds a second has.
-const SECOND_MILLIS: u64 = 1000;
-
-/// Listens, writes the line `listening P` to standard output, and `watching A:P` if there is a watch port. Serves until all connections
-/// have gone, or until standard input ends if that is asked for.
+/// Goes on with the journal, if there is one, and listens. Writes the line `listening P` to standard output, and `watching A:P` if there is
+/// a watch port. Serves until all connections have gone, or until standard input ends if that is asked for.
 ///
 /// # Errors
 ///
-/// Nothing was served: the server cannot listen on a port, the system lacks what serving takes, the lines could not be written, or there
-/// was no memory.
-pub fn serve_run<R>(rt: &R, alloc: Global, service: &Service) -> Result<ServeEnd, ServeFault>
+/// Nothing was served: no relay can go on with the journal, the server cannot listen on a port, the system lacks what serving takes, the
+/// lines could not be written, or there was no memory. Or the journal failed while it was served.
+pub fn serve_run<'a, R>(
+    rt: &R,
+    alloc: Global,
+    service: &Service<'a>,
+) -> Result<ServeEnd, ServeFault<'a>>
 where
     R: Net<Listener = TcpListener, Stream = TcpStream>
         + Input<Reader = StdinLock<'static>>
+        + Files<File = File>
         + Print
         + Eprint
         + Threads
@@ -44,9 +46,9 @@ where
         + 'static,
     ensures { IfOk result (MeetsWith service.now.connections service.now.until_input_ends) }
 {
+    let relay = relay_of(rt, alloc, service)?;
     let watch = open_watch(rt, alloc, service)?;
     let port = open_port(rt, alloc, service)?;
-    let relay = relay_of(alloc, service)?;
     let watching = match &watch {
         Some(watch) => Some(watch.count()?),
         None => None,
@@ -58,14 +60,28 @@ where
     if let Err(reason) = announce(rt, service) {
         log.end(rt);
         end_loops(rt, loops);
-        return Err(ServeFault::Write(Failure {
-            device: Device::Output,
-            reason,
-        }));
+        return Err(ServeFault::unwritten(Device::Output, reason));
     }
-    let (end, loops) = port.attend(rt, relay, loops, log);
+    let (ended, loops) = port.attend(rt, relay, loops, log);
     end_loops(rt, loops);
-    Ok(end)
+    or_journal_fault(service, ended)
+}
+
+/// How serving ended, or that its journal failed.
+fn or_journal_fault<'a>(
+    service: &Service<'a>,
+    ended: io::Result<ServeEnd>,
+) -> Result<ServeEnd, ServeFault<'a>>
+    ensures { MatchResult ended (λ end. result ≡ Ok end) (λ _. IsErr result) }
+{
+    match ended {
+        Ok(end) => Ok(end),
+        Err(reason) => {
+            // Without a journal none fails.
+            let journal = Device::File(service.journal.unwrap_or(""));
+            Err(ServeFault::unwritten(journal, reason))
+        }
+    }
 }
 
 /// Listens on the watch port, if there is to be one.
@@ -77,7 +93,7 @@ fn open_watch<R: Net>(
     rt: &R,
     alloc: Global,
     service: &Service,
-) -> Result<Option<Watch>, ServeFault> {
+) -> Result<Option<Watch>, ServeFault<'static>> {
     let Some(asked) = &service.watch else {
         return Ok(None);
     };
@@ -94,7 +110,7 @@ fn open_port<R: Net<Listener = TcpListener, Stream = TcpStream> + Clock>(
     rt: &R,
     alloc: Global,
     service: &Service,
-) -> Result<MainPort, ServeFault>
+) -> Result<MainPort, ServeFault<'static>>
     ensures most { IfOk result (λ port. port.most ≡ most_of service.now.connections) }
     ensures ends { IfOk result (λ port. port.until_input_ends ≡ service.now.until_input_ends) }
     ensures limits { IfOk result (λ port. port.limits ≡ service.now.limits) }
@@ -135,27 +151,16 @@ fn most_of(connections: Connections) -> Option<u32>
     }
 }
 
-/// The boards and connections of the main port, of which there are none yet.
-///
-/// # Errors
-///
-/// There was no memory.
-fn relay_of(alloc: Global, service: &Service) -> Result<RelayService, ServeFault>
-    ensures { IfOk result (λ relay. relay ≡ begun service.now.limits (service.now.grace * 1000) (nat_lt 0 service.now.grace)) }
-{
-    let grace = u64::from(service.grace) * SECOND_MILLIS;
-    match RelayService::new(alloc, service.limits, grace, service.grace > 0) {
-        Ok(relay) => Ok(relay),
-        Err(_) => Err(ServeFault::OutOfMemory),
-    }
-}
-
 /// Starts the loops of the watch port, if there is one.
 ///
 /// # Errors
 ///
 /// There was no memory, or no thread.
-fn start_loops<R>(rt: &R, alloc: Global, watch: Option<Watch>) -> Result<Option<Loops>, ServeFault>
+fn start_loops<R>(
+    rt: &R,
+    alloc: Global,
+    watch: Option<Watch>,
+) -> Result<Option<Loops>, ServeFault<'static>>
 where
     R: Threads + Wait + Clock + Clone + Send + Drop + 'static,
 {

@@ -10,7 +10,7 @@ use relay960_words::Status;
 
 /// Reports on standard error how serving ended, and returns the status: `Done` if all connections were met, `DeviceFailed` if a
 /// device failed before that, `OutOfMemory` if there was no memory.
-pub fn status_of_end<E: Eprint>(rt: &E, ended: Result<ServeEnd, ServeFault>) -> Status
+pub fn status_of_end<E: Eprint>(rt: &E, ended: Result<ServeEnd, ServeFault<'_>>) -> Status
     ensures { MatchResult ended (λ end. result ≡ Status.Done) (λ fault. result ≡ serve_fault_status fault) }
 {
     match ended {
@@ -19,15 +19,21 @@ pub fn status_of_end<E: Eprint>(rt: &E, ended: Result<ServeEnd, ServeFault>) -> 
             let _ = eprintln!(rt; "served {}, failed {}", end.served, end.failed);
             Status::Done
         }
-        Err(fault) => {
-            let _ = rt.eprint(Report {
-                fault,
-                failure: fault.failure(),
-            });
-            match fault {
-                ServeFault::Device(_) | ServeFault::Write(_) => Status::DeviceFailed,
-                ServeFault::OutOfMemory => Status::OutOfMemory,
-            }
-        }
+        Err(fault) => status_of_fault(rt, fault),
+    }
+}
+
+/// Reports a fault on standard error, and returns the status: `DeviceFailed`, or `OutOfMemory` if there was no memory.
+pub fn status_of_fault<E: Eprint>(rt: &E, fault: ServeFault<'_>) -> Status
+    ensures { result ≡ serve_fault_status fault }
+{
+    // The status reports the fault even if standard error is closed.
+    let _ = rt.eprint(Report {
+        fault,
+        failure: fault.failure(),
+    });
+    match fault {
+        ServeFault::Device(_) | ServeFault::Read(_) | ServeFault::Write(_) => Status::DeviceFailed,
+        ServeFault::OutOfMemory => Status::OutOfMemory,
     }
 }

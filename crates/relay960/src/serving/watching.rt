@@ -58,7 +58,7 @@ impl Watch {
         asked: &WatchPort,
         most_idle: Option<u64>,
         limits: Limits,
-    ) -> Result<Watch, ServeFault> {
+    ) -> Result<Watch, ServeFault<'static>> {
         match open(rt, alloc, asked, most_idle, limits) {
             Ok(watch) => Ok(watch),
             Err(error) => Err(fault_of(asked.address, error)),
@@ -66,7 +66,7 @@ impl Watch {
     }
 
     /// How many spectators there are.
-    pub(super) fn count(&self) -> Result<Arc<AtomicU32, Global>, ServeFault> {
+    pub(super) fn count(&self) -> Result<Arc<AtomicU32, Global>, ServeFault<'static>> {
         match self.port.count() {
             Ok(count) => Ok(count),
             Err(_) => Err(ServeFault::OutOfMemory),
@@ -78,7 +78,7 @@ impl Watch {
     /// # Errors
     ///
     /// There was no memory, or no thread. The loops that were started are ended.
-    pub(super) fn start<R>(self, rt: &R, alloc: Global) -> Result<Loops, ServeFault>
+    pub(super) fn start<R>(self, rt: &R, alloc: Global) -> Result<Loops, ServeFault<'static>>
     where
         R: Threads + Wait + Clock + Clone + Send + Drop + 'static,
     {
@@ -131,7 +131,7 @@ fn open<R: Net>(
 }
 
 /// Why the port at this address, or a loop of it, could not be created.
-fn fault_of(address: SocketAddr, error: io::Error) -> ServeFault {
+fn fault_of(address: SocketAddr, error: io::Error) -> ServeFault<'static> {
     match error.kind() {
         ErrorKind::OutOfMemory => ServeFault::OutOfMemory,
         _ => ServeFault::at(address, error),

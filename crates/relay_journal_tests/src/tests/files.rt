@@ -1,9 +1,11 @@
 //! Journals as files.
 
 use super::claims::{claim, claim_at};
-use chained_lines::{NO_SEAL, put_line};
-use relay_journal::{FIRST_BODY, Unread, read_entries};
+use chained_lines::{Journal, NO_SEAL, put_line};
+use chained_lines_tests::Memory;
+use relay_journal::{FIRST_BODY, Unread, begin, read_entries};
 use std::alloc::{AllocError, Global};
+use std::process::Abort;
 use std::test::Fail;
 
 /// An open, a move and an end.
@@ -21,6 +23,32 @@ pub fn file_of(alloc: Global, first: &[u8], bodies: &[&[u8]]) -> Result<Vec<u8>,
         seal = put_line(&mut text, &seal, true, body)?;
     }
     Ok(text)
+}
+
+/// An empty storage that answers so many calls.
+pub fn storage_of(alloc: Global, calls: usize) -> Memory {
+    Memory {
+        bytes: Vec::new(alloc),
+        synced: 0,
+        piece: usize::MAX,
+        room: usize::MAX,
+        calls,
+    }
+}
+
+/// The journal of these bodies, all synced.
+pub fn journal_of(
+    rt: &impl Abort,
+    alloc: Global,
+    bodies: &[&[u8]],
+) -> Result<Journal<Memory>, AllocError> {
+    let mut journal = Journal::behind(alloc, storage_of(alloc, usize::MAX), NO_SEAL);
+    begin(&mut journal).expect(rt, "a first line");
+    for body in bodies {
+        journal.note(body).expect(rt, "a line");
+    }
+    journal.commit().expect(rt, "a commit");
+    Ok(journal)
 }
 
 /// How many entries are read of a file, or which line says none.

@@ -1,16 +1,17 @@
 //! Halls after a restart.
 
 use super::claims::{claim, claim_at};
-use super::files::file_of;
+use super::files::{file_of, journal_of};
 use c960_game::{Limits, Outcome};
+use chained_lines_tests::Memory;
 use relay_hall::{Hall, Key};
-use relay_journal::{Entry, FIRST_BODY, Unfit, read_entries, recover};
+use relay_journal::{Entry, FIRST_BODY, Scribe, Unfit, read_entries, recover};
 use std::alloc::{AllocError, Global};
 use std::process::Abort;
 use std::test::Fail;
 
 /// Three boards: of a key, of nobody, and of the key again, whose game is over.
-const BODIES: [&[u8]; 7] = [
+pub const BODIES: [&[u8]; 7] = [
     b"0123456789abcdef {\"board\":\"kept\",\"cmd\":\"open\",\"start\":518}",
     b"- {\"board\":\"left\",\"cmd\":\"open\",\"start\":4}",
     b"0123456789abcdef {\"board\":\"over\",\"cmd\":\"open\",\"start\":518}",
@@ -21,7 +22,7 @@ const BODIES: [&[u8]; 7] = [
 ];
 
 /// When the hall is started again.
-const NOW: u64 = 5_000;
+pub const NOW: u64 = 5_000;
 
 /// The entries of the bodies.
 fn entries(rt: &impl Abort, alloc: Global, bodies: &[&[u8]]) -> Result<Vec<Entry>, AllocError> {
@@ -29,17 +30,18 @@ fn entries(rt: &impl Abort, alloc: Global, bodies: &[&[u8]]) -> Result<Vec<Entry
     Ok(read_entries(alloc, &file).expect(rt, "the entries"))
 }
 
-/// The hall of these bodies, with room for three boards of so many plies.
-fn restarted(
+/// The hall of these bodies, with room for three boards of so many plies, and whoever goes on with their journal.
+pub fn restarted(
     rt: &impl Abort,
     alloc: Global,
     bodies: &[&[u8]],
     plies: u16,
     grace: u64,
-) -> Result<Result<Hall, Unfit>, AllocError> {
+) -> Result<Result<(Hall, Scribe<Memory>), Unfit>, AllocError> {
     let limits = Limits::new(3, 4, 4, plies).expect(rt, "limits");
     let entries = entries(rt, alloc, bodies)?;
-    Ok(recover(alloc, limits, grace, NOW, &entries))
+    let journal = journal_of(rt, alloc, bodies)?;
+    Ok(recover(alloc, limits, grace, NOW, &entries, journal))
 }
 
 /// How many moves the board of this index has, and how its game ended.
@@ -52,7 +54,7 @@ fn board(rt: &impl Abort, hall: &Hall, at: usize) -> (u16, Option<Outcome>) {
 #[test]
 fn boards_of_a_key_wait(rt: HostRuntime) -> Result<(), Fail> {
     let alloc = rt.alloc();
-    let mut hall = restarted(&rt, alloc, &BODIES, 64, 30_000)?.expect(&rt, "a hall");
+    let (mut hall, _) = restarted(&rt, alloc, &BODIES, 64, 30_000)?.expect(&rt, "a hall");
     let key = Key::parse(b"0123456789abcdef").expect(&rt, "a key");
     claim(&rt, hall.len() == 3, "three boards");
     claim(
@@ -90,7 +92,7 @@ fn boards_of_a_key_wait(rt: HostRuntime) -> Result<(), Fail> {
 #[test]
 fn without_a_grace_all_games_are_ended(rt: HostRuntime) -> Result<(), Fail> {
     let alloc = rt.alloc();
-    let hall = restarted(&rt, alloc, &BODIES, 64, 0)?.expect(&rt, "a hall");
+    let (hall, _) = restarted(&rt, alloc, &BODIES, 64, 0)?.expect(&rt, "a hall");
     claim(
         &rt,
         board(&rt, &hall, 0) == (3, Some(Outcome::Abandoned)),
@@ -105,7 +107,7 @@ fn without_a_grace_all_games_are_ended(rt: HostRuntime) -> Result<(), Fail> {
 fn each_front_is_a_hall(rt: HostRuntime) -> Result<(), Fail> {
     let alloc = rt.alloc();
     for count in 0..=BODIES.len() {
-        let hall = restarted(&rt, alloc, &BODIES[..count], 64, 30_000)?.expect(&rt, "a hall");
+        let (hall, _) = restarted(&rt, alloc, &BODIES[..count], 64, 30_000)?.expect(&rt, "a hall");
         claim_at(&rt, hall.len() == count.min(3), "boards of entries", count);
     }
     Ok(())

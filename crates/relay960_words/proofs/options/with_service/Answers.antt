@@ -16,6 +16,7 @@ returns c =
     let watch : rule_of c.text_option.result ≡ text_rule (codes "watch") = search rules in
     let threads : rule_of c.number_option-5.result ≡ option_rule (codes "watch-threads") 1 64 (codes "2") = search rules in
     let most : rule_of c.number_option-6.result ≡ option_rule (codes "watch-most") 1 1000000 (codes "100000") = search rules in
+    let journal : rule_of c.text_option-2.result ≡ text_rule (codes "journal") = search rules in
     let one = c.in_ok-arg.ensures.shape c.number_option.ensures.local ∙ ap (with_rule _) port in
     let two = c.in_ok-arg-2.ensures.shape c.number_option-2.ensures.local ∙ ap₂ with_rule one connections in
     let three = c.in_ok-arg-3.ensures.shape c.flag_option.ensures.local ∙ ap₂ with_rule two forever in
@@ -25,4 +26,5 @@ returns c =
     let seven = c.in_ok-arg-7.ensures.shape c.flag_option-3.ensures.local ∙ ap₂ with_rule six log in
     let eight = c.in_ok-arg-8.ensures.shape c.text_option.ensures.local ∙ ap₂ with_rule seven watch in
     let nine = c.in_ok-arg-9.ensures.shape c.number_option-5.ensures.local ∙ ap₂ with_rule eight threads in
-    IfOk-weaker c.arg-10.result _ _ (λ r added. added.shape c.number_option-6.ensures.local ∙ ap₂ with_rule nine most) c.arg-10.ensures
+    let ten = c.in_ok-arg-10.ensures.shape c.number_option-6.ensures.local ∙ ap₂ with_rule nine most in
+    IfOk-weaker c.arg-11.result _ _ (λ r added. added.shape c.text_option-2.ensures.local ∙ ap₂ with_rule ten journal) c.arg-11.ensures

@@ -17,3 +17,7 @@ pub returns-in_ok-value_of-in-play : goal.returns-in_ok-value_of-in-play
 returns-in_ok-value_of-in-play c =
     let n = c.in_ok-value_of-in-play.ensures in
     (search rules, number_read (found_of c.args.given.now) (codes "N") c.in_ok-value_of-in-play.field-0 n.0 n.1 n.2.0.0.0 n.2.0.1)
+
+pub returns-in_ok-text_of-in-journal : goal.returns-in_ok-text_of-in-journal
+returns-in_ok-text_of-in-journal c =
+    (search rules, sym (first_value-rows (found_of c.args.given.now) (codes "FILE")) ∙ c.in_ok-text_of-in-journal.ensures)

@@ -1,5 +1,6 @@
-use Rattle.std.proofs.Common.{codes}
+use Rattle.std.proofs.Common.{codes, ◌∙◌}
 use Rattle.clap.specs.Words.{found_of}
+use Rattle.clap.proofs.WalkLemmas.{first_value-rows}
 use Rattle.relay960_words.proofs.Reading.{number_read}
 use Rattle.relay960_words.proofs.words.service_of.Goals as goal
 
@@ -18,4 +19,5 @@ returns c =
       log = c.in_ok-flag_of-2.ensures;
       limits = c.in_ok-limits_of.ensures;
       watch = c.in_ok-watch_of.ensures;
+      journal = c.get_str.ensures ∙ first_value-rows f (codes "journal");
     }

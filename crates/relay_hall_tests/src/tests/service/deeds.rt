@@ -10,6 +10,7 @@ use crate::tests::service::deeds::Deed::{
 use crate::tests::service::frames::tell_close;
 use c960_game::{Limits, Outcome};
 use relay_frames::Code;
+use relay_hall::Hall;
 use relay_service::{Service, Stage};
 use std::alloc::{AllocError, Global};
 use std::process::Abort;
@@ -64,6 +65,13 @@ const CLOSE_FRAME: &[u8] = &[0x88, 2, 0x03, 0xe9];
 fn service(rt: &impl Abort, alloc: Global) -> Service {
     let limits = Limits::new(4, 1, 4, 64).expect(rt, "limits");
     Service::new(alloc, limits, 1000, true).expect(rt, "memory")
+}
+
+/// A service that goes on with such a hall, which was made again by nothing, and whose next connection has this number.
+fn resumed(rt: &impl Abort, alloc: Global, next: u64) -> Service {
+    let limits = Limits::new(4, 1, 4, 64).expect(rt, "limits");
+    let hall = Hall::new(alloc, limits, 1000).expect(rt, "memory");
+    Service::resume(alloc, hall, next, true, &limits, 1000)
 }
 
 /// Whether there was memory, and something was said exactly if `some`.
@@ -285,10 +293,19 @@ fn passes(service: &mut Service, deed: Deed) -> bool {
     true
 }
 
-/// All of it happens as told.
-pub fn happens(rt: &impl Abort, alloc: Global, deeds: &'static [Deed]) {
-    let mut service = service(rt, alloc);
+/// All of it happens as told to this service.
+fn all_happen(rt: &impl Abort, alloc: Global, mut service: Service, deeds: &'static [Deed]) {
     for deed in deeds {
         holds(rt, is_done(rt, alloc, &mut service, *deed), "a deed");
     }
+}
+
+/// All of it happens as told.
+pub fn happens(rt: &impl Abort, alloc: Global, deeds: &'static [Deed]) {
+    all_happen(rt, alloc, service(rt, alloc), deeds);
+}
+
+/// All of it happens as told, behind a restart after which connections have numbers from this one on.
+pub fn goes_on(rt: &impl Abort, alloc: Global, next: u64, deeds: &'static [Deed]) {
+    all_happen(rt, alloc, resumed(rt, alloc, next), deeds);
 }

@@ -5,7 +5,7 @@ use crate::tests::service::deeds::Deed::{
     Breaks, Closes, Comes, Drops, Due, Ended, Ends, Follows, Gets, Goes, IsAbandoned, IsPinged,
     Leaves, Passes, Pings, Says, Shuts, Time,
 };
-use crate::tests::service::deeds::{Deed, happens};
+use crate::tests::service::deeds::{Deed, goes_on, happens};
 
 const KEY: &str = "/?key=H4gTq0Zr7_xWm2Kd-9aB";
 
@@ -78,6 +78,17 @@ static NO_KEY: [Deed; 9] = [
     Leaves(0),
     IsAbandoned(true),
     Drops(0, E2E4),
+];
+
+/// Behind a restart numbers go on from the one that it leaves, and a board ends with the connection of its number.
+static GOING_ON: [Deed; 7] = [
+    Comes(7, "/"),
+    Says(7, OPEN, OPENED),
+    Comes(8, "/"),
+    Goes(8),
+    IsAbandoned(false),
+    Goes(7),
+    IsAbandoned(true),
 ];
 
 /// One that follows is present until it goes: until then the board of its key does not wait. What it says besides is not answered.
@@ -160,6 +171,10 @@ fn no_key() -> &'static [Deed] {
     &NO_KEY
 }
 
+fn going_on() -> &'static [Deed] {
+    &GOING_ON
+}
+
 fn following_on() -> &'static [Deed] {
     &FOLLOWING_ON
 }
@@ -184,6 +199,11 @@ fn connections_of_one_key_own_its_boards_together(rt: HostRuntime) {
 #[test]
 fn a_board_without_a_key_ends_with_its_connection(rt: HostRuntime) {
     happens(&rt, rt.alloc(), no_key());
+}
+
+#[test]
+fn numbers_go_on_behind_a_restart(rt: HostRuntime) {
+    goes_on(&rt, rt.alloc(), 7, going_on());
 }
 
 #[test]

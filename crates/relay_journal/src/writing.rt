@@ -1,6 +1,7 @@
 //! Entries are noted in a journal: those that are missing of boards, as far as what was noted of them tells.
 
 ghost use Rattle.std.specs.Prelude.{◌≡◌, ◌∷◌, [], cond, map, drop, None, Some, OnOk, slice_get};
+ghost use Rattle.relay_hall.specs.Runs.{IsReached};
 ghost use Rattle.relay_journal.specs.declared.entry.Entry.TheVariants.{Opens as OpensBoard, Plays as PlaysMove};
 ghost use Rattle.relay_journal.specs.Behind.{behind_all, behind_noted, behind_one, kept_shown};
 ghost use Rattle.relay_journal.specs.Bodies.{key_in};
@@ -10,7 +11,7 @@ ghost use Rattle.relay_journal.specs.Writing.{AreNoted};
 
 use crate::bodies::{body_of, owner_text};
 use crate::entry::Entry;
-use crate::noted::Noted;
+use crate::noted::{Noted, noted_at};
 use c960_board::{Colour, Move};
 use c960_game::{Ending, Outcome};
 use chained_lines::{Journal, NoteError, StableStorage};
@@ -69,15 +70,11 @@ fn note_open<S: StableStorage>(
     ensures storage { journal.new.storage ≡ journal.old.storage }
 {
     let key = shown.owner().key;
+    let entry = Entry::Opens(shown.name(), shown.start(), key);
     let Some(owner) = owner_text(&key) else {
         return Err(NoteError::OutOfMemory);
     };
-    note_entry(
-        journal,
-        alloc,
-        owner,
-        &Entry::Opens(shown.name(), shown.start(), key),
-    )
+    note_entry(journal, alloc, owner, &entry)
 }
 
 /// Notes these moves of a board.
@@ -155,7 +152,7 @@ fn note_behind<S: StableStorage>(
     ensures storage { journal.new.storage ≡ journal.old.storage }
 {
     note_moves(journal, alloc, shown, noted.plies)?;
-    if noted.is_over && noted.plies == shown.plies() {
+    if noted.has_end_of(shown) {
         return Ok(());
     }
     note_end(journal, alloc, shown)
@@ -199,12 +196,13 @@ pub(crate) fn note_all<S: StableStorage>(
 ) -> Result<(), NoteError>
     ensures noted { OnOk result (AreNoted S.contents S.synced journal.old journal.new (behind_all noted.now (kept_of hall.now.floor))) }
     ensures storage { journal.new.storage ≡ journal.old.storage }
+    ensures reached { IsReached hall.now }
 {
     for at in 0..hall.len() {
         let Some(shown) = hall.board(at) else {
             unreachable!();
         };
-        note_board(journal, alloc, &shown, noted.get(at).copied())?;
+        note_board(journal, alloc, &shown, noted_at(noted, at))?;
     }
     Ok(())
 }

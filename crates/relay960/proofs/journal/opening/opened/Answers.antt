@@ -1,0 +1,5 @@
+use Rattle.relay960.proofs.Opening.{journal_of}
+use Rattle.relay960.proofs.journal.opening.opened.Goals as goal
+
+pub returns : goal.returns
+returns c = λ ls said. journal_of _ _ ls _ said
