@@ -14,7 +14,7 @@ from evening_peers import ENDED, LOST, SOON, Wrong, connected
 from kept_games import Played, what_is_wrong
 from relay_client.keys import new_key
 from relay_client.server import Server
-from relay_client.texts import GAME_OVER, OPENED, ended, ends, following, follows, moved, opens, over, played, refused, submits
+from relay_client.texts import GAME_OVER, NO_BOARD, OPENED, ended, ends, following, follows, moved, opens, over, played, refused, submits
 
 TAKEN, ILLEGAL = refused(2, "BoardExists"), refused(6, "Illegal")
 DONE = "close 1000"
@@ -151,6 +151,11 @@ class Follower:
         """What was seen before is there again."""
         peer.send(follows(self.game.board, place=self.place))
         answer = await hears(peer)
+        if answer == NO_BOARD:
+            # A server that was just started has not told the watch port of all boards yet.
+            self.hall.counts["too early"] += 1
+            await asyncio.sleep(0.1)
+            return
         if answer != following(self.place, self.game.positions[self.place]):
             raise Wrong(f"{self.name}: from place {self.place} it is answered {answer}; {self.game.answered} were answered")
         while not self.is_over:
@@ -213,7 +218,8 @@ def tell(evening):
     print(f"{evening.kills} kills; away for {away[len(away) // 2]:.2f} s in the median, {away[-1]:.2f} at the most" if away else "no kill")
     print(f"{len(evening.games)} games of {counts['moves']} moves, each as it was played; followers compared {counts['compared']}, "
           f"and came again {counts['comings again']} times")
-    print(f"{counts['found done']} times what was asked for again had been done")
+    print(f"{counts['found done']} times what was asked for again had been done; {counts['too early']} times a follower came before its "
+          "board was there")
 
 
 def run(hall_of, options):

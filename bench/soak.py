@@ -322,8 +322,8 @@ def soak(server, given, room, reader):
     print(f"a move came {said['late_ms']} ms after it came to the first, and {said['most_late_ms']} ms at the most")
     print(f"an operator waited {longest * 1000:.0f} ms at the most")
     if given.kill_each:
-        print(f"{owners.kills} kills; {said['losses']} times a spectator came again after one, and {owners.found_done} moves and ends that "
-              "were sent again had been made")
+        print(f"{owners.kills} kills; {said['losses']} times a spectator came again after one, {said['early']} times before its board was "
+              f"there; {owners.found_done} moves and ends that were sent again had been made")
         games = [Played(board, 518, MOVES[:count], count, {"agreed"}) for board in owners.keys]
         if wrong := what_is_wrong(server.watch_port, f"{room}/games", games):
             raise SystemExit("\n".join(wrong[:5]))

@@ -52,7 +52,7 @@ static double *had_first;  // by board and place: when the first one had the mov
 static long compared, joinings, pings, late_count;
 static double most_late, all_late;
 static int there, done, comes_again;
-static long losses;
+static long losses, early;
 
 static void die(const char *what) {
     perror(what);
@@ -167,6 +167,13 @@ static void is(struct spectator *s, const char *text, const char *wanted) {
 
 static void is_greeted(struct spectator *s, const char *text) {
     char wanted[300];
+    if (comes_again && strstr(text, "\"NoSuchBoard\"")) {
+        // A server that was just started has not told the watch port of all boards yet.
+        early++;
+        close(s->fd);
+        s->stage = IS_AWAY;
+        return;
+    }
     const char *joined = strstr(text, "\"joined\":");
     int place = joined ? atoi(joined + 9) : -1;
     if (place < 0 || place > plies || (s->asked >= 0 && place != s->asked)) wrong(s, text);
@@ -257,7 +264,7 @@ static int take_head(struct spectator *s) {
 
 static void take_all(struct spectator *s) {
     int at = 0;
-    while (s->stage != IS_DONE) {
+    while (s->stage != IS_DONE && s->stage != IS_AWAY) {
         int taken = s->stage == SHAKES_HANDS ? take_head(s) : take_frame(s, s->bytes + at, s->have - at);
         if (!taken) break;
         at += taken;
@@ -371,7 +378,7 @@ int main(int argc, char **argv) {
         while (at - there >= MOST_JOINING) take_turn();
     }
     while (done < count) take_turn();
-    printf("{\"compared\": %ld, \"joinings\": %ld, \"pings\": %ld, \"late_ms\": %.3f, \"most_late_ms\": %.3f, \"losses\": %ld}\n", compared,
-           joinings, pings, late_count ? all_late * 1e3 / late_count : 0, most_late * 1e3, losses);
+    printf("{\"compared\": %ld, \"joinings\": %ld, \"pings\": %ld, \"late_ms\": %.3f, \"most_late_ms\": %.3f, \"losses\": %ld,"
+           " \"early\": %ld}\n", compared, joinings, pings, late_count ? all_late * 1e3 / late_count : 0, most_late * 1e3, losses, early);
     return 0;
 }

@@ -2,6 +2,7 @@
 refuses to start and changes nothing. It never takes a line that was changed."""
 
 import concurrent.futures
+import contextlib
 import errno
 import os
 import pathlib
@@ -10,13 +11,16 @@ import shutil
 import stat
 import subprocess
 import tempfile
+import time
 import unittest
 
 from relay_client import journals
+from relay_client.connection import Connection
 from relay_client.ports import free_port
 from relay_client.program import PATIENCE, PROGRAM
 from relay_client.server import NotListening, Server
-from relay_client.texts import ends, opens, submits
+from relay_client.tests.test_watching import answered
+from relay_client.texts import NO_BOARD, ends, following, follows, moved, opens, played, submits
 
 KEYS = {"b1": "a-key-of-the-first-board", "b2": "a-key-of-the-second-board"}
 SIDE_BY_SIDE = 4
@@ -158,6 +162,19 @@ class WhatStarts(Changed):
         self.assertEqual(len(lines), 1, said)
         self.assertTrue({str(rest.at), str(rest.size)} <= set(re.findall(r"\d+", lines[0])), said)
         self.assertIn(str(file), lines[0])
+
+    def test_each_board_is_there_for_those_who_watch_whether_it_has_moves_or_not(self):
+        with Server("--forever", "--grace", "60", "--journal", str(self.file("watched", WHOLE)), watch=True) as server:
+            for name in journals.boards_in(journals.lines_in(WHOLE)):
+                answer, until = NO_BOARD, time.monotonic() + SOON
+                while answer == NO_BOARD and time.monotonic() < until:
+                    answer = answered(server.watch_port, follows(name, place=0))
+                self.assertIn('"following"', answer, name)
+            with contextlib.closing(Connection(server.port, key=KEYS["b2"])) as owner:
+                owner.asks(submits("b3", "e2e4"), played(0))
+                with contextlib.closing(Connection(server.watch_port)) as guest:
+                    guest.send(follows("b3", place=0))
+                    guest.hears(following(), moved("e2e4", 0))
 
     def test_smaller_limits_are_refused_and_change_nothing(self):
         file = self.file("limits", WHOLE)
