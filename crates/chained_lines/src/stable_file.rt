@@ -46,16 +46,23 @@ impl StableFile {
         self.len.saturating_sub(self.written)
     }
 
-    /// Puts zeros behind what was written, if there are few, as far as the disk has room for them.
+    /// Puts zeros behind what it has, as far as the disk has room for them. Returns how many.
+    fn zeros(&self) -> u64 {
+        let mut put: u64 = 0;
+        for _ in 0..PIECES {
+            let Ok(n) = self.file.write_at(&ZEROS, self.len.saturating_add(put)) else {
+                break;
+            };
+            put = put.saturating_add(n as u64);
+        }
+        put
+    }
+
+    /// Puts zeros behind what was written, if there are few.
     fn reserve(&mut self) {
         if self.room() < LEAST_ROOM_BYTES {
             self.len = self.len.max(self.written);
-            for _ in 0..PIECES {
-                let Ok(n) = self.file.write_at(&ZEROS, self.len) else {
-                    break;
-                };
-                self.len = self.len.saturating_add(n as u64);
-            }
+            self.len = self.len.saturating_add(self.zeros());
         }
         self.has_room = self.room() >= LEAST_ROOM_BYTES;
     }
@@ -88,6 +95,6 @@ impl StableStorage for StableFile {
     }
 
     fn has_room(&self) -> bool {
-        self.has_room
+        self.has_room || self.zeros() >= LEAST_ROOM_BYTES
     }
 }

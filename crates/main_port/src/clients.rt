@@ -34,6 +34,9 @@ use std::time::{Clock, Duration};
 /// of owners would leave the others one connection for each round of all owners.
 const MOST_OWNERS_MICROS: u64 = 500;
 
+/// The same where boards are kept in a journal: what all of them did is written and synced at once, which takes about as long.
+const MOST_OWNERS_WITH_JOURNAL_MICROS: u64 = 2000;
+
 /// For how many microseconds those that follow a board are served in a turn. An owner whose move comes meanwhile waits for that.
 const MOST_FOLLOWERS_MICROS: u64 = 150;
 
@@ -153,7 +156,8 @@ impl<'a, R: Wait + Clock, W: Watchers> Clients<'a, R, W> {
             followers,
             rounds,
             watchers,
-            are_told: true,
+            // Boards that outlived the last process may have yet to be told.
+            are_told: false,
             journal_failure: None,
             log: BoardLog::new(rt, log),
             clock,
@@ -298,7 +302,7 @@ impl<'a, R: Wait + Clock, W: Watchers> Clients<'a, R, W> {
     /// for this processor.
     pub(crate) fn serve_all(&mut self) {
         let has_owners = self.queue.len(Rank::Owner) > 0;
-        self.serve_rank(Rank::Owner, MOST_OWNERS_MICROS);
+        self.serve_rank(Rank::Owner, self.most_owners_micros());
         self.wake_watchers();
         if has_owners && self.has_due() {
             yield_now();

@@ -135,4 +135,13 @@ impl<S: StableStorage> DurableService<S> {
         self.service.takes_boards(scribe.has_room());
         Ok(())
     }
+
+    /// Boards may be opened again once the disk has room for them.
+    pub fn looks_for_room(&mut self)
+        ensures { self.new ≡ self.old }
+    {
+        if let Some(scribe) = &self.scribe {
+            self.service.takes_boards(scribe.has_room());
+        }
+    }
 }

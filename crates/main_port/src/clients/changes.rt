@@ -64,6 +64,7 @@ impl<'a, R: Wait + Clock, W: Watchers> Clients<'a, R, W> {
 
     /// The time is this millisecond of the loop: boards that have waited until then are ended. Returns when the next ones are, if any wait.
     pub(crate) fn tick(&mut self, millis: u64) -> Option<u64> {
+        self.service.looks_for_room();
         self.service.tick(millis);
         let next = self.service.hall().next_due();
         self.notes_all();

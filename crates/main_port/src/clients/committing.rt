@@ -3,7 +3,10 @@
 ghost use Rattle.std.specs.Prelude.{◌≡◌, false, true, IfSome, Some, is_some};
 ghost use Rattle.relay_durable.specs.Record.{is_settled};
 
-use super::{Clients, MOST_UNSENT, MOST_UNSENT_WITH_JOURNAL};
+use super::{
+    Clients, MOST_OWNERS_MICROS, MOST_OWNERS_WITH_JOURNAL_MICROS, MOST_UNSENT,
+    MOST_UNSENT_WITH_JOURNAL,
+};
 use crate::watchers::Watchers;
 use std::sync::Wait;
 use std::time::Clock;
@@ -49,6 +52,15 @@ impl<'a, R: Wait + Clock, W: Watchers> Clients<'a, R, W> {
             MOST_UNSENT_WITH_JOURNAL
         } else {
             MOST_UNSENT
+        }
+    }
+
+    /// For how many microseconds those that own a board are served in a turn.
+    pub(super) fn most_owners_micros(&self) -> u64 {
+        if self.has_journal() {
+            MOST_OWNERS_WITH_JOURNAL_MICROS
+        } else {
+            MOST_OWNERS_MICROS
         }
     }
 }

@@ -8,6 +8,7 @@ use crate::serving::fault::ServeFault;
 use crate::serving::relay::relay_of;
 use crate::serving::watching::{Loops, Watch};
 use main_port::{MainPort, ServeEnd, Settings};
+use relay_hall::Hall;
 use relay960_words::{Connections, Service};
 use server_loop::Log;
 use std::alloc::Global;
@@ -56,7 +57,7 @@ where
     let Ok(log) = Log::start(rt, alloc, service.log, watching) else {
         return Err(ServeFault::OutOfMemory);
     };
-    let loops = start_loops(rt, alloc, watch)?;
+    let loops = start_loops(rt, alloc, watch, relay.hall())?;
     if let Err(reason) = announce(rt, service) {
         log.end(rt);
         end_loops(rt, loops);
@@ -151,7 +152,7 @@ fn most_of(connections: Connections) -> Option<u32>
     }
 }
 
-/// Starts the loops of the watch port, if there is one.
+/// Starts the loops of the watch port, if there is one. This is the hall whose boards they show.
 ///
 /// # Errors
 ///
@@ -160,12 +161,13 @@ fn start_loops<R>(
     rt: &R,
     alloc: Global,
     watch: Option<Watch>,
+    hall: &Hall,
 ) -> Result<Option<Loops>, ServeFault<'static>>
 where
     R: Threads + Wait + Clock + Clone + Send + Drop + 'static,
 {
     match watch {
-        Some(watch) => Ok(Some(watch.start(rt, alloc)?)),
+        Some(watch) => Ok(Some(watch.start(rt, alloc, hall)?)),
         None => Ok(None),
     }
 }

@@ -73,12 +73,18 @@ impl Watch {
         }
     }
 
-    /// Starts the loops, each on a thread of its own.
+    /// Starts the loops, each on a thread of its own. The boards that there are, those of a journal, are told them before: whoever watched
+    /// them may come back at once. What there is no room for is told in the first turns of the main port.
     ///
     /// # Errors
     ///
     /// There was no memory, or no thread. The loops that were started are ended.
-    pub(super) fn start<R>(self, rt: &R, alloc: Global) -> Result<Loops, ServeFault<'static>>
+    pub(super) fn start<R>(
+        self,
+        rt: &R,
+        alloc: Global,
+        hall: &Hall,
+    ) -> Result<Loops, ServeFault<'static>>
     where
         R: Threads + Wait + Clock + Clone + Send + Drop + 'static,
     {
@@ -89,6 +95,10 @@ impl Watch {
             running: Vec::new(alloc),
             has_ended: false,
         };
+        for at in 0..hall.len() {
+            started.changed(at);
+        }
+        started.tell(hall);
         for event_loop in loops {
             let is_started = match spawn(rt, &started.port, event_loop) {
                 Some(running) => started.running.push(running).is_ok(),
