@@ -3,6 +3,7 @@
 
     bench/evening.py                                              an hour, 16 boards, 40 followers of each
     bench/evening.py --seconds 120 --pace 2 -- --idle 60          further words are those of `serve`
+    bench/evening.py --kill-each 60                               on a server with a journal that is killed (evening_kills.py)
 
 Half of the operators have a key. From time to time such a one loses its connection, by a close, an end of its bytes or a reset, comes back
 within the grace and plays on. A game is ended as agreed after a random number of moves, and its operator opens a board of another name.
@@ -28,6 +29,7 @@ import time
 HERE = pathlib.Path(__file__).resolve().parent
 sys.path.append(str(HERE.parent / "tools"))
 
+import evening_kills  # noqa: E402
 from evening_peers import (CLOSE, ILLEGAL, LAST, RESET, SOON, WAYS, Peer, Wrong, a_full_board, beside, connected,  # noqa: E402
                            ends_full_board, is_as_usual)
 from relay_client.keys import new_key  # noqa: E402
@@ -375,6 +377,16 @@ def is_well(server, given):
     return well and status is None and not complaint
 
 
+def outlives_kills(given, options):
+    """Whether all was as it should be; what was not is said."""
+    try:
+        evening_kills.run(lambda port: Hall(port, given), options)
+    except (Wrong, OSError, AssertionError) as wrong:
+        print(f"wrong: {wrong}", file=sys.stderr)
+        return False
+    return True
+
+
 def main():
     words = argparse.ArgumentParser(description=__doc__, formatter_class=argparse.RawDescriptionHelpFormatter, allow_abbrev=False)
     words.add_argument("--seconds", type=float, default=3600)
@@ -382,11 +394,15 @@ def main():
     words.add_argument("--followers", type=int, default=40, help="of each board")
     words.add_argument("--pace", type=float, default=0.5, help="moves a second of each board")
     words.add_argument("--losses", type=float, default=0.03, help="how often an operator with a key loses its connection instead of a move")
+    words.add_argument("--kill-each", type=float, metavar="SECONDS",
+                       help="kill the server so often in the mean, and start it with the same journal; nobody else comes then")
     given, further = words.parse_known_args()
     further = [word for word in further if word != "--"]
     most = resource.getrlimit(resource.RLIMIT_NOFILE)[1]
     resource.setrlimit(resource.RLIMIT_NOFILE, (most, most))
     options = ["--forever", "--boards", MOST_BOARDS, "--followers", given.followers + SPARE, "--capacity", 1024, "--grace", GRACE]
+    if given.kill_each:
+        return 0 if outlives_kills(given, [*map(str, options), *further]) else 1
     with Server(*map(str, options), *further) as server:
         return 0 if is_well(server, given) else 1
 

@@ -3,12 +3,16 @@
 
     bench/soak.py                                   ten minutes, 2,000 spectators of 20 boards
     bench/soak.py --seconds 120 --spectators 300
+    bench/soak.py --kill-each 60                    a server with a journal, which is killed and started with the same file
 
 The spectators are those of spectators.c (built by cc), which compare all texts. One more watches all boards. Beside them there are, all the
 time: endless pings of peers that read and of peers that do not, halves of frames and of requests, peers that come and go or reset, and
 random bytes. The operator of each board plays the same game. It reports the longest that one waited for an answer. At the end the server
 must have as few descriptors as before. Its memory is reported on the way. The program is the built one, or that of the environment's
 RELAY960. The status is 1 if anything was not as it should be.
+
+Where the server is killed, operators come back by their keys and send once more what was not answered, spectators come again from the place
+that they wait for, and at the end each game is compared with what was played, as PGN too (kept_games.py).
 """
 import argparse
 import concurrent.futures
@@ -21,23 +25,27 @@ import socket
 import subprocess
 import sys
 import tempfile
+import threading
 import time
 
 HERE = pathlib.Path(__file__).resolve().parent
 sys.path.append(str(HERE.parent / "tools"))
 
+from kept_games import Played, what_is_wrong  # noqa: E402
 from lines import plies  # noqa: E402
 from relay_client.connection import Connection  # noqa: E402
 from relay_client.frames import PING, REQUEST, frame, masked  # noqa: E402
+from relay_client.keys import new_key  # noqa: E402
 from relay_client.program import PATIENCE, fens  # noqa: E402
 from relay_client.server import Server  # noqa: E402
 from relay_client.tests.sessions import owner_of  # noqa: E402
-from relay_client.texts import BOARDS, START_518, ended, ends, played, stands, submits  # noqa: E402
+from relay_client.texts import BOARDS, GAME_OVER, START_518, ended, ends, played, refused, stands, submits  # noqa: E402
 
 MOVES = list(plies())  # Of the greatest length that there may be.
 # How many moves are there before anybody comes.
 FIRST = 40
 SOON = 60  # Seconds within which the last of all have all that is due, on a busy machine.
+ILLEGAL = refused(6, "Illegal")
 
 
 def names(count):
@@ -136,23 +144,39 @@ def end_floods(started):
 # ---- Who watches all boards.
 
 
-def observe(port, boards, positions):
-    """Hears of all boards until all have ended; how many texts came. Each is right, and says more than the one before about its board."""
-    observer, known, over, count = Connection(port), {}, set(), 0
-    observer.send(BOARDS)
+def observe(port, boards, positions, comes_again=False):
+    """Hears of all boards until all have ended; how many texts came. Each is right, and says more than the one before about its board; or
+    no less, the first time on a connection, if it comes again where one ends."""
+    known, over, count = {}, set(), 0
     while over != set(boards):
-        text = observer.receive()
-        it = json.loads(text)
-        made = it["plies"]
-        wanted = stands(it["board"], fen=positions[made], last=MOVES[made - 1] if made else None, plies=made, outcome=it["outcome"])
-        much = made + (it["outcome"] is not None)
-        assert text == wanted and it["outcome"] in (None, "agreed") and much > known.get(it["board"], -1), (text, known)
-        known[it["board"]] = much
-        if it["outcome"]:
-            over.add(it["board"])
-        count += 1
-    observer.close()
+        observer, first = None, set()
+        try:
+            observer = Connection(port)
+            observer.send(BOARDS)
+            while over != set(boards):
+                text = observer.receive()
+                it = json.loads(text)
+                made = it["plies"]
+                wanted = stands(it["board"], fen=positions[made], last=MOVES[made - 1] if made else None, plies=made, outcome=it["outcome"])
+                much = made + (it["outcome"] is not None) + (it["board"] not in first and it["board"] in known)
+                assert text == wanted and it["outcome"] in (None, "agreed") and much > known.get(it["board"], -1), (text, known)
+                known[it["board"]] = made + (it["outcome"] is not None)
+                first.add(it["board"])
+                if it["outcome"]:
+                    over.add(it["board"])
+                count += 1
+        except (ConnectionError, AssertionError) as wrong:
+            if not comes_again or not is_end(wrong):
+                raise
+            time.sleep(0.1)
+        if observer:
+            observer.close()
     return count
+
+
+def is_end(wrong):
+    """Whether a connection has ended, and nothing else was wrong."""
+    return isinstance(wrong, ConnectionError) or str(wrong) == "the connection ended"
 
 
 # ---- The server.
@@ -168,14 +192,58 @@ def descriptors(server):
     return len(list(pathlib.Path(f"/proc/{server.process.pid}/fd").iterdir()))
 
 
-def play(owners, at):
-    """Plays the move of this place on all boards; how long the last operator waited."""
-    began = time.monotonic()
-    for board, owner in owners.items():
-        owner.send(submits(board, MOVES[at]))
-    for owner in owners.values():
-        owner.hears(played(at))
-    return time.monotonic() - began
+class Operators:
+    """One of each board, with keys if the server is killed again and again."""
+
+    def __init__(self, server, boards, is_killed):
+        self.server, self.is_killed, self.kills, self.found_done = server, is_killed, 0, 0
+        self.coming_back = threading.Lock()
+        self.keys = {board: new_key() if is_killed else None for board in boards}
+        self.there = {board: owner_of(server, board, key=key) for board, key in self.keys.items()}
+
+    def ask(self, lines, answer, if_done):
+        """Each asks for its board and is answered. Where the server is gone it is started again, and who was not answered asks once more:
+        what it asks for may have been done."""
+        waiting, answers = dict(lines), [answer]
+        while waiting:
+            try:
+                for board, line in waiting.items():
+                    self.there[board].send(line)
+                for board in list(waiting):
+                    received = self.there[board].receive()
+                    assert received in answers, f"{board}: {received}, and one of {answers} was due"
+                    self.found_done += received == if_done
+                    del waiting[board]
+            except (ConnectionError, AssertionError) as wrong:
+                if not self.is_killed or not is_end(wrong):
+                    raise
+                self.come_back()
+                answers = [answer, if_done]
+
+    def come_back(self):
+        for owner in self.there.values():
+            owner.close()
+        self.server.process.wait(SOON)  # Else it has ended these connections itself.
+        with self.coming_back:
+            self.server.again()
+            self.kills += 1
+            self.there = {board: Connection(self.server.port, key=key) for board, key in self.keys.items()}
+
+    def play(self, at):
+        """Plays the move of this place on all boards; how long the last operator waited."""
+        began = time.monotonic()
+        self.ask({board: submits(board, MOVES[at]) for board in self.there}, played(at), ILLEGAL)
+        return time.monotonic() - began
+
+    def end(self):
+        self.ask({board: ends(board, "agreed") for board in self.there}, ended("agreed"), GAME_OVER)
+
+
+def kill_now_and_then(owners, seconds, is_over):
+    """Kills the server so often in the mean, until all is over."""
+    while not is_over.wait(random.uniform(0.5, 1.5) * seconds):
+        with owners.coming_back:
+            owners.server.process.kill()
 
 
 def play_all(server, owners, spectators, given):
@@ -187,7 +255,7 @@ def play_all(server, owners, spectators, given):
         passed = time.monotonic() - began
         if passed >= given.seconds:
             return at, longest
-        longest = max(longest, play(owners, at))
+        longest = max(longest, owners.play(at))
         if spectators.poll() is not None:
             raise SystemExit("a spectator was told something wrong")
         if passed >= shown * given.seconds / 5:
@@ -218,24 +286,27 @@ def soak(server, given, room, reader):
     positions = [START_518, *fens(518, MOVES)]
     game = pathlib.Path(room, "game")
     game.write_text("\n".join(f"{fen}\t{move}" for fen, move in zip(positions, MOVES)) + f"\n{positions[-1]}\n")
-    owners = {board: owner_of(server, board) for board in names(given.boards)}
+    owners = Operators(server, names(given.boards), given.kill_each)
     for at in range(FIRST):
-        play(owners, at)
+        owners.play(at)
     held = descriptors(server)
-    words = [reader, str(server.watch_port), str(given.boards), str(given.spectators), str(game)]
+    words = [reader, str(server.watch_port), str(given.boards), str(given.spectators), str(game), *(["again"] if given.kill_each else [])]
+    is_over = threading.Event()
     spectating = subprocess.Popen(words, stdin=subprocess.PIPE, stdout=subprocess.PIPE, text=True)
     with spectating as spectators, concurrent.futures.ThreadPoolExecutor(1) as pool:
         started = []
         try:
             assert spectators.stdout.readline() == "there\n", "not all joined"
             print(f"{given.spectators} spectators have joined: {resident(server)} KiB", flush=True)
-            observing = pool.submit(observe, server.watch_port, list(owners), positions)
+            observing = pool.submit(observe, server.watch_port, list(owners.keys), positions, bool(given.kill_each))
             started = floods(server.watch_port, given.floods)
+            if given.kill_each:
+                threading.Thread(target=kill_now_and_then, args=(owners, given.kill_each, is_over), daemon=True).start()
             count, longest = play_all(server, owners, spectators, given)
+            is_over.set()
             spectators.stdin.write(f"{count}\n")
             spectators.stdin.flush()
-            for board, owner in owners.items():
-                owner.asks(ends(board, "agreed"), ended("agreed"))
+            owners.end()
             said = json.loads(spectators.communicate(timeout=PATIENCE)[0])
             texts = observing.result(timeout=SOON)
         except BaseException:
@@ -244,11 +315,18 @@ def soak(server, given, room, reader):
             server.process.kill()  # Else who watches all boards is waited for.
             raise
         finally:
+            is_over.set()
             end_floods(started)
             spectators.kill()
     print(f"{said['compared']} moves compared, of {said['joinings']} joinings; {said['pings']} pings answered; {texts} texts of all boards")
     print(f"a move came {said['late_ms']} ms after it came to the first, and {said['most_late_ms']} ms at the most")
     print(f"an operator waited {longest * 1000:.0f} ms at the most")
+    if given.kill_each:
+        print(f"{owners.kills} kills; {said['losses']} times a spectator came again after one, {said['early']} times before its board was "
+              f"there; {owners.found_done} moves and ends that were sent again had been made")
+        games = [Played(board, 518, MOVES[:count], count, {"agreed"}) for board in owners.keys]
+        if wrong := what_is_wrong(server.watch_port, f"{room}/games", games):
+            raise SystemExit("\n".join(wrong[:5]))
     if not comes_down(server, held):
         raise SystemExit(f"{descriptors(server)} descriptors are open, and {held} were before")
     print(f"at the end {resident(server)} KiB")
@@ -263,6 +341,8 @@ def main():
     words.add_argument("--threads", default="2", help="the loops of the port")
     words.add_argument("--floods", nargs="*", default=list(FLOODS), choices=list(FLOODS), metavar="FLOOD",
                        help=f"of {', '.join(FLOODS)}; all")
+    words.add_argument("--kill-each", type=float, metavar="SECONDS",
+                       help="kill the server so often in the mean, and start it with the same journal")
     given = words.parse_args()
     _, most = resource.getrlimit(resource.RLIMIT_NOFILE)
     resource.setrlimit(resource.RLIMIT_NOFILE, (most, most))
@@ -270,6 +350,8 @@ def main():
         reader = f"{room}/spectators"
         subprocess.run(["cc", "-O2", "-Wall", "-o", reader, str(HERE / "native/spectators.c")], check=True)
         options = "--forever", "--boards", "256", "--plies", "16384", "--watch-threads", given.threads
+        if given.kill_each:
+            options += "--grace", "3600", "--journal", f"{room}/games"
         # Of its spectators, who come and go, each 20,000 go to another address of loopback.
         with Server(*options, watch=True, watch_at="0.0.0.0") as server:
             soak(server, given, room, reader)

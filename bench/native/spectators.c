@@ -1,6 +1,6 @@
 // The spectators of bench/soak.py, which compare all that they are sent.
 //
-//   spectators PORT BOARDS COUNT GAME
+//   spectators PORT BOARDS COUNT GAME [again]
 //
 // The boards s0, s1 .. play the same game. GAME is a file with a line for each place: the position before its move as a FEN, a tab, and the
 // move; the last line has no move. Before the games end, as agreed, their length comes on standard input. Of ten spectators of a board
@@ -11,12 +11,14 @@
 //
 // Says `there` once all have joined. Once all have had the end it says in JSON what was compared and how late the moves came to those who
 // read as they come, after the first of them had each. A text that is not the next one of its board, or a connection that ends otherwise,
-// is reported on standard error, and the status is 1.
+// is reported on standard error, and the status is 1. With `again` a connection may end at any time, since the server is killed and started
+// again: who was on it comes again from the place that it waits for, as soon as there is a server.
 #define _GNU_SOURCE
 #include <arpa/inet.h>
 #include <errno.h>
 #include <fcntl.h>
 #include <netinet/tcp.h>
+#include <signal.h>
 #include <stdio.h>
 #include <stdlib.h>
 #include <string.h>
@@ -29,7 +31,7 @@ enum { MOST_PLIES = 16384, SLOW_BYTES = 512, SLOW_ROOM = 16384, MOST_JOINING = 5
 static const double SLOW_SECONDS = 0.02;
 
 enum kind { READS, SLOW, COMES_AGAIN };
-enum stage { SHAKES_HANDS, JOINS, WATCHES, IS_OVER, IS_DONE };
+enum stage { IS_AWAY, SHAKES_HANDS, JOINS, WATCHES, IS_OVER, IS_DONE };
 
 struct spectator {
     int fd, board;
@@ -49,7 +51,8 @@ static struct spectator *spectators;
 static double *had_first;  // by board and place: when the first one had the move
 static long compared, joinings, pings, late_count;
 static double most_late, all_late;
-static int there, done;
+static int there, done, comes_again;
+static long losses, early;
 
 static void die(const char *what) {
     perror(what);
@@ -98,6 +101,7 @@ static int length_told(void) {
 // ---- coming and going
 
 // There are some 28,000 ports of the own machine for connections to one address of loopback, so of many each 20,000 go to another one.
+// Negative if nobody listens there.
 static int dial(int room) {
     static long dialled;
     struct sockaddr_in to = {.sin_family = AF_INET, .sin_port = htons(port),
@@ -107,8 +111,10 @@ static int dial(int room) {
     // One with little room takes short segments. Of long ones none would fit, and the other side would ask for room ever more rarely.
     if (room) setsockopt(fd, SOL_SOCKET, SO_RCVBUF, &room, sizeof room), setsockopt(fd, IPPROTO_TCP, TCP_MAXSEG, &segment, sizeof segment);
     setsockopt(fd, IPPROTO_TCP, TCP_NODELAY, &one, sizeof one);
-    if (connect(fd, (struct sockaddr *)&to, sizeof to)) die("connect");
-    return fd;
+    if (!connect(fd, (struct sockaddr *)&to, sizeof to)) return fd;
+    if (!comes_again) die("connect");
+    close(fd);
+    return -1;
 }
 
 static void comes(struct spectator *s, int from) {
@@ -124,14 +130,20 @@ static void comes(struct spectator *s, int from) {
     memset(sent + n, 0, 4);  // the mask
     memcpy(sent + n + 4, text, length);
     n += 4 + length;
-    s->fd = dial(s->kind == SLOW ? SLOW_ROOM : 0);
-    if (write(s->fd, sent, n) != n) die("write");
-    fcntl(s->fd, F_SETFL, O_NONBLOCK);
-    s->stage = SHAKES_HANDS;
+    s->stage = IS_AWAY;
     s->asked = from;
     s->have = 0;
     s->came_at = now();
     s->leaves_at = s->came_at + 5 + rand() % 20000 / 1000.;
+    s->fd = dial(s->kind == SLOW ? SLOW_ROOM : 0);
+    if (s->fd < 0) return;
+    if (write(s->fd, sent, n) != n) {
+        if (!comes_again) die("write");
+        close(s->fd);
+        return;
+    }
+    fcntl(s->fd, F_SETFL, O_NONBLOCK);
+    s->stage = SHAKES_HANDS;
     joinings++;
     if (s->kind == SLOW) return;
     struct epoll_event e = {.events = EPOLLIN, .data.u32 = s - spectators};
@@ -155,6 +167,13 @@ static void is(struct spectator *s, const char *text, const char *wanted) {
 
 static void is_greeted(struct spectator *s, const char *text) {
     char wanted[300];
+    if (comes_again && strstr(text, "\"NoSuchBoard\"")) {
+        // A server that was just started has not told the watch port of all boards yet.
+        early++;
+        close(s->fd);
+        s->stage = IS_AWAY;
+        return;
+    }
     const char *joined = strstr(text, "\"joined\":");
     int place = joined ? atoi(joined + 9) : -1;
     if (place < 0 || place > plies || (s->asked >= 0 && place != s->asked)) wrong(s, text);
@@ -225,7 +244,7 @@ static int take_frame(struct spectator *s, const unsigned char *bytes, int n) {
     } else if (bytes[0] == 0x89) {
         static const unsigned char pong[] = {0x8a, 0x80, 0, 0, 0, 0};
         if (length) wrong(s, "a ping with a payload");
-        if (write(s->fd, pong, sizeof pong) < 0 && errno != EAGAIN) die("pong");
+        if (write(s->fd, pong, sizeof pong) < 0 && errno != EAGAIN && !comes_again) die("pong");
         pings++;
     } else if (bytes[0] == 0x88) {
         is_closed(s, bytes + at, length);
@@ -245,7 +264,7 @@ static int take_head(struct spectator *s) {
 
 static void take_all(struct spectator *s) {
     int at = 0;
-    while (s->stage != IS_DONE) {
+    while (s->stage != IS_DONE && s->stage != IS_AWAY) {
         int taken = s->stage == SHAKES_HANDS ? take_head(s) : take_frame(s, s->bytes + at, s->have - at);
         if (!taken) break;
         at += taken;
@@ -254,11 +273,37 @@ static void take_all(struct spectator *s) {
     s->have -= at;
 }
 
+// The server is gone. Who has had the end is through.
+static void is_lost(struct spectator *s) {
+    close(s->fd);
+    losses++;
+    if (s->stage == IS_OVER) {
+        s->stage = IS_DONE;
+        done++;
+        return;
+    }
+    if (s->stage == WATCHES) s->asked = s->next;
+    s->stage = IS_AWAY;
+}
+
+static void lost_ones_come(void) {
+    static double due;
+    if (!comes_again || now() < due) return;
+    due = now() + 0.1;
+    for (struct spectator *s = spectators; s < spectators + count; s++)
+        if (s->stage == IS_AWAY && s->came_at) comes(s, s->asked);
+}
+
 // Reads once; returns whether something came.
 static int reads(struct spectator *s, int most) {
+    if (s->stage == IS_AWAY) return 0;
     int room = (int)sizeof s->bytes - s->have;
     ssize_t n = read(s->fd, s->bytes + s->have, most < room ? most : room);
     if (n < 0 && errno == EAGAIN) return 0;
+    if (n <= 0 && comes_again) {
+        is_lost(s);
+        return 0;
+    }
     if (n <= 0) wrong(s, n ? strerror(errno) : "the connection ended");
     s->have += n;
     take_all(s);
@@ -272,7 +317,7 @@ static void slow_ones_read(void) {
     if (now() < due) return;
     due = now() + SLOW_SECONDS;
     for (struct spectator *s = spectators; s < spectators + count; s++) {
-        if (s->kind != SLOW || s->fd <= 0 || s->stage == IS_DONE) continue;
+        if (s->kind != SLOW || s->fd <= 0 || s->stage == IS_AWAY || s->stage == IS_DONE) continue;
         reads(s, SLOW_BYTES);
         // It has nearly all that was played by then, so it begins again, until the games have ended.
         if (!done && s->stage == WATCHES && s->next > 200 && !had_first[s->board * MOST_PLIES + s->next + 20]) {
@@ -298,6 +343,7 @@ static void take_turn(void) {
     int n = epoll_wait(poll_fd, got, 256, 10);
     for (int k = 0; k < n; k++) reads(&spectators[got[k].data.u32], sizeof spectators->bytes);
     slow_ones_read();
+    lost_ones_come();
     if (there > count) others_go_and_come();
 }
 
@@ -307,7 +353,7 @@ static enum kind kind_of(int at) {
 }
 
 int main(int argc, char **argv) {
-    if (argc != 5) {
+    if (argc != 5 && argc != 6) {
         fprintf(stderr, "see the head of spectators.c\n");
         return 2;
     }
@@ -318,6 +364,8 @@ int main(int argc, char **argv) {
     port = atoi(argv[1]);
     boards = atoi(argv[2]);
     count = atoi(argv[3]);
+    comes_again = argc == 6;
+    signal(SIGPIPE, comes_again ? SIG_IGN : SIG_DFL);
     read_game(argv[4]);
     spectators = calloc(count, sizeof *spectators);
     had_first = calloc((size_t)boards * MOST_PLIES, sizeof *had_first);
@@ -330,7 +378,7 @@ int main(int argc, char **argv) {
         while (at - there >= MOST_JOINING) take_turn();
     }
     while (done < count) take_turn();
-    printf("{\"compared\": %ld, \"joinings\": %ld, \"pings\": %ld, \"late_ms\": %.3f, \"most_late_ms\": %.3f}\n", compared, joinings, pings,
-           late_count ? all_late * 1e3 / late_count : 0, most_late * 1e3);
+    printf("{\"compared\": %ld, \"joinings\": %ld, \"pings\": %ld, \"late_ms\": %.3f, \"most_late_ms\": %.3f, \"losses\": %ld,"
+           " \"early\": %ld}\n", compared, joinings, pings, late_count ? all_late * 1e3 / late_count : 0, most_late * 1e3, losses, early);
     return 0;
 }

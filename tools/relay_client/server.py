@@ -32,6 +32,7 @@ class Server:
 
     def __init__(self, *words, port=None, watch=False, watch_at="127.0.0.1", before=(), **options):
         self.words = words
+        self.given = {"watch_at": watch_at, "before": before, **options}
         for _ in range(5):
             self.port = port or free_port()
             given = [*before, PROGRAM, "serve", "--port", str(self.port), *words]
@@ -65,6 +66,12 @@ class Server:
         self.process.wait()
         self.process.stdout.close()
         self.process.stderr.close()
+
+    def again(self):
+        """Kills it, and starts another in its place: with the same words, on the same ports."""
+        watch_port = getattr(self, "watch_port", False)
+        self.kill()
+        self.__init__(*self.words, port=self.port, watch=watch_port, **self.given)
 
     def ended(self):
         """Waits for its end: what it printed beyond its first line, what it complained of, and its status."""

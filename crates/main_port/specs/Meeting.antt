@@ -1,5 +1,5 @@
 -- How many connections were met, and where newcomers come in.
-use Rattle.std.specs.Prelude.{◌≡◌, ℕ, ◌+◌, min, nat_le, Bool, false, Option, None, Some, unwrap_or}
+use Rattle.std.specs.Prelude.{◌≡◌, ◌&&◌, ℕ, ◌+◌, min, nat_le, Bool, false, Option, None, Some, is_some, unwrap_or}
 use Rattle.server_loop.specs.declared.listener.Arrival.{Arrival}
 use Rattle.server_loop.specs.declared.listener.Arrival.TheVariants.{Newcomer, TurnedAway, Nobody, Failed}
 
@@ -53,3 +53,7 @@ OnlyMeets e f = (f.is_open ≡ e.is_open) × (f.may_end ≡ e.may_end) × (f.tal
 -- as many may come, and serving ends as before
 abbrev pub IsOfTheSame : AcceptorRecord → AcceptorRecord → Type 0
 IsOfTheSame e f = (f.tally.most ≡ e.tally.most) × (f.may_end ≡ e.may_end)
+
+-- serving has failed: there is a journal, and this is why it did
+abbrev pub has_failed : {E : Type 0} → Bool → Option E → Bool
+has_failed has_journal failure = has_journal && is_some failure

@@ -1,5 +1,6 @@
 -- What passes between the socket of a connection and the service.
-use Rattle.std.specs.Prelude.{◌≡◌, ◌≤◌, ◌⊎◌, ℕ, List, length, take, Option, None, Some, Result, Ok, Err}
+use Rattle.std.specs.Prelude.{◌≡◌, ◌≤◌, ◌⊎◌, ℕ, Bool, false, true, List, length, take, Option, None, Some, Result, Ok, Err}
+use Rattle.relay_durable.specs.Record.{DurableRecord, is_settled}
 use Rattle.relay_service.specs.Calls.{Loses, ReceivesAt, SendsIn}
 use Rattle.relay_service.specs.Record.{ServiceRecord, connection_at, due_at}
 use Rattle.server_loop.specs.Socket.{IsLeft}
@@ -36,6 +37,15 @@ pub record IsSent (s : ServiceRecord) (number : ℕ) (delivery : Delivery) (t : 
   pub left : IsLeft delivery many (length (due_at s number))
   pub sent : SendsIn (connection_at s number) s number many t
 
-abbrev pub IsSentTo : Option Client → ServiceRecord → ℕ → Delivery → ServiceRecord → Type 0
-IsSentTo None s number delivery t = (delivery ≡ deliveries.Failed) × (t ≡ s)
-IsSentTo (Some c) s number delivery t = IsSent s number delivery t
+-- nothing was written, and nothing has changed
+abbrev pub IsUnsent : {S : Type 0} → DurableRecord S → Delivery → DurableRecord S → Type 0
+IsUnsent d delivery e = (delivery ≡ deliveries.Failed) × (e ≡ d)
+
+-- it was sent, and nothing noted, if all that boards have is on the disk, and else nothing was written
+abbrev pub IsSentIf : {S : Type 0} → Bool → DurableRecord S → ℕ → Delivery → DurableRecord S → Type 0
+IsSentIf false d number delivery e = IsUnsent d delivery e
+IsSentIf true d number delivery e = (e.scribe ≡ d.scribe) × IsSent d.service number delivery e.service
+
+abbrev pub IsSentTo : {S : Type 0} → Option Client → DurableRecord S → ℕ → Delivery → DurableRecord S → Type 0
+IsSentTo None d number delivery e = IsUnsent d delivery e
+IsSentTo (Some c) d number delivery e = IsSentIf (is_settled d) d number delivery e

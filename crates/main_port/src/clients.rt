@@ -1,9 +1,10 @@
 //! All connections of the loop: how they come and go, and which are due a turn.
 
-ghost use Rattle.std.specs.Prelude.{◌≡◌};
+ghost use Rattle.std.specs.Prelude.{◌≡◌, None, is_some};
 ghost use Rattle.main_port.specs.Others.{AllStay, OthersStay};
 
 mod changes;
+mod committing;
 mod leaving;
 mod reading;
 mod timing;
@@ -20,9 +21,11 @@ use indexmap::IndexMap;
 use mio::event::Event;
 use mio::net::TcpStream;
 use mio::{Events, Interest, Registry, Token};
-use relay_service::Service;
+use relay_durable::DurableService;
 use server_loop::{Backoff, LISTENER, Log, LoopClock, Rank, RunQueue, WAKER};
 use std::alloc::{AllocError, Global};
+use std::fs::File;
+use std::io;
 use std::sync::Wait;
 use std::thread::yield_now;
 use std::time::{Clock, Duration};
@@ -44,6 +47,9 @@ const MOST_ANSWERED_MICROS: u64 = 50;
 /// How many connections are answered before the answers of all of them are sent.
 const MOST_UNSENT: usize = 8;
 
+/// The same where boards are kept in a journal: what all of them did is written and synced at once, which takes as long as many answers.
+const MOST_UNSENT_WITH_JOURNAL: usize = 512;
+
 /// Room that is taken before anybody is served.
 #[derive(Drop)]
 pub(crate) struct Room {
@@ -62,7 +68,7 @@ impl Room {
         Ok(Room {
             followers: BoardFollowers::new(alloc, limits)?,
             rounds: Rounds::new(alloc, limits)?,
-            unsent: Vec::with_capacity(alloc, MOST_UNSENT)?,
+            unsent: Vec::with_capacity(alloc, MOST_UNSENT_WITH_JOURNAL)?,
         })
     }
 }
@@ -82,7 +88,7 @@ pub(crate) struct Report {
 pub(crate) struct Clients<'a, R, W> {
     pub(super) rt: &'a R,
     alloc: Global,
-    pub(super) service: Service,
+    pub(super) service: DurableService<File>,
     pub(super) clients: IndexMap<u64, Client>,
     /// What reports of their sockets.
     poll: Registry,
@@ -93,6 +99,8 @@ pub(crate) struct Clients<'a, R, W> {
     watchers: W,
     /// Whether those who watch were told all.
     are_told: bool,
+    /// Why the journal of the boards failed, if it has: nothing is sent or told any more.
+    pub(super) journal_failure: Option<io::Error>,
     log: BoardLog<'a, R>,
     pub(super) clock: LoopClock,
     /// Those that were answered, and whose answers have yet to be sent.
@@ -118,14 +126,17 @@ impl<'a, R: Wait + Clock, W: Watchers> Clients<'a, R, W> {
     pub(crate) fn new(
         rt: &'a R,
         alloc: Global,
-        service: Service,
+        service: DurableService<File>,
         settings: &Settings,
         room: Room,
         poll: Registry,
         clock: LoopClock,
         watchers: W,
         log: &'a Log,
-    ) -> Clients<'a, R, W> {
+    ) -> Clients<'a, R, W>
+        ensures service { result.service ≡ service }
+        ensures sound { result.journal_failure ≡ None }
+    {
         let Room {
             followers,
             rounds,
@@ -143,6 +154,7 @@ impl<'a, R: Wait + Clock, W: Watchers> Clients<'a, R, W> {
             rounds,
             watchers,
             are_told: true,
+            journal_failure: None,
             log: BoardLog::new(rt, log),
             clock,
             unsent,
@@ -156,10 +168,16 @@ impl<'a, R: Wait + Clock, W: Watchers> Clients<'a, R, W> {
         }
     }
 
-    /// Those who watch. All connections go.
-    pub(crate) fn end(self) -> W {
-        let Clients { watchers, .. } = self;
-        watchers
+    /// Why the journal failed, if it has, and those who watch. All connections go, without a frame.
+    pub(crate) fn end(self) -> (Option<io::Error>, W)
+        ensures { result.0 ≡ self.entry.journal_failure }
+    {
+        let Clients {
+            journal_failure,
+            watchers,
+            ..
+        } = self;
+        (journal_failure, watchers)
     }
 
     /// Whether there are no connections.
@@ -290,11 +308,16 @@ impl<'a, R: Wait + Clock, W: Watchers> Clients<'a, R, W> {
         self.wake_watchers();
     }
 
-    /// Wakes those who watch, if they were told anything.
+    /// Wakes those who watch, if they were told anything. What they have yet to be told is on the disk before, if boards are kept there.
     pub(crate) fn wake_watchers(&mut self)
         ensures { self.new.clients ≡ self.old.clients }
     {
-        self.are_told = self.watchers.wake(self.service.hall());
+        if !self.commits() {
+            return;
+        }
+        if let Some(hall) = self.service.settled_hall() {
+            self.are_told = self.watchers.wake(hall);
+        }
     }
 
     /// Whether those who watch were told all. What they had no room for they are told later, though nothing reports that they have.

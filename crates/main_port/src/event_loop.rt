@@ -1,7 +1,7 @@
 //! The turns of the loop.
 
-ghost use Rattle.std.specs.Prelude.{◌≡◌, false, true};
-ghost use Rattle.main_port.specs.Meeting.{IsOfTheSame, is_full};
+ghost use Rattle.std.specs.Prelude.{◌≡◌, false, true, Some, IfErr, IfOk, is_err, is_some};
+ghost use Rattle.main_port.specs.Meeting.{IsOfTheSame, has_failed, is_full};
 
 use crate::acceptor::Acceptor;
 use crate::clients::Clients;
@@ -9,6 +9,7 @@ use crate::tally::Tally;
 use crate::watchers::Watchers;
 use mio::Events;
 use server_loop::{LoopWaker, MOST_EVENTS, Poller};
+use std::io;
 use std::sync::Wait;
 use std::thread::sleep;
 use std::time::{Clock, Duration};
@@ -39,6 +40,8 @@ pub(crate) struct EventLoop<'a, R, W> {
     waker: &'a LoopWaker,
     clients: Clients<'a, R, W>,
     acceptor: Acceptor<'a>,
+    /// Whether boards are kept in a journal: without one serving does not fail.
+    has_journal: bool,
     /// Everything that connections had sent by this millisecond was reported.
     reported_by: u64,
     /// Everything that connections had sent by this millisecond has been heard.
@@ -61,11 +64,13 @@ impl<'a, R: Wait + Clock, W: Watchers> EventLoop<'a, R, W> {
         clients: Clients<'a, R, W>,
         acceptor: Acceptor<'a>,
     ) -> EventLoop<'a, R, W>
-        ensures { result.acceptor ≡ acceptor.entry }
+        ensures acceptor { result.acceptor ≡ acceptor.entry }
+        ensures journal { result.has_journal ≡ is_some clients.entry.service.scribe }
     {
         EventLoop {
             rt,
             waker,
+            has_journal: clients.has_journal(),
             clients,
             acceptor,
             reported_by: 0,
@@ -77,10 +82,11 @@ impl<'a, R: Wait + Clock, W: Watchers> EventLoop<'a, R, W> {
         }
     }
 
-    /// Turns until the end. Returns who was met, and those who watch.
-    pub(crate) fn run(mut self, poller: &mut Poller) -> (Tally, W)
-        ensures most { result.0.most ≡ self.entry.acceptor.tally.most }
-        ensures all { self.entry.acceptor.may_end ≡ false → is_full result.0 ≡ true }
+    /// Turns until the end. Returns who was met, or why the journal failed, and those who watch.
+    pub(crate) fn run(mut self, poller: &mut Poller) -> (io::Result<Tally>, W)
+        ensures most { IfOk result.0 (λ tally. tally.most ≡ self.entry.acceptor.tally.most) }
+        ensures all { self.entry.acceptor.may_end ≡ false → IfOk result.0 (λ tally. is_full tally ≡ true) }
+        ensures failed { IfErr result.0 (λ error. self.entry.has_journal ≡ true) }
     {
         let rt = self.rt;
         for _ in rt.forever() {
@@ -123,7 +129,8 @@ impl<'a, R: Wait + Clock, W: Watchers> EventLoop<'a, R, W> {
     /// second at least. However long the program was suspended, whoever came back in time is heard before, if that takes no longer than a
     /// second, and the time that is told is the one by which all has been heard.
     fn tick(&mut self)
-        ensures { self.new.acceptor ≡ self.old.acceptor }
+        ensures same { self.new.acceptor ≡ self.old.acceptor }
+        ensures journal { self.new.has_journal ≡ self.old.has_journal }
     {
         let now = self.clients.now();
         if now < self.ticks_at {
@@ -154,10 +161,14 @@ impl<'a, R: Wait + Clock, W: Watchers> EventLoop<'a, R, W> {
             && self.heard_by >= self.ticks_at
     }
 
-    /// Handles what the system reported, and what is due. Returns whether it was the last turn, which none is while newcomers come in.
+    /// Handles what the system reported, and what is due. Returns whether it was the last turn. None is while newcomers come in, unless the
+    /// journal has failed: nobody can be told anything any more.
     fn take(&mut self, events: &Events) -> bool
         ensures same { IsOfTheSame self.old.acceptor self.new.acceptor }
-        ensures last { result ≡ true → self.new.acceptor.is_open ≡ false }
+        ensures last { result ≡ true → has_failed self.new.has_journal self.new.clients.journal_failure ≡ false
+            → self.new.acceptor.is_open ≡ false }
+        ensures failed { has_failed self.new.has_journal self.new.clients.journal_failure ≡ true → result ≡ true }
+        ensures journal { self.new.has_journal ≡ self.old.has_journal }
     {
         let asked = self.clients.now();
         // This comes before looking: whoever wakes the loop from now on wakes it again.
@@ -185,7 +196,14 @@ impl<'a, R: Wait + Clock, W: Watchers> EventLoop<'a, R, W> {
         let is_over = self.ends_if_over();
         // Boards may have ended by themselves since the answers were sent.
         self.clients.wake_watchers();
-        is_over
+        is_over || self.has_failed()
+    }
+
+    /// Whether the journal has failed.
+    fn has_failed(&self) -> bool
+        ensures { result ≡ has_failed self.now.has_journal self.now.clients.journal_failure }
+    {
+        self.has_journal && self.clients.has_journal_failed()
     }
 
     // ---- The end.
@@ -194,6 +212,7 @@ impl<'a, R: Wait + Clock, W: Watchers> EventLoop<'a, R, W> {
     fn ends_if_over(&mut self) -> bool
         ensures same { IsOfTheSame self.old.acceptor self.new.acceptor }
         ensures over { result ≡ true → self.new.acceptor.is_open ≡ false }
+        ensures journal { self.new.has_journal ≡ self.old.has_journal }
     {
         if !self.acceptor.closes_if_over(self.rt) {
             return false;
@@ -209,9 +228,10 @@ impl<'a, R: Wait + Clock, W: Watchers> EventLoop<'a, R, W> {
         self.clients.is_empty()
     }
 
-    /// Serving is to end. All boards are ended, connections are told, and then waited for. Returns whether this is over.
+    /// Serving is to end. All boards are ended, or kept, connections are told, and then waited for. Returns whether this is over.
     fn ends_all(&mut self) -> bool
-        ensures { self.new.acceptor ≡ self.old.acceptor }
+        ensures same { self.new.acceptor ≡ self.old.acceptor }
+        ensures journal { self.new.has_journal ≡ self.old.has_journal }
     {
         let now = self.clients.passed();
         let ends_at = match self.ends_at {
@@ -226,16 +246,25 @@ impl<'a, R: Wait + Clock, W: Watchers> EventLoop<'a, R, W> {
         self.clients.is_empty() || now >= ends_at
     }
 
-    /// Who was met, and those who watch.
-    fn end(self) -> (Tally, W)
-        ensures tally { result.0 ≡ self.entry.acceptor.tally }
-        ensures all { self.entry.acceptor.is_open ≡ false → self.entry.acceptor.may_end ≡ false → is_full result.0 ≡ true }
+    /// Who was met, or why the journal failed, and those who watch.
+    fn end(self) -> (io::Result<Tally>, W)
+        ensures tally { IfOk result.0 (λ tally. tally ≡ self.entry.acceptor.tally) }
+        ensures failed { is_err result.0 ≡ has_failed self.entry.has_journal self.entry.clients.journal_failure }
+        ensures reason { IfErr result.0 (λ error. self.entry.clients.journal_failure ≡ Some error) }
+        ensures all { (has_failed self.entry.has_journal self.entry.clients.journal_failure ≡ false → self.entry.acceptor.is_open ≡ false)
+            → self.entry.acceptor.may_end ≡ false → IfOk result.0 (λ tally. is_full tally ≡ true) }
     {
         let EventLoop {
             acceptor,
             clients,
+            has_journal,
             ..
         } = self;
-        (acceptor.end(), clients.end())
+        let (failure, watchers) = clients.end();
+        let met = match failure {
+            Some(error) if has_journal => Err(error),
+            _ => Ok(acceptor.end()),
+        };
+        (met, watchers)
     }
 }

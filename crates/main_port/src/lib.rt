@@ -1,7 +1,9 @@
 //! The main port: one loop on one thread, which drives one service.
 //!
 //! What a connection is sent is decided by `relay_service`, which knows of no socket. This crate moves bytes between sockets and the
-//! service, tells it the time, and decides who is read and written when, and how long each is waited for. It waits for no peer.
+//! service, tells it the time, and decides who is read and written when, and how long each is waited for. It waits for no peer. If boards
+//! are kept in a journal it waits for the disk: nothing is written to anybody, and nobody who watches is told anything, before all that
+//! boards have is there.
 #![tactic(auto)]
 
 mod acceptor;

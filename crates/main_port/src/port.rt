@@ -1,6 +1,6 @@
 //! The main port, and how it is served.
 
-ghost use Rattle.std.specs.Prelude.{◌≡◌, ◌≤◌, ◌+◌, IfOk, IfSome, false, true};
+ghost use Rattle.std.specs.Prelude.{◌≡◌, ◌≤◌, ◌+◌, IfErr, IfOk, IfSome, false, is_some, true};
 ghost use Rattle.main_port.specs.Meeting.{is_full};
 
 use crate::acceptor::Acceptor;
@@ -11,9 +11,10 @@ use crate::settings::Settings;
 use crate::tally::Tally;
 use crate::watchers::Watchers;
 use mio::Registry;
-use relay_service::Service;
+use relay_durable::DurableService;
 use server_loop::{LISTENER, Listener, Log, LoopClock, LoopWaker, Poller, watch_input};
 use std::alloc::Global;
+use std::fs::File;
 use std::io;
 use std::io::{ErrorKind, StdinLock};
 use std::marker::Model;
@@ -88,7 +89,21 @@ impl MainPort {
     ///
     /// If serving ends with standard input, it then accepts no more connections, and all boards end as abandoned. Followers get what they
     /// have not had, the other peers are told by the close code 1001, and four seconds later it stops waiting for anybody.
-    pub fn attend<R, W>(self, rt: &R, service: Service, watchers: W, log: Log) -> (ServeEnd, W)
+    ///
+    /// With a journal no answer is written, and nobody who watches is told anything, before all that boards have is on the disk. At its end
+    /// serving leaves the boards as they are: all peers are told by the close code 1001, and games go on at the next start.
+    ///
+    /// # Errors
+    ///
+    /// The journal failed, or there was no memory for it. From then on nothing was written to anybody, and all connections have ended
+    /// without a close.
+    pub fn attend<R, W>(
+        self,
+        rt: &R,
+        service: DurableService<File>,
+        watchers: W,
+        log: Log,
+    ) -> (io::Result<ServeEnd>, W)
     where
         R: Input<Reader = StdinLock<'static>>
             + Threads
@@ -99,16 +114,27 @@ impl MainPort {
             + Drop
             + 'static,
         W: Watchers + Drop,
-        ensures most { IfSome self.most (λ n. result.0.served + result.0.failed ≤ n) }
-        ensures all { self.until_input_ends ≡ false → IfSome self.most (λ n. result.0.served + result.0.failed ≡ n) }
+        ensures most { IfOk result.0 (λ end. IfSome self.most (λ n. end.served + end.failed ≤ n)) }
+        ensures all { self.until_input_ends ≡ false → IfOk result.0 (λ end. IfSome self.most (λ n. end.served + end.failed ≡ n)) }
+        ensures failed { IfErr result.0 (λ error. is_some service.scribe ≡ true) }
     {
-        let (tally, watchers) = self.serve(rt, service, watchers, &log);
+        let (met, watchers) = self.serve(rt, service, watchers, &log);
         log.end(rt);
-        (tally.end(), watchers)
+        let end = match met {
+            Ok(tally) => Ok(tally.end()),
+            Err(error) => Err(error),
+        };
+        (end, watchers)
     }
 
     /// The same, but the log goes on. Returns who was met.
-    fn serve<R, W>(self, rt: &R, service: Service, watchers: W, log: &Log) -> (Tally, W)
+    fn serve<R, W>(
+        self,
+        rt: &R,
+        service: DurableService<File>,
+        watchers: W,
+        log: &Log,
+    ) -> (io::Result<Tally>, W)
     where
         R: Input<Reader = StdinLock<'static>>
             + Threads
@@ -119,8 +145,9 @@ impl MainPort {
             + Drop
             + 'static,
         W: Watchers + Drop,
-        ensures most { result.0.most ≡ self.most }
-        ensures all { self.until_input_ends ≡ false → is_full result.0 ≡ true }
+        ensures most { IfOk result.0 (λ tally. tally.most ≡ self.most) }
+        ensures all { self.until_input_ends ≡ false → IfOk result.0 (λ tally. is_full tally ≡ true) }
+        ensures failed { IfErr result.0 (λ error. is_some service.scribe ≡ true) }
     {
         let MainPort {
             alloc,

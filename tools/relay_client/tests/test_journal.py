@@ -11,9 +11,7 @@ import unittest
 
 from relay_client.connection import Connection
 from relay_client.faults import device_fault
-from relay_client.journals import FIRST, journal
-from relay_client.journals import opened as opened_line
-from relay_client.journals import played as played_line
+from relay_client.journals import FIRST_BODY, body, sealed
 from relay_client.program import PATIENCE, PROGRAM
 from relay_client.server import NotListening, Server
 from relay_client.tests.sessions import ABANDONED, guest_of, owner_of, play
@@ -119,7 +117,7 @@ class AfterAKill(Journals):
             play(owner_of(server, key=KEY), MOVES[:1])
         found = self.path.read_bytes()
         self.assertNotIn(KEY.encode(), found)
-        wanted = journal([FIRST], [opened_line("b1", key=KEY)], [played_line("b1", MOVES[0])])
+        wanted = sealed([[FIRST_BODY], [body(opens("b1"), KEY)], [body(submits("b1", MOVES[0]))]])
         self.assertEqual(found.rstrip(b"\0"), wanted)
 
     def test_what_was_answered_is_there_after_any_number_of_kills(self):
@@ -194,12 +192,12 @@ class WhatIsNoJournal(Journals):
         self.assertEqual(self.cannot_serve().encode(), device_fault("fault 41 Device", str(self.path), errno.ENOENT))
 
     def test_empty_files_zeros_and_a_beginning_of_the_first_line_are_new_journals(self):
-        for data in b"", bytes(5000), journal([FIRST])[:20], journal([FIRST])[:20] + bytes(100):
+        for data in b"", bytes(5000), sealed([[FIRST_BODY]])[:20], sealed([[FIRST_BODY]])[:20] + bytes(100):
             with self.subTest(size=len(data)):
                 self.path.write_bytes(data)
                 with self.serves() as server:
                     owner_of(server, key=KEY)
-                self.assertEqual(self.path.read_bytes().rstrip(b"\0"), journal([FIRST], [opened_line("b1", key=KEY)]))
+                self.assertEqual(self.path.read_bytes().rstrip(b"\0"), sealed([[FIRST_BODY], [body(opens("b1"), KEY)]]))
 
     def test_smaller_limits_are_named(self):
         with self.serves() as server:
@@ -214,9 +212,9 @@ class WhatIsNoJournal(Journals):
 class Damage(Journals):
     def setUp(self):
         super().setUp()
-        self.writes = [[FIRST], [opened_line("b1", key=KEY)], *([played_line("b1", move)] for move in MOVES)]
-        self.whole = journal(*self.writes)
-        self.sizes = [len(journal(*self.writes[:count])) for count in range(len(self.writes) + 1)]
+        self.writes = [[FIRST_BODY], [body(opens("b1"), KEY)], *([body(submits("b1", move))] for move in MOVES)]
+        self.whole = sealed(self.writes)
+        self.sizes = [len(sealed(self.writes[:count])) for count in range(len(self.writes) + 1)]
 
     def test_a_change_before_the_last_write_is_refused_and_nothing_is_changed(self):
         data = bytearray(self.whole)

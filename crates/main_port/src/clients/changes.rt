@@ -70,16 +70,20 @@ impl<'a, R: Wait + Clock, W: Watchers> Clients<'a, R, W> {
         next
     }
 
-    /// Nobody can come back any more: boards that wait are ended.
+    /// Nobody can come back any more: boards that wait are ended, unless a journal keeps them for the next start.
     pub(crate) fn shut(&mut self) {
-        self.service.shut();
-        self.notes_all();
+        if !self.has_journal() {
+            self.service.shut();
+            self.notes_all();
+        }
     }
 
-    /// All boards are ended.
+    /// Serving ends: so do all boards, unless a journal keeps them for the next start.
     pub(crate) fn end_all(&mut self) {
-        self.service.end_all();
-        self.notes_all();
+        if !self.has_journal() {
+            self.service.end_all();
+            self.notes_all();
+        }
         self.watchers.has_ended();
     }
 

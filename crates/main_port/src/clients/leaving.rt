@@ -77,11 +77,10 @@ impl<'a, R: Wait + Clock, W: Watchers> Clients<'a, R, W> {
         ensures { OthersStay number self.old.clients.entries self.new.clients.entries }
     {
         self.send(number);
-        let is_served = self.service.output(number).is_empty();
         let Some(client) = self.clients.get_mut(&number) else {
             return;
         };
-        if is_served || matches!(client.state, State::Drains(_)) {
+        if !client.is_blocked() || matches!(client.state, State::Drains(_)) {
             self.remove(number);
             return;
         }
@@ -108,7 +107,9 @@ impl<'a, R: Wait + Clock, W: Watchers> Clients<'a, R, W> {
     pub(super) fn fails(&mut self, number: u64)
         ensures { OthersStay number self.old.clients.entries self.new.clients.entries }
     {
-        let _ = send_to(&self.clients, &mut self.service, number);
+        if self.commits() {
+            let _ = send_to(&self.clients, &mut self.service, number);
+        }
         self.remove(number);
     }
 

@@ -245,7 +245,7 @@ impl<'a, R: Wait + Clock, W: Watchers> Clients<'a, R, W> {
 
     // ---- The end.
 
-    /// Serving ends: those that ask are told so.
+    /// Serving ends: those that ask are told so, and with a journal, whose games go on at the next start, those that follow too.
     pub(crate) fn tell_of_the_end(&mut self) {
         let many = self.clients.len();
         for told in 0..many {
@@ -265,6 +265,7 @@ impl<'a, R: Wait + Clock, W: Watchers> Clients<'a, R, W> {
         match self.waited(number) {
             Waited::Comes => self.remove(number),
             Waited::Asks => self.close(number, Code::AWAY),
+            Waited::Follows if self.has_journal() => self.close(number, Code::AWAY),
             Waited::Follows | Waited::Leaves | Waited::Drains => {}
         }
     }

@@ -2,7 +2,7 @@
 
 ghost use Rattle.main_port.specs.Others.{OthersStay};
 
-use super::{Clients, MOST_UNSENT};
+use super::Clients;
 use crate::client::{Role, State};
 use crate::passing::send_to;
 use crate::watchers::Watchers;
@@ -19,15 +19,20 @@ impl<'a, R: Wait + Clock, W: Watchers> Clients<'a, R, W> {
         if self.unsent.push(number).is_err() {
             self.deliver(number);
         }
-        if self.unsent.len() >= MOST_UNSENT {
+        if self.unsent.len() >= self.most_unsent() {
             self.send_answers();
         }
     }
 
-    /// Sends the answers of all that had a turn. What they were told is not taken back from here on: where boards are kept on a disk, all
-    /// that has changed is to be written there before.
+    /// Sends the answers of all that had a turn. What they were told is not taken back from here on: all that has changed is on the disk
+    /// before, by one write and one sync, if boards are kept there. If that fails nobody is told anything.
     pub(super) fn send_answers(&mut self) {
-        self.watchers.tell(self.service.hall());
+        if !self.commits() {
+            return;
+        }
+        if let Some(hall) = self.service.settled_hall() {
+            self.watchers.tell(hall);
+        }
         for at in 0..self.unsent.len() {
             let Some(number) = self.unsent.get(at).copied() else {
                 break;
@@ -82,13 +87,16 @@ impl<'a, R: Wait + Clock, W: Watchers> Clients<'a, R, W> {
 
     // ---- Writing.
 
-    /// Writes to a connection what is due, as far as it takes that.
+    /// Writes to a connection what is due, as far as it takes that. All that boards have is on the disk before, if they are kept there.
     pub(super) fn send(&mut self, number: u64)
         ensures { OthersStay number self.old.clients.entries self.new.clients.entries }
     {
         match self.clients.get(&number) {
             Some(client) if !matches!(client.state, State::Drains(_)) => {}
             _ => return,
+        }
+        if !self.commits() {
+            return;
         }
         match send_to(&self.clients, &mut self.service, number) {
             Delivery::All => self.has_sent_all(number),

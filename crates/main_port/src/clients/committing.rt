@@ -1,0 +1,54 @@
+//! That all that boards have is on the disk before anybody is told of it, if they are kept in a journal.
+
+ghost use Rattle.std.specs.Prelude.{◌≡◌, false, true, IfSome, Some, is_some};
+ghost use Rattle.relay_durable.specs.Record.{is_settled};
+
+use super::{Clients, MOST_UNSENT, MOST_UNSENT_WITH_JOURNAL};
+use crate::watchers::Watchers;
+use std::sync::Wait;
+use std::time::Clock;
+
+impl<'a, R: Wait + Clock, W: Watchers> Clients<'a, R, W> {
+    /// Writes and syncs all that boards have got since the last time, by whomever. Returns whether all is on the disk: only then may
+    /// anything be sent or told. Without a journal there is nothing to be done.
+    ///
+    /// It is not tried again once it has failed. The loop then ends behind this turn.
+    pub(super) fn commits(&mut self) -> bool
+        ensures settled { result ≡ is_settled self.new.service }
+        ensures service { self.new.service.service ≡ self.old.service.service }
+        ensures failed { result ≡ false → is_some self.new.journal_failure ≡ true }
+        ensures first { IfSome self.old.journal_failure (λ failure. self.new.journal_failure ≡ Some failure) }
+        ensures clients { self.new.clients ≡ self.old.clients }
+    {
+        if self.service.is_settled() {
+            return true;
+        }
+        if self.journal_failure.is_none() {
+            self.journal_failure = self.service.commit().err();
+        }
+        self.journal_failure.is_none()
+    }
+
+    /// Whether boards are kept in a journal.
+    pub(crate) fn has_journal(&self) -> bool
+        ensures { result ≡ is_some self.now.service.scribe }
+    {
+        self.service.has_journal()
+    }
+
+    /// Whether the journal has failed.
+    pub(crate) fn has_journal_failed(&self) -> bool
+        ensures { result ≡ is_some self.now.journal_failure }
+    {
+        self.journal_failure.is_some()
+    }
+
+    /// How many connections are answered before the answers of all of them are sent.
+    pub(super) fn most_unsent(&self) -> usize {
+        if self.has_journal() {
+            MOST_UNSENT_WITH_JOURNAL
+        } else {
+            MOST_UNSENT
+        }
+    }
+}
