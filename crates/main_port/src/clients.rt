@@ -17,6 +17,7 @@ use crate::rounds::Rounds;
 use crate::settings::Settings;
 use crate::watchers::Watchers;
 use c960_game::Limits;
+use chained_lines::StableFile;
 use indexmap::IndexMap;
 use mio::event::Event;
 use mio::net::TcpStream;
@@ -24,7 +25,6 @@ use mio::{Events, Interest, Registry, Token};
 use relay_durable::DurableService;
 use server_loop::{Backoff, LISTENER, Log, LoopClock, Rank, RunQueue, WAKER};
 use std::alloc::{AllocError, Global};
-use std::fs::File;
 use std::io;
 use std::sync::Wait;
 use std::thread::yield_now;
@@ -88,7 +88,7 @@ pub(crate) struct Report {
 pub(crate) struct Clients<'a, R, W> {
     pub(super) rt: &'a R,
     alloc: Global,
-    pub(super) service: DurableService<File>,
+    pub(super) service: DurableService<StableFile>,
     pub(super) clients: IndexMap<u64, Client>,
     /// What reports of their sockets.
     poll: Registry,
@@ -126,7 +126,7 @@ impl<'a, R: Wait + Clock, W: Watchers> Clients<'a, R, W> {
     pub(crate) fn new(
         rt: &'a R,
         alloc: Global,
-        service: DurableService<File>,
+        service: DurableService<StableFile>,
         settings: &Settings,
         room: Room,
         poll: Registry,

@@ -5,11 +5,11 @@ ghost use Rattle.main_port.specs.Others.{OthersStay, client_in};
 ghost use Rattle.main_port.specs.Passing.{IsReadFrom, IsSentTo};
 
 use crate::client::Client;
+use chained_lines::StableFile;
 use indexmap::IndexMap;
 use relay_durable::DurableService;
 use server_loop::{Delivery, Intake, receive, send};
 use std::alloc::AllocError;
-use std::fs::File;
 
 /// Reads once from the socket of the connection of this number, and hands the service what was read, under this number and no other.
 ///
@@ -18,7 +18,7 @@ use std::fs::File;
 /// There was no memory. What was read is lost.
 pub(crate) fn receive_from(
     clients: &mut IndexMap<u64, Client>,
-    service: &mut DurableService<File>,
+    service: &mut DurableService<StableFile>,
     number: u64,
     piece: &mut [u8],
 ) -> Result<Intake, AllocError>
@@ -40,7 +40,7 @@ pub(crate) fn receive_from(
 /// Before all that boards have is on the disk nothing is sent, as if the connection had failed.
 pub(crate) fn send_to(
     clients: &IndexMap<u64, Client>,
-    service: &mut DurableService<File>,
+    service: &mut DurableService<StableFile>,
     number: u64,
 ) -> Delivery
     ensures { IsSentTo (client_in clients.now.entries number) service.old number result service.new }

@@ -10,11 +10,11 @@ use crate::serve_end::ServeEnd;
 use crate::settings::Settings;
 use crate::tally::Tally;
 use crate::watchers::Watchers;
+use chained_lines::StableFile;
 use mio::Registry;
 use relay_durable::DurableService;
 use server_loop::{LISTENER, Listener, Log, LoopClock, LoopWaker, Poller, watch_input};
 use std::alloc::Global;
-use std::fs::File;
 use std::io;
 use std::io::{ErrorKind, StdinLock};
 use std::marker::Model;
@@ -100,7 +100,7 @@ impl MainPort {
     pub fn attend<R, W>(
         self,
         rt: &R,
-        service: DurableService<File>,
+        service: DurableService<StableFile>,
         watchers: W,
         log: Log,
     ) -> (io::Result<ServeEnd>, W)
@@ -131,7 +131,7 @@ impl MainPort {
     fn serve<R, W>(
         self,
         rt: &R,
-        service: DurableService<File>,
+        service: DurableService<StableFile>,
         watchers: W,
         log: &Log,
     ) -> (io::Result<Tally>, W)
