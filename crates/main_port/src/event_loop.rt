@@ -128,12 +128,19 @@ impl<'a, R: Wait + Clock, W: Watchers> EventLoop<'a, R, W> {
     /// Tells the hall the time, once a second and when boards have waited long enough. Boards that begin to wait meanwhile do so for a
     /// second at least. However long the program was suspended, whoever came back in time is heard before, if that takes no longer than a
     /// second, and the time that is told is the one by which all has been heard.
+    ///
+    /// Once serving is to end, and a journal keeps the boards, none of them ends for having waited: nobody can come back before the next
+    /// start.
     fn tick(&mut self)
         ensures same { self.new.acceptor ≡ self.old.acceptor }
         ensures journal { self.new.has_journal ≡ self.old.has_journal }
     {
         let now = self.clients.now();
         if now < self.ticks_at {
+            return;
+        }
+        if self.has_journal && self.ends_at.is_some() {
+            self.ticks_at = now.saturating_add(TICK_MILLIS);
             return;
         }
         let since = self.late_since.unwrap_or(now);
