@@ -83,7 +83,7 @@ pub fn open_journal<'a, R: Files<File = File> + Eprint>(
             return Err(ServeFault::of_file(path, reason));
         }
     }
-    match opened(alloc, file, len, contents) {
+    match journal_in(alloc, file, len, contents) {
         Ok(opened) => Ok(opened),
         Err(_) => Err(ServeFault::OutOfMemory),
     }
@@ -94,7 +94,12 @@ pub fn open_journal<'a, R: Files<File = File> + Eprint>(
 /// # Errors
 ///
 /// There was no memory.
-fn opened(alloc: Global, file: File, len: usize, contents: Contents) -> Result<Opened, NoteError>
+fn journal_in(
+    alloc: Global,
+    file: File,
+    len: usize,
+    contents: Contents,
+) -> Result<Opened, NoteError>
     ensures { (ls : List Line) → SaysEntries ls contents.entries.items → IfOk result (λ o.
         IsJournalOf ⟦<StableFile as StableStorage>⟧.contents ⟦<StableFile as StableStorage>⟧.synced o.journal o.entries.items) }
 {

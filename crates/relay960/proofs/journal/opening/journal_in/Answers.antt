@@ -1,5 +1,5 @@
 use Rattle.relay960.proofs.Opening.{journal_of}
-use Rattle.relay960.proofs.journal.opening.opened.Goals as goal
+use Rattle.relay960.proofs.journal.opening.journal_in.Goals as goal
 
 pub returns : goal.returns
 returns c = λ ls said. journal_of _ _ ls _ said
