@@ -68,7 +68,11 @@ fn check<'a, R: Files<File = File> + Print>(
 /// # Errors
 ///
 /// No hall takes what a line says, or there was no memory.
-fn hall_of<'a>(alloc: Global, path: &'a str, contents: &Contents) -> Result<Hall, ServeFault<'a>> {
+fn hall_of<'a>(
+    alloc: Global,
+    path: &'a str,
+    contents: &Contents<'_>,
+) -> Result<Hall, ServeFault<'a>> {
     let Some(limits) = Limits::new(MOST_BOARDS, 1, 1, MOST_PLIES) else {
         unreachable!();
     };
@@ -87,7 +91,7 @@ fn hall_of<'a>(alloc: Global, path: &'a str, contents: &Contents) -> Result<Hall
 /// # Errors
 ///
 /// As the writer's.
-fn print<W: Write>(out: &mut W, hall: &Hall, contents: &Contents) -> io::Result<()> {
+fn print<W: Write>(out: &mut W, hall: &Hall, contents: &Contents<'_>) -> io::Result<()> {
     for at in 0..hall.len() {
         if let Some(shown) = hall.board(at) {
             print_board(out, &shown)?;
@@ -116,7 +120,7 @@ fn print_board<W: Write>(out: &mut W, shown: &Shown<'_>) -> io::Result<()> {
 }
 
 /// The status of a journal that ends in this way.
-fn status_of(end: JournalEnd) -> Status {
+fn status_of(end: JournalEnd<'_>) -> Status {
     match end {
         JournalEnd::Whole | JournalEnd::Torn(_) => Status::Done,
         JournalEnd::Damaged(_) => Status::DeviceFailed,

@@ -1,9 +1,9 @@
 //! What a journal says.
 
-ghost use Rattle.std.specs.Prelude.{◌≡◌, drop, IfOk};
+ghost use Rattle.std.specs.Prelude.{drop, IfOk};
 ghost use Rattle.chained_lines.specs.Lines.{no_seal, read_lines};
 ghost use Rattle.relay_journal.specs.Bodies.{SaysEntries};
-ghost use Rattle.relay960.specs.JournalEnds.{end_of as end_in};
+ghost use Rattle.relay960.specs.JournalEnds.{IsEnd};
 
 use crate::journal::damage::{JournalDamage, Place};
 use crate::journal::end::{JournalEnd, end_of};
@@ -17,16 +17,16 @@ use std::{fmt, io};
 
 /// What a journal says, and how it ends.
 #[derive(Drop)]
-pub(super) struct Contents {
+pub(super) struct Contents<'a> {
     /// What its lines say behind the first.
     pub entries: Vec<Entry>,
     /// The lines that count.
     pub sound: SoundPart,
     /// What stands behind them.
-    pub end: JournalEnd,
+    pub end: JournalEnd<'a>,
 }
 
-impl Contents {
+impl<'a> Contents<'a> {
     /// Where the lines end that count.
     fn place(&self) -> Place {
         Place {
@@ -55,13 +55,16 @@ impl Contents {
 }
 
 /// How it ends: `whole`, `torn at byte 312 (40 bytes)`, or what has changed.
-impl fmt::Display for Contents {
+impl<'a> fmt::Display for Contents<'a> {
     fn fmt<W: fmt::Write>(&self, f: &mut fmt::Formatter<W>) -> fmt::Result {
         match self.end {
             JournalEnd::Whole => f.write_str("whole"),
-            JournalEnd::Torn(size) => {
-                write!(f, "torn at byte {} ({size} bytes)", self.sound.bytes)
-            }
+            JournalEnd::Torn(torn) => write!(
+                f,
+                "torn at byte {} ({} bytes)",
+                self.sound.bytes,
+                torn.len()
+            ),
             JournalEnd::Damaged(later) => {
                 let changed = JournalDamage::Changed(self.place(), self.place_of(later));
                 write!(f, "{changed}")
@@ -98,14 +101,14 @@ fn begins_journal(alloc: Global, bytes: &[u8]) -> Result<bool, AllocError> {
     Ok(line.as_slice().starts_with(bytes))
 }
 
-/// Whether these bytes, of which no line counts, are those of another file: not the beginning of a journal's first line.
+/// Whether a file that ends in this way, and of which no line counts, is another: it has not the beginning of a journal's first line.
 ///
 /// # Errors
 ///
 /// There was no memory.
-fn is_foreign(alloc: Global, bytes: &[u8], end: JournalEnd) -> Result<bool, AllocError> {
+fn is_foreign(alloc: Global, end: JournalEnd<'_>) -> Result<bool, AllocError> {
     match end {
-        JournalEnd::Torn(size) => Ok(!begins_journal(alloc, &bytes[..size])?),
+        JournalEnd::Torn(torn) => Ok(!begins_journal(alloc, torn)?),
         JournalEnd::Whole | JournalEnd::Damaged(_) => Ok(false),
     }
 }
@@ -115,18 +118,17 @@ fn is_foreign(alloc: Global, bytes: &[u8], end: JournalEnd) -> Result<bool, Allo
 /// # Errors
 ///
 /// The file is no journal, a line that counts says no entry, or there was no memory.
-pub(super) fn contents_of<'a>(
+pub(super) fn contents_of<'a, 'b>(
     alloc: Global,
     path: &'a str,
-    bytes: &[u8],
-) -> Result<Contents, ServeFault<'a>>
+    bytes: &'b [u8],
+) -> Result<Contents<'b>, ServeFault<'a>>
     ensures entries { IfOk result (λ c. SaysEntries (read_lines no_seal bytes.now) c.entries.items) }
-    ensures end { IfOk result (λ c. c.end ≡ end_in (drop c.sound.bytes bytes.now)) }
+    ensures end { IfOk result (λ c. IsEnd (drop c.sound.bytes bytes.now) c.end) }
 {
     let sound = sound_part(bytes);
-    let rest = &bytes[sound.bytes..];
-    let end = end_of(rest);
-    if sound.lines == 0 && is_foreign(alloc, rest, end)? {
+    let end = end_of(&bytes[sound.bytes..]);
+    if sound.lines == 0 && is_foreign(alloc, end)? {
         return Err(ServeFault::damaged(path, JournalDamage::NoJournal));
     }
     match read_entries(alloc, bytes) {

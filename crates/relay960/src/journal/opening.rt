@@ -77,7 +77,7 @@ pub fn open_journal<'a, R: Files<File = File> + Eprint>(
     if let Some(damage) = contents.damage() {
         return Err(ServeFault::damaged(path, damage));
     }
-    let len = mended_len(rt, alloc, path, &file, &bytes, &contents)?;
+    let len = mended_len(rt, alloc, path, &file, bytes.len(), &contents)?;
     if contents.sound.lines == 0 {
         if let Err(reason) = sync_folder(rt, path) {
             return Err(ServeFault::of_file(path, reason));
@@ -98,7 +98,7 @@ fn journal_in(
     alloc: Global,
     file: File,
     len: usize,
-    contents: Contents,
+    contents: Contents<'_>,
 ) -> Result<Opened, NoteError>
     ensures { (ls : List Line) → SaysEntries ls contents.entries.items → IfOk result (λ o.
         IsJournalOf ⟦<StableFile as StableStorage>⟧.contents ⟦<StableFile as StableStorage>⟧.synced o.journal o.entries.items) }
@@ -112,8 +112,8 @@ fn journal_in(
     Ok(Opened { journal, entries })
 }
 
-/// Takes a write that was cut short out of a journal, if there is one. Returns how many bytes the file has then: those of its lines, and
-/// zeros.
+/// Takes a write that was cut short out of a journal whose file has so many bytes, if there is one. Returns how many it has then: those of
+/// its lines, and zeros.
 ///
 /// # Errors
 ///
@@ -123,15 +123,15 @@ fn mended_len<'a, R: Files<File = File> + Eprint>(
     alloc: Global,
     path: &'a str,
     file: &File,
-    bytes: &[u8],
-    contents: &Contents,
+    len: usize,
+    contents: &Contents<'_>,
 ) -> Result<usize, ServeFault<'a>> {
     let at = contents.sound.bytes;
     match contents.end {
-        JournalEnd::Torn(size) => {
-            set_aside(rt, alloc, path, file, at, &bytes[at..at + size])?;
+        JournalEnd::Torn(torn) => {
+            set_aside(rt, alloc, path, file, at, torn)?;
             Ok(at)
         }
-        JournalEnd::Whole | JournalEnd::Damaged(_) => Ok(bytes.len()),
+        JournalEnd::Whole | JournalEnd::Damaged(_) => Ok(len),
     }
 }

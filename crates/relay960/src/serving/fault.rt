@@ -36,7 +36,7 @@ impl<'a> ServeFault<'a> {
 
     /// The server cannot have the file with this path, for this reason.
     pub fn of_file(path: &'a str, reason: io::Error) -> ServeFault<'a>
-        ensures { result ≡ ServeFault.Device (record { device = Device.File path; reason = Reason.System reason }) }
+        ensures { result ≡ ServeFault.Device (record { device = Device.File path.entry; reason = Reason.System reason }) }
     {
         ServeFault::Device(Failure {
             device: Device::File(path),
@@ -46,7 +46,7 @@ impl<'a> ServeFault<'a> {
 
     /// The file with this path could not be read, for this reason.
     pub fn unread(path: &'a str, reason: io::Error) -> ServeFault<'a>
-        ensures { result ≡ ServeFault.Read (record { device = Device.File path; reason = Reason.System reason }) }
+        ensures { result ≡ ServeFault.Read (record { device = Device.File path.entry; reason = Reason.System reason }) }
     {
         ServeFault::Read(Failure {
             device: Device::File(path),
@@ -56,7 +56,7 @@ impl<'a> ServeFault<'a> {
 
     /// The file with this path is no journal that a relay can go on with.
     pub fn damaged(path: &'a str, damage: JournalDamage) -> ServeFault<'a>
-        ensures { result ≡ ServeFault.Read (record { device = Device.File path; reason = Reason.Damage damage }) }
+        ensures { result ≡ ServeFault.Read (record { device = Device.File path.entry; reason = Reason.Damage damage }) }
     {
         ServeFault::Read(Failure {
             device: Device::File(path),
@@ -66,7 +66,7 @@ impl<'a> ServeFault<'a> {
 
     /// This could not be written, for this reason.
     pub fn unwritten(device: Device<'a>, reason: io::Error) -> ServeFault<'a>
-        ensures { result ≡ ServeFault.Write (record { device = device; reason = Reason.System reason }) }
+        ensures { result ≡ ServeFault.Write (record { device = device.entry; reason = Reason.System reason }) }
     {
         ServeFault::Write(Failure {
             device,

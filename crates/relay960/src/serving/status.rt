@@ -11,7 +11,7 @@ use relay960_words::Status;
 /// Reports on standard error how serving ended, and returns the status: `Done` if all connections were met, `DeviceFailed` if a
 /// device failed before that, `OutOfMemory` if there was no memory.
 pub fn status_of_end<E: Eprint>(rt: &E, ended: Result<ServeEnd, ServeFault<'_>>) -> Status
-    ensures { MatchResult ended (λ end. result ≡ Status.Done) (λ fault. result ≡ serve_fault_status fault) }
+    ensures { MatchResult ended.entry (λ end. result ≡ Status.Done) (λ fault. result ≡ serve_fault_status fault) }
 {
     match ended {
         Ok(end) => {
@@ -25,7 +25,7 @@ pub fn status_of_end<E: Eprint>(rt: &E, ended: Result<ServeEnd, ServeFault<'_>>)
 
 /// Reports a fault on standard error, and returns the status: `DeviceFailed`, or `OutOfMemory` if there was no memory.
 pub fn status_of_fault<E: Eprint>(rt: &E, fault: ServeFault<'_>) -> Status
-    ensures { result ≡ serve_fault_status fault }
+    ensures { result ≡ serve_fault_status fault.entry }
 {
     // The status reports the fault even if standard error is closed.
     let _ = rt.eprint(Report {
