@@ -76,15 +76,15 @@ fn started(rt: &impl Abort, alloc: Global, storage: Memory) -> (Hall, Scribe<Mem
     recover(alloc, limits, 30_000, NOW, &[], journal).expect(rt, "a hall")
 }
 
-/// What is said of this number is said, and noted.
+/// This is said, and noted.
 fn say(
     rt: &impl Abort,
     alloc: Global,
     hall: &mut Hall,
     scribe: &mut Scribe<Memory>,
-    at: usize,
+    said: (usize, &str, &str),
 ) -> bool {
-    let (who, board, words) = SAID[at];
+    let (who, board, words) = said;
     let _ = hall.step(&owner_of(rt, who), &step_of(rt, board, words));
     scribe.note(alloc, hall).is_ok()
 }
@@ -114,16 +114,11 @@ fn is_same(rt: &impl Abort, a: &Hall, b: &Hall, at: usize) -> bool {
 fn what_is_written_is_made_again(rt: HostRuntime) -> Result<(), Fail> {
     let alloc = rt.alloc();
     let (mut hall, mut scribe) = started(&rt, alloc, storage_of(alloc, usize::MAX));
-    for at in 0..SAID.len() {
-        claim_at(
-            &rt,
-            say(&rt, alloc, &mut hall, &mut scribe, at),
-            "noted",
-            at,
-        );
-        claim_at(&rt, !scribe.is_settled(), "not settled", at);
-        claim_at(&rt, scribe.commit().is_ok(), "committed", at);
-        claim_at(&rt, scribe.is_settled(), "settled", at);
+    for said in SAID {
+        claim(&rt, say(&rt, alloc, &mut hall, &mut scribe, said), "noted");
+        claim(&rt, !scribe.is_settled(), "not settled");
+        claim(&rt, scribe.commit().is_ok(), "committed");
+        claim(&rt, scribe.is_settled(), "settled");
     }
     let entries = entries_of(&rt, alloc, scribe);
     claim(&rt, entries.len() == SAID.len(), "an entry for each event");
@@ -142,13 +137,8 @@ fn what_is_written_is_made_again(rt: HostRuntime) -> Result<(), Fail> {
 fn nothing_is_noted_twice(rt: HostRuntime) -> Result<(), Fail> {
     let alloc = rt.alloc();
     let (mut hall, mut scribe) = started(&rt, alloc, storage_of(alloc, usize::MAX));
-    for at in 0..SAID.len() {
-        claim_at(
-            &rt,
-            say(&rt, alloc, &mut hall, &mut scribe, at),
-            "noted",
-            at,
-        );
+    for said in SAID {
+        claim(&rt, say(&rt, alloc, &mut hall, &mut scribe, said), "noted");
     }
     claim(&rt, scribe.commit().is_ok(), "committed");
     claim(&rt, scribe.note(alloc, &hall).is_ok(), "noted again");
@@ -204,7 +194,11 @@ fn a_failed_scribe_stays_failed(rt: HostRuntime) -> Result<(), Fail> {
     let alloc = rt.alloc();
     let (mut hall, mut scribe) = started(&rt, alloc, storage_of(alloc, 2));
     claim(&rt, scribe.commit().is_ok(), "the first line");
-    claim(&rt, say(&rt, alloc, &mut hall, &mut scribe, 0), "an open");
+    claim(
+        &rt,
+        say(&rt, alloc, &mut hall, &mut scribe, SAID[0]),
+        "an open",
+    );
     claim(&rt, scribe.commit().is_err(), "a write that fails");
     claim(
         &rt,
