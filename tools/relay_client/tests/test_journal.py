@@ -243,16 +243,15 @@ class Damage(Journals):
 
     def test_another_file_of_the_name_is_not_lost(self):
         at = self.sizes[4]
-        self.path.write_bytes(self.whole[:at + 20])
-        aside = pathlib.Path(f"{self.path}.torn-{at}")
+        torn = self.whole[at:at + 20]
+        self.path.write_bytes(self.whole[:at] + torn)
+        aside, further = (pathlib.Path(f"{self.path}.torn-{at}{nth}") for nth in ("", "-2"))
         aside.write_bytes(b"others")
-        self.assertIn(f"fault 32 Write\n{aside}: ", self.cannot_serve(*WORDS))
-        self.assertEqual((self.path.read_bytes(), aside.read_bytes()), (self.whole[:at + 20], b"others"))
         # A beginning of what is to be set aside was left by a start that was killed.
-        aside.write_bytes(self.whole[at:at + 5])
+        further.write_bytes(torn[:5])
         with self.serves() as server:
-            self.complains(server, f"{self.path}: torn at byte {at}: 20 bytes are set aside in {aside}")
-        self.assertEqual(aside.read_bytes(), self.whole[at:at + 20])
+            self.complains(server, f"{self.path}: torn at byte {at}: 20 bytes are set aside in {further}")
+        self.assertEqual((aside.read_bytes(), further.read_bytes()), (b"others", torn))
 
 
 class ADeviceThatFails(Journals):
