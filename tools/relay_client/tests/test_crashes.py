@@ -9,6 +9,7 @@ import functools
 import itertools
 import os
 import pathlib
+import re
 import shutil
 import signal
 import subprocess
@@ -482,7 +483,9 @@ class Faults(Crashes):
 
 def fault_is_told(crash, how):
     assert crash.status == 3, (crash.status, crash.complaint)
-    assert crash.complaint.decode().endswith(f"{crash.file}: {REASONS[how]}\n"), crash.complaint
+    # What failed is the file, or the one beside it to which its torn end goes.
+    named = re.escape(str(crash.file)) + r"(\.torn-\d+)?: " + re.escape(REASONS[how])
+    assert re.fullmatch(named, crash.complaint.decode().splitlines()[-1]), crash.complaint
     assert b"\nfault " in b"\n" + crash.complaint, crash.complaint
 
 
