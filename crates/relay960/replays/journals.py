@@ -7,13 +7,32 @@ import subprocess
 import sys
 import tempfile
 
+from relay_client import journals
 from relay_client.faults import device_fault, write_fault
-from relay_client.journals import FIRST, journal, opened, over, played, says
+from relay_client.journals import FIRST_BODY as FIRST
+from relay_client.journals import body as says
 from relay_client.program import PATIENCE, PROGRAM
-from relay_client.texts import follows, text
+from relay_client.texts import ends, follows, opens, submits
 
 KEY = "aB3_-9xYzQ0kLmNop"
 MATE = ["f2f3", "e7e5", "g2g4", "d8h4"]
+
+
+def journal(*writes):
+    return journals.sealed(writes)
+
+
+def opened(board, start=518, key=None):
+    return says(opens(board, start), key)
+
+
+def played(board, move):
+    return says(submits(board, move))
+
+
+def over(board, how, **more):
+    return says(ends(board, how, **more))
+
 
 # What was written at once, and the boards that it leads to.
 WRITES = [
@@ -74,7 +93,7 @@ BAD = [
     (sealed(b"nothing"), f"line 2 {NO_ENTRY}"),
     (sealed(opened("b"), says("{}")), f"line 3 {NO_ENTRY}"),
     (sealed(opened("b"), says(follows("b"))), f"line 3 {NO_ENTRY}"),
-    (sealed(opened("b"), says(text(cmd="submit", board="b", move="e2e4"), KEY)), f"line 3 {NO_ENTRY}"),
+    (sealed(opened("b"), says(submits("b", "e2e4"), KEY)), f"line 3 {NO_ENTRY}"),
     (sealed(opened("b"), opened("b")), f"line 3 {REFUSED_LINE}"),
     (sealed(opened("b", 960)), f"line 2 {REFUSED_LINE}"),
     (sealed(opened("b"), played("b", "e2e5")), f"line 3 {REFUSED_LINE}"),
