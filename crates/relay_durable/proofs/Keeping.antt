@@ -1,6 +1,6 @@
 -- The journal stands for the boards behind an event of the hall.
-use Rattle.std.proofs.Common.{◌≡◌, ℕ, List, Option, ap, subst, sym}
-use Rattle.relay_hall.specs.Record.{FloorRecord, HallRecord}
+use Rattle.std.proofs.Common.{◌≡◌, ℕ, List, Option, subst, sym}
+use Rattle.relay_hall.specs.Record.{HallRecord}
 use Rattle.relay_journal.specs.Scribes.{ScribeRecord}
 use Rattle.relay_durable.specs.Keeping.{IsKept, IsOneEvent}
 

@@ -9,6 +9,7 @@ use Rattle.relay_journal.specs.Writing.{HoldsIfKnown, IsWritten}
 use Rattle.relay_journal.specs.Bodies.{SaysEntries}
 use Rattle.relay_journal.specs.declared.entry.Entry.{Entry}
 use Rattle.chained_lines.specs.Records.{JournalRecord}
+use Rattle.chained_lines.specs.Storage.{Failed}
 
 -- The bytes of the journal are these lines, which stand for the boards, and all of them are synced, if the bytes are known.
 pub record IsOnDisk {S : Type 0} (contents : S → Option (List ℕ)) (synced : S → ℕ) (s : ScribeRecord S) (f : FloorRecord) : Type 0 where
@@ -32,3 +33,9 @@ pub record IsJournalOf {S : Type 0} (contents : S → Option (List ℕ)) (synced
 -- one event has passed in a hall, or none
 abbrev pub IsOneEvent : HallRecord → HallRecord → Type 0
 IsOneEvent k l = ((e : HallEvent) × (told : HallTold) × HallStep k e told l) ⊎ (l ≡ k)
+
+-- a journal that had not failed before has failed now, since its storage has, as far as that is known
+abbrev pub HasCause : {S : Type 0} → (S → Option ℕ) → Option (ScribeRecord S) → Option (ScribeRecord S) → Type 0
+HasCause failures None new = ⊥
+HasCause failures (Some s) None = ⊥
+HasCause failures (Some s) (Some t) = s.has_failed ≡ false → s.journal.has_failed ≡ false → Failed (failures s.journal.storage) (failures t.journal.storage)

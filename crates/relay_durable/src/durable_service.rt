@@ -5,7 +5,7 @@ ghost use Rattle.relay_hall.specs.Record.{HallRecord, nobody_yet};
 ghost use Rattle.relay_journal.specs.Restarting.{IsRefusedAt, IsRestarted};
 ghost use Rattle.relay_journal.specs.declared.unfit.Unfit.TheVariants.{Refused};
 ghost use Rattle.relay_service.specs.Resumed.{IsResumed};
-ghost use Rattle.relay_durable.specs.Keeping.{IsJournalOf, IsKept, IsOneEvent};
+ghost use Rattle.relay_durable.specs.Keeping.{HasCause, IsJournalOf, IsKept, IsOneEvent};
 ghost use Rattle.relay_durable.specs.Record.{is_settled};
 
 mod changing;
@@ -47,8 +47,9 @@ impl<S: StableStorage> Model for DurableService<S> {
 /// Notes what is missing in the journal, if there is one, behind an event of the hall or none. If that fails it does for good, and no
 /// commit succeeds any more.
 fn note<S: StableStorage>(alloc: Global, scribe: &mut Option<Scribe<S>>, hall: &Hall)
-    ensures { (k : HallRecord) → IsOneEvent k hall.now → IsKept S.contents S.synced scribe.old k.floor
+    ensures kept { (k : HallRecord) → IsOneEvent k hall.now → IsKept S.contents S.synced scribe.old k.floor
         → IsKept S.contents S.synced scribe.new hall.now.floor }
+    ensures journal { is_some scribe.new ≡ is_some scribe.old }
 {
     if let Some(scribe) = scribe {
         let _ = scribe.note(alloc, hall);
@@ -127,6 +128,8 @@ impl<S: StableStorage> DurableService<S> {
         ensures settled { OnOk result (is_settled self.new ≡ true) }
         ensures failed { OnErr result (is_settled self.new ≡ false) }
         ensures service { self.new.service ≡ self.old.service }
+        ensures journal { is_some self.new.scribe ≡ is_some self.old.scribe }
+        ensures cause { OnErr result (HasCause S.failures self.old.scribe self.new.scribe) }
     {
         let Some(scribe) = &mut self.scribe else {
             return Ok(());

@@ -1,6 +1,6 @@
 //! What is done to the service: each call as the service's own, and behind it what its boards then have is noted.
 
-ghost use Rattle.std.specs.Prelude.{◌≡◌, ◌⊎◌, ◌+◌, ◌-◌, ◌^◌, IfOk, OnErr, OnOk, Some, true};
+ghost use Rattle.std.specs.Prelude.{◌≡◌, ◌⊎◌, ◌+◌, ◌-◌, ◌^◌, IfOk, OnErr, OnOk, Some, is_some, true};
 ghost use Rattle.relay_calling.specs.Running.{was_pinged, was_sent_away};
 ghost use Rattle.relay_following.specs.Calls.{closed_by, pinged};
 ghost use Rattle.relay_frames.specs.declared.output.TheConstants.{MOST_OUTPUT};
@@ -51,6 +51,7 @@ impl<S: StableStorage> DurableService<S> {
     pub fn answer(&mut self, number: u64) -> Result<bool, AllocError>
         ensures ok { IfOk result (λ some. AnswersAt self.old.service number some self.new.service) }
         ensures err { OnErr result (FailsAt self.old.service number self.new.service) }
+        ensures journal { is_some self.new.scribe ≡ is_some self.old.scribe }
     {
         one_step_at_most();
         let answered = self.service.answer(number);
@@ -120,7 +121,8 @@ impl<S: StableStorage> DurableService<S> {
 
     /// As `Service::leave`.
     pub fn leave(&mut self, number: u64)
-        ensures { LeavesAt self.old.service number self.new.service }
+        ensures left { LeavesAt self.old.service number self.new.service }
+        ensures journal { is_some self.new.scribe ≡ is_some self.old.scribe }
     {
         self.service.leave(number);
         note(self.alloc, &mut self.scribe, self.service.hall());
@@ -128,7 +130,8 @@ impl<S: StableStorage> DurableService<S> {
 
     /// As `Service::disconnect`.
     pub fn disconnect(&mut self, number: u64)
-        ensures { DisconnectsAt self.old.service number self.new.service }
+        ensures gone { DisconnectsAt self.old.service number self.new.service }
+        ensures journal { is_some self.new.scribe ≡ is_some self.old.scribe }
     {
         self.service.disconnect(number);
         note(self.alloc, &mut self.scribe, self.service.hall());
@@ -136,7 +139,8 @@ impl<S: StableStorage> DurableService<S> {
 
     /// As `Service::tick`.
     pub fn tick(&mut self, millis: u64)
-        ensures { Passes self.old.service (Time millis) self.new.service }
+        ensures passed { Passes self.old.service (Time millis) self.new.service }
+        ensures journal { is_some self.new.scribe ≡ is_some self.old.scribe }
     {
         self.service.tick(millis);
         note(self.alloc, &mut self.scribe, self.service.hall());
@@ -144,7 +148,8 @@ impl<S: StableStorage> DurableService<S> {
 
     /// As `Service::shut`.
     pub fn shut(&mut self)
-        ensures { Passes self.old.service Shuts self.new.service }
+        ensures passed { Passes self.old.service Shuts self.new.service }
+        ensures journal { is_some self.new.scribe ≡ is_some self.old.scribe }
     {
         self.service.shut();
         note(self.alloc, &mut self.scribe, self.service.hall());
@@ -152,7 +157,8 @@ impl<S: StableStorage> DurableService<S> {
 
     /// As `Service::end_all`.
     pub fn end_all(&mut self)
-        ensures { Passes (record self.old.service { is_ending = true }) Ends self.new.service }
+        ensures passed { Passes (record self.old.service { is_ending = true }) Ends self.new.service }
+        ensures journal { is_some self.new.scribe ≡ is_some self.old.scribe }
     {
         self.service.end_all();
         note(self.alloc, &mut self.scribe, self.service.hall());
