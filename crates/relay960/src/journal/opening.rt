@@ -100,7 +100,7 @@ fn journal_in(
     len: usize,
     contents: Contents<'_>,
 ) -> Result<Opened, NoteError>
-    ensures { (ls : List Line) → SaysEntries ls contents.entries.items → IfOk result (λ o.
+    ensures { (ls : List Line) → SaysEntries ls contents.entry.entries.items → IfOk result (λ o.
         IsJournalOf ⟦<StableFile as StableStorage>⟧.contents ⟦<StableFile as StableStorage>⟧.synced o.journal o.entries.items) }
 {
     let Contents { entries, sound, .. } = contents;
