@@ -4,11 +4,32 @@
     python3 -m relay_client.ports wait PORT..       waits until all are listened on, for at most 30 seconds
 """
 
+import collections
 import pathlib
 import random
 import socket
 import sys
 import time
+
+
+# The ports that were found last are bound at another address of loopback: whoever looks for a free one at the same time passes over them.
+ASIDE = "127.96.0.1"
+FOUND_LAST = collections.deque()
+MOST_FOUND_LAST = 64
+
+
+def is_taken_aside(port):
+    """Takes a port aside, unless another has."""
+    taken = socket.socket()
+    try:
+        taken.bind((ASIDE, port))
+    except OSError:
+        taken.close()
+        return False
+    FOUND_LAST.append(taken)
+    if len(FOUND_LAST) > MOST_FOUND_LAST:
+        FOUND_LAST.popleft().close()
+    return True
 
 
 def free_port():
@@ -22,7 +43,8 @@ def free_port():
                 probe.bind(("127.0.0.1", port))
             except OSError:
                 continue
-        return port
+        if is_taken_aside(port):
+            return port
 
 
 def listened():
