@@ -1,5 +1,5 @@
 -- How many connections were met, by what was requested.
-use Rattle.std.proofs.Common.{◌≡◌, ◌+◌, ◌≤◌, ℕ, Bool, Option, Result, Ok, Err, IfOk, IsErr, MatchResult, true, false, refl, subst, sym, IfSome}
+use Rattle.std.proofs.Common.{◌≡◌, ◌+◌, ◌≤◌, ℕ, Bool, Option, Result, Ok, Err, IfOk, IsErr, MatchResult, true, false, true≢false, refl, subst, sym, IfSome}
 use Rattle.std.specs.declared.io.Error.{Error}
 use Rattle.relay960.specs.declared.serving.fault.ServeFault.{ServeFault}
 use Rattle.relay960_words.specs.declared.order.Connections.{Connections}
@@ -21,5 +21,5 @@ pub met_or_failed : (connections : Connections) (may_end : Bool) (most : Option 
     → (may_end ≡ false → IfOk ended (λ end. IfSome most (λ n. end.served + end.failed ≡ n))) → IfOk handed (MeetsWith connections may_end)
 met_or_failed connections may_end most (Ok end) handed is same few all =
     subst (λ (it : Result ServeEnd ServeFault). IfOk it (MeetsWith connections may_end)) (sym same) (met_with connections may_end end most is few all)
-met_or_failed connections may_end most (Err error) (Ok end) is failed few all = absurd failed
+met_or_failed connections may_end most (Err error) (Ok end) is failed few all = absurd (true≢false (sym failed))
 met_or_failed connections may_end most (Err error) (Err fault) is failed few all = tt
