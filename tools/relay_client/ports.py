@@ -12,17 +12,16 @@ import sys
 import time
 
 
-# The ports that were found last are bound at another address of loopback: whoever looks for a free one at the same time passes over them.
-ASIDE = "127.96.0.1"
+# The ports that were found last are bound for datagrams: whoever looks for a free one at the same time passes over them.
 FOUND_LAST = collections.deque()
 MOST_FOUND_LAST = 64
 
 
 def is_taken_aside(port):
     """Takes a port aside, unless another has."""
-    taken = socket.socket()
+    taken = socket.socket(type=socket.SOCK_DGRAM)
     try:
-        taken.bind((ASIDE, port))
+        taken.bind(("127.0.0.1", port))
     except OSError:
         taken.close()
         return False

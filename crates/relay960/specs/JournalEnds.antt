@@ -9,7 +9,8 @@ abbrev pub trimmed : List ℕ → ℕ → ℕ
 trimmed bytes zero = 0
 trimmed bytes (suc n) = cond (slice_index bytes n == 0) (trimmed bytes n) (suc n)
 
--- Nothing is left without the zeros. Or it was cut short; or a later write has begun behind it, so that what stands before that has changed.
+-- Nothing is left without the zeros. Or it was cut short; or a later write has begun behind it, so that what stands before that has
+-- changed.
 abbrev pub IsEnd : List ℕ → JournalEnd → Type 0
 IsEnd rest Whole = trimmed rest (length rest) ≡ 0
 IsEnd rest (Torn torn) = (torn.now ≡ take (trimmed rest (length rest)) rest) × (trimmed rest (length rest) ≢ 0) × (later_write rest ≡ None)
