@@ -3,7 +3,7 @@
 ghost use Rattle.std.specs.Prelude.{◌≡◌, ◌≤◌, ◌∷◌, [], ◌++◌, ◌↔◌, ◌==◌, true, false, List, length, not, None, OnErr, OnOk, IsErr, IsErrOf};
 ghost use Rattle.chained_lines.specs.Lines.{Line, has_no_feed};
 ghost use Rattle.chained_lines.specs.Storage.{Failed};
-ghost use Rattle.chained_lines.specs.Journals.{HoldsLines, IsFrontOf, IsKnownFront, KeepsLines};
+ghost use Rattle.chained_lines.specs.Journals.{HoldsLines, IsKnownFront, KeepsLines};
 ghost use Rattle.chained_lines.specs.declared.note_error.NoteError.TheVariants.{HasLineFeed};
 
 use crate::note_error::NoteError;

@@ -1,11 +1,12 @@
 //! A file on a disk that keeps lines.
 
-ghost use Rattle.std.specs.Prelude.{None};
+ghost use Rattle.std.specs.Prelude.{◌≡◌, ◌≤◌, ◌-◌, nat_le, true, None};
 
 use crate::stable_storage::StableStorage;
 use std::fs::File;
 use std::io;
 use std::io::ErrorKind;
+use std::marker::Model;
 use std::os::unix::fs::FileExt;
 
 /// With fewer bytes of zeros than these behind what was written more are put there.
@@ -30,9 +31,19 @@ pub struct StableFile {
     has_room: bool,
 }
 
+impl Model for StableFile {
+    ghost use Rattle.chained_lines.specs.Records.{StableFileRecord};
+
+    ghost Value = { StableFileRecord };
+
+    ghost view = { λ f. record { written = f.written; length = f.len; has_room = f.has_room } };
+}
+
 impl StableFile {
     /// A file that can be written, of which so many bytes are kept, and which has `len` bytes: all others are zeros.
-    pub fn behind(file: File, kept: u64, len: u64) -> StableFile {
+    pub fn behind(file: File, kept: u64, len: u64) -> StableFile
+        ensures { result ≡ record { written = kept; length = len; has_room = true } }
+    {
         StableFile {
             file,
             written: kept,
@@ -42,7 +53,9 @@ impl StableFile {
     }
 
     /// How many bytes of zeros stand behind what was written.
-    fn room(&self) -> u64 {
+    fn room(&self) -> u64
+        ensures { result ≡ self.now.length - self.now.written }
+    {
         self.len.saturating_sub(self.written)
     }
 
@@ -59,7 +72,11 @@ impl StableFile {
     }
 
     /// Puts zeros behind what was written, if there are few.
-    fn reserve(&mut self) {
+    fn reserve(&mut self)
+        ensures written { self.new.written ≡ self.old.written }
+        ensures length { self.old.length ≤ self.new.length }
+        ensures room { self.new.has_room ≡ nat_le 32768 (self.new.length - self.new.written) }
+    {
         if self.room() < LEAST_ROOM_BYTES {
             self.len = self.len.max(self.written);
             self.len = self.len.saturating_add(self.zeros());

@@ -1,6 +1,6 @@
 //! All connections of the loop: how they come and go, and which are due a turn.
 
-ghost use Rattle.std.specs.Prelude.{◌≡◌, None, is_some};
+ghost use Rattle.std.specs.Prelude.{◌≡◌, None};
 ghost use Rattle.main_port.specs.Others.{AllStay, OthersStay};
 
 mod changes;

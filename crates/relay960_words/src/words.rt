@@ -1,6 +1,6 @@
 //! The command-line arguments, read by `clap`.
 
-ghost use Rattle.std.specs.Prelude.{◌≡◌, false, IfErr, IfOk, List, MatchResult, ℕ, Ok, Some, codes, map};
+ghost use Rattle.std.specs.Prelude.{◌≡◌, IfErr, IfOk, List, MatchResult, ℕ, Ok, Some, map};
 ghost use Rattle.std.specs.Net.Grammar.{IsSocketText};
 ghost use Rattle.clap.specs.Words.{app_of, first_value, found_of, kind_of, one_text, subcommand_of, subcommand_rows_of};
 ghost use Rattle.clap.specs.Walk.{rows_of};

@@ -1,6 +1,6 @@
 //! The key that a request names, and what stands for it.
 
-ghost use Rattle.std.specs.Prelude.{◌≡◌, ◌≤◌, length, not, ◌==◌};
+ghost use Rattle.std.specs.Prelude.{◌≡◌, ◌≤◌, length, ◌==◌};
 ghost use Rattle.std.specs.List.{position_or_len};
 ghost use Rattle.relay_calling.specs.Keys.{behind_first, digest_of, fields_of, first_key, in_front, key_in, key_of};
 

@@ -1,6 +1,6 @@
 //! What a connection is sent, whatever it sends and whatever happens in the hall, and what connections make of the hall.
 
-ghost use Rattle.std.specs.Prelude.{◌≡◌, ℕ, Bool, true, false, List, [], Option, Some};
+ghost use Rattle.std.specs.Prelude.{◌≡◌, ℕ, Bool, true, List, [], Option, Some};
 ghost use Rattle.relay_core.specs.History.{History};
 ghost use Rattle.relay_hall.specs.declared.handed.Handed.{Handed};
 ghost use Rattle.relay_hall.specs.declared.owner.Owner.{Owner};

@@ -1,6 +1,6 @@
 //! A connection that a hall answers.
 
-ghost use Rattle.std.specs.Prelude.{◌≡◌, ◌≤◌, ◌||◌, [], length, nat_lt, not, take, true, IfOk, OnErr, OnOk};
+ghost use Rattle.std.specs.Prelude.{◌≡◌, ◌≤◌, ◌||◌, length, nat_lt, not, take, true, IfOk, OnErr, OnOk};
 ghost use Rattle.relay_frames.specs.Events.{number_of, told, text as told_text};
 ghost use Rattle.relay_frames.specs.Frames.{close_frame, pong_frame, text_frame};
 ghost use Rattle.relay_frames.specs.Reading.{is_midway};

@@ -1,5 +1,5 @@
 -- A head that has yet to come is shorter than the longest head.
-use Rattle.std.proofs.Common.{◌≡◌, ◌≢◌, ℕ, ◌+◌, ◌%◌, ◌<◌, ◌≤◌, Bool, true, false, cond, ◌==◌, ◌||◌, nat_lt, nat_le, nat_eq, List, length, take, drop, Option, None, Some, Result, Ok, Err, refl, arith, length-drop, inl, inr}
+use Rattle.std.proofs.Common.{◌≡◌, ◌≢◌, ℕ, ◌+◌, ◌%◌, ◌<◌, ◌≤◌, Bool, true, false, cond, ◌==◌, ◌||◌, nat_lt, nat_le, nat_eq, List, length, take, drop, None, Some, Result, Ok, Err, refl, arith, length-drop, inl, inr}
 use Rattle.std.specs.Prelude.{◌⊎◌, replicate, slice_index}
 use Rattle.std.specs.Int.{w16, w64, from_be_bytes}
 use Rattle.std.specs.List.{starts_with}
@@ -9,7 +9,7 @@ use Rattle.websocket.specs.declared.error.ProtocolError.TheVariants.{InvalidLeng
 use Rattle.websocket.specs.declared.protocol.frame.coding.OpCode.{OpCode}
 use Rattle.websocket.specs.declared.protocol.frame.header.FrameHeader.{FrameHeader}
 use Rattle.websocket.specs.OpCode.{parse_opcode}
-use Rattle.websocket.specs.FrameHeader.{Decoded, is_set, extended_len, header_from, header_len, decode_length, decode_mask, decode_after_opcode, decode_header}
+use Rattle.websocket.specs.FrameHeader.{Decoded, is_set, extended_len, header_from, decode_length, decode_mask, decode_after_opcode, decode_header}
 
 -- one of the two is what was chosen
 chosen : {A : Type 0} (b : Bool) (x y z : A) → cond b x y ≡ z → ((b ≡ true) × (x ≡ z)) ⊎ ((b ≡ false) × (y ≡ z))

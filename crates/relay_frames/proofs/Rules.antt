@@ -1,7 +1,7 @@
 -- What a head that keeps the rules says of its frame.
-use Rattle.std.proofs.Common.{◌≡◌, ℕ, ◌+◌, ◌<◌, ◌≤◌, Bool, true, false, cond, not, ◌||◌, nat_lt, nat_le, List, ◌++◌, length, length-append, Option, None, Some, refl, arith}
+use Rattle.std.proofs.Common.{◌≡◌, ℕ, ◌+◌, ◌<◌, ◌≤◌, Bool, true, false, cond, not, ◌||◌, nat_lt, nat_le, List, length, length-append, Option, None, Some, refl, arith}
 use Rattle.std.specs.Prelude.{is_some}
-use Rattle.std.proofs.lemmas.Bool.Decides.{nat_tests, leb_tells}
+use Rattle.std.proofs.lemmas.Bool.Decides.{nat_tests}
 use Rattle.websocket.specs.declared.protocol.frame.coding.OpCode.{OpCode}
 use Rattle.websocket.specs.declared.protocol.frame.coding.OpCode.TheVariants as codes
 use Rattle.websocket.specs.declared.protocol.frame.coding.Data.{Data}

@@ -1,8 +1,8 @@
 -- A frame that a client wrote is read as that frame.
-use Rattle.std.proofs.Common.{◌≡◌, ℕ, ◌+◌, ◌<◌, ◌≤◌, Bool, false, List, [], ◌++◌, append-nil, length, take, drop, Option, None, Some, Ok, refl, ◌∙◌, ap, arith, length-append, append_assoc}
+use Rattle.std.proofs.Common.{◌≡◌, ℕ, ◌+◌, List, [], ◌++◌, append-nil, length, Option, None, Some, refl, ◌∙◌, arith, length-append, append_assoc}
 use Rattle.std.proofs.lemmas.List.{drop_at, take_at}
 use Rattle.websocket.specs.declared.protocol.frame.header.FrameHeader.{FrameHeader}
-use Rattle.websocket.specs.FrameHeader.{decode_header, encode_header, header_len, IsHeader}
+use Rattle.websocket.specs.FrameHeader.{encode_header, header_len, IsHeader}
 use Rattle.websocket.specs.Frame.{encode_frame}
 use Rattle.websocket.specs.Mask.{apply_mask_if}
 use Rattle.websocket.proofs.DecodeLemmas.{ltb_false}
@@ -10,7 +10,7 @@ use Rattle.websocket.proofs.MaskLemmas.{length-apply_mask_if, apply_mask_if-appl
 use Rattle.websocket.proofs.FrameHeaderLemmas.{length-encode_header, decode_header-encode_header}
 use Rattle.websocket.proofs.FrameLemmas.{length-encode_frame}
 use Rattle.relay_frames.specs.declared.breach.Breach.{Breach}
-use Rattle.relay_frames.specs.Reading.{Message, Reading, Step, head_breach, frame_effect, breaks, goes_on, payload_at, read_frame, read_checked, next_step}
+use Rattle.relay_frames.specs.Reading.{Message, head_breach, breaks, payload_at, read_checked, next_step}
 use Rattle.relay_frames.specs.Writing.{behind_bytes, read_written}
 
 header_read : (begun : Option Message) (h : FrameHeader) (n : ℕ) (rest : List ℕ) → IsHeader h n

@@ -2,7 +2,7 @@
 use Rattle.std.specs.Prelude.{◌≡◌, ℕ, zero, suc, ◌+◌, ◌≤◌, true, List, [], ◌∷◌, ◌++◌, length, fold, ⊤, Option, None, Some}
 use Rattle.relay_frames.specs.declared.peer.TheConstants.{MOST_BYTES, MOST_FRAGMENTS}
 use Rattle.relay_frames.specs.Events.{Told, is_last}
-use Rattle.relay_frames.specs.Reading.{Message, Reading, Step, opened, fed, next_step}
+use Rattle.relay_frames.specs.Reading.{Message, Reading, opened, fed, next_step}
 
 -- the events so far, in order, and what is known then
 pub record Heard : Type 0 where

@@ -1,5 +1,5 @@
 -- What is read from the frames that a client writes, RFC 6455 section 5.2.
-use Rattle.std.specs.Prelude.{ℕ, false, List, ◌++◌, length, Option, None, Some}
+use Rattle.std.specs.Prelude.{ℕ, false, List, Option, None, Some}
 use Rattle.websocket.specs.declared.protocol.frame.header.FrameHeader.{FrameHeader}
 use Rattle.relay_frames.specs.declared.breach.Breach.{Breach}
 use Rattle.relay_frames.specs.Reading.{Message, Reading, Step, breaks, goes_on, frame_effect}

@@ -1,12 +1,11 @@
 -- What a connection does over the boards of a hall, whose answers are functions.
-use Rattle.std.proofs.Common.{◌≡◌, ◌≢◌, ◌⊎◌, inl, inr, ℕ, Bool, true, false, cond, not, ◌&&◌, ◌||◌, List, [], ◌∷◌, ◌++◌, append-nil, Option, None, Some, Result, Ok, Err, refl, sym, ap, ◌∙◌, subst}
+use Rattle.std.proofs.Common.{◌≡◌, ◌≢◌, ◌⊎◌, inl, inr, ℕ, Bool, true, false, cond, not, ◌&&◌, ◌||◌, List, [], ◌∷◌, Option, None, Some, Result, Ok, Err, refl, sym, ap, ◌∙◌, subst}
 use Rattle.c960_game.specs.declared.refusal.Refusal.{Refusal}
 use Rattle.c960_game.specs.declared.refusal.Refusal.TheVariants as refusals
 use Rattle.relay_core.specs.declared.step.Step.{Step}
 use Rattle.relay_core.specs.declared.step.Step.TheVariants.{Open, Submit, End, Follow, Take, Leave}
 use Rattle.relay_core.specs.declared.reply.Reply.{Reply}
 use Rattle.relay_core.specs.declared.reply.Reply.TheVariants.{Refused}
-use Rattle.relay_core.specs.History.{is_accepted}
 use Rattle.relay_messages.specs.declared.answer.Answer.{Answer}
 use Rattle.relay_messages.specs.declared.answer.Answer.TheVariants as answers
 use Rattle.relay_messages.specs.declared.fault.MessageFault.{MessageFault}

@@ -146,7 +146,9 @@ fn note_if(changed: &mut ChangedBoards, has_changed: bool, at: usize) {
     }
 }
 
-/// Whether any board belongs to the speaker's key. All of them are looked at, whatever the result.
+/// Whether any board belongs to the speaker's key. All of them are looked at, whatever the result. It is never inlined, so that a test can
+/// count its instructions: they are as many for each key.
+#[inline(never)]
 pub(crate) fn owns_any(boards: &IndexMap<BoardKey, Hosted>, speaker: &Owner) -> bool
     ensures { result ≡ list_any (λ e. is_owner speaker.now.key e.1.owner.key) boards.now.entries }
 {

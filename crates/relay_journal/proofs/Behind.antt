@@ -1,5 +1,5 @@
 -- What a scribe sees to be missing is what is missing.
-use Rattle.std.proofs.Common.{refl, ◌≡◌, ℕ, zero, suc, ◌+◌, ◌<◌, nat_lt, Bool, true, false, cond, is_some, List, [], ◌∷◌, ◌++◌, map, length, drop, take, get_or, Option, None, Some, inl, inr, ◌∙◌, sym, ap, arith, append_assoc, length-append}
+use Rattle.std.proofs.Common.{refl, ◌≡◌, ℕ, zero, suc, ◌+◌, ◌<◌, nat_lt, Bool, true, false, cond, is_some, List, [], ◌∷◌, ◌++◌, map, length, drop, take, Option, None, Some, inl, inr, ◌∙◌, sym, ap, arith, append_assoc, length-append}
 use Rattle.std.specs.Prelude.{◌==◌, ◌&&◌, nat_le, slice_get, option_map}
 use Rattle.std.specs.Option.{option_or}
 use Rattle.std.proofs.lemmas.List.{append-nil, length-take-le, map-append, take_more}
@@ -7,12 +7,10 @@ use Rattle.std.proofs.lemmas.Option.{get_or_from_slice_get, none-some, slice_get
 use Rattle.c960_board.specs.declared.piece.Colour.{Colour}
 use Rattle.c960_board.specs.Moves.{Triple}
 use Rattle.c960_board.specs.Pieces.{other}
-use Rattle.c960_game.specs.declared.ending.Ending.{Ending}
 use Rattle.c960_game.specs.declared.outcome.Outcome.{Outcome}
 use Rattle.c960_game.specs.declared.outcome.Outcome.TheVariants.{Checkmate, Fivefold, SeventyFive, Stalemate}
 use Rattle.c960_game.specs.Draws.{auto_outcome, draw_of}
 use Rattle.c960_game.specs.Ends.{outcome_of, own_outcome}
-use Rattle.c960_game.specs.Ending.{named_outcome}
 use Rattle.c960_game.specs.Positions.{last_position}
 use Rattle.c960_game.specs.Times.{times}
 use Rattle.c960_rules.specs.Tests.Check.{in_check}

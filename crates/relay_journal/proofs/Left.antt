@@ -1,12 +1,12 @@
 -- After a restart nobody is there, and nobody goes who has said nothing again.
-use Rattle.std.proofs.Common.{refl, ◌≡◌, ℕ, ◌+◌, ◌-◌, ◌≤◌, Bool, true, false, cond, List, [], ◌∷◌, ◌++◌, length, Option, Some, None, ◌∙◌, sym, ap, subst, arith, append_assoc}
+use Rattle.std.proofs.Common.{refl, ◌≡◌, ℕ, ◌+◌, ◌-◌, ◌≤◌, Bool, true, false, cond, List, [], ◌∷◌, ◌++◌, length, Option, Some, None, ◌∙◌, ap, arith, append_assoc}
 use Rattle.relay_core.specs.declared.step.Step.{Step}
 use Rattle.c960_game.specs.Limits.{LimitNumbers}
 use Rattle.relay_hall.specs.declared.owner.Owner.{Owner}
 use Rattle.relay_hall.specs.Keys.{is_owner}
 use Rattle.relay_hall.specs.Record.{HallRecord}
 use Rattle.relay_hall.specs.Restart.{IsRestart}
-use Rattle.relay_hall.specs.Runs.{HallEvent, Comes, Says, Goes, Time, count_after, counts_after, has_gone}
+use Rattle.relay_hall.specs.Runs.{HallEvent, Says, Time, count_after, counts_after, has_gone}
 use Rattle.relay_journal.specs.declared.entry.Entry.{Entry}
 use Rattle.relay_journal.specs.declared.entry.Entry.TheVariants.{Opens, Plays, Ends}
 use Rattle.relay_journal.specs.Kept.{key_of, step_of}

@@ -4,7 +4,7 @@ use Rattle.std.specs.Prelude.{◌==◌, Result, Ok, Err, OnOk, is_err}
 use Rattle.std.proofs.lemmas.List.{append-nil}
 use Rattle.std.proofs.lemmas.Option.{none-some}
 use Rattle.chained_lines.specs.Journals.{HoldsLines, KeepsLines}
-use Rattle.chained_lines.specs.Lines.{Line, file_of, no_seal}
+use Rattle.chained_lines.specs.Lines.{Line, file_of}
 use Rattle.chained_lines.specs.Records.{JournalRecord}
 use Rattle.c960_game.specs.Limits.{LimitNumbers}
 use Rattle.relay_hall.specs.Record.{FloorRecord, HallRecord, nobody_yet}

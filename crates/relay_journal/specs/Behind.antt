@@ -1,5 +1,5 @@
 -- What is missing of boards in a journal, as far as a scribe sees that who knows of each only how many moves it noted, and whether its end.
-use Rattle.std.specs.Prelude.{ℕ, ◌==◌, cond, ◌&&◌, List, [], ◌∷◌, ◌++◌, drop, length, map, slice_get, Option, None, Some}
+use Rattle.std.specs.Prelude.{ℕ, ◌==◌, cond, ◌&&◌, List, [], ◌∷◌, ◌++◌, drop, length, map, Option, None, Some}
 use Rattle.relay_hall.specs.Reading.{ShownBoard}
 use Rattle.relay_journal.specs.declared.entry.Entry.{Entry}
 use Rattle.relay_journal.specs.declared.entry.Entry.TheVariants.{Opens, Plays}

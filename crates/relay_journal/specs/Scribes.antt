@@ -1,5 +1,5 @@
 -- What contracts see of a scribe, who keeps a journal of a hall.
-use Rattle.std.specs.Prelude.{ℕ, Bool, is_some, List, length, map}
+use Rattle.std.specs.Prelude.{Bool, is_some, List, length, map}
 use Rattle.chained_lines.specs.Records.{JournalRecord}
 use Rattle.relay_hall.specs.Record.{FloorRecord}
 use Rattle.relay_journal.specs.declared.noted.Noted.{Noted}

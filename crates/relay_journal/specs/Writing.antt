@@ -1,5 +1,5 @@
 -- That a scribe has written what there is.
-use Rattle.std.specs.Prelude.{◌≡◌, ℕ, false, List, [], ◌++◌, Option, Some}
+use Rattle.std.specs.Prelude.{◌≡◌, ℕ, false, List, ◌++◌, Option, Some}
 use Rattle.chained_lines.specs.Journals.{HoldsLines}
 use Rattle.chained_lines.specs.Lines.{Line}
 use Rattle.chained_lines.specs.Records.{JournalRecord}

@@ -1,6 +1,6 @@
 //! The commands of entries, as texts. The keys of an object are in the order of their bytes.
 
-ghost use Rattle.std.specs.Prelude.{◌≡◌, IfOk, Ok, codes, string_bytes};
+ghost use Rattle.std.specs.Prelude.{◌≡◌, IfOk, Ok, string_bytes};
 ghost use Rattle.serde_json.specs.View.{view};
 ghost use Rattle.relay_core.specs.declared.step.Step.TheVariants.{Open, Submit, End};
 ghost use Rattle.relay_messages.specs.Decoding.{decoded};

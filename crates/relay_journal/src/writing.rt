@@ -1,6 +1,6 @@
 //! Entries are noted in a journal: those that are missing of boards, as far as what was noted of them tells.
 
-ghost use Rattle.std.specs.Prelude.{◌≡◌, ◌∷◌, [], cond, map, drop, None, Some, OnOk, slice_get};
+ghost use Rattle.std.specs.Prelude.{◌≡◌, ◌∷◌, [], map, drop, None, Some, OnOk};
 ghost use Rattle.relay_hall.specs.Runs.{IsReached};
 ghost use Rattle.relay_journal.specs.declared.entry.Entry.TheVariants.{Opens as OpensBoard, Plays as PlaysMove};
 ghost use Rattle.relay_journal.specs.Behind.{behind_all, behind_noted, behind_one, kept_shown};

@@ -1,5 +1,5 @@
 -- What a session makes of a message, and of a follow.
-use Rattle.std.specs.Prelude.{◌≡◌, ◌⊎◌, ℕ, List, Option, None, Some}
+use Rattle.std.specs.Prelude.{◌≡◌, ℕ, List, Option, None, Some}
 use Rattle.relay_messages.specs.Answers.{answer_text}
 use Rattle.relay_messages.specs.declared.answer.Answer.TheVariants.{Fault}
 use Rattle.relay_messages.specs.declared.fault.MessageFault.TheVariants.{NotJson}

@@ -1,6 +1,6 @@
 //! Serving: connections are accepted one by one, and each gets a thread.
 
-ghost use Rattle.std.specs.Prelude.{◌≡◌, ◌≤◌, ◌+◌};
+ghost use Rattle.std.specs.Prelude.{◌≡◌, ◌+◌};
 
 use crate::ends::{ServeEnd, SessionEnd};
 use crate::registry::Registry;

@@ -1,5 +1,5 @@
 -- What a loop is told of boards, and how far it was told of each.
-use Rattle.std.specs.Prelude.{◌≡◌, ◌==◌, ◌&&◌, ◌+◌, ◌-◌, ℕ, min, nat_lt, Bool, true, false, not, cond, List, [], ◌∷◌, ◌++◌, length, take, slice_get, Option, Some, None, option_map, unwrap_or}
+use Rattle.std.specs.Prelude.{◌≡◌, ◌==◌, ◌+◌, ℕ, min, Bool, true, false, cond, List, [], ◌∷◌, ◌++◌, length, take, slice_get, Option, Some, None, option_map, unwrap_or}
 use Rattle.c960_game.specs.declared.outcome.Outcome.{Outcome}
 use Rattle.watch_port.specs.declared.feed.BoardUpdate.{BoardUpdate}
 use Rattle.watch_port.specs.declared.feed.Told.{Told}

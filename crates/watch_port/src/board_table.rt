@@ -1,8 +1,8 @@
 //! The boards that a loop shows: its own, as far as it was told of them.
 
-ghost use Rattle.std.specs.Prelude.{◌≡◌, ◌+◌, ◌∷◌, ◌++◌, [], length, slice_get, IfOk, OnErr, OnOk, true, false, IsTrue, option_map, Some, is_some};
+ghost use Rattle.std.specs.Prelude.{◌≡◌, ◌+◌, ◌∷◌, ◌++◌, [], length, slice_get, IfOk, OnErr, OnOk, true, false, option_map, Some, is_some};
 ghost use Rattle.std.specs.List.{position};
-ghost use Rattle.c960_game.specs.Positions.{last_position, position_at};
+ghost use Rattle.c960_game.specs.Positions.{position_at};
 ghost use Rattle.relay_core.specs.Name.{same_name};
 ghost use Rattle.relay_hall.specs.Reading.{last_of};
 ghost use Rattle.rtrb.specs.Ring.{received};

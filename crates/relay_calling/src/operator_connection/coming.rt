@@ -1,9 +1,7 @@
 //! The request of a connection, which comes before it asks, and the answer to it (RFC 6455, section 4.2).
 
-ghost use Rattle.std.specs.Prelude.{◌≡◌, ◌≤◌, [], None, Some, length, take, OnErr, OnOk};
-ghost use Rattle.relay_frames.specs.Heads.{EndsWithin, head_so_far_behind};
-ghost use Rattle.relay_frames.specs.Requests.{Accepts, IsAnswered};
-ghost use Rattle.relay_calling.specs.Calling.{OperatorRecord};
+ghost use Rattle.std.specs.Prelude.{◌≡◌, ◌≤◌, [], length, take, OnErr, OnOk};
+ghost use Rattle.relay_frames.specs.Heads.{EndsWithin};
 ghost use Rattle.relay_calling.specs.Coming.{Arrives, Judged, Settled, owner_by, turned_away, welcomed};
 ghost use Rattle.relay_calling.specs.declared.stage.Stage.TheVariants.{Asks, Leaves};
 

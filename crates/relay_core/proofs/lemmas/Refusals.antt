@@ -1,5 +1,5 @@
 -- The first ground that holds, as a call returns it and as a reply names it.
-use Rattle.std.proofs.Common.{◌≡◌, ℕ, ◌-◌, ◌<◌, ◌≤◌, nat_le, nat_lt, Bool, true, false, cond, List, [], ◌∷◌, Option, Some, None, is_some, Ok, Err, refl, ap}
+use Rattle.std.proofs.Common.{◌≡◌, ℕ, ◌-◌, ◌<◌, ◌≤◌, nat_le, nat_lt, Bool, true, false, cond, List, [], ◌∷◌, Ok, Err, refl, ap}
 use Rattle.std.proofs.lemmas.Bool.{leb-false, ltb-false}
 use Rattle.c960_game.specs.declared.refusal.Refusal.{Refusal}
 use Rattle.c960_game.specs.declared.refusal.Refusal.TheVariants.{BadStart, TooManyBoards, NotYet, TooFarBack, TooManyFollowers}

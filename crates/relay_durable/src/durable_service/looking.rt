@@ -1,6 +1,6 @@
 //! What a driver asks of the service.
 
-ghost use Rattle.std.specs.Prelude.{◌≡◌, is_some};
+ghost use Rattle.std.specs.Prelude.{◌≡◌};
 ghost use Rattle.relay_service.specs.Looking.{is_full_at, is_midway_at, next_at, owns_any, place_at, stage_at, was_cut_at};
 ghost use Rattle.relay_service.specs.Record.{owner_at};
 

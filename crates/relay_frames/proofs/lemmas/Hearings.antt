@@ -1,12 +1,12 @@
 -- The events of a peer do not depend on how its bytes are cut into pieces, and end with the last event.
-use Rattle.std.proofs.Common.{◌≡◌, ℕ, zero, suc, ◌<◌, Bool, true, false, cond, List, [], ◌∷◌, ◌++◌, length, fold, Option, None, Some, refl, sym, ◌∙◌, ap, arith, append-nil, append_assoc}
+use Rattle.std.proofs.Common.{◌≡◌, ℕ, zero, suc, ◌<◌, Bool, true, false, List, [], ◌∷◌, ◌++◌, length, fold, Option, None, refl, sym, ◌∙◌, ap, arith, append-nil, append_assoc}
 use Rattle.std.proofs.lemmas.Option.{none-some}
 use Rattle.std.specs.List.{concat}
 use Rattle.websocket.specs.FrameHeader.{decode_header}
-use Rattle.relay_frames.specs.Events.{Told, is_last}
+use Rattle.relay_frames.specs.Events.{Told}
 use Rattle.relay_frames.specs.Reading.{Message, Reading, opened, over, fed, waits, next_step}
-use Rattle.relay_frames.specs.Hearing.{Heard, silence, behind, hear_times, hear_all, hear_piece, hear_pieces, EndsWithTheLast, IsSmall}
-use Rattle.relay_frames.proofs.lemmas.Steps.{Fits, Steps, Follows, waited, told, tells, steps}
+use Rattle.relay_frames.specs.Hearing.{silence, behind, hear_times, hear_all, hear_piece, hear_pieces, EndsWithTheLast, IsSmall}
+use Rattle.relay_frames.proofs.lemmas.Steps.{Fits, Follows, waited, told, tells, steps}
 
 -- one more time: the first step, and what comes from there on
 pub hear_told : (n : ℕ) (r : Reading) (t : Told) (next : Reading) → next_step r ≡ tells t next → hear_times (suc n) r ≡ behind (t ∷ []) (hear_times n next)

@@ -1,5 +1,5 @@
 -- One step of reading, before more bytes.
-use Rattle.std.proofs.Common.{◌≡◌, ◌≢◌, ℕ, ◌+◌, ◌<◌, ◌≤◌, Bool, true, false, cond, nat_lt, List, [], ◌∷◌, ◌++◌, length, take, drop, Option, None, Some, Result, Ok, Err, refl, sym, ◌∙◌, ap, arith, length-append, length-drop, inl, inr}
+use Rattle.std.proofs.Common.{◌≡◌, ◌≢◌, ℕ, ◌+◌, ◌<◌, ◌≤◌, Bool, true, false, cond, List, [], ◌∷◌, ◌++◌, length, take, drop, Option, None, Some, Ok, Err, refl, ◌∙◌, ap, arith, length-append, length-drop, inl, inr}
 use Rattle.std.specs.Prelude.{is_some}
 use Rattle.std.proofs.lemmas.List.{drop-append-le, length-take-le, take-append-le}
 use Rattle.std.proofs.lemmas.Bool.Decides.{leb_tells}
@@ -13,7 +13,7 @@ use Rattle.relay_frames.specs.declared.breach.Breach.{Breach}
 use Rattle.relay_frames.specs.declared.breach.Breach.TheVariants.{NoHead}
 use Rattle.relay_frames.specs.declared.peer.TheConstants.{MOST_BYTES, MOST_FRAGMENTS}
 use Rattle.relay_frames.specs.Events.{Told, broken, is_last}
-use Rattle.relay_frames.specs.Reading.{Message, Reading, Effect, Step, over, fed, head_breach, frame_effect, waits, breaks, goes_on, payload_at, read_frame, read_checked, read_head, next_step}
+use Rattle.relay_frames.specs.Reading.{Message, Reading, Effect, Step, over, fed, head_breach, frame_effect, waits, breaks, goes_on, payload_at, read_frame, read_head, next_step}
 use Rattle.relay_frames.specs.Hearing.{IsSmall, bytes_of, fragments_of}
 use Rattle.relay_frames.proofs.Heads.{header_short, header_len_short}
 use Rattle.relay_frames.proofs.Rules.{effect_kept, payload_kept, place_kept}

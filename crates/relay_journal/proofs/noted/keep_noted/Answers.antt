@@ -1,4 +1,4 @@
-use Rattle.std.proofs.Common.{◌≡◌, ◌∷◌, [], ◌++◌, ℕ, List, length, map, take, ◌∙◌, sym, ap, subst, arith}
+use Rattle.std.proofs.Common.{◌∷◌, [], ◌++◌, ℕ, List, map, take, ◌∙◌, sym, ap, arith}
 use Rattle.std.proofs.lemmas.List.{length-map, take_all}
 use Rattle.relay_hall.specs.Record.{HallBoard}
 use Rattle.relay_journal.specs.declared.noted.Noted.{Noted}

@@ -1,5 +1,5 @@
-use Rattle.std.proofs.Common.{[], ◌∙◌, subst, sym}
-use Rattle.relay_hall.specs.Record.{HallRecord, nobody_yet}
+use Rattle.std.proofs.Common.{[], subst}
+use Rattle.relay_hall.specs.Record.{HallRecord}
 use Rattle.relay_hall.specs.Runs.{Silent, Time}
 use Rattle.relay_journal.specs.Restarting.{Leads, said_from}
 use Rattle.relay_journal.proofs.Leading.{is_restarted}

@@ -1,4 +1,4 @@
-use Rattle.std.proofs.Common.{◌≡◌, ℕ, List, length, map, take, Option, ◌∙◌, sym, subst, arith}
+use Rattle.std.proofs.Common.{ℕ, List, take, Option, ◌∙◌, sym, subst, arith}
 use Rattle.std.specs.Prelude.{slice_get}
 use Rattle.std.proofs.lemmas.List.{length-map, take_all}
 use Rattle.relay_hall.specs.Record.{HallBoard}

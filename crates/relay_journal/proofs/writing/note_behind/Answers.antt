@@ -1,9 +1,9 @@
-use Rattle.std.proofs.Common.{◌∷◌, [], ◌++◌, Bool, None, List, map, drop, cond, ◌∙◌, ap, sym, subst}
+use Rattle.std.proofs.Common.{[], ◌++◌, Bool, None, List, map, drop, cond, ◌∙◌, ap, sym, subst}
 use Rattle.std.proofs.lemmas.List.{append-nil}
 use Rattle.std.proofs.lemmas.Result.{on_ok_weaker}
 use Rattle.relay_journal.specs.declared.entry.Entry.{Entry}
 use Rattle.relay_journal.specs.declared.entry.Entry.TheVariants.{Plays}
-use Rattle.relay_journal.specs.Behind.{behind_noted, kept_shown}
+use Rattle.relay_journal.specs.Behind.{kept_shown}
 use Rattle.relay_journal.specs.Differences.{ends_as, turn_of}
 use Rattle.relay_journal.specs.Writing.{AreNoted}
 use Rattle.relay_journal.proofs.Written.{noted_then}

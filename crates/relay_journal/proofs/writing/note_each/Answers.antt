@@ -1,4 +1,4 @@
-use Rattle.std.proofs.Common.{refl, ◌≡◌, List, ◌∷◌, [], ◌++◌, map, take, ◌∙◌, ap, subst, sym, arith}
+use Rattle.std.proofs.Common.{refl, List, ◌∷◌, [], ◌++◌, map, take, ◌∙◌, ap, subst, sym, arith}
 use Rattle.std.proofs.lemmas.List.{map-append, take_all, take_more}
 use Rattle.c960_board.specs.Moves.{Triple}
 use Rattle.relay_journal.specs.declared.entry.Entry.{Entry}

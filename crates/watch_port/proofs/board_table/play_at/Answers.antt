@@ -1,5 +1,5 @@
 use Rattle.std.proofs.Common.{rules, sym}
-use Rattle.watch_port.specs.Copies.{ended_by, played_by}
+use Rattle.watch_port.specs.Copies.{played_by}
 use Rattle.watch_port.proofs.Copying.{changes_nothing, written_at}
 use Rattle.watch_port.proofs.board_table.play_at.Goals as goal
 

@@ -1,5 +1,5 @@
 use Rattle.std.proofs.Common.{rules, sym}
-use Rattle.watch_port.specs.Telling.{one_more, over}
+use Rattle.watch_port.specs.Telling.{over}
 use Rattle.watch_port.proofs.Copying.{changes_nothing, written_at}
 use Rattle.watch_port.proofs.feed.note_end.Goals as goal
 
