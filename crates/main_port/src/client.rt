@@ -1,7 +1,7 @@
 //! A connection, as the loop sees it: its socket, how far the loop is with it, and how long it is waited for.
 
 use mio::net::TcpStream;
-use server_loop::{Deadlines, Rank};
+use server_loop::Deadlines;
 use std::net::Shutdown;
 
 /// How many pieces a connection may send after everything was written to it.
@@ -40,8 +40,9 @@ pub(crate) enum Input {
 /// What a connection is to boards, as the loop knows it.
 #[derive(Clone, Copy, PartialEq, Eq, Debug)]
 pub(crate) enum Role {
-    /// A board belongs to it. No board is ever removed, so this stays true.
-    Owner,
+    /// Boards belong to it, of which the one of this index, in the order of opening, was the first. No board is ever removed, so this
+    /// stays true.
+    Owner(usize),
     /// It follows the board of this index, in the order of opening.
     Follower(usize),
     /// Neither is known of it.
@@ -73,15 +74,6 @@ impl Client {
             role: Role::Other,
             refused: 0,
             is_queued: false,
-        }
-    }
-
-    /// Its rank in the run queue.
-    pub(crate) fn rank(&self) -> Rank {
-        match self.role {
-            Role::Owner => Rank::Owner,
-            Role::Follower(_) => Rank::Follower,
-            Role::Other => Rank::Other,
         }
     }
 

@@ -12,7 +12,7 @@ mod writing;
 
 use crate::board_followers::BoardFollowers;
 use crate::board_log::BoardLog;
-use crate::client::Client;
+use crate::client::{Client, Role};
 use crate::rounds::Rounds;
 use crate::settings::Settings;
 use crate::watchers::Watchers;
@@ -264,7 +264,15 @@ impl<'a, R: Wait + Clock, W: Watchers> Clients<'a, R, W> {
         let Some(client) = self.clients.get(&number) else {
             return;
         };
-        let rank = client.rank();
+        if client.is_queued {
+            return;
+        }
+        let rank = match client.role {
+            Role::Owner(at) if self.rounds.shares_turn(at) => Rank::Sibling,
+            Role::Owner(_) => Rank::Owner,
+            Role::Follower(_) => Rank::Follower,
+            Role::Other => Rank::Other,
+        };
         self.stands_due_as(number, rank);
     }
 
@@ -301,8 +309,8 @@ impl<'a, R: Wait + Clock, W: Watchers> Clients<'a, R, W> {
     /// next time. Behind the owners the loop yields if there are others: an owner that was just answered, or a proxy before it, may wait
     /// for this processor.
     pub(crate) fn serve_all(&mut self) {
-        let has_owners = self.queue.len(Rank::Owner) > 0;
-        self.serve_rank(Rank::Owner, self.most_owners_micros());
+        let has_owners = self.queue.len(Rank::Owner) > 0 || self.queue.len(Rank::Sibling) > 0;
+        self.serve_owners();
         self.wake_watchers();
         if has_owners && self.has_due() {
             yield_now();
@@ -329,8 +337,27 @@ impl<'a, R: Wait + Clock, W: Watchers> Clients<'a, R, W> {
         self.are_told
     }
 
-    /// Gives those of a rank a turn that are due one, as long as there is time for that. One that becomes due meanwhile waits.
+    /// Gives those a turn that own boards: one of each key, then, for half as long, the others. So nobody waits for all connections of
+    /// another key. With a journal what all of them did is on the disk at once.
+    fn serve_owners(&mut self) {
+        self.rounds.begins_turn();
+        let most = self.most_owners_micros();
+        self.serve(Rank::Owner, most);
+        if !self.has_journal() {
+            self.send_answers();
+        }
+        self.serve(Rank::Sibling, most / 2);
+        self.send_answers();
+    }
+
+    /// Gives those of a rank a turn that are due one, and sends what they are answered.
     fn serve_rank(&mut self, rank: Rank, most_micros: u64) {
+        self.serve(rank, most_micros);
+        self.send_answers();
+    }
+
+    /// Gives those of a rank a turn that are due one, as long as there is time for that. One that becomes due meanwhile waits.
+    fn serve(&mut self, rank: Rank, most_micros: u64) {
         let until = self.time_for(most_micros);
         for _ in 0..self.queue.len(rank) {
             let Some(number) = self.queue.take(rank) else {
@@ -346,7 +373,6 @@ impl<'a, R: Wait + Clock, W: Watchers> Clients<'a, R, W> {
                 break;
             }
         }
-        self.send_answers();
     }
 
     /// Gives a connection its turn, if it is still due one: it is sent what is due, and what it says is answered.

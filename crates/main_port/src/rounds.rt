@@ -1,15 +1,17 @@
-//! How far boards may be ahead of those who follow them.
+//! How far boards may be ahead of those who follow them, and how often the connections of one key have their turns.
 
 use c960_game::Limits;
 use std::alloc::{AllocError, Global};
 
-/// The changes of one board since all who follow it had their turn.
+/// What is counted of one board: its changes since all who follow it had their turn.
 #[derive(Clone, Copy)]
 struct Round {
     /// How many changes there were.
     changes: u16,
     /// The round is over once this many followers in all have had a turn.
     ends: u64,
+    /// In which turn of the loop a connection became due last that owns this board as its first.
+    owned: u64,
 }
 
 /// How far each board is ahead of those of its followers whose connections take all. Those have their turns in the order in which they
@@ -22,6 +24,8 @@ pub(crate) struct Rounds {
     most: u16,
     /// How many turns of followers became due so far.
     pub(crate) due: u64,
+    /// How many turns the loop has begun.
+    turns: u64,
 }
 
 impl Rounds {
@@ -37,13 +41,32 @@ impl Rounds {
             each.push(Round {
                 changes: 0,
                 ends: 0,
+                owned: 0,
             })?;
         }
         Ok(Rounds {
             each,
             most: (limits.capacity() / 4).max(1),
             due: 0,
+            turns: 1,
         })
+    }
+
+    /// The loop begins another turn.
+    pub(crate) fn begins_turn(&mut self) {
+        self.turns = self.turns.saturating_add(1);
+    }
+
+    /// A connection becomes due that owns the board of this index as its first. Returns whether another of its key has in this turn of the
+    /// loop.
+    pub(crate) fn shares_turn(&mut self, at: usize) -> bool {
+        let turns = self.turns;
+        let Some(round) = self.each.get_mut(at) else {
+            return false;
+        };
+        let shares = round.owned == turns;
+        round.owned = turns;
+        shares
     }
 
     /// One more turn of a follower is due.

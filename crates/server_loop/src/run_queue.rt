@@ -10,8 +10,10 @@ use std::marker::Model;
 /// Which connections have their turn first.
 #[derive(Clone, Copy, PartialEq, Eq, Debug)]
 pub enum Rank {
-    /// One that owns a board.
+    /// One that owns a board, the first of its key.
     Owner,
+    /// One that owns a board by a key by which another is due.
+    Sibling,
     /// One that follows a board.
     Follower,
     /// Any other.
@@ -30,6 +32,7 @@ pub struct Waiting {
 #[derive(Drop)]
 pub struct RunQueue {
     owners: VecDeque<u64>,
+    siblings: VecDeque<u64>,
     followers: VecDeque<u64>,
     others: VecDeque<Waiting>,
 }
@@ -39,7 +42,7 @@ impl Model for RunQueue {
 
     ghost Value = { RunQueueRecord };
 
-    ghost view = { λ a. record { owners = a.owners.items; followers = a.followers.items; others = a.others.items } };
+    ghost view = { λ a. record { owners = a.owners.items; siblings = a.siblings.items; followers = a.followers.items; others = a.others.items } };
 }
 
 impl RunQueue {
@@ -49,6 +52,7 @@ impl RunQueue {
     {
         RunQueue {
             owners: VecDeque::new(alloc),
+            siblings: VecDeque::new(alloc),
             followers: VecDeque::new(alloc),
             others: VecDeque::new(alloc),
         }
@@ -56,9 +60,9 @@ impl RunQueue {
 
     /// Whether there are none.
     pub fn is_empty(&self) -> bool
-        ensures { result ≡ ((length self.now.owners == 0) && ((length self.now.followers == 0) && (length self.now.others == 0))) }
+        ensures { result ≡ ((length self.now.owners == 0) && ((length self.now.siblings == 0) && ((length self.now.followers == 0) && (length self.now.others == 0)))) }
     {
-        self.owners.is_empty() && self.followers.is_empty() && self.others.is_empty()
+        self.owners.is_empty() && self.siblings.is_empty() && self.followers.is_empty() && self.others.is_empty()
     }
 
     /// Adds a connection of this rank, behind those that are due already.
@@ -72,6 +76,7 @@ impl RunQueue {
     {
         match rank {
             Rank::Owner => self.owners.push_back(key)?,
+            Rank::Sibling => self.siblings.push_back(key)?,
             Rank::Follower => self.followers.push_back(key)?,
             Rank::Other => self.others.push_back(Waiting { key, since })?,
         }
@@ -85,6 +90,7 @@ impl RunQueue {
     {
         match rank {
             Rank::Owner => self.owners.pop_front(),
+            Rank::Sibling => self.siblings.pop_front(),
             Rank::Follower => self.followers.pop_front(),
             Rank::Other => Some(self.others.pop_front()?.key),
         }
@@ -96,6 +102,7 @@ impl RunQueue {
     {
         match rank {
             Rank::Owner => self.owners.len(),
+            Rank::Sibling => self.siblings.len(),
             Rank::Follower => self.followers.len(),
             Rank::Other => self.others.len(),
         }

@@ -7,6 +7,7 @@ use super::Clients;
 use crate::client::Role;
 use crate::watchers::Watchers;
 use c960_game::MOST_BOARDS;
+use relay_hall::Owner;
 use relay_service::Stage;
 use server_loop::Rank;
 use std::sync::Wait;
@@ -130,17 +131,36 @@ impl<'a, R: Wait + Clock, W: Watchers> Clients<'a, R, W> {
     }
 
     /// What a connection is to boards that was this before.
-    fn role(&self, number: u64, was: Role) -> Role {
+    pub(super) fn role(&self, number: u64, was: Role) -> Role {
         if self.service.stage(number) == Some(Stage::Follows) {
             if let Some(at) = self.service.place(number) {
                 return Role::Follower(at);
             }
         }
-        if was == Role::Owner || self.service.is_owner(number) {
-            Role::Owner
+        if let Role::Owner(_) = was {
+            return was;
+        }
+        if self.service.is_owner(number) {
+            Role::Owner(self.first_board(number))
         } else {
             Role::Other
         }
+    }
+
+    /// The index of the first board, in the order of opening, that belongs to the key of a connection, or 0 if none does.
+    fn first_board(&self, number: u64) -> usize {
+        let hall = self.service.hall();
+        let Some(Owner { key: Some(key), .. }) = self.service.owner(number) else {
+            return 0;
+        };
+        for at in 0..hall.len() {
+            if let Some(shown) = hall.board(at) {
+                if shown.belongs_to(&key) {
+                    return at;
+                }
+            }
+        }
+        0
     }
 
     /// A connection follows its board no more, if it did.

@@ -254,8 +254,10 @@ impl<'a, R: Wait + Clock, W: Watchers> Clients<'a, R, W> {
             return;
         };
         client.state = State::Interrupted;
-        let rank = rank.unwrap_or(client.rank());
-        self.stands_due_as(number, rank);
+        match rank {
+            Some(rank) => self.stands_due_as(number, rank),
+            None => self.stands_due(number),
+        }
     }
 
     /// A connection is not answered before what is due is written. The rest of a message of one that follows is not waited for meanwhile:

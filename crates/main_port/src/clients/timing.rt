@@ -171,13 +171,13 @@ impl<'a, R: Wait + Clock, W: Watchers> Clients<'a, R, W> {
     fn drops_idle(&mut self, number: u64)
         ensures { OthersStay number self.old.clients.entries self.new.clients.entries }
     {
-        let is_owner = self.service.is_owner(number);
+        let role = self.role(number, Role::Other);
         let now = self.looked_at;
         let Some(client) = self.clients.get_mut(&number) else {
             return;
         };
-        if is_owner {
-            client.role = Role::Owner;
+        if let Role::Owner(_) = role {
+            client.role = role;
             client.deadlines.begins(now);
         } else {
             self.close(number, Code::AWAY);
