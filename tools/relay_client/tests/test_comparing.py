@@ -22,15 +22,9 @@ PLACES = 0, 2, 4
 BOARDS, FEWER = 24, 12
 ASKED = 150  # Each time its key is compared with that of every board.
 LEAST = 16  # Instructions at least for comparing two digests of 64 digits, as many at a time as the processor takes.
-# The function that compares a key with those of all boards, or the one that asks for that, where a compiler has put the former into it.
-COMPARES = "relay_hall::boards::owns_any", "relay_service::service::Service::is_owner"
+# The function that compares a key with those of all boards. No compiler may put it into another.
+COMPARES = "relay_hall::boards::owns_any"
 NOT_YOURS = refused(13, "NotYourBoard")
-
-
-def counted_function():
-    """That of the two which the program has by its name."""
-    names = pathlib.Path(PROGRAM).read_bytes()
-    return next(it for it in COMPARES if it.encode() in names)
 
 
 def digest_of(key):
@@ -50,7 +44,7 @@ def instructions_of_a_stranger(place, boards):
     """How many instructions the server runs to compare the key of one, which is that of no board, with those of its boards."""
     with tempfile.TemporaryDirectory() as name:
         counts = pathlib.Path(name, "counts")
-        counted = ["valgrind", "--tool=callgrind", f"--toggle-collect={counted_function()}", f"--callgrind-out-file={counts}"]
+        counted = ["valgrind", "--tool=callgrind", f"--toggle-collect={COMPARES}", f"--callgrind-out-file={counts}"]
         with Server("--grace", "60", "--boards", str(boards), "--connections", str(boards + 1), before=counted) as server:
             owners = [owner_of(server, f"b{at}", key=key) for at, key in enumerate(keys_that_differ(place, boards))]
             stranger = Connection(server.port, key=KEY)
@@ -69,6 +63,7 @@ class Comparing(unittest.TestCase):
         """Not an instruction more. That keys are compared at all is seen by how many instructions more boards take."""
         if not shutil.which("valgrind"):
             self.skipTest("valgrind is missing: that comparing keys takes as long wherever they differ is not tried")
+        self.assertIn(COMPARES.encode(), PROGRAM.read_bytes(), "the program has no function of this name")
         with concurrent.futures.ThreadPoolExecutor() as pool:
             *counts, fewer = pool.map(instructions_of_a_stranger, [*PLACES, 0], [BOARDS] * len(PLACES) + [FEWER])
         self.assertGreater(counts[0] - fewer, LEAST * ASKED * (BOARDS - FEWER), (counts, fewer))
