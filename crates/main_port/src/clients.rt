@@ -34,8 +34,9 @@ use std::time::{Clock, Duration};
 /// of owners would leave the others one connection for each round of all owners.
 const MOST_OWNERS_MICROS: u64 = 500;
 
-/// The same where boards are kept in a journal: what all of them did is written and synced at once, which takes about as long.
-const MOST_OWNERS_WITH_JOURNAL_MICROS: u64 = 2000;
+/// The same where boards are kept in a journal, at the least and at the most: what all of them did is written and synced at once. So they
+/// have twice as long as the last commit took, and the disk is waited for a third of the time.
+const OWNERS_WITH_JOURNAL_MICROS: (u64, u64) = (2000, 10_000);
 
 /// For how many microseconds those that follow a board are served in a turn. An owner whose move comes meanwhile waits for that.
 const MOST_FOLLOWERS_MICROS: u64 = 150;
@@ -104,6 +105,8 @@ pub(crate) struct Clients<'a, R, W> {
     are_told: bool,
     /// Why the journal of the boards failed, if it has: nothing is sent or told any more.
     pub(super) journal_failure: Option<io::Error>,
+    /// How many microseconds the last commit took.
+    commit_micros: u64,
     log: BoardLog<'a, R>,
     pub(super) clock: LoopClock,
     /// Those that were answered, and whose answers have yet to be sent.
@@ -159,6 +162,7 @@ impl<'a, R: Wait + Clock, W: Watchers> Clients<'a, R, W> {
             // Boards that outlived the last process may have yet to be told.
             are_told: false,
             journal_failure: None,
+            commit_micros: 0,
             log: BoardLog::new(rt, log),
             clock,
             unsent,

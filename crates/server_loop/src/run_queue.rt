@@ -62,7 +62,10 @@ impl RunQueue {
     pub fn is_empty(&self) -> bool
         ensures { result ≡ ((length self.now.owners == 0) && ((length self.now.siblings == 0) && ((length self.now.followers == 0) && (length self.now.others == 0)))) }
     {
-        self.owners.is_empty() && self.siblings.is_empty() && self.followers.is_empty() && self.others.is_empty()
+        self.owners.is_empty()
+            && self.siblings.is_empty()
+            && self.followers.is_empty()
+            && self.others.is_empty()
     }
 
     /// Adds a connection of this rank, behind those that are due already.

@@ -4,12 +4,11 @@ ghost use Rattle.std.specs.Prelude.{◌≡◌, false, true, IfSome, Some, is_som
 ghost use Rattle.relay_durable.specs.Record.{is_settled};
 
 use super::{
-    Clients, MOST_OWNERS_MICROS, MOST_OWNERS_WITH_JOURNAL_MICROS, MOST_UNSENT,
-    MOST_UNSENT_WITH_JOURNAL,
+    Clients, MOST_OWNERS_MICROS, MOST_UNSENT, MOST_UNSENT_WITH_JOURNAL, OWNERS_WITH_JOURNAL_MICROS,
 };
 use crate::watchers::Watchers;
 use std::sync::Wait;
-use std::time::Clock;
+use std::time::{Clock, Duration};
 
 impl<'a, R: Wait + Clock, W: Watchers> Clients<'a, R, W> {
     /// Writes and syncs all that boards have got since the last time, by whomever. Returns whether all is on the disk: only then may
@@ -27,9 +26,23 @@ impl<'a, R: Wait + Clock, W: Watchers> Clients<'a, R, W> {
             return true;
         }
         if self.journal_failure.is_none() {
+            self.clock.look(self.rt);
+            let began = self.clock.passed();
             self.journal_failure = self.service.commit().err();
+            self.clock.look(self.rt);
+            self.notes_commit(began);
         }
         self.journal_failure.is_none()
+    }
+
+    /// A commit is done that began then.
+    fn notes_commit(&mut self, began: Duration)
+        ensures service { self.new.service ≡ self.old.service }
+        ensures failure { self.new.journal_failure ≡ self.old.journal_failure }
+        ensures clients { self.new.clients ≡ self.old.clients }
+    {
+        let took = self.clock.passed().saturating_sub(began).as_micros();
+        self.commit_micros = u64::try_from(took).unwrap_or(u64::MAX);
     }
 
     /// Whether boards are kept in a journal.
@@ -58,7 +71,8 @@ impl<'a, R: Wait + Clock, W: Watchers> Clients<'a, R, W> {
     /// For how many microseconds those that own a board are served in a turn.
     pub(super) fn most_owners_micros(&self) -> u64 {
         if self.has_journal() {
-            MOST_OWNERS_WITH_JOURNAL_MICROS
+            let (least, most) = OWNERS_WITH_JOURNAL_MICROS;
+            self.commit_micros.saturating_mul(2).max(least).min(most)
         } else {
             MOST_OWNERS_MICROS
         }
