@@ -11,6 +11,7 @@ The standard library is enough for all modules but `client`, `line`, `browser` a
 | `keys` | the key by which an operator comes back to its boards |
 | `connection` | a WebSocket client that waits for each text |
 | `server` | the program as a server on a free port, with a time limit |
+| `transcripts` | the notation of sessions in documents, and what replays them on such a server |
 | `relay` | such a server beside asynchronous tests: killed, and restarted on its port |
 | `wire` | a wire of TCP to a relay that can be cut and mended |
 | `client` | an asynchronous client that asks and is answered |
