@@ -161,8 +161,8 @@ const createOpening = (own) => {
       rename(present);
       ask(link, { ...present, tried: present.tried + 1 });
     } else {
-      view.say(Words.refusal(answer));
-      view.notice(`${own.game.board}: ${Words.coded(answer)}`);
+      view.say(Words.refusal(answer, "open"));
+      view.notice(`${own.game.board}: ${Words.coded(answer, "open")}`);
       view.state("refused", "The board was not opened");
       own.stop({ link, attempt: present });
     }

@@ -132,8 +132,8 @@ const createPlaying = (own) => {
   }
 
   function turnedDown(link, command, resend, answer) {
-    view.say((command.move ? `${command.move}: ` : "") + Words.refusal(answer));
-    view.notice(`${command.move || command.how}: ${Words.coded(answer)}`);
+    view.say((command.move ? `${command.move}: ` : "") + Words.refusal(answer, command.cmd));
+    view.notice(`${command.move || command.how}: ${Words.coded(answer, command.cmd)}`);
     if (resend.length > 0) {
       view.notice(`Sending the moves again stopped at ${command.move || command.how}.`);
     }

@@ -2,6 +2,7 @@
 /* The texts of the relay in words for people: refusals, moves, positions. */
 const Words = (() => {
   const ILLEGAL = "This move is not legal here.";
+  const NO_MEMORY = "The relay is out of memory.";
 
   const REFUSALS = {
     NoSuchBoard: "The relay has no board of this name.",
@@ -13,7 +14,7 @@ const Words = (() => {
     LogFull: "The game has reached the relay's limit of moves. End it.",
     ClaimRefused: "Claim refused: the position does not support it.",
     TooManyFollowers: "The board has no room for another spectator.",
-    OutOfMemory: "The relay is out of memory. Try again.",
+    OutOfMemory: NO_MEMORY,
     NotYourBoard: "This board belongs to another operator.",
     WrongMode: "The relay does not accept this command at this address: is it the watch port, which only shows games?",
     TooFarBack: "The relay no longer has moves from that far back.",
@@ -24,12 +25,23 @@ const Words = (() => {
     BadField: "The relay could not read part of the command. A board's name has 1 to 32 of A–Z, a–z, 0–9, _ and -.",
   };
 
+  /* What an operator is told instead, by its command. A page that follows asks again by itself; only a board that is opened needs room on
+   * the disk of the relay's journal. */
+  const OF_COMMANDS = {
+    OutOfMemory: {
+      open: "The relay has no room: its memory or its journal's disk is full. Games go on. Try again once there is room.",
+      submit: `${NO_MEMORY} Try again.`,
+      end: `${NO_MEMORY} Try again.`,
+    },
+  };
+
   const KINDS = { k: "king", q: "queen", r: "rook", b: "bishop", n: "knight", p: "pawn" };
   const COLOURS = { w: "White", b: "Black" };
 
-  const refusal = (answer) => REFUSALS[answer.name] || "The relay refused this.";
+  /** A refusal; of an operator's command, if that is given. */
+  const refusal = (answer, cmd) => (OF_COMMANDS[answer.name] || {})[cmd] || REFUSALS[answer.name] || "The relay refused this.";
   /** A refusal for the log, with its code and name in the protocol. */
-  const coded = (answer) => `${refusal(answer)} (${answer.code} ${answer.name})`;
+  const coded = (answer, cmd) => `${refusal(answer, cmd)} (${answer.code} ${answer.name})`;
   const kind = (piece) => KINDS[piece.toLowerCase()];
   const colour = (letter) => COLOURS[letter];
   const piece = (letter) => `${letter === letter.toUpperCase() ? "white" : "black"} ${kind(letter)}`;

@@ -199,7 +199,8 @@ def try_last():
 
 # The program's definitions.
 
-OUTCOME = pathlib.Path(__file__).resolve().parents[2] / "crates/c960_game/specs/Outcome.antt"
+CRATES = pathlib.Path(__file__).resolve().parents[2] / "crates"
+OUTCOME = CRATES / "c960_game/specs/Outcome.antt"
 WINS = {"White": "1-0", "Black": "0-1", "WhiteWins": "1-0", "BlackWins": "0-1", "Draw": "1/2-1/2"}
 LOSES = {"White": "0-1", "Black": "1-0"}
 # What the definition says of an outcome, by its side or its result.
@@ -235,6 +236,28 @@ def try_outcomes():
         for text in ("adjourned", "constructor", ""):
             had = [pages.call(f"Outcomes.{it}", text) for it in ("result", "score", "short", "said", "isNamed")]
             assert had == ["*", "", text, text, False], had
+
+
+REFUSALS = [OUTCOME.with_name("Refusal.antt"), CRATES / "relay_messages/specs/Faults.antt"]
+OF_SCRIPTS = {"NoSuchFollower", "FollowerExists"}  # No page gets them.
+NO_MEMORY = "The relay is out of memory."
+NO_ROOM = "The relay has no room: its memory or its journal's disk is full. Games go on. Try again once there is room."
+# What is said of 12 where each command is refused. Behind the last two the page says when it asks again.
+NO_MEMORY_FOR = {"open": NO_ROOM, "submit": f"{NO_MEMORY} Try again.", "end": f"{NO_MEMORY} Try again.", "follow": NO_MEMORY,
+                 "boards": NO_MEMORY}
+
+
+def try_refusals():
+    """Each refusal of the definitions that a page may get has words; those of want of memory, and of a disk, suit the command."""
+    defined = [it for file in REFUSALS for it in re.findall(r'^\w+_name (\w+) = codes "\1"$', file.read_text(), re.M)]
+    assert len(set(defined)) == 20, defined
+    with chess() as pages:
+        unknown = pages.call("Words.refusal", {"name": "Unknown"})
+        without = {it for it in defined if pages.call("Words.refusal", {"name": it}) == unknown}
+        assert without == OF_SCRIPTS, without
+        for cmd, wanted in NO_MEMORY_FOR.items():
+            had = [pages.call(f"Words.{it}", {"name": "OutOfMemory", "code": 12}, cmd) for it in ("refusal", "coded")]
+            assert had == [wanted, f"{wanted} (12 OutOfMemory)"], (cmd, had)
 
 
 # The games of a relay, as their boards, moves and outcomes, and the boards that are shown of them.

@@ -1,10 +1,14 @@
 """Tests of what an operator has in sight: the field and the buttons beside the board, what is said, and a game that was interrupted;
 pages.py runs them with its own."""
+import asyncio
 import json
+import resource
+import tempfile
 
 from back import close, table_of, until_open
 from relay_client.relay import Relay
-from steps import GRACE, enter, open_table, said, say_end, text, until_moves, until_state, url
+from relay_client.server import Server
+from steps import GRACE, enter, open_table, said, say_end, state, text, until_moves, until_state, url
 from tabs import frame, play, site, until_stand
 
 DESKS = ((1280, 900), (1366, 768))
@@ -199,3 +203,33 @@ async def try_freed(browser):
     await table.fill("#move", "c")
     assert await said(table) == ""
     await close(table, wire)
+
+
+# Before a relay, its journal has less room than a board needs, as on a full disk. The limit is one that may be raised again.
+WITHOUT_ROOM = ("prlimit", "--fsize=30000:")
+
+
+async def try_full_disk(browser):
+    """A board that the relay's journal has no room for is not opened, and the operator is told what is full. Once there is room, a press
+    opens it."""
+    with tempfile.TemporaryDirectory() as folder:
+        words = ("--forever", "--grace", str(GRACE), "--journal", f"{folder}/games")
+        # What the file may not take is then an error as on a full disk, and no signal.
+        with await asyncio.to_thread(Server, *words, before=WITHOUT_ROOM, restore_signals=False) as relay:
+            table = await browser.open(url("table.html", server=relay.address, board="b1"))
+            await table.click("#opening .main")
+            await until_state(table, "refused")
+            full = "The relay has no room: its memory or its journal's disk is full. Games go on. Try again once there is room."
+            assert await said(table) == full, await said(table)
+            assert f"b1: {full} (12 OutOfMemory)" in await text(table, "#notices")
+            assert await text(table, "#state") == "The board was not opened"
+            _, most = resource.prlimit(relay.process.pid, resource.RLIMIT_FSIZE)
+            resource.prlimit(relay.process.pid, resource.RLIMIT_FSIZE, (most, most))
+            while await state(table) == "refused":  # The relay looks for room about once a second.
+                await asyncio.sleep(0.5)
+                await table.click("#opening .main")
+                await table.until('["refused", "live"].includes(document.querySelector("#state").dataset.state)')
+            await until_open(table, "b1")
+            assert await said(table) == ""
+            assert not table.faults, table.faults
+            await table.close()
