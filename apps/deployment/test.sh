@@ -2,8 +2,9 @@
 # Tries the Debian package and what a site does with it, on loopback: the package is made, installed under a folder of the trial, and run
 # from there; the units and the manual page are looked at; the smallest site, whose nginx has no module; a site's nginx with TLS that
 # includes the two files for everything, with a certificate and a password made for the trial; spectators come to the watch port; a renewed
-# certificate is taken over, and the relay is restarted in the middle of a game, with its journal. RELAY960 names another program than the
-# built one. Its last line says what came. Words are the names of tests of the site: ./test.sh game watch, or ./test.sh smallest
+# certificate is taken over, and the relay is restarted in the middle of a game, with its journal. Before, it is killed in the middle of
+# games. RELAY960 names another program than the built one. Its last line says what came. Words are the names of tests of the site:
+# ./test.sh game watch, or ./test.sh smallest, or ./test.sh kills
 set -eu
 cd "$(dirname "$0")"
 top=$(cd ../.. && pwd)
@@ -148,10 +149,13 @@ if ! { ports wait 9444 9600 9601 9980 && /usr/bin/python3 test_smallest.py "$sit
 fi
 [ "$*" != smallest ] || { echo "passed: package, units, manual pages, the smallest site"; exit 0; }
 "$run/bin/systemctl" stop relay960
+/usr/bin/python3 test_kills.py "$root" "$run" || { tail -n 5 "$run/kills.log"; echo "failed"; exit 1; }
+[ "$*" != kills ] || { echo "passed: package, units, manual pages, the smallest site, a relay that is killed"; exit 0; }
 rm "$SITE_JOURNAL"
 "$run/bin/systemctl" restart relay960  # What comes now begins without boards.
 if ports wait 9110 9443 9600 9601 && PATH="$run/bin:$PATH" /usr/bin/python3 test_site.py "$site/certificate.pem" "$@"; then
-    echo "passed: package, units, manual pages, the smallest site, nginx with TLS, the watch port, a renewed certificate, a restarted relay"
+    echo "passed: package, units, manual pages, the smallest site, a killed relay, nginx with TLS, the watch port, a renewed certificate," \
+        "a restarted relay"
 else
     tail -n 5 "$run"/*.log
     echo "failed"
