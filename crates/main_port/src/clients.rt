@@ -298,7 +298,7 @@ impl<'a, R: Wait + Clock, W: Watchers> Clients<'a, R, W> {
 
     /// Whether any is due a turn.
     pub(crate) fn has_due(&self) -> bool {
-        !self.queue.is_empty()
+        !self.queue.is_empty() || self.rounds.has_changed()
     }
 
     /// Everything that connections had sent by this millisecond has been heard, if everything by the millisecond `asked` was reported.
@@ -319,6 +319,7 @@ impl<'a, R: Wait + Clock, W: Watchers> Clients<'a, R, W> {
         if has_owners && self.has_due() {
             yield_now();
         }
+        self.spreads_changes();
         self.serve_rank(Rank::Follower, MOST_FOLLOWERS_MICROS);
         self.serve_rank(Rank::Other, MOST_OTHERS_MICROS);
         self.wake_watchers();

@@ -35,18 +35,38 @@ impl<'a, R: Wait + Clock, W: Watchers> Clients<'a, R, W> {
         is_far_ahead
     }
 
-    /// The game of a board has changed: those who follow it are due a turn. Returns whether it is as far ahead of them as it may be.
+    /// The game of a board has changed. Returns whether it is as far ahead of those who follow it as it may be.
     fn changes(&mut self, at: usize) -> bool
-        ensures { AllStay self.old.clients.entries self.new.clients.entries }
+        ensures { self.new.clients ≡ self.old.clients }
     {
         self.watchers.changed(at);
         self.log.ended(self.service.hall(), at);
+        self.followers.count(at) > 0 && self.rounds.changes(at, self.queue.len(Rank::Follower))
+    }
+
+    /// Those who follow a board that has changed are due a turn. Whoever changed it is answered before: a thousand take as long as half an
+    /// answer.
+    pub(super) fn spreads_changes(&mut self)
+        ensures { AllStay self.old.clients.entries self.new.clients.entries }
+    {
+        for _ in 0..MOST_BOARDS {
+            let Some(at) = self.rounds.take_changed() else {
+                return;
+            };
+            self.spreads_change(at);
+        }
+    }
+
+    /// Those who follow this board are due a turn.
+    fn spreads_change(&mut self, at: usize)
+        ensures { AllStay self.old.clients.entries self.new.clients.entries }
+    {
         for index in 0..self.followers.count(at) {
             if let Some(number) = self.followers.number(at, index) {
                 self.notes_change(number);
             }
         }
-        self.followers.count(at) > 0 && self.rounds.changes(at, self.queue.len(Rank::Follower))
+        self.rounds.are_due(at);
     }
 
     /// The board that a connection follows has changed.
@@ -56,8 +76,8 @@ impl<'a, R: Wait + Clock, W: Watchers> Clients<'a, R, W> {
         let Some(client) = self.clients.get(&number) else {
             return;
         };
-        if client.takes_moves() && !client.is_queued {
-            self.stands_due(number);
+        if client.takes_moves() {
+            self.stands_due_as(number, Rank::Follower);
         }
     }
 

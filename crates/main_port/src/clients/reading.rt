@@ -197,6 +197,7 @@ impl<'a, R: Wait + Clock, W: Watchers> Clients<'a, R, W> {
                     }
                 }
                 Answered::FarAhead => {
+                    self.spreads_changes();
                     self.interrupts(number, Some(Rank::Follower));
                     break;
                 }

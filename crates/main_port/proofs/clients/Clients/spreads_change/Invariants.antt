@@ -1,5 +1,5 @@
 use Rattle.main_port.specs.Others.{AllStay}
-use Rattle.main_port.proofs.clients.Clients.changes.Given as goal
+use Rattle.main_port.proofs.clients.Clients.spreads_change.Given as goal
 
 abbrev pub invariant-loop-index : goal.invariant-loop-index
 invariant-loop-index g l = AllStay l.initial.self.clients.entries l.self.clients.entries

@@ -1,0 +1,5 @@
+use Rattle.main_port.specs.Others.{AllStay}
+use Rattle.main_port.proofs.clients.Clients.spreads_changes.Given as goal
+
+abbrev pub invariant-loop : goal.invariant-loop
+invariant-loop g l = AllStay l.initial.self.clients.entries l.self.clients.entries
