@@ -65,6 +65,7 @@ class Stopped:
 
     def __enter__(self):
         self.process.send_signal(signal.SIGSTOP)
+        os.waitpid(self.process.pid, os.WUNTRACED)  # Until the last of its threads does.
 
     def __exit__(self, *_):
         self.process.send_signal(signal.SIGCONT)
