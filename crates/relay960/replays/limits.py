@@ -2,7 +2,7 @@
 
 from collections import Counter
 
-from relay_client.texts import CUT, OPENED, following, follows, moved, opens, played, refused, submits, takes
+from relay_client.texts import CUT, NOTHING, OPENED, following, follows, leaves, left, moved, opens, played, refused, submits, takes
 from runs import Run, lines
 
 TOO_MANY_BOARDS = refused(4, "TooManyBoards")
@@ -88,6 +88,28 @@ def full_queue(options, capacity):
     return Run(("script", *options), reads=lines(given), prints=lines(answers))
 
 
+def a_crowd():
+    """As many followers as a board may have. Of those who come before the first move every second one takes it, and the others are closed
+    by the second; of those who come behind it each takes it."""
+    crowd = range(1024)
+    rows = [(opens("b1"), OPENED)]
+    rows += [(follows("b1", who), following()) for who in crowd] + [(follows("b1", 1024), TOO_MANY_FOLLOWERS)]
+    rows += [(submits("b1", "e2e4"), played(0))] + [(takes(who), moved("e2e4", 0)) for who in crowd[::2]]
+    rows += [(submits("b1", "e7e5"), played(1))]
+    for who in crowd:
+        rows += [
+            (takes(who), moved("e2e4", 0) if who % 2 else moved("e7e5", 1)),
+            (takes(who), CUT if who % 2 else NOTHING),
+            (leaves(who), left(0, 1, 1, True) if who % 2 else left(0, 2, 2, False)),
+        ]
+    at_place_1 = following(1, "rnbqkbnr/pppppppp/8/8/4P3/8/PPPP1PPP/RNBQKBNR b HAha e3 0 1")
+    rows += [(follows("b1", who, 1), at_place_1) for who in crowd] + [(follows("b1", 1024, 1), TOO_MANY_FOLLOWERS)]
+    for who in crowd:
+        rows += [(takes(who), moved("e7e5", 1)), (takes(who), NOTHING)]
+    asked, told = zip(*rows)
+    return Run(("script", "--followers=1024", "--capacity=1"), reads=lines(asked), prints=lines(told))
+
+
 RUNS = [
     two_boards([], {}),
     two_boards(["--boards=1"], {1: TOO_MANY_BOARDS}),
@@ -105,4 +127,5 @@ RUNS = [
       for make, counts in ((rooms, (3, 5)), (full_queue, (7,)), (full_log, (9,)))],
     rooms(["--plies=16384", "--capacity=1024", "--followers", "1024", "--boards", "256"], 256, 1024),
     full_queue(["--plies=16384", "--capacity=1024"], 1024),
+    a_crowd(),
 ]
