@@ -55,16 +55,11 @@ TESTS = {
         "tests::live::who_was_closed_may_leave_with_nothing_taken",
         "tests::pushing::cut_pushed",
         "tests::pushing::nothing_is_waited_for_and_is_no_text",
-        "tests::messages::answers::each_reply_has_its_text",
-        "tests::messages::answers::each_outcome_has_its_text",
-        "tests::messages::answers::each_refusal_and_each_fault_has_its_text",
-        "tests::messages::decoders::a_decoder_reads_texts_one_after_another",
+        "tests::messages::answers::each_answer_has_its_text",
+        "tests::messages::ways::a_decoder_reads_texts_one_after_another",
         "tests::messages::ways::usual_and_compact_texts_take_no_memory",
-        "tests::messages::ways::texts_that_are_refused_at_once_take_no_memory",
         "tests::messages::ways::behind_want_of_memory_a_decoder_goes_on",
         "tests::messages::ways::behind_want_of_memory_for_members_a_decoder_goes_on",
-        "tests::messages::ways::behind_want_of_memory_a_decoder_goes_on_on_the_watch_port",
-        "tests::messages::ways::behind_want_of_memory_for_members_a_decoder_goes_on_on_the_watch_port",
     ],
     "relay_hall_tests": ["tests::hall::memory::whoever_is_refused_memory_asks_again"],
     "relay_server_tests": [
@@ -75,13 +70,12 @@ TESTS = {
 # What takes no memory: these meet no refusal at all.
 TAKE_NONE = {
     "tests::messages::ways::usual_and_compact_texts_take_no_memory",
-    "tests::messages::ways::texts_that_are_refused_at_once_take_no_memory",
 }
 # How many refusals a test meets at least, where one may be another than its own. A text that is no plain object is first looked at as one,
 # and then takes memory for its members.
 LEAST = {
-    "tests::messages::ways::behind_want_of_memory_for_members_a_decoder_goes_on": 2,
-    "tests::messages::ways::behind_want_of_memory_for_members_a_decoder_goes_on_on_the_watch_port": 2,
+    "tests::messages::ways::behind_want_of_memory_a_decoder_goes_on": 2,
+    "tests::messages::ways::behind_want_of_memory_for_members_a_decoder_goes_on": 4,
 }
 OWNER = ['{"cmd":"open","board":"b1","start":518}', '{"cmd":"submit","board":"b1","move":"e2e4"}']
 GUEST = ['{"cmd":"follow","board":"b1","spectator":9,"from":0}']

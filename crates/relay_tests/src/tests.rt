@@ -1,6 +1,6 @@
 //! The tests, a module for each layer that is tested: `frames_alone` of `relay_frames`, `messages` of `relay_messages`, `watching` of
 //! `relay_watching`, `connections`, `late`, `live` and `pushing` of `relay_pushing`, `live_boards` of `live_board`, `relays` of both
-//! relays, `engines` of `relay960_engines`. `again`, `chance`, `claims`, `deeds`, `fakes`, `plain_queue`, `values` and `relays::table` have
+//! relays, `engines` of `relay960_engines`. `again`, `chance`, `claims`, `deeds`, `fakes`, `values` and `relays::table` have
 //! what several of them use.
 
 mod again;
@@ -15,7 +15,6 @@ mod late;
 mod live;
 mod live_boards;
 mod messages;
-mod plain_queue;
 mod pushing;
 mod relays;
 mod values;

@@ -1,14 +1,10 @@
-//! Worked cases of live boards, comparisons with a plain one, and games that threads take.
+//! Worked cases of live boards, and games that threads take. Boards are compared with a plain one on the program, by
+//! `crates/relay960/replays/by_chance.py`.
 
 mod boards;
-mod both;
 mod cases;
-mod crowd;
 mod games;
-mod long;
 mod memory;
-mod plain;
-mod random;
 mod slots;
 mod stage;
 mod table;

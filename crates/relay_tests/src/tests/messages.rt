@@ -1,14 +1,7 @@
-//! Worked cases of commands and answers.
+//! Worked cases of commands and answers that the program cannot show: texts in memory that is refused, and the ways in which a text is
+//! read. What each text means is seen on the program.
 
+mod agreeing;
 mod answers;
 mod boards;
-mod bounds;
-mod commands;
-mod compact;
-mod decoders;
-mod faults;
-mod round_trip;
-mod rulings;
-mod usual;
-mod watch_commands;
 mod ways;

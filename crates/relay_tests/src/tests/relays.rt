@@ -1,19 +1,12 @@
-//! Worked cases of both kinds of relay, and comparisons with a plain one.
+//! Worked cases of both kinds of relay, and steps that both answer alike.
 
-mod boards;
+mod both;
 mod callers;
-mod closing;
+mod cases;
 mod crowds;
-mod endings;
 mod kinds;
 mod live;
 mod memory;
-mod names;
-mod places;
-mod plain;
-mod plies;
 mod random;
-mod rows;
-mod slots;
 pub mod table;
 mod threads;

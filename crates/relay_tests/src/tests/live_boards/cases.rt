@@ -199,6 +199,67 @@ const DROPPED: [(Asked, Told); 14] = [
     (Submit("g1f3"), Played(2)),
 ];
 
+/// A mixture that was drawn by chance, with the answers of the plain relay of `crates/relay960/replays/plain.py`, in which one that is dropped
+/// keeps its seat: no command of the program drops one.
+const DROPPED_BY_CHANCE: [(Asked, Told); 56] = [
+    (Submit("g2g4"), Played(0)),
+    (Submit("f6g8"), Refused(Refusal::Illegal)),
+    (FollowFrom(2, 1), Following(1)),
+    (FollowFrom(1, 0), Following(0)),
+    (Submit("g8f6"), Played(1)),
+    (Take(1), Took(0, "g2g4")),
+    (FollowFrom(3, 1), Following(1)),
+    (Take(2), Took(1, "g8f6")),
+    (Take(1), Took(1, "g8f6")),
+    (Leave(2), Left(1, 1, 2, false)),
+    (Leave(3), Left(1, 0, 2, false)),
+    (FollowFrom(3, 0), Following(0)),
+    (FollowFrom(0, 0), Following(0)),
+    (Take(1), Nothing),
+    (Submit("f2f3"), Played(2)),
+    (Submit("f6g8"), Played(3)),
+    (Take(1), Took(2, "f2f3")),
+    (Drop(1), Dropped),
+    (Submit("f6g8"), Refused(Refusal::Illegal)),
+    (Take(0), Took(0, "g2g4")),
+    (Follow(2), Refused(Refusal::TooManyFollowers)),
+    (Drop(3), Dropped),
+    (Take(0), Took(1, "g8f6")),
+    (FollowFrom(3, 2), Refused(Refusal::TooManyFollowers)),
+    (Take(0), Cut),
+    (FollowFrom(2, 1), Refused(Refusal::TooFarBack)),
+    (Leave(0), Left(0, 2, 2, true)),
+    (Follow(2), Following(4)),
+    (Follow(1), Refused(Refusal::TooManyFollowers)),
+    (Follow(0), Refused(Refusal::TooManyFollowers)),
+    (FollowFrom(3, 0), Refused(Refusal::TooFarBack)),
+    (FollowFrom(0, 3), Refused(Refusal::TooManyFollowers)),
+    (Take(2), Nothing),
+    (Follow(3), Refused(Refusal::TooManyFollowers)),
+    (FollowFrom(0, 1), Refused(Refusal::TooFarBack)),
+    (Take(2), Nothing),
+    (Leave(2), Left(4, 0, 4, false)),
+    (Follow(2), Following(4)),
+    (FollowFrom(0, 5), Refused(Refusal::NotYet)),
+    (Take(2), Nothing),
+    (FollowFrom(1, 0), Refused(Refusal::TooFarBack)),
+    (FollowFrom(0, 0), Refused(Refusal::TooFarBack)),
+    (Take(2), Nothing),
+    (FollowFrom(1, 5), Refused(Refusal::NotYet)),
+    (FollowFrom(3, 1), Refused(Refusal::TooFarBack)),
+    (Take(2), Nothing),
+    (FollowFrom(3, 4), Refused(Refusal::TooManyFollowers)),
+    (Leave(2), Left(4, 0, 4, false)),
+    (FollowFrom(1, 2), Following(2)),
+    (Leave(1), Left(2, 0, 4, false)),
+    (Follow(0), Following(4)),
+    (Take(0), Nothing),
+    (FollowFrom(2, 3), Refused(Refusal::TooManyFollowers)),
+    (Take(0), Nothing),
+    (FollowFrom(2, 5), Refused(Refusal::NotYet)),
+    (Drop(0), Dropped),
+];
+
 /// A slot that was given back is given out again.
 const GIVEN_BACK: [(Asked, Told); 19] = [
     (Follow(1), Following(0)),
@@ -296,7 +357,7 @@ const WORD_OF_A_DECISION: [(Asked, Told); 2] = [
 /// A case: its name, its board's followers, capacity and plies, and its rows.
 type Case = (&'static str, (u16, u16, u16), &'static [(Asked, Told)]);
 
-static CASES: [Case; 20] = [
+static CASES: [Case; 21] = [
     ("mate", (64, 4, 1024), &MATE),
     ("mate", (64, 64, 1024), &MATE),
     ("mate", (64, 1024, 1024), &MATE),
@@ -311,6 +372,7 @@ static CASES: [Case; 20] = [
     ("full board", (1, 2, 1024), &FULL_BOARD),
     ("takes first", (64, 2, 1024), &TAKES_FIRST),
     ("dropped", (2, 1, 1024), &DROPPED),
+    ("dropped by chance", (3, 2, 64), &DROPPED_BY_CHANCE),
     ("given back", (3, 1, 1024), &GIVEN_BACK),
     ("words", (1, 2, 16), &WORDS),
     ("mate's word", (1, 2, 16), &WORD_OF_A_MATE),

@@ -1,9 +1,9 @@
 //! The slots of a board, which are given out again once they are left.
 
-use crate::tests::claims::{claim, claim_at};
-use crate::tests::live_boards::both::{Both, ask_both, both_of};
+use crate::tests::claims::claim_at;
 use crate::tests::live_boards::games::limits_of;
-use crate::tests::live_boards::stage::{Answer, Ask};
+use crate::tests::live_boards::stage::{Answer, Ask, Stage};
+use crate::tests::values::account;
 use c960_game::Refusal;
 use std::alloc::Global;
 use std::process::Abort;
@@ -11,62 +11,47 @@ use std::process::Abort;
 /// How many may follow.
 const MOST: usize = 6;
 
-/// How often two leave and follow again.
-const ROUNDS: u32 = 3;
+/// Asserts that one leaves.
+fn leave(rt: &impl Abort, stage: &mut Stage, who: usize) {
+    let left = stage.ask(Ask::Leave(who)) == Answer::Left(account(0, 0, 0, false));
+    claim_at(rt, left, "who leaves", who);
+}
 
-/// Asserts that both answer each of these alike.
-fn ask_all(rt: &impl Abort, both: &mut Both, asked: &[Ask]) {
-    for it in asked {
-        let _ = ask_both(rt, both, it);
-    }
+/// Asserts that one follows.
+fn follow(rt: &impl Abort, stage: &mut Stage, who: usize) {
+    let follows = stage.ask(Ask::Follow(who, None)) == Answer::Following(0, 0);
+    claim_at(rt, follows, "who follows", who);
 }
 
 /// Two leave and follow again, while one more asks in vain.
-fn swap_places(rt: &impl Abort, both: &mut Both, first: usize, second: usize) {
-    let asked = [
-        Ask::Leave(first),
-        Ask::Leave(second),
-        Ask::Follow(first, None),
-        Ask::Follow(second, None),
-    ];
-    ask_all(rt, both, &asked);
-    let refused = ask_both(rt, both, &Ask::Follow(MOST, None));
+fn swap_places(rt: &impl Abort, stage: &mut Stage, first: usize, second: usize) {
+    leave(rt, stage, first);
+    leave(rt, stage, second);
+    follow(rt, stage, first);
+    follow(rt, stage, second);
+    let refused = stage.ask(Ask::Follow(MOST, None));
     let is_full = refused == Answer::Refused(Refusal::TooManyFollowers);
-    claim(rt, is_full, "no room for one more");
+    claim_at(rt, is_full, "no room for", MOST);
 }
 
-/// All come, each to the slot of its own number.
-fn come(rt: &impl Abort, both: &mut Both) {
-    for who in 0..MOST {
-        let _ = ask_both(rt, both, &Ask::Follow(who, None));
-    }
-}
-
-/// Asserts that only this slot is vacant.
-fn assert_vacant(rt: &impl Abort, both: &Both, vacant: usize) {
-    for slot in 0..MOST {
-        let cursor = both.stage.board.word(slot as u64 + 2);
-        let is_vacant = cursor == Some(0);
-        claim_at(rt, is_vacant == (slot == vacant), "slot", slot);
-    }
-}
-
-/// Asserts that of two slots that were left a newcomer has the lower one, also after both were left and taken several times.
+/// Asserts that of two slots that were left a newcomer has the lower one, also after both were left and taken several times: then only the
+/// higher one is vacant.
 fn assert_lower(rt: &impl Abort, alloc: Global, first: usize, second: usize) {
-    let limits = limits_of(rt, MOST as u16, 64, 64);
     // One more may ask to follow than may follow.
-    let mut both = both_of(rt, alloc, limits, MOST + 1);
-    come(rt, &mut both);
-    for _ in 0..ROUNDS {
-        swap_places(rt, &mut both, first, second);
+    let mut stage = Stage::open(rt, alloc, limits_of(rt, MOST as u16, 64, 64), MOST + 1);
+    for who in 0..MOST {
+        follow(rt, &mut stage, who);
     }
-    let asked = [
-        Ask::Leave(first),
-        Ask::Leave(second),
-        Ask::Follow(first, None),
-    ];
-    ask_all(rt, &mut both, &asked);
-    assert_vacant(rt, &both, first.max(second));
+    for _ in 0..3 {
+        swap_places(rt, &mut stage, first, second);
+    }
+    leave(rt, &mut stage, first);
+    leave(rt, &mut stage, second);
+    follow(rt, &mut stage, first);
+    for slot in 0..MOST {
+        let is_vacant = stage.ask(Ask::Word(slot as u64 + 2)) == Answer::Word(Some(0));
+        claim_at(rt, is_vacant == (slot == first.max(second)), "slot", slot);
+    }
 }
 
 #[test]

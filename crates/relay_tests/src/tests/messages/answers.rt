@@ -1,14 +1,14 @@
-//! The texts of answers. The tests hold with each allocation refused in turn (`rt try --test --fail-alloc N`).
+//! The texts of answers. The test holds with each allocation refused in turn (`rt try --test --fail-alloc N`). That they are JSON which says
+//! the same is shown on the built program, whose answers are compared with texts that Python writes.
 
 use crate::tests::again::again;
-use crate::tests::claims::{claim, claim_of};
+use crate::tests::claims::claim_of;
 use crate::tests::relays::table::{Told, reply_of};
 use crate::tests::values::START_518;
 use arrayvec::ArrayVec;
 use c960_board::Colour;
 use c960_game::Result::{BlackWins, Draw, WhiteWins};
 use c960_game::{Outcome, Refusal};
-use relay_core::{Reply, Taken};
 use relay_messages::{Answer, MessageFault, encode, encode_within};
 use std::alloc::Global;
 use std::process::Abort;
@@ -55,275 +55,220 @@ fn has_text(rt: &impl Abort, alloc: Global, answer: &Answer, text: &str) {
     claim_of(rt, is_written_behind(answer, text), "the space", text);
 }
 
-#[test]
-fn a_text_needs_room_for_a_line_feed_behind_it(rt: HostRuntime) {
-    // {"reply":"nothing"} has 19 bytes.
-    let nothing = Answer::Reply(Reply::Took(Taken::Nothing));
-    let mut space = ArrayVec::<u8, 20>::new();
-    claim(
-        &rt,
-        encode_within(&nothing, &mut space),
-        "room for 20 bytes",
-    );
-    let is_text = space.as_slice() == br#"{"reply":"nothing"}"#.as_slice();
-    claim(&rt, is_text, "19 bytes");
-    let mut small = ArrayVec::<u8, 20>::new();
-    small.push(b'.');
-    claim(
-        &rt,
-        !encode_within(&nothing, &mut small),
-        "room for 19 bytes",
-    );
-    claim(&rt, small.as_slice() == b".".as_slice(), "one byte");
-}
-
-/// A reply of each kind, and its text.
-static REPLIES: [(Told, &str); 13] = [
-    (Told::Opened, r#"{"reply":"opened"}"#),
+/// An answer of each kind, and its text. `{"reply":"nothing"}` has 19 bytes.
+static ANSWERS: [(Result<Told, MessageFault>, &str); 50] = [
+    (Ok(Told::Opened), r#"{"reply":"opened"}"#),
     (
-        Told::Following(0, START_518),
+        Ok(Told::Following(0, START_518)),
         r#"{"fen":"rnbqkbnr/pppppppp/8/8/8/8/PPPPPPPP/RNBQKBNR w HAha - 0 1","joined":0,"reply":"following"}"#,
     ),
     (
-        Told::Played(0),
+        Ok(Told::Played(0)),
         r#"{"outcome":null,"place":0,"reply":"played"}"#,
     ),
     (
-        Told::PlayedLast(16383, Outcome::Checkmate(Colour::Black)),
+        Ok(Told::PlayedLast(16383, Outcome::Checkmate(Colour::Black))),
         r#"{"outcome":"black mates","place":16383,"reply":"played"}"#,
     ),
     (
-        Told::Left(0, 4, 5, false),
+        Ok(Told::Left(0, 4, 5, false)),
         r#"{"cut":false,"joined":0,"limit":5,"reply":"left","taken":4}"#,
     ),
     (
-        Told::Left(10, 64, 74, true),
+        Ok(Told::Left(10, 64, 74, true)),
         r#"{"cut":true,"joined":10,"limit":74,"reply":"left","taken":64}"#,
     ),
     (
-        Told::Took(0, "f2f3"),
+        Ok(Told::Took(0, "f2f3")),
         r#"{"move":"f2f3","place":0,"reply":"move"}"#,
     ),
     (
-        Told::Took(65535, "a7a8q"),
+        Ok(Told::Took(65535, "a7a8q")),
         r#"{"move":"a7a8q","place":65535,"reply":"move"}"#,
     ),
-    (Told::Nothing, r#"{"reply":"nothing"}"#),
+    (Ok(Told::Nothing), r#"{"reply":"nothing"}"#),
     (
-        Told::Over(Outcome::Agreed),
+        Ok(Told::Over(Outcome::Agreed)),
         r#"{"outcome":"agreed","reply":"over"}"#,
     ),
     (
-        Told::Over(Outcome::LostOnTime(Colour::Black)),
+        Ok(Told::Over(Outcome::LostOnTime(Colour::Black))),
         r#"{"outcome":"black loses on time","reply":"over"}"#,
     ),
     (
-        Told::Over(Outcome::Decided(Draw)),
+        Ok(Told::Over(Outcome::Decided(Draw))),
         r#"{"outcome":"drawn by decision","reply":"over"}"#,
     ),
-    (Told::Cut, r#"{"reply":"cut"}"#),
-];
-
-/// The replies.
-fn replies() -> &'static [(Told, &'static str)] {
-    &REPLIES
-}
-
-#[test]
-fn each_reply_has_its_text(rt: HostRuntime) {
-    for (told, text) in replies() {
-        let reply = reply_of(&rt, *told, 0);
-        has_text(&rt, rt.alloc(), &Answer::Reply(reply), *text);
-    }
-}
-
-/// Each outcome, and the text of an end with it.
-static OUTCOMES: [(Outcome, &str); 16] = [
+    (Ok(Told::Cut), r#"{"reply":"cut"}"#),
+    // Each outcome.
     (
-        Outcome::Checkmate(Colour::White),
+        Ok(Told::Ended(Outcome::Checkmate(Colour::White))),
         r#"{"outcome":"white mates","reply":"ended"}"#,
     ),
     (
-        Outcome::Checkmate(Colour::Black),
+        Ok(Told::Ended(Outcome::Checkmate(Colour::Black))),
         r#"{"outcome":"black mates","reply":"ended"}"#,
     ),
     (
-        Outcome::Stalemate,
+        Ok(Told::Ended(Outcome::Stalemate)),
         r#"{"outcome":"stalemate","reply":"ended"}"#,
     ),
     (
-        Outcome::Resigned(Colour::White),
+        Ok(Told::Ended(Outcome::Resigned(Colour::White))),
         r#"{"outcome":"white resigns","reply":"ended"}"#,
     ),
     (
-        Outcome::Resigned(Colour::Black),
+        Ok(Told::Ended(Outcome::Resigned(Colour::Black))),
         r#"{"outcome":"black resigns","reply":"ended"}"#,
     ),
-    (Outcome::Agreed, r#"{"outcome":"agreed","reply":"ended"}"#),
     (
-        Outcome::Abandoned,
+        Ok(Told::Ended(Outcome::Agreed)),
+        r#"{"outcome":"agreed","reply":"ended"}"#,
+    ),
+    (
+        Ok(Told::Ended(Outcome::Abandoned)),
         r#"{"outcome":"abandoned","reply":"ended"}"#,
     ),
     (
-        Outcome::Threefold,
+        Ok(Told::Ended(Outcome::Threefold)),
         r#"{"outcome":"threefold","reply":"ended"}"#,
     ),
     (
-        Outcome::Fifty,
+        Ok(Told::Ended(Outcome::Fifty)),
         r#"{"outcome":"fifty moves","reply":"ended"}"#,
     ),
     (
-        Outcome::Fivefold,
+        Ok(Told::Ended(Outcome::Fivefold)),
         r#"{"outcome":"fivefold","reply":"ended"}"#,
     ),
     (
-        Outcome::SeventyFive,
+        Ok(Told::Ended(Outcome::SeventyFive)),
         r#"{"outcome":"seventy-five moves","reply":"ended"}"#,
     ),
     (
-        Outcome::LostOnTime(Colour::White),
+        Ok(Told::Ended(Outcome::LostOnTime(Colour::White))),
         r#"{"outcome":"white loses on time","reply":"ended"}"#,
     ),
     (
-        Outcome::LostOnTime(Colour::Black),
+        Ok(Told::Ended(Outcome::LostOnTime(Colour::Black))),
         r#"{"outcome":"black loses on time","reply":"ended"}"#,
     ),
     (
-        Outcome::Decided(WhiteWins),
+        Ok(Told::Ended(Outcome::Decided(WhiteWins))),
         r#"{"outcome":"white wins by decision","reply":"ended"}"#,
     ),
     (
-        Outcome::Decided(BlackWins),
+        Ok(Told::Ended(Outcome::Decided(BlackWins))),
         r#"{"outcome":"black wins by decision","reply":"ended"}"#,
     ),
     (
-        Outcome::Decided(Draw),
+        Ok(Told::Ended(Outcome::Decided(Draw))),
         r#"{"outcome":"drawn by decision","reply":"ended"}"#,
     ),
-];
-
-/// The outcomes.
-fn outcomes() -> &'static [(Outcome, &'static str)] {
-    &OUTCOMES
-}
-
-#[test]
-fn each_outcome_has_its_text(rt: HostRuntime) {
-    for (outcome, text) in outcomes() {
-        let answer = Answer::Reply(Reply::Ended(*outcome));
-        has_text(&rt, rt.alloc(), &answer, *text);
-    }
-}
-
-/// Each refusal, and its text.
-static REFUSALS: [(Refusal, &str); 16] = [
+    // Each refusal.
     (
-        Refusal::NoSuchBoard,
+        Ok(Told::Refused(Refusal::NoSuchBoard)),
         r#"{"code":1,"name":"NoSuchBoard","reply":"refused"}"#,
     ),
     (
-        Refusal::BoardExists,
+        Ok(Told::Refused(Refusal::BoardExists)),
         r#"{"code":2,"name":"BoardExists","reply":"refused"}"#,
     ),
     (
-        Refusal::BadStart,
+        Ok(Told::Refused(Refusal::BadStart)),
         r#"{"code":3,"name":"BadStart","reply":"refused"}"#,
     ),
     (
-        Refusal::TooManyBoards,
+        Ok(Told::Refused(Refusal::TooManyBoards)),
         r#"{"code":4,"name":"TooManyBoards","reply":"refused"}"#,
     ),
     (
-        Refusal::GameOver,
+        Ok(Told::Refused(Refusal::GameOver)),
         r#"{"code":5,"name":"GameOver","reply":"refused"}"#,
     ),
     (
-        Refusal::Illegal,
+        Ok(Told::Refused(Refusal::Illegal)),
         r#"{"code":6,"name":"Illegal","reply":"refused"}"#,
     ),
     (
-        Refusal::LogFull,
+        Ok(Told::Refused(Refusal::LogFull)),
         r#"{"code":7,"name":"LogFull","reply":"refused"}"#,
     ),
     (
-        Refusal::ClaimRefused,
+        Ok(Told::Refused(Refusal::ClaimRefused)),
         r#"{"code":8,"name":"ClaimRefused","reply":"refused"}"#,
     ),
     (
-        Refusal::NoSuchFollower,
+        Ok(Told::Refused(Refusal::NoSuchFollower)),
         r#"{"code":9,"name":"NoSuchFollower","reply":"refused"}"#,
     ),
     (
-        Refusal::FollowerExists,
+        Ok(Told::Refused(Refusal::FollowerExists)),
         r#"{"code":10,"name":"FollowerExists","reply":"refused"}"#,
     ),
     (
-        Refusal::TooManyFollowers,
+        Ok(Told::Refused(Refusal::TooManyFollowers)),
         r#"{"code":11,"name":"TooManyFollowers","reply":"refused"}"#,
     ),
     (
-        Refusal::OutOfMemory,
+        Ok(Told::Refused(Refusal::OutOfMemory)),
         r#"{"code":12,"name":"OutOfMemory","reply":"refused"}"#,
     ),
     (
-        Refusal::NotYourBoard,
+        Ok(Told::Refused(Refusal::NotYourBoard)),
         r#"{"code":13,"name":"NotYourBoard","reply":"refused"}"#,
     ),
     (
-        Refusal::WrongMode,
+        Ok(Told::Refused(Refusal::WrongMode)),
         r#"{"code":14,"name":"WrongMode","reply":"refused"}"#,
     ),
     (
-        Refusal::TooFarBack,
+        Ok(Told::Refused(Refusal::TooFarBack)),
         r#"{"code":15,"name":"TooFarBack","reply":"refused"}"#,
     ),
     (
-        Refusal::NotYet,
+        Ok(Told::Refused(Refusal::NotYet)),
         r#"{"code":16,"name":"NotYet","reply":"refused"}"#,
     ),
-];
-
-/// The refusals.
-fn refusals() -> &'static [(Refusal, &'static str)] {
-    &REFUSALS
-}
-
-/// Each fault, and its text.
-static FAULTS: [(MessageFault, &str); 5] = [
+    // Each fault.
     (
-        MessageFault::OutOfMemory,
+        Err(MessageFault::OutOfMemory),
         r#"{"code":12,"name":"OutOfMemory","reply":"refused"}"#,
     ),
     (
-        MessageFault::NotJson,
+        Err(MessageFault::NotJson),
         r#"{"code":21,"name":"NotJson","reply":"refused"}"#,
     ),
     (
-        MessageFault::NotObject,
+        Err(MessageFault::NotObject),
         r#"{"code":22,"name":"NotObject","reply":"refused"}"#,
     ),
     (
-        MessageFault::UnknownCommand,
+        Err(MessageFault::UnknownCommand),
         r#"{"code":23,"name":"UnknownCommand","reply":"refused"}"#,
     ),
     (
-        MessageFault::BadField,
+        Err(MessageFault::BadField),
         r#"{"code":24,"name":"BadField","reply":"refused"}"#,
     ),
 ];
 
-/// The faults.
-fn faults() -> &'static [(MessageFault, &'static str)] {
-    &FAULTS
+/// The answers.
+fn answers() -> &'static [(Result<Told, MessageFault>, &'static str)] {
+    &ANSWERS
+}
+
+/// The answer of a row.
+fn answer_of(rt: &impl Abort, row: Result<Told, MessageFault>) -> Answer {
+    match row {
+        Ok(told) => Answer::Reply(reply_of(rt, told, 0)),
+        Err(fault) => Answer::Fault(fault),
+    }
 }
 
 #[test]
-fn each_refusal_and_each_fault_has_its_text(rt: HostRuntime) {
-    for (refusal, text) in refusals() {
-        let answer = Answer::Reply(Reply::Refused(*refusal));
-        has_text(&rt, rt.alloc(), &answer, *text);
-    }
-    for (fault, text) in faults() {
-        has_text(&rt, rt.alloc(), &Answer::Fault(*fault), *text);
+fn each_answer_has_its_text(rt: HostRuntime) {
+    for (row, text) in answers() {
+        has_text(&rt, rt.alloc(), &answer_of(&rt, *row), *text);
     }
 }

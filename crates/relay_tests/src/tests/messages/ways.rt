@@ -2,12 +2,12 @@
 //! any other text. Where one allocation is refused, each in turn (`bench/refusals.py --tests`), a decoder answers the text that asked for
 //! it with 12, and goes on. That list says which of these tests meets no refusal, and which meets more than one.
 
-use crate::tests::claims::claim;
-use crate::tests::messages::watch_commands::{assert_main, assert_watch};
+use crate::tests::claims::claim_of;
 use crate::tests::relays::table::{Asked, line_of, step_of};
 use c960_game::Ending;
 use relay_core::Step;
-use relay_messages::{Decoder, MessageFault, WatchCommand};
+use relay_messages::{Decoder, MessageFault, WatchCommand, decode};
+use std::process::Abort;
 
 /// A plain object, since it has two spaces where a compact one has one.
 const PLAIN: &str = r#"{"cmd":  "take",  "spectator":  7}"#;
@@ -19,6 +19,148 @@ const OTHER: &str = r#"{"cmd":"take","spectator":[1],"spectator":7}"#;
 const PLAIN_BOARDS: &str = r#"{"cmd":  "boards"}"#;
 
 const OTHER_BOARDS: &str = r#"{"cmd":[1],"cmd":"boards"}"#;
+
+/// A usual text.
+const TAKE: &str = r#"{"cmd":"take","spectator":7}"#;
+
+/// How many of the texts below take no memory.
+const FREE: usize = 16;
+
+/// Texts, and the command that each gives or its fault.
+static TEXTS: [(&str, Result<Asked, MessageFault>); 26] = [
+    // Usual and compact ones.
+    (r#"{"cmd":"take","spectator":7}"#, Ok(Asked::Take(7))),
+    (r#"{"cmd": "leave", "spectator": 7}"#, Ok(Asked::Leave(7))),
+    (
+        r#"{"cmd":"submit","board":"b1","move":"e2e4"}"#,
+        Ok(Asked::Submit("b1", "e2e4")),
+    ),
+    (
+        r#"{"cmd":"follow","board":"b1","spectator":7}"#,
+        Ok(Asked::Follow(7, "b1")),
+    ),
+    (
+        r#"{"cmd":"follow","board":"b1","spectator":7,"from":2}"#,
+        Ok(Asked::FollowFrom(7, "b1", 2)),
+    ),
+    (r#"{ "cmd": "take", "spectator": 7 }"#, Ok(Asked::Take(7))),
+    // Compact alone: the keys stand in another order, or the command is another.
+    (r#"{"spectator":7,"cmd":"take"}"#, Ok(Asked::Take(7))),
+    (
+        r#"{"cmd":"open","board":"b1","start":518}"#,
+        Ok(Asked::Open("b1", 518)),
+    ),
+    (
+        r#"{ "cmd": "open", "board": "b1", "start": 518 }"#,
+        Ok(Asked::Open("b1", 518)),
+    ),
+    (
+        r#"{"how": "agreed", "cmd": "end", "board": "b1"}"#,
+        Ok(Asked::End("b1", Ending::Agreed)),
+    ),
+    // Those that are compact and no command.
+    (r#"{"cmd":"pass"}"#, Err(MessageFault::UnknownCommand)),
+    (r#"{"cmd":7}"#, Err(MessageFault::UnknownCommand)),
+    (r#"{"cmd":"take"}"#, Err(MessageFault::BadField)),
+    (
+        r#"{"cmd":"take","spectator":"7"}"#,
+        Err(MessageFault::BadField),
+    ),
+    (
+        r#"{"cmd":"submit","board":"b1","move":4}"#,
+        Err(MessageFault::BadField),
+    ),
+    (
+        r#"{"cmd":"take","spectator":4294967296}"#,
+        Err(MessageFault::BadField),
+    ),
+    // Some of all kinds.
+    (TAKE, Ok(Asked::Take(7))),
+    // A longer text, with escapes.
+    (
+        r#"{"cmd":"open","\u0062oard":"b\u0031","start":518}"#,
+        Ok(Asked::Open("b1", 518)),
+    ),
+    // Objects that are not plain.
+    (
+        r#"{"cmd":"take","spectator":1,"spectator":2}"#,
+        Ok(Asked::Take(2)),
+    ),
+    (
+        r#"{"cmd":"take","spectator":[7]}"#,
+        Err(MessageFault::BadField),
+    ),
+    (
+        r#"{"cmd":"take","spectator":-7}"#,
+        Err(MessageFault::BadField),
+    ),
+    (
+        r#"{"cmd":"take","spectator":7} {"#,
+        Err(MessageFault::NotJson),
+    ),
+    (r#"{"cmd":"take","spectator":7"#, Err(MessageFault::NotJson)),
+    ("7", Err(MessageFault::NotObject)),
+    ("", Err(MessageFault::NotJson)),
+    (TAKE, Ok(Asked::Take(7))),
+];
+
+/// The texts.
+fn texts() -> &'static [(&'static str, Result<Asked, MessageFault>)] {
+    &TEXTS
+}
+
+/// What is to be read from a text.
+fn wanted_of(rt: &impl Abort, read: Result<Asked, MessageFault>) -> Result<Step, MessageFault> {
+    match read {
+        Ok(asked) => Ok(step_of(rt, asked, line_of(asked))),
+        Err(fault) => Err(fault),
+    }
+}
+
+/// Whether a text is read so on both ports.
+fn is_read(decoder: &mut Decoder, text: &[u8], wanted: Result<Step, MessageFault>) -> bool {
+    let watch = match wanted {
+        Ok(step) => Ok(WatchCommand::Step(step)),
+        Err(fault) => Err(fault),
+    };
+    decoder.decode(text) == wanted && decoder.decode_watch(text) == watch
+}
+
+/// A decoder that has never taken memory answers each, whatever is refused; and one of too many bytes.
+#[test]
+fn usual_and_compact_texts_take_no_memory(rt: HostRuntime) {
+    let mut decoder = Decoder::new(rt.alloc());
+    for (text, read) in texts().iter().take(FREE) {
+        let wanted = wanted_of(&rt, *read);
+        let is_read = is_read(&mut decoder, text.as_bytes(), wanted);
+        claim_of(&rt, is_read, "the meaning", *text);
+    }
+    let too_long = is_read(&mut decoder, &[b' '; 1025], Err(MessageFault::BadField));
+    claim_of(&rt, too_long, "the meaning", "1,025 bytes");
+    let boards = is_boards(&mut decoder, r#"{"cmd":"boards"}"#);
+    claim_of(&rt, boards, "the meaning", "boards");
+}
+
+/// A decoder reads texts one after another, and may say of one that there was no memory for it.
+#[test]
+fn a_decoder_reads_texts_one_after_another(rt: HostRuntime) {
+    let mut decoder = Decoder::new(rt.alloc());
+    for (text, read) in texts() {
+        let wanted = wanted_of(&rt, *read);
+        let said = decoder.decode(text.as_bytes());
+        let is_right = said == wanted || said == Err(MessageFault::OutOfMemory);
+        claim_of(&rt, is_right, "the meaning", *text);
+    }
+    let said = decoder.decode(TAKE.as_bytes());
+    claim_of(&rt, said == Ok(Step::Take(7)), "the last text", TAKE);
+    let said = decode(rt.alloc(), TAKE.as_bytes());
+    claim_of(&rt, said == Ok(Step::Take(7)), "by itself", TAKE);
+}
+
+/// Whether a text asks for the boards on the watch port.
+fn is_boards(decoder: &mut Decoder, text: &str) -> bool {
+    decoder.decode_watch(text.as_bytes()) == Ok(WatchCommand::Boards)
+}
 
 /// What a text asks for on the main port. It is read again if there was no memory: one allocation is refused at the most.
 fn read(decoder: &mut Decoder, text: &str) -> Result<Step, MessageFault> {
@@ -36,128 +178,33 @@ fn read_watch(decoder: &mut Decoder, text: &str) -> Result<WatchCommand, Message
     }
 }
 
-/// Texts of the two forms, and the command that each gives.
-static USUAL_AND_COMPACT: [(&str, Asked); 10] = [
-    (r#"{"cmd":"take","spectator":7}"#, Asked::Take(7)),
-    (r#"{"cmd": "leave", "spectator": 7}"#, Asked::Leave(7)),
-    (
-        r#"{"cmd":"submit","board":"b1","move":"e2e4"}"#,
-        Asked::Submit("b1", "e2e4"),
-    ),
-    (
-        r#"{"cmd":"follow","board":"b1","spectator":7}"#,
-        Asked::Follow(7, "b1"),
-    ),
-    (
-        r#"{"cmd":"follow","board":"b1","spectator":7,"from":2}"#,
-        Asked::FollowFrom(7, "b1", 2),
-    ),
-    (r#"{ "cmd": "take", "spectator": 7 }"#, Asked::Take(7)),
-    // Compact alone: the keys stand in another order, or the command is another.
-    (r#"{"spectator":7,"cmd":"take"}"#, Asked::Take(7)),
-    (
-        r#"{"cmd":"open","board":"b1","start":518}"#,
-        Asked::Open("b1", 518),
-    ),
-    (
-        r#"{ "cmd": "open", "board": "b1", "start": 518 }"#,
-        Asked::Open("b1", 518),
-    ),
-    (
-        r#"{"how": "agreed", "cmd": "end", "board": "b1"}"#,
-        Asked::End("b1", Ending::Agreed),
-    ),
-];
-
-/// The texts of the two forms.
-fn usual_and_compact() -> &'static [(&'static str, Asked)] {
-    &USUAL_AND_COMPACT
+/// Asserts that a decoder that has never taken memory reads a text, and goes on.
+fn assert_goes_on(rt: &impl Abort, decoder: &mut Decoder, text: &str) {
+    let said = read(decoder, text);
+    claim_of(rt, said == Ok(Step::Take(7)), "read again", text);
+    let said = decoder.decode(PLAIN.as_bytes());
+    claim_of(rt, said == Ok(Step::Take(7)), "behind it", text);
+    let said = read(decoder, "[");
+    claim_of(rt, said == Err(MessageFault::NotJson), "no JSON", text);
 }
 
-/// A decoder that has never taken memory answers each, whatever is refused.
-#[test]
-fn usual_and_compact_texts_take_no_memory(rt: HostRuntime) {
-    let mut decoder = Decoder::new(rt.alloc());
-    for (text, asked) in usual_and_compact() {
-        let step = &step_of(&rt, *asked, line_of(*asked));
-        assert_watch(&rt, &mut decoder, *text, &Ok(WatchCommand::Step(*step)));
-        assert_main(&rt, &mut decoder, *text, &Ok(*step));
-    }
-    let boards = r#"{"cmd":"boards"}"#;
-    assert_watch(&rt, &mut decoder, boards, &Ok(WatchCommand::Boards));
-}
-
-/// Texts that are compact and no command, and their faults.
-static REFUSED_AT_ONCE: [(&str, MessageFault); 6] = [
-    (r#"{"cmd":"pass"}"#, MessageFault::UnknownCommand),
-    (r#"{"cmd":7}"#, MessageFault::UnknownCommand),
-    (r#"{"cmd":"take"}"#, MessageFault::BadField),
-    (r#"{"cmd":"take","spectator":"7"}"#, MessageFault::BadField),
-    (
-        r#"{"cmd":"submit","board":"b1","move":4}"#,
-        MessageFault::BadField,
-    ),
-    (
-        r#"{"cmd":"take","spectator":4294967296}"#,
-        MessageFault::BadField,
-    ),
-];
-
-/// The texts that are refused at once.
-fn refused_at_once() -> &'static [(&'static str, MessageFault)] {
-    &REFUSED_AT_ONCE
-}
-
-/// A text that is compact and no command takes none either, nor one of too many bytes.
-#[test]
-fn texts_that_are_refused_at_once_take_no_memory(rt: HostRuntime) {
-    let mut decoder = Decoder::new(rt.alloc());
-    for (text, fault) in refused_at_once() {
-        assert_main(&rt, &mut decoder, *text, &Err(*fault));
-        assert_watch(&rt, &mut decoder, *text, &Err(*fault));
-    }
-    let said = decoder.decode(&[b' '; 1025]);
-    claim(&rt, said == Err(MessageFault::BadField), "on the main port");
-    let said = decoder.decode_watch(&[b' '; 1025]);
-    claim(
-        &rt,
-        said == Err(MessageFault::BadField),
-        "on the watch port",
-    );
+/// The same on the watch port.
+fn assert_goes_on_watching(rt: &impl Abort, decoder: &mut Decoder, text: &str) {
+    let said = read_watch(decoder, text);
+    claim_of(rt, said == Ok(WatchCommand::Boards), "read again", text);
+    claim_of(rt, is_boards(decoder, PLAIN_BOARDS), "behind it", text);
+    let said = read_watch(decoder, "[");
+    claim_of(rt, said == Err(MessageFault::NotJson), "no JSON", text);
 }
 
 #[test]
 fn behind_want_of_memory_a_decoder_goes_on(rt: HostRuntime) {
-    let mut decoder = Decoder::new(rt.alloc());
-    let said = read(&mut decoder, PLAIN);
-    claim(&rt, said == Ok(Step::Take(7)), "read again");
-    assert_main(&rt, &mut decoder, PLAIN, &Ok(Step::Take(7)));
+    assert_goes_on(&rt, &mut Decoder::new(rt.alloc()), PLAIN);
+    assert_goes_on_watching(&rt, &mut Decoder::new(rt.alloc()), PLAIN_BOARDS);
 }
 
 #[test]
 fn behind_want_of_memory_for_members_a_decoder_goes_on(rt: HostRuntime) {
-    let mut decoder = Decoder::new(rt.alloc());
-    let said = read(&mut decoder, OTHER);
-    claim(&rt, said == Ok(Step::Take(7)), "read again");
-    assert_main(&rt, &mut decoder, PLAIN, &Ok(Step::Take(7)));
-    let said = read(&mut decoder, "[");
-    claim(&rt, said == Err(MessageFault::NotJson), "no JSON");
-}
-
-#[test]
-fn behind_want_of_memory_a_decoder_goes_on_on_the_watch_port(rt: HostRuntime) {
-    let mut decoder = Decoder::new(rt.alloc());
-    let said = read_watch(&mut decoder, PLAIN_BOARDS);
-    claim(&rt, said == Ok(WatchCommand::Boards), "read again");
-    assert_watch(&rt, &mut decoder, PLAIN_BOARDS, &Ok(WatchCommand::Boards));
-}
-
-#[test]
-fn behind_want_of_memory_for_members_a_decoder_goes_on_on_the_watch_port(rt: HostRuntime) {
-    let mut decoder = Decoder::new(rt.alloc());
-    let said = read_watch(&mut decoder, OTHER_BOARDS);
-    claim(&rt, said == Ok(WatchCommand::Boards), "read again");
-    assert_watch(&rt, &mut decoder, PLAIN_BOARDS, &Ok(WatchCommand::Boards));
-    let said = read_watch(&mut decoder, "[");
-    claim(&rt, said == Err(MessageFault::NotJson), "no JSON");
+    assert_goes_on(&rt, &mut Decoder::new(rt.alloc()), OTHER);
+    assert_goes_on_watching(&rt, &mut Decoder::new(rt.alloc()), OTHER_BOARDS);
 }

@@ -2,7 +2,7 @@
 
 use crate::tests::claims::claim;
 use crate::tests::relays::kinds::Kind;
-use crate::tests::relays::table::{following, limits_of, with_capacity};
+use crate::tests::relays::table::{following, limits_of};
 use crate::tests::values::{START_518, account, board_of};
 use crate::visits::visit;
 use relay_core::{Relay, Reply, Step};
@@ -12,7 +12,7 @@ use std::process::Abort;
 
 /// Asserts that a visit to a new board is a follow and a leave.
 fn assert_visit<K: Kind>(rt: &impl Abort, alloc: Global) -> Result<(), AllocError> {
-    let mut relay = K::made(alloc, limits_of(rt, with_capacity(64)))?;
+    let mut relay = K::made(alloc, limits_of(rt, (16, 64, 64, 1024)))?;
     let board = board_of(rt, "b1");
     let opened = relay.step(Step::Open(board, 518));
     let (joined, left) = visit(&mut relay, 1, board);

@@ -3,7 +3,7 @@
 use crate::handing::play_and_hand_out;
 use crate::tests::claims::claim;
 use crate::tests::deeds::{followed, is_full, leaves};
-use crate::tests::relays::closing::full_queue;
+use crate::tests::relays::cases::full_queue;
 use crate::tests::relays::table::{Asked, Told, case_of, limits_of};
 use crate::tests::values::{account, board_of};
 use relay_live::Board;

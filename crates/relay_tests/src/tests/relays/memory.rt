@@ -2,7 +2,7 @@
 //! it says so and changes nothing, and is accepted when made again; everything else is answered as ever.
 
 use crate::tests::claims::claim;
-use crate::tests::relays::endings::mate;
+use crate::tests::relays::cases::mate;
 use crate::tests::relays::kinds::{Kind, reply_to};
 use crate::tests::relays::table::Asked::{End, Follow, FollowFrom, Leave, Open, Submit, Take};
 use crate::tests::relays::table::Told::{

@@ -1,14 +1,12 @@
 //! Cases as tables: what is asked of a relay, and what it has to answer, one row each.
 
-use crate::tests::claims::{claim_at, claim_of};
-use crate::tests::relays::kinds::{Kind, reply_to};
+use crate::tests::relays::kinds::Kind;
 use crate::tests::values::{account, board_of, move_of, position_of};
 use c960_game::{Ending, Limits, Outcome, Refusal};
 use relay_core::{Relay, Reply, Spectator, Step, Taken};
 use relay_live::LiveRelay;
 use std::alloc::{AllocError, Global};
 use std::process::Abort;
-use std::test::Fail;
 
 /// A step, or a line of submits of moves separated by spaces.
 #[derive(Clone, Copy)]
@@ -57,11 +55,6 @@ pub struct Case {
 pub fn limits_of(rt: &impl Abort, numbers: (u16, u16, u16, u16)) -> Limits {
     let (boards, followers, capacity, plies) = numbers;
     Limits::new(boards, followers, capacity, plies).expect(rt, "limits")
-}
-
-/// 16 boards, 64 followers a board, 1,024 plies, and queues of this capacity.
-pub const fn with_capacity(capacity: u16) -> (u16, u16, u16, u16) {
-    (16, 64, capacity, 1024)
 }
 
 /// The reply to a follow.
@@ -150,64 +143,44 @@ fn add_row(rt: &impl Abort, case: &mut Case, row: &(Asked, Told)) -> Result<(), 
     Ok(())
 }
 
-/// Asserts that a new relay of the kind, which is named so, gives these replies to these steps, step by step.
-fn assert_steps<K: Kind>(
-    rt: &impl Abort,
-    alloc: Global,
-    name: &str,
-    limits: Limits,
-    (steps, replies): (&[Step], &[Reply]),
-) -> Result<(), Fail> {
-    let mut relay = K::made(alloc, limits)?;
-    for i in 0..steps.len().min(replies.len()) {
-        let is_told = reply_to(&mut relay, &steps[i]) == replies[i];
-        claim_at(rt, is_told, name, i);
-    }
-    Ok(())
+/// Asserts that a reply of a case is the one that has to be given.
+fn assert_reply(rt: &impl Abort, is_told: bool, case: &str, kind: &str, step: usize) {
+    assert!(rt; is_told, "{case}, {kind}, step {step}");
 }
 
-/// Asserts that a new relay of the kind, which is named so, gives these replies to these steps in one run.
+/// Asserts that a new relay of the kind, which is named so, gives the replies of a case in one run.
 fn assert_run<K: Kind>(
     rt: &impl Abort,
     alloc: Global,
-    name: &str,
     limits: Limits,
-    (steps, replies): (&[Step], &[Reply]),
-) -> Result<(), Fail> {
+    case: &Case,
+    (name, kind): (&str, &str),
+) -> Result<(), AllocError> {
     let mut relay = K::made(alloc, limits)?;
-    let given = relay.ran(steps)?;
-    claim_of(rt, given.as_slice() == replies, "a run", name);
+    let given = relay.ran(case.steps.as_slice())?;
+    for (step, (reply, told)) in given.iter().zip(&case.replies).enumerate() {
+        assert_reply(rt, reply == told, name, kind, step);
+    }
+    assert_reply(
+        rt,
+        given.len() == case.replies.len(),
+        name,
+        kind,
+        given.len(),
+    );
     Ok(())
 }
 
-/// Asserts that a new relay of either kind with these limits gives these replies to these steps, step by step and in one run.
-pub fn assert_replies(
-    rt: &impl Abort,
-    alloc: Global,
-    limits: Limits,
-    steps: &[Step],
-    replies: &[Reply],
-) -> Result<(), Fail> {
-    assert_steps::<Relay>(rt, alloc, "relay", limits, (steps, replies))?;
-    assert_run::<Relay>(rt, alloc, "relay", limits, (steps, replies))?;
-    assert_steps::<LiveRelay>(rt, alloc, "live relay", limits, (steps, replies))?;
-    assert_run::<LiveRelay>(rt, alloc, "live relay", limits, (steps, replies))
-}
-
-/// Asserts that a relay of either kind with these limits answers each row in this way, step by step and in runs.
+/// Asserts that a relay of either kind with these limits answers each row in this way.
 pub fn assert_case(
     rt: &impl Abort,
     alloc: Global,
+    name: &str,
     numbers: (u16, u16, u16, u16),
     rows: &[(Asked, Told)],
-) -> Result<(), Fail> {
+) -> Result<(), AllocError> {
     let case = case_of(rt, alloc, rows)?;
     let limits = limits_of(rt, numbers);
-    assert_replies(
-        rt,
-        alloc,
-        limits,
-        case.steps.as_slice(),
-        case.replies.as_slice(),
-    )
+    assert_run::<Relay>(rt, alloc, limits, &case, (name, "relay"))?;
+    assert_run::<LiveRelay>(rt, alloc, limits, &case, (name, "live relay"))
 }
