@@ -53,7 +53,6 @@ TESTS = {
         "tests::connections::a_relay_answers_as_its_history_asks",
         "tests::live::cut_pushed_from_a_live_board",
         "tests::live::who_was_closed_may_leave_with_nothing_taken",
-        "tests::pushing::cut_pushed",
         "tests::pushing::nothing_is_waited_for_and_is_no_text",
         "tests::messages::answers::each_answer_has_its_text",
         "tests::messages::ways::a_decoder_reads_texts_one_after_another",

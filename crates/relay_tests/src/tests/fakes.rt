@@ -1,24 +1,13 @@
-//! A source over a relay, a keeper that notes what it is asked, a source over a list, and a bell that rings when it is waited for.
+//! A keeper that notes what it is asked, a source over a list, and a bell that rings when it is waited for.
 
 ghost use Rattle.relay_tests.specs.Keeping.{Makes};
 
 use crate::relay_keeper::RelayKeeper;
-use c960_game::Limits;
-use relay_core::{BoardName, Relay, Reply, Spectator, Step, Taken};
+use relay_core::{BoardName, Reply, Step, Taken};
 use relay_pushing::{Bell, Keeper, Source};
 use relay960_engines::default_limits;
 use std::alloc::{AllocError, Global};
 use std::cell::Cell;
-
-/// The limits of these numbers.
-fn limits_of(boards: u16, followers: u16, capacity: u16, plies: u16) -> Result<Limits, AllocError> {
-    Limits::new(boards, followers, capacity, plies).ok_or(AllocError)
-}
-
-/// A relay whose queues have this capacity.
-pub fn relay(alloc: Global, capacity: u16) -> Result<Relay, AllocError> {
-    Relay::new(alloc, limits_of(16, 64, capacity, 1024)?)
-}
 
 /// How many steps a keeper notes.
 const NOTED: usize = 64;
@@ -80,24 +69,6 @@ impl Keeper for NotingKeeper {
 
     fn step(&mut self, step: Step) -> Reply {
         self.note_and_make(&step)
-    }
-}
-
-/// A follower of a relay.
-#[derive(Drop)]
-pub struct RelaySource {
-    pub relay: Relay,
-    pub spectator: Spectator,
-}
-
-impl Source for RelaySource {
-    ghost gives = { λ _ _ _. Unit {0} };
-
-    fn take(&mut self) -> Taken {
-        match self.relay.step(Step::Take(self.spectator)) {
-            Reply::Took(taken) => taken,
-            _ => Taken::Nothing,
-        }
     }
 }
 

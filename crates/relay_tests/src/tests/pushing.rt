@@ -2,12 +2,11 @@
 //! --fail-alloc N`): then pushing ends after the texts that were sent before.
 
 use crate::list_outlet::ListOutlet;
-use crate::tests::again::again;
 use crate::tests::claims::{claim, claim_at};
-use crate::tests::fakes::{Answers, RelaySource, Ringing, relay};
-use crate::tests::values::{board_of, move_of};
-use c960_game::{Outcome, Refusal};
-use relay_core::{Relay, Reply, Step, Taken};
+use crate::tests::fakes::{Answers, Ringing};
+use crate::tests::values::move_of;
+use c960_game::Outcome;
+use relay_core::Taken;
 use relay_pushing::{PushEnd, SendFault, Source, push_all};
 use std::alloc::Global;
 use std::process::Abort;
@@ -28,30 +27,6 @@ const TEXTS_OF_OVER: [&[u8]; 3] = [
 const NO_MEMORY: PushEnd = PushEnd::Failed(SendFault::OutOfMemory);
 
 pub const NO_DEVICE: PushEnd = PushEnd::Failed(SendFault::Device);
-
-/// Makes a step, again if it was refused for lack of memory.
-fn make(relay: &mut Relay, step: &Step) {
-    if relay.step(*step) == Reply::Refused(Refusal::OutOfMemory) {
-        let _ = relay.step(*step);
-    }
-}
-
-/// A follower that was closed at its capacity of 2.
-fn full_queue(rt: &impl Abort, alloc: Global) -> RelaySource {
-    let mut relay = again(rt, || relay(alloc, 2));
-    make(&mut relay, &Step::Open(board_of(rt, "b1"), 518));
-    make(&mut relay, &Step::Follow(1, board_of(rt, "b1"), None));
-    for text in ["e2e4", "e7e5", "g1f3"] {
-        make(
-            &mut relay,
-            &Step::Submit(board_of(rt, "b1"), move_of(rt, text)),
-        );
-    }
-    RelaySource {
-        relay,
-        spectator: 1,
-    }
-}
 
 /// Asserts that the outlet has the first of these texts.
 fn assert_first(rt: &impl Abort, outlet: &ListOutlet, wanted: &[&[u8]]) {
@@ -141,21 +116,6 @@ pub fn assert_cut<R: Wait + Abort, S: Source>(
     claim_at(rt, sent == texts, "as many texts as", texts);
 }
 
-#[test]
-fn cut_pushed(rt: HostRuntime) {
-    // How many texts the device takes, how pushing ends, and how many texts were sent.
-    for (room, wanted, texts) in [(9, PushEnd::Cut, 3), (1, NO_DEVICE, 1)] {
-        let mut source = full_queue(&rt, rt.alloc());
-        assert_cut(&rt, rt.alloc(), &mut source, room, (wanted, texts));
-    }
-    claim(&rt, SendFault::Device.code() == 41, "the device's code");
-    claim(
-        &rt,
-        SendFault::OutOfMemory.code() == 12,
-        "the code of memory",
-    );
-}
-
 /// What the device takes, texts and flushes; how pushing ends; and how many texts were sent, how often the bell was waited for, and
 /// how many answers were not taken.
 type Row = ((usize, usize), PushEnd, (usize, u64, usize));
@@ -198,4 +158,6 @@ fn nothing_is_waited_for_and_is_no_text(rt: HostRuntime) {
     for row in rows() {
         assert_pushed(&rt, rt.alloc(), &answers, row);
     }
+    let codes = (SendFault::Device.code(), SendFault::OutOfMemory.code());
+    claim(&rt, codes == (41, 12), "the codes of faults");
 }

@@ -215,7 +215,7 @@ const FOLLOW_FROM: [(Asked, Told); 17] = [
 ];
 
 /// A place too far back, and one that is not, on a board whose one slot is taken.
-const TOO_FAR_BACK: [(Asked, Told); 5] = [
+const TOO_FAR_BACK_BEFORE_FULL: [(Asked, Told); 5] = [
     (Open("b1", 518), Opened),
     (SubmitLine("b1", "e2e4 e7e5 g1f3"), Played(0)),
     (FollowFrom(1, "b1", 1), Following(1, ONE_PLY)),
@@ -325,7 +325,7 @@ static CASES: [Case; 15] = [
     ),
     ("a third appearance", (16, 64, 64, 1024), &THIRD_APPEARANCE),
     ("earlier places", (16, 64, 2, 1024), &FOLLOW_FROM),
-    ("too far back", (16, 1, 2, 1024), &TOO_FAR_BACK),
+    ("too far back", (16, 1, 2, 1024), &TOO_FAR_BACK_BEFORE_FULL),
     ("a log of one ply", (16, 64, 64, 1), &PLY_LIMIT),
     ("fifty moves", (16, 64, 64, 1024), &FIFTY_MOVES),
     ("fivefold", (16, 64, 64, 1024), &FIVEFOLD),
