@@ -75,11 +75,15 @@ const NOT_YOURS: &str = "{\"code\":13,\"name\":\"NotYourBoard\",\"reply\":\"refu
 
 const WRONG_MODE: &str = "{\"code\":14,\"name\":\"WrongMode\",\"reply\":\"refused\"}";
 
-static ROWS: [Row; 22] = [
+static ROWS: [Row; 26] = [
+    // Before any board is there.
+    (Stranger, SUBMIT, NO_SUCH, NotAsked),
+    (Stranger, END, NO_SUCH, NotAsked),
     (Owner, OPEN_B1, OPENED, Makes(EXISTS)),
     (Stranger, OPEN_C, OPENED, Makes(EXISTS)),
     (Owner, OPEN_A, OPENED, Makes(EXISTS)),
     (Owner, OPEN_C, EXISTS, Refuses),
+    (Stranger, OPEN_B1, EXISTS, Refuses),
     // On the board that it opened.
     (Owner, SUBMIT, PLAYED, Makes(ILLEGAL)),
     (Owner, SUBMIT, ILLEGAL, Refuses),
@@ -112,6 +116,7 @@ static ROWS: [Row; 22] = [
         NotAsked,
     ),
     (Stranger, FOLLOW_B1, WRONG_MODE, NotAsked),
+    (Owner, FOLLOW_B1, WRONG_MODE, NotAsked),
     (Stranger, FOLLOW_B9, WRONG_MODE, NotAsked),
     // Texts that mean nothing.
     (
@@ -249,8 +254,9 @@ fn assert_row_of(rt: &impl Abort, scene: &mut Scene, row: &Row) -> bool {
     }
 }
 
-/// The keeper after the guest has ended, then the owner, then the stranger.
-fn ended(scene: Scene) -> NotingKeeper {
+/// Asserts that behind so many steps each connection ends the boards that it opened and no others, in the order of opening, including one
+/// that has ended; and that a game that was agreed drawn before stays a draw.
+fn assert_ends(rt: &impl Abort, scene: Scene, asked: usize) {
     let Scene {
         mut noting,
         owner,
@@ -258,9 +264,15 @@ fn ended(scene: Scene) -> NotingKeeper {
         guest,
     } = scene;
     guest.finish(&mut noting);
-    owner.finish(&mut noting);
     stranger.finish(&mut noting);
-    noting
+    let before = outcome_of(&mut noting.keeper, board_of(rt, "a"));
+    owner.finish(&mut noting);
+    claim(rt, are_ended(rt, &noting, asked), "three boards are ended");
+    let a = outcome_of(&mut noting.keeper, board_of(rt, "a"));
+    let b1 = outcome_of(&mut noting.keeper, board_of(rt, "b1"));
+    claim(rt, before.is_none(), "the others do not end a");
+    claim(rt, a == Some(Outcome::Abandoned), "the owner ends a");
+    claim(rt, b1 == Some(Outcome::Agreed), "b1 has ended before");
 }
 
 #[test]
@@ -271,12 +283,7 @@ fn a_connection_may_what_its_boards_let_it(rt: HostRuntime) {
     let is_one = refusals.saturating_add(u32::from(was_refused)) <= 1;
     claim(&rt, is_one, "one refusal at the most");
     let asked = scene.noting.steps.len();
-    let noting = ended(scene);
-    claim(
-        &rt,
-        are_ended(&rt, &noting, asked),
-        "the ends of three boards",
-    );
+    assert_ends(&rt, scene, asked);
 }
 
 /// Asserts that each row holds. Returns how often memory was refused.
@@ -289,12 +296,12 @@ fn refusals_in(rt: &impl Abort, scene: &mut Scene) -> u32 {
     refusals
 }
 
-/// Whether the steps behind so many end the boards in the order of opening, including one that has ended.
+/// Whether the steps behind so many end the stranger's board, and then the owner's.
 fn are_ended(rt: &impl Abort, noting: &NotingKeeper, asked: usize) -> bool {
     let ends = [
+        Step::End(board_of(rt, "c"), Ending::Abandoned),
         Step::End(board_of(rt, "b1"), Ending::Abandoned),
         Step::End(board_of(rt, "a"), Ending::Abandoned),
-        Step::End(board_of(rt, "c"), Ending::Abandoned),
     ];
     noting.steps.as_slice().get(asked..) == Some(ends.as_slice())
 }
@@ -318,108 +325,28 @@ fn reply_of(keeper: &mut RelayKeeper, step: &Step) -> Reply {
     keeper.step(*step)
 }
 
-/// What a relay answers to an owner and to a stranger, and what it answers if the step was already made. The owner opens `b1` and `a`.
-static ANSWERS: [(Who, &str, [&str; 2]); 12] = [
-    (Stranger, SUBMIT, [NO_SUCH, NO_SUCH]),
-    (Stranger, END, [NO_SUCH, NO_SUCH]),
-    (Owner, OPEN_B1, [OPENED, EXISTS]),
-    (Owner, OPEN_A, [OPENED, EXISTS]),
-    (Stranger, SUBMIT, [NOT_YOURS, NOT_YOURS]),
-    (Stranger, END, [NOT_YOURS, NOT_YOURS]),
-    (Stranger, OPEN_B1, [EXISTS, EXISTS]),
-    (Owner, SUBMIT, [PLAYED, ILLEGAL]),
-    (Owner, SUBMIT, [ILLEGAL, ILLEGAL]),
-    (Owner, FOLLOW_B1, [WRONG_MODE, WRONG_MODE]),
-    (Owner, END, [ENDED, GAME_OVER]),
-    (Stranger, FOLLOW_B1, [FOLLOWING, FOLLOWS]),
-];
-
-/// The answers.
-fn answers() -> &'static [(Who, &'static str, [&'static str; 2])] {
-    &ANSWERS
-}
-
-/// What a text is answered over a relay.
+/// What a text is answered over a relay; the second answer is wanted too if there was no memory for the first.
 fn said_over(keeper: &mut RelayKeeper, conn: &mut Conn, text: &str, wanted: [&str; 2]) -> Said {
-    said_by(keeper.answer(conn, text.as_bytes()), wanted)
-}
-
-/// Asserts that a text gets this answer. Returns whether memory was refused; then the text was sent once more.
-fn assert_answer(
-    rt: &impl Abort,
-    keeper: &mut RelayKeeper,
-    conn: &mut Conn,
-    text: &str,
-    wanted: [&str; 2],
-) -> bool {
-    let said = said_over(keeper, conn, text, [wanted[0], wanted[0]]);
-    claim_of(rt, said != Said::Else, wanted[0], text);
-    if said == Said::Wanted {
-        return false;
+    let said = said_by(keeper.answer(conn, text.as_bytes()), [wanted[0]; 2]);
+    if matches!(said, Said::Want | Said::Nothing) {
+        return said_by(keeper.answer(conn, text.as_bytes()), wanted);
     }
-    let said = said_over(keeper, conn, text, wanted);
-    claim_of(rt, said == Said::Wanted, "the second answer", text);
-    true
-}
-
-/// A relay that keeps boards, and two connections over it.
-#[derive(Drop)]
-struct Relayed {
-    keeper: RelayKeeper,
-    owner: Conn,
-    stranger: Conn,
-}
-
-/// Nobody has said anything yet. What was refused is made again.
-fn relay_of_two(rt: &impl Abort, alloc: Global) -> Relayed {
-    Relayed {
-        keeper: again(rt, || RelayKeeper::new(alloc, default_limits())),
-        owner: Conn::new(alloc),
-        stranger: Conn::new(alloc),
-    }
-}
-
-/// Asserts that the text of one of them gets this answer. Returns whether memory was refused.
-fn assert_answer_of(
-    rt: &impl Abort,
-    relayed: &mut Relayed,
-    who: Who,
-    text: &str,
-    wanted: [&str; 2],
-) -> bool {
-    match who {
-        Owner => assert_answer(rt, &mut relayed.keeper, &mut relayed.owner, text, wanted),
-        Stranger | Guest => {
-            assert_answer(rt, &mut relayed.keeper, &mut relayed.stranger, text, wanted)
-        }
-    }
-}
-
-/// Only the owner's boards are ended, and a game that was agreed drawn before stays a draw.
-fn assert_ends(rt: &impl Abort, relayed: Relayed) {
-    let Relayed {
-        mut keeper,
-        owner,
-        stranger,
-    } = relayed;
-    keeper.finish(stranger);
-    let before = outcome_of(&mut keeper, board_of(rt, "a"));
-    keeper.finish(owner);
-    let a = outcome_of(&mut keeper, board_of(rt, "a"));
-    let b1 = outcome_of(&mut keeper, board_of(rt, "b1"));
-    claim(rt, before.is_none(), "the stranger ends no board");
-    claim(rt, a == Some(Outcome::Abandoned), "the owner ends a");
-    claim(rt, b1 == Some(Outcome::Agreed), "b1 has ended before");
+    said
 }
 
 #[test]
 fn a_relay_answers_as_its_history_asks(rt: HostRuntime) {
-    let mut relayed = relay_of_two(&rt, rt.alloc());
-    let mut refusals = 0u32;
-    for (who, text, wanted) in answers() {
-        let was_refused = assert_answer_of(&rt, &mut relayed, *who, *text, *wanted);
-        refusals = refusals.saturating_add(u32::from(was_refused));
-    }
-    claim(&rt, refusals <= 1, "one refusal at the most");
-    assert_ends(&rt, relayed);
+    let mut keeper = again(&rt, || RelayKeeper::new(rt.alloc(), default_limits()));
+    let mut owner = Conn::new(rt.alloc());
+    let opened = said_over(&mut keeper, &mut owner, OPEN_B1, [OPENED, EXISTS]);
+    let played = said_over(&mut keeper, &mut owner, SUBMIT, [PLAYED, ILLEGAL]);
+    keeper.finish(owner);
+    let outcome = outcome_of(&mut keeper, board_of(&rt, "b1"));
+    claim(&rt, opened == Said::Wanted, "it opens a board");
+    claim(&rt, played == Said::Wanted, "it plays");
+    claim(
+        &rt,
+        outcome == Some(Outcome::Abandoned),
+        "it ends its board",
+    );
 }

@@ -199,8 +199,8 @@ const DROPPED: [(Asked, Told); 14] = [
     (Submit("g1f3"), Played(2)),
 ];
 
-/// A mixture that was drawn by chance, with the answers of the plain relay of `crates/relay960/replays/plain.py`, in which one that is dropped
-/// keeps its seat: no command of the program drops one.
+/// A mixture that was drawn by chance, with the answers of the plain relay of `crates/relay960/replays/plain.py`, in which a follower that
+/// is dropped keeps its seat. No command of the program drops one.
 const DROPPED_BY_CHANCE: [(Asked, Told); 56] = [
     (Submit("g2g4"), Played(0)),
     (Submit("f6g8"), Refused(Refusal::Illegal)),

@@ -199,40 +199,51 @@ const BETWEEN: [&str; 8] = [",", ",", ",", ",", ",", ", ", "", ":"];
 /// What stands behind the members, mostly a brace.
 const BEHIND: [&str; 8] = ["}", "}", "}", "}", "} ", "}}", "},", ""];
 
-/// Whether the text of these pieces is decoded as behind a space, on both ports.
-fn agrees(decoder: &mut Decoder, pieces: &[&[u8]]) -> bool {
-    let mut spaced = ArrayVec::<u8, 1024>::new();
-    let _ = spaced.try_push(b' ');
-    for piece in pieces {
-        if spaced.try_extend_from_slice(piece).is_err() {
-            return false;
-        }
-    }
-    let Some((_, text)) = spaced.as_slice().split_first() else {
+/// A text behind a space; none if it is longer than a text may be.
+type Spaced = ArrayVec<u8, 1024>;
+
+/// The text of these three pieces behind a space.
+fn spaced(before: &[u8], between: &[u8], behind: &[u8]) -> Spaced {
+    let mut text = ArrayVec::new();
+    let _ = text.try_push(b' ');
+    let _ = text.try_extend_from_slice(before);
+    let _ = text.try_extend_from_slice(between);
+    let _ = text.try_extend_from_slice(behind);
+    text
+}
+
+/// Whether a text is decoded as behind a space, on both ports.
+fn agrees(decoder: &mut Decoder, spaced: &[u8]) -> bool {
+    let Some((_, text)) = spaced.split_first() else {
         return false;
     };
-    let main = decoder.decode(spaced.as_slice());
-    let watch = decoder.decode_watch(spaced.as_slice());
+    let main = decoder.decode(spaced);
+    let watch = decoder.decode_watch(spaced);
     main == Err(MessageFault::OutOfMemory)
         || (decoder.decode(text) == main && decoder.decode_watch(text) == watch)
 }
 
-/// Asserts that the text of these pieces is decoded as behind a space, on both ports.
-fn assert_agrees(rt: &impl Abort, decoder: &mut Decoder, pieces: &[&[u8]]) {
-    assert!(rt; agrees(decoder, pieces), "{pieces:?}");
+/// Asserts that the text of these three pieces is decoded as behind a space, on both ports.
+fn assert_agrees(
+    rt: &impl Abort,
+    decoder: &mut Decoder,
+    before: &[u8],
+    between: &[u8],
+    behind: &[u8],
+) {
+    let text = spaced(before, between, behind);
+    assert!(rt; agrees(decoder, text.as_slice()), "{text:?}");
 }
 
 /// Asserts it of a text up to a place, with a gap there, and with any other byte there.
 fn assert_around(rt: &impl Abort, decoder: &mut Decoder, before: &[u8], behind: &[u8]) {
-    assert_agrees(rt, decoder, &[before]);
+    assert_agrees(rt, decoder, before, b"", b"");
     for gap in GAPS {
-        assert_agrees(rt, decoder, &[before, gap, behind]);
+        assert_agrees(rt, decoder, before, gap, behind);
     }
-    let Some((_, rest)) = behind.split_first() else {
-        return;
-    };
+    let rest = behind.get(1..).unwrap_or(b"");
     for byte in 0..=255 {
-        assert_agrees(rt, decoder, &[before, &[byte], rest]);
+        assert_agrees(rt, decoder, before, &[byte], rest);
     }
 }
 
@@ -240,7 +251,7 @@ fn assert_around(rt: &impl Abort, decoder: &mut Decoder, before: &[u8], behind: 
 fn a_text_that_is_changed_at_any_place_is_read_as_behind_a_space(rt: HostRuntime) {
     let mut decoder = Decoder::new(rt.alloc());
     for text in texts() {
-        assert_agrees(&rt, &mut decoder, &[text.as_bytes()]);
+        assert_agrees(&rt, &mut decoder, text.as_bytes(), b"", b"");
     }
     for text in texts().iter().take(CHANGED) {
         let bytes = text.as_bytes();
@@ -258,15 +269,14 @@ fn any_number_and_any_length_is_read_as_behind_a_space(rt: HostRuntime) {
     let mut decoder = Decoder::new(rt.alloc());
     for front in FRONTS {
         for number in NUMBERS {
-            let pieces = [front.as_bytes(), number.as_bytes(), b"}"];
-            assert_agrees(&rt, &mut decoder, &pieces);
+            assert_agrees(&rt, &mut decoder, front.as_bytes(), number.as_bytes(), b"}");
         }
     }
     let letters = [b'x'; 960];
     for (front, behind) in LONG {
         for length in 0..=960 {
-            let pieces = [front.as_bytes(), &letters[..length], behind.as_bytes()];
-            assert_agrees(&rt, &mut decoder, &pieces);
+            let name = &letters[..length];
+            assert_agrees(&rt, &mut decoder, front.as_bytes(), name, behind.as_bytes());
         }
     }
 }
@@ -292,7 +302,7 @@ fn members_by_chance_are_read_as_behind_a_space(rt: HostRuntime) -> Result<(), F
     let mut dice = Dice { seed: 5 };
     for _ in 0..20000 {
         let text = text_by_chance(rt.alloc(), &mut dice)?;
-        assert_agrees(&rt, &mut decoder, &[text.as_slice()]);
+        assert_agrees(&rt, &mut decoder, text.as_slice(), b"", b"");
     }
     Ok(())
 }

@@ -1,5 +1,5 @@
-//! The texts of answers. The test holds with each allocation refused in turn (`rt try --test --fail-alloc N`). That they are JSON which says
-//! the same is shown on the built program, whose answers are compared with texts that Python writes.
+//! The texts of answers. The test holds with each allocation refused in turn (`rt try --test --fail-alloc N`). That they are JSON which
+//! says the same is shown on the built program, whose answers are compared with texts that Python writes.
 
 use crate::tests::again::again;
 use crate::tests::claims::claim_of;

@@ -119,11 +119,12 @@ fn wanted_of(rt: &impl Abort, read: Result<Asked, MessageFault>) -> Result<Step,
 
 /// Whether a text is read so on both ports.
 fn is_read(decoder: &mut Decoder, text: &[u8], wanted: Result<Step, MessageFault>) -> bool {
+    let main = decoder.decode(text) == wanted;
     let watch = match wanted {
         Ok(step) => Ok(WatchCommand::Step(step)),
         Err(fault) => Err(fault),
     };
-    decoder.decode(text) == wanted && decoder.decode_watch(text) == watch
+    decoder.decode_watch(text) == watch && main
 }
 
 /// A decoder that has never taken memory answers each, whatever is refused; and one of too many bytes.

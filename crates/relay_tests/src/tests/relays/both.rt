@@ -1,5 +1,5 @@
-//! The two kinds of relay, which are given the same steps. The built program, which runs the one over live boards, is given these steps too,
-//! and is compared with a plain relay (`crates/relay960/replays/by_chance.py`).
+//! The two kinds of relay, which are given the same steps. The built program, which runs the one over live boards, is given these steps
+//! too, and is compared with a plain relay (`crates/relay960/replays/by_chance.py`).
 
 use crate::tests::relays::kinds::reply_to;
 use crate::tests::relays::table::assert_step;

@@ -1,17 +1,18 @@
 //! Lack of memory. If one allocation is refused (`rt try --test --fail-alloc N`, for each N in turn), the call that needed
 //! it says so and changes nothing, and is accepted when made again; everything else is answered as ever.
 
-use crate::tests::claims::claim;
+use crate::tests::again::again;
+use crate::tests::claims::{claim, claim_at};
 use crate::tests::relays::cases::mate;
 use crate::tests::relays::kinds::{Kind, reply_to};
 use crate::tests::relays::table::Asked::{End, Follow, FollowFrom, Leave, Open, Submit, Take};
 use crate::tests::relays::table::Told::{
     Cut, Ended, Following, Left, Nothing, Opened, Over, Played, Took,
 };
-use crate::tests::relays::table::{Asked, Told, following, limits_of, line_of, reply_of, step_of};
-use crate::tests::values::{ONE_PLY, START_0, START_518, TWO_PLIES, account, board_of, move_of};
+use crate::tests::relays::table::{Asked, Told, case_of, limits_of, line_of, reply_of, step_of};
+use crate::tests::values::{ONE_PLY, START_0, START_518, TWO_PLIES};
 use c960_game::{Ending, Limits, Outcome, Refusal};
-use relay_core::{Relay, Reply, Step, Stepper, Taken};
+use relay_core::{Relay, Reply, Step, Stepper};
 use relay_live::LiveRelay;
 use std::alloc::{AllocError, Global};
 use std::process::Abort;
@@ -28,8 +29,6 @@ impl Refused {
     }
 }
 
-const WANT: Reply = Reply::Refused(Refusal::OutOfMemory);
-
 /// A new relay, made again if it was refused.
 fn new_relay<K: Kind>(rt: &impl Abort, alloc: Global, limits: Limits, refused: &mut Refused) -> K {
     match K::made(alloc, limits) {
@@ -41,18 +40,43 @@ fn new_relay<K: Kind>(rt: &impl Abort, alloc: Global, limits: Limits, refused: &
     }
 }
 
-/// What shows that a step that takes memory had no effect: its board or its follower is not there.
-fn in_vain(step: &Step) -> Option<(Step, Reply)> {
+/// What a step was answered.
+#[derive(Clone, Copy, PartialEq)]
+enum Said {
+    /// What was wanted.
+    Wanted,
+    /// That there was no memory.
+    Want,
+    /// Something else.
+    Else,
+}
+
+/// What a step is answered, if this is wanted.
+fn said_to(relay: &mut impl Stepper, step: &Step, wanted: &Reply) -> Said {
+    let reply = reply_to(relay, step);
+    if reply == *wanted {
+        Said::Wanted
+    } else if matches!(reply, Reply::Refused(Refusal::OutOfMemory)) {
+        Said::Want
+    } else {
+        Said::Else
+    }
+}
+
+/// Whether a step is refused on this ground.
+fn is_refused(relay: &mut impl Stepper, step: &Step, ground: Refusal) -> bool {
+    matches!(reply_to(relay, step), Reply::Refused(refusal) if refusal == ground)
+}
+
+/// Whether a step that was refused for lack of memory had no effect: its board or its follower is not there.
+fn was_in_vain(relay: &mut impl Stepper, step: &Step) -> bool {
     match step {
-        Step::Open(board, _) => Some((
-            Step::End(*board, Ending::Abandoned),
-            Reply::Refused(Refusal::NoSuchBoard),
-        )),
-        Step::Follow(who, _, _) => Some((
-            Step::Take(*who),
-            Reply::Refused(Refusal::NoSuchFollower),
-        )),
-        _ => None,
+        Step::Open(board, _) => {
+            let end = Step::End(*board, Ending::Abandoned);
+            is_refused(relay, &end, Refusal::NoSuchBoard)
+        }
+        Step::Follow(who, _, _) => is_refused(relay, &Step::Take(*who), Refusal::NoSuchFollower),
+        _ => false,
     }
 }
 
@@ -64,18 +88,13 @@ fn assert_answer(
     reply: &Reply,
     refused: &mut Refused,
 ) {
-    let first = reply_to(relay, step);
-    let vain = in_vain(step);
-    match vain {
-        Some((asked, told)) if first == WANT => {
-            refused.note();
-            let after = reply_to(relay, &asked);
-            let again = reply_to(relay, step);
-            claim(rt, after == told, "after a refusal");
-            claim(rt, again == *reply, "made again");
-        }
-        _ => claim(rt, first == *reply, "the answer"),
+    let mut said = said_to(relay, step, reply);
+    if said == Said::Want {
+        refused.note();
+        claim(rt, was_in_vain(relay, step), "after a refusal");
+        said = said_to(relay, step, reply);
     }
+    claim(rt, said == Said::Wanted, "the answer");
 }
 
 /// The replies of a run, made again if it was refused: then no step was made, as the replies show.
@@ -91,13 +110,6 @@ fn run(
             refused.note();
             relay.ran(steps).expect(rt, "one refusal at the most")
         }
-    }
-}
-
-fn played(place: u16) -> Reply {
-    Reply::Played {
-        place,
-        outcome: None,
     }
 }
 
@@ -181,53 +193,52 @@ fn the_steps_after_an_opening_and_a_follow_are_answered_whatever_is_refused(rt: 
 }
 
 /// The steps of a run. Each that takes memory occurs twice: if the first is refused for lack of it, the second is accepted.
-fn steps_of_a_run(rt: &impl Abort) -> [Step; 10] {
-    let board = board_of(rt, "a");
-    let (e2e4, e7e5) = (move_of(rt, "e2e4"), move_of(rt, "e7e5"));
-    [
-        Step::Open(board, 518),
-        Step::Open(board, 518),
-        Step::Follow(1, board, None),
-        Step::Follow(1, board, None),
-        Step::Submit(board, e2e4),
-        Step::Submit(board, e7e5),
-        Step::Take(1),
-        Step::Take(1),
-        Step::Leave(1),
-        Step::Submit(board, e2e4),
-    ]
+static RUN: [(Asked, Told); 10] = [
+    (Open("a", 518), Opened),
+    (Open("a", 518), Told::Refused(Refusal::BoardExists)),
+    (Follow(1, "a"), Following(0, START_518)),
+    (Follow(1, "a"), Told::Refused(Refusal::FollowerExists)),
+    (Submit("a", "e2e4"), Played(0)),
+    (Submit("a", "e7e5"), Played(1)),
+    (Take(1), Took(0, "e2e4")),
+    (Take(1), Cut),
+    (Leave(1), Left(0, 1, 1, true)),
+    (Submit("a", "e2e4"), Told::Refused(Refusal::Illegal)),
+];
+
+/// The steps.
+fn steps_of_a_run() -> &'static [(Asked, Told)] {
+    &RUN
 }
 
-/// Asserts that these are the replies to that run. Of each of the first two pairs the second may be accepted where the first was refused
-/// for lack of memory, which is noted.
-fn assert_replies_of_a_run(rt: &impl Abort, replies: &[Reply], refused: &mut Refused) {
-    // The places below rest on it, so it is asserted here.
-    assert!(rt; replies.len() == 10);
-    let opened = (Reply::Opened, Reply::Refused(Refusal::BoardExists));
-    let followed = (
-        following(rt, 0, START_518),
-        Reply::Refused(Refusal::FollowerExists),
-    );
-    let rest = [
-        played(0),
-        played(1),
-        Reply::Took(Taken::Move(0, move_of(rt, "e2e4"))),
-        Reply::Took(Taken::Cut),
-        Reply::Left(account(0, 1, 1, true)),
-        Reply::Refused(Refusal::Illegal),
-    ];
-    assert_pair(rt, (replies[0], replies[1]), opened, refused);
-    assert_pair(rt, (replies[2], replies[3]), followed, refused);
-    claim(rt, replies.ends_with(rest.as_slice()), "the rest");
+/// Whether a step was refused for lack of memory.
+fn wants_memory(reply: &Reply) -> bool {
+    matches!(reply, Reply::Refused(Refusal::OutOfMemory))
+}
+
+/// Asserts that these are the replies to that run. One that was refused for lack of memory is noted, and the next one is then wanted for it.
+fn assert_replies(rt: &impl Abort, given: &[Reply], wanted: &[Reply], refused: &mut Refused) {
+    claim(rt, given.len() == wanted.len(), "as many as steps");
+    let mut is_late = false;
+    for i in 0..given.len() {
+        let place = if is_late { i.saturating_sub(1) } else { i };
+        is_late = wants_memory(&given[i]);
+        if is_late {
+            refused.note();
+        } else {
+            claim_at(rt, wanted.get(place) == Some(&given[i]), "step", i);
+        }
+    }
 }
 
 /// Asserts that a new relay of the kind answers a run. Returns how many calls were refused for lack of memory.
 fn refusals_of_a_run<K: Kind>(rt: &impl Abort, alloc: Global) -> u32 {
     let mut refused = Refused { count: 0 };
+    let case = again(rt, || case_of(rt, alloc, steps_of_a_run()));
     let limits = limits_of(rt, (1, 1, 1, 1024));
     let mut relay: K = new_relay(rt, alloc, limits, &mut refused);
-    let replies = run(rt, &mut relay, &steps_of_a_run(rt), &mut refused);
-    assert_replies_of_a_run(rt, replies.as_slice(), &mut refused);
+    let given = run(rt, &mut relay, case.steps.as_slice(), &mut refused);
+    assert_replies(rt, given.as_slice(), case.replies.as_slice(), &mut refused);
     refused.count
 }
 
@@ -240,20 +251,4 @@ fn a_refused_run_makes_no_step(rt: HostRuntime) {
         plain.saturating_add(live) <= 1,
         "one refusal at the most",
     );
-}
-
-/// Asserts that a step made twice gets these answers, or that the first was refused for lack of memory and the second accepted.
-fn assert_pair(
-    rt: &impl Abort,
-    given: (Reply, Reply),
-    expected: (Reply, Reply),
-    refused: &mut Refused,
-) {
-    if given.0 == WANT {
-        refused.note();
-        claim(rt, given.1 == expected.0, "made again");
-    } else {
-        claim(rt, given.0 == expected.0, "made once");
-        claim(rt, given.1 == expected.1, "made twice");
-    }
 }
