@@ -4,6 +4,7 @@
 
 use crate::tests::chance::Dice;
 use crate::tests::claims::claim;
+use crate::tests::messages::ways::{said_on_main, said_on_watch};
 use arrayvec::ArrayVec;
 use relay_messages::{Decoder, MessageFault};
 use std::alloc::{AllocError, Global};
@@ -212,15 +213,16 @@ fn spaced(before: &[u8], between: &[u8], behind: &[u8]) -> Spaced {
     text
 }
 
-/// Whether a text is decoded as behind a space, on both ports.
-fn agrees(decoder: &mut Decoder, spaced: &[u8]) -> bool {
-    let Some((_, text)) = spaced.split_first() else {
-        return false;
-    };
-    let main = decoder.decode(spaced);
-    let watch = decoder.decode_watch(spaced);
-    main == Err(MessageFault::OutOfMemory)
-        || (decoder.decode(text) == main && decoder.decode_watch(text) == watch)
+/// Whether a text is decoded as behind a space on the main port, or there was no memory for that.
+fn agrees(decoder: &mut Decoder, spaced: &[u8], text: &[u8]) -> bool {
+    let said = said_on_main(decoder, spaced);
+    said == Err(MessageFault::OutOfMemory) || said_on_main(decoder, text) == said
+}
+
+/// The same on the watch port.
+fn agrees_watching(decoder: &mut Decoder, spaced: &[u8], text: &[u8]) -> bool {
+    let said = said_on_watch(decoder, spaced);
+    said == Err(MessageFault::OutOfMemory) || said_on_watch(decoder, text) == said
 }
 
 /// Asserts that the text of these three pieces is decoded as behind a space, on both ports.
@@ -231,8 +233,11 @@ fn assert_agrees(
     between: &[u8],
     behind: &[u8],
 ) {
-    let text = spaced(before, between, behind);
-    assert!(rt; agrees(decoder, text.as_slice()), "{text:?}");
+    let spaced = spaced(before, between, behind);
+    let text = spaced.as_slice().get(1..).unwrap_or(b"");
+    let main = agrees(decoder, spaced.as_slice(), text);
+    let watch = agrees_watching(decoder, spaced.as_slice(), text);
+    assert!(rt; main && watch, "{text:?}");
 }
 
 /// Asserts it of a text up to a place, with a gap there, and with any other byte there.
@@ -260,7 +265,7 @@ fn a_text_that_is_changed_at_any_place_is_read_as_behind_a_space(rt: HostRuntime
         }
     }
     // Not UTF-8.
-    let said = decoder.decode_watch(b"{\"cmd\":\"boards\xff\"}");
+    let said = said_on_watch(&mut decoder, b"{\"cmd\":\"boards\xff\"}");
     claim(&rt, said == Err(MessageFault::NotJson), "not UTF-8");
 }
 

@@ -117,14 +117,24 @@ fn wanted_of(rt: &impl Abort, read: Result<Asked, MessageFault>) -> Result<Step,
     }
 }
 
+/// What a text asks for on the main port. Whoever calls this carries no clauses of a decoder along.
+pub fn said_on_main(decoder: &mut Decoder, text: &[u8]) -> Result<Step, MessageFault> {
+    decoder.decode(text)
+}
+
+/// The same on the watch port.
+pub fn said_on_watch(decoder: &mut Decoder, text: &[u8]) -> Result<WatchCommand, MessageFault> {
+    decoder.decode_watch(text)
+}
+
 /// Whether a text is read so on both ports.
 fn is_read(decoder: &mut Decoder, text: &[u8], wanted: Result<Step, MessageFault>) -> bool {
-    let main = decoder.decode(text) == wanted;
+    let main = said_on_main(decoder, text) == wanted;
     let watch = match wanted {
         Ok(step) => Ok(WatchCommand::Step(step)),
         Err(fault) => Err(fault),
     };
-    decoder.decode_watch(text) == watch && main
+    said_on_watch(decoder, text) == watch && main
 }
 
 /// A decoder that has never taken memory answers each, whatever is refused; and one of too many bytes.
@@ -148,11 +158,11 @@ fn a_decoder_reads_texts_one_after_another(rt: HostRuntime) {
     let mut decoder = Decoder::new(rt.alloc());
     for (text, read) in texts() {
         let wanted = wanted_of(&rt, *read);
-        let said = decoder.decode(text.as_bytes());
+        let said = said_on_main(&mut decoder, text.as_bytes());
         let is_right = said == wanted || said == Err(MessageFault::OutOfMemory);
         claim_of(&rt, is_right, "the meaning", *text);
     }
-    let said = decoder.decode(TAKE.as_bytes());
+    let said = said_on_main(&mut decoder, TAKE.as_bytes());
     claim_of(&rt, said == Ok(Step::Take(7)), "the last text", TAKE);
     let said = decode(rt.alloc(), TAKE.as_bytes());
     claim_of(&rt, said == Ok(Step::Take(7)), "by itself", TAKE);
@@ -160,21 +170,21 @@ fn a_decoder_reads_texts_one_after_another(rt: HostRuntime) {
 
 /// Whether a text asks for the boards on the watch port.
 fn is_boards(decoder: &mut Decoder, text: &str) -> bool {
-    decoder.decode_watch(text.as_bytes()) == Ok(WatchCommand::Boards)
+    said_on_watch(decoder, text.as_bytes()) == Ok(WatchCommand::Boards)
 }
 
 /// What a text asks for on the main port. It is read again if there was no memory: one allocation is refused at the most.
 fn read(decoder: &mut Decoder, text: &str) -> Result<Step, MessageFault> {
-    match decoder.decode(text.as_bytes()) {
-        Err(MessageFault::OutOfMemory) => decoder.decode(text.as_bytes()),
+    match said_on_main(decoder, text.as_bytes()) {
+        Err(MessageFault::OutOfMemory) => said_on_main(decoder, text.as_bytes()),
         said => said,
     }
 }
 
 /// The same on the watch port.
 fn read_watch(decoder: &mut Decoder, text: &str) -> Result<WatchCommand, MessageFault> {
-    match decoder.decode_watch(text.as_bytes()) {
-        Err(MessageFault::OutOfMemory) => decoder.decode_watch(text.as_bytes()),
+    match said_on_watch(decoder, text.as_bytes()) {
+        Err(MessageFault::OutOfMemory) => said_on_watch(decoder, text.as_bytes()),
         said => said,
     }
 }
@@ -183,7 +193,7 @@ fn read_watch(decoder: &mut Decoder, text: &str) -> Result<WatchCommand, Message
 fn assert_goes_on(rt: &impl Abort, decoder: &mut Decoder, text: &str) {
     let said = read(decoder, text);
     claim_of(rt, said == Ok(Step::Take(7)), "read again", text);
-    let said = decoder.decode(PLAIN.as_bytes());
+    let said = said_on_main(decoder, PLAIN.as_bytes());
     claim_of(rt, said == Ok(Step::Take(7)), "behind it", text);
     let said = read(decoder, "[");
     claim_of(rt, said == Err(MessageFault::NotJson), "no JSON", text);

@@ -148,6 +148,18 @@ fn rows() -> &'static [(Asked, Told)] {
     &ROWS
 }
 
+/// Asserts that a row's step gets its answer.
+fn assert_row(
+    rt: &impl Abort,
+    relay: &mut impl Stepper,
+    row: &(Asked, Told),
+    refused: &mut Refused,
+) {
+    let step = step_of(rt, row.0, line_of(row.0));
+    let reply = reply_of(rt, row.1, 0);
+    assert_answer(rt, relay, &step, &reply, refused);
+}
+
 /// Asserts that a new relay of the kind answers these rows. Returns how many of their calls were refused for lack of memory.
 fn refusals_in<K: Kind>(
     rt: &impl Abort,
@@ -156,12 +168,9 @@ fn refusals_in<K: Kind>(
     rows: &[(Asked, Told)],
 ) -> u32 {
     let mut refused = Refused { count: 0 };
-    let limits = limits_of(rt, limits);
-    let mut relay: K = new_relay(rt, alloc, limits, &mut refused);
-    for (asked, told) in rows {
-        let step = step_of(rt, *asked, line_of(*asked));
-        let reply = reply_of(rt, *told, 0);
-        assert_answer(rt, &mut relay, &step, &reply, &mut refused);
+    let mut relay: K = new_relay(rt, alloc, limits_of(rt, limits), &mut refused);
+    for row in rows {
+        assert_row(rt, &mut relay, row, &mut refused);
     }
     refused.count
 }
