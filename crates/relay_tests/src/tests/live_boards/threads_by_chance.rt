@@ -77,17 +77,21 @@ fn follower_or_full(rt: &impl Abort, board: &mut Board, way: u32) -> Option<Foll
     }
 }
 
-/// A follower comes, from the present or a place back, and takes in a thread of its own; none if the board is full.
+/// A follower comes, from the present or a place back, and takes in a thread of its own; none does if the board is full.
 fn come<R: Threads + Abort>(
     rt: &R,
     alloc: Global,
     board: &mut Board,
     dice: &mut Dice,
-) -> Option<JoinHandle<Visit>> {
-    let follower = follower_or_full(rt, board, dice.roll() % 3)?;
+    visits: &mut Vec<JoinHandle<Visit>>,
+) {
+    let Some(follower) = follower_or_full(rt, board, dice.roll() % 3) else {
+        return;
+    };
     let most = dice.roll() % 2000;
     let handle = thread::spawn(rt, move || visit(alloc, follower, most));
-    Some(handle.expect(rt, "a thread"))
+    let added = visits.push(handle.expect(rt, "a thread"));
+    added.expect(rt, "memory");
 }
 
 /// Asserts that each had a stretch of the game. Returns how many came.
@@ -143,9 +147,7 @@ fn visits_of<R: Threads + Abort>(
     let mut place = 0u16;
     for m in moves {
         if dice.roll() % 4 == 0 {
-            if let Some(handle) = come(rt, alloc, board, dice) {
-                visits.push(handle).expect(rt, "memory");
-            }
+            come(rt, alloc, board, dice, &mut visits);
         }
         claim(rt, is_taken(board, *m, place), "the next move");
         place = place.saturating_add(1);
