@@ -127,6 +127,7 @@ SUBMITTED = [
 # A start number at each side of its bounds, and a place past all moves.
 REFUSED = [
     ('{"cmd":"open","board":"b1","start":960}', BAD_START),
+    ('{"cmd":"open","board":"b1","start":961}', BAD_START),
     ('{"cmd":"open","board":"b1","start":65535}', BAD_START),
     ('{"cmd":"open","board":"b1","start":959}', OPENED),
     ('{"cmd":"follow","board":"b1","spectator":0,"from":65535}', refused(16, "NotYet")),
