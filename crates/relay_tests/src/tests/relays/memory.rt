@@ -9,7 +9,7 @@ use crate::tests::relays::table::Asked::{End, Follow, FollowFrom, Leave, Open, S
 use crate::tests::relays::table::Told::{
     Cut, Ended, Following, Left, Nothing, Opened, Over, Played, Took,
 };
-use crate::tests::relays::table::{Asked, Told, case_of, limits_of, line_of, reply_of, step_of};
+use crate::tests::relays::table::{Asked, Told, case_of, limits_of};
 use crate::tests::values::{ONE_PLY, START_0, START_518, TWO_PLIES};
 use c960_game::{Ending, Limits, Outcome, Refusal};
 use relay_core::{Relay, Reply, Step, Stepper};
@@ -63,24 +63,13 @@ fn said_to(relay: &mut impl Stepper, step: &Step, wanted: &Reply) -> Said {
     }
 }
 
-/// Whether a step is refused on this ground.
-fn is_refused(relay: &mut impl Stepper, step: &Step, ground: Refusal) -> bool {
-    matches!(reply_to(relay, step), Reply::Refused(refusal) if refusal == ground)
+/// Whether a step may be refused for lack of memory.
+fn takes_memory(step: &Step) -> bool {
+    matches!(step, Step::Open(..) | Step::Follow(..))
 }
 
-/// Whether a step that was refused for lack of memory had no effect: its board or its follower is not there.
-fn was_in_vain(relay: &mut impl Stepper, step: &Step) -> bool {
-    match step {
-        Step::Open(board, _) => {
-            let end = Step::End(*board, Ending::Abandoned);
-            is_refused(relay, &end, Refusal::NoSuchBoard)
-        }
-        Step::Follow(who, _, _) => is_refused(relay, &Step::Take(*who), Refusal::NoSuchFollower),
-        _ => false,
-    }
-}
-
-/// Asserts that a step gets this answer; one that takes memory is made again if it was refused for lack of it.
+/// Asserts that a step gets this answer; one that was refused for lack of memory is made again. It is accepted then as if it had never been
+/// made, so that the first call took no board and no seat.
 fn assert_answer(
     rt: &impl Abort,
     relay: &mut impl Stepper,
@@ -91,7 +80,11 @@ fn assert_answer(
     let mut said = said_to(relay, step, reply);
     if said == Said::Want {
         refused.note();
-        claim(rt, was_in_vain(relay, step), "after a refusal");
+        claim(
+            rt,
+            takes_memory(step),
+            "no memory for a step that takes none",
+        );
         said = said_to(relay, step, reply);
     }
     claim(rt, said == Said::Wanted, "the answer");
@@ -148,18 +141,6 @@ fn rows() -> &'static [(Asked, Told)] {
     &ROWS
 }
 
-/// Asserts that a row's step gets its answer.
-fn assert_row(
-    rt: &impl Abort,
-    relay: &mut impl Stepper,
-    row: &(Asked, Told),
-    refused: &mut Refused,
-) {
-    let step = step_of(rt, row.0, line_of(row.0));
-    let reply = reply_of(rt, row.1, 0);
-    assert_answer(rt, relay, &step, &reply, refused);
-}
-
 /// Asserts that a new relay of the kind answers these rows. Returns how many of their calls were refused for lack of memory.
 fn refusals_in<K: Kind>(
     rt: &impl Abort,
@@ -168,9 +149,10 @@ fn refusals_in<K: Kind>(
     rows: &[(Asked, Told)],
 ) -> u32 {
     let mut refused = Refused { count: 0 };
+    let case = again(rt, || case_of(rt, alloc, rows));
     let mut relay: K = new_relay(rt, alloc, limits_of(rt, limits), &mut refused);
-    for row in rows {
-        assert_row(rt, &mut relay, row, &mut refused);
+    for (step, reply) in case.steps.iter().zip(&case.replies) {
+        assert_answer(rt, &mut relay, step, reply, &mut refused);
     }
     refused.count
 }
