@@ -207,7 +207,8 @@ fn wants_memory(reply: &Reply) -> bool {
     matches!(reply, Reply::Refused(Refusal::OutOfMemory))
 }
 
-/// Asserts that these are the replies to that run. One that was refused for lack of memory is noted, and the next one is then wanted for it.
+/// Asserts that these are the replies to that run. A step that was refused for lack of memory is noted, and its reply is then wanted of the
+/// next one.
 fn assert_replies(rt: &impl Abort, given: &[Reply], wanted: &[Reply], refused: &mut Refused) {
     claim(rt, given.len() == wanted.len(), "as many as steps");
     let mut is_late = false;
