@@ -178,8 +178,12 @@ class Conversations(unittest.TestCase):
             for place, move in enumerate(["e2e4", "e7e5", "g1f3"]):
                 owner.asks(submits("b1", move), played(place))
                 guest.hears(moved(move, place))
-            for place, refusal in IN_ORDER:
+            # The second time the server knows that the board is full.
+            for place, refusal in [*IN_ORDER, *IN_ORDER]:
                 other.asks(follows("b1", place=place), refusal)
+            other.asks(follows("b9"), NO_BOARD)
+            owner.asks(opens("b2"), OPENED)
+            other.asks(follows("b2"), following())
             close_all(owner, guest, other)
             server.has_served(3)
 

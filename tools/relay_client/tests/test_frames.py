@@ -3,6 +3,7 @@
 import socket
 import time
 import unittest
+from concurrent.futures import ThreadPoolExecutor
 
 from relay_client.connection import Connection
 from relay_client.frames import MASK, PING, REQUEST, frame, head, masked, pong
@@ -10,6 +11,7 @@ from relay_client.program import PATIENCE
 from relay_client.server import Server
 from relay_client.tests.sessions import ABANDONED, guest_of, owner_of
 from relay_client.tests.test_events import BINARY, FIRST_OF_TEXT, GOES, GONE, LAST, heard, told
+from relay_client.tests.test_watching_loops import SLOW
 from relay_client.texts import (BAD_FIELD, NOT_JSON, NOT_OBJECT, OPENED, ended, ends, following, follows, moved, opens, over, played,
                                 refused, submits, takes)
 
@@ -57,6 +59,21 @@ class BrokenFrames(unittest.TestCase):
             owner.close()
             server.has_served(2)
             self.assertLess(time.monotonic() - began, 9)
+
+
+class Pings(unittest.TestCase):
+    def test_one_that_reads_late_gets_each_pong_in_its_order(self):
+        """Behind some of them it is not read until it takes some."""
+        pings = [number.to_bytes(125, "big") for number in range(4000)]
+        with Server("--connections", "1") as server, ThreadPoolExecutor(1) as pool:
+            peer = Connection(server.port, **SLOW)
+            sent = pool.submit(peer.stream.sendall, b"".join(masked(PING, payload) for payload in pings))
+            time.sleep(1)
+            self.assertEqual([peer.exactly(127) for _ in pings], [b"\x8a\x7d" + payload for payload in pings])
+            sent.result()
+            peer.asks("[]", NOT_OBJECT)
+            peer.close()
+            server.has_served(1)
 
 
 class LongTexts(unittest.TestCase):

@@ -5,13 +5,26 @@ import socket
 import time
 import unittest
 
-from relay_client.frames import REQUEST
+from relay_client.frames import PING, REQUEST, masked
 from relay_client.program import PATIENCE
 from relay_client.server import Server
+from relay_client.tests.test_events import GOES, GONE
+from relay_client.tests.test_requests import TOO_LARGE
 
+# RFC 6455, section 1.3, has the key of the request and its answer.
+ACCEPTED = (b"HTTP/1.1 101 Switching Protocols\r\nconnection: Upgrade\r\nupgrade: websocket\r\n"
+            b"sec-websocket-accept: s3pPLMBiTxaQ9kYGzzhZRbK+xOo=\r\n\r\n")
 
 # How many bytes at each end of a head come one after another.
 BYTE_BY_BYTE = 100
+
+
+def all_that_comes(peer):
+    """What a peer receives until the connection ends."""
+    told = b""
+    while piece := peer.recv(4096):
+        told += piece
+    return told
 
 
 class Heads(unittest.TestCase):
@@ -47,6 +60,32 @@ class Heads(unittest.TestCase):
                         peer.sendall(bytes([byte]))
                     self.is_answered(peer, status)
             server.has_served(2)
+
+    def test_a_head_without_an_end_is_refused_at_8192_bytes_and_waited_for_before(self):
+        """One that ends before that has no answer."""
+        with Server("--connections", "2") as server:
+            for size, wanted in (8191, b""), (8192, TOO_LARGE):
+                with self.subTest(size), socket.create_connection(("127.0.0.1", server.port), timeout=PATIENCE) as peer:
+                    peer.sendall(b"a" * size)
+                    if not wanted:
+                        peer.shutdown(socket.SHUT_WR)
+                    self.assertEqual(all_that_comes(peer), wanted)
+            server.has_served(2)
+
+    def test_a_request_and_a_ping_behind_it_are_answered_wherever_they_are_cut(self):
+        sent = REQUEST + masked(PING, b"hm") + GOES
+        with Server("--connections", str(len(sent))) as server:
+            peers = [socket.create_connection(("127.0.0.1", server.port), timeout=PATIENCE) for _ in sent]
+            for at, peer in enumerate(peers):
+                peer.setsockopt(socket.IPPROTO_TCP, socket.TCP_NODELAY, 1)
+                peer.sendall(sent[:at])
+            time.sleep(0.5)
+            for at, peer in enumerate(peers):
+                peer.sendall(sent[at:])
+            for at, peer in enumerate(peers):
+                with self.subTest(at), peer:
+                    self.assertEqual(all_that_comes(peer), ACCEPTED + b"\x8a\x02hm" + GONE)
+            server.has_served(len(sent))
 
     def test_a_request_may_have_64_header_fields_and_not_65(self):
         """Each takes room on its session's stack. Before, 65 were let in."""

@@ -98,6 +98,23 @@ class AfterAKill(Journals):
             guest.hears(ABANDONED, "close 1000")
             self.assertEqual(self.checked(), (["board b1: start 518, plies 3, abandoned", "whole"], 0))
 
+    def test_no_connection_has_the_number_of_one_before_the_kill(self):
+        """A board without a key is that of its connection's number. It ends when that one goes, and no sooner."""
+        with self.serves() as server:
+            owner_of(server)
+        with self.serves() as server:
+            first, other = owner_of(server, "b2"), Connection(server.port)
+            guest = guest_of(server, "b2")
+            for connection in first, other:
+                connection.asks(submits("b1", MOVES[0]), NOT_YOURS)
+            other.asks("close 1000", "close 1000")
+            other.close()
+            first.asks(submits("b2", MOVES[0]), played(0))
+            guest.hears(moved(MOVES[0], 0))
+            first.asks("close 1000", "close 1000")
+            first.close()
+            guest.hears(ABANDONED, "close 1000")
+
     def test_without_a_grace_every_game_that_went_on_has_ended(self):
         with self.serves() as server:
             owner_of(server, key=KEY)

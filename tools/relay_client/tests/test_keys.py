@@ -1,6 +1,8 @@
 """Operators that lose their connection and come back with their key: `serve --grace SECONDS`. Before, no key was looked at. A board was
 abandoned as soon as the connection that had opened it ended, and every other connection was a stranger to it."""
 
+import hashlib
+import io
 import itertools
 import pathlib
 import socket
@@ -10,7 +12,7 @@ import time
 import unittest
 
 from relay_client.connection import Connection
-from relay_client.frames import frame, request
+from relay_client.frames import frame, read_frame, request
 from relay_client.keys import new_key, target_of
 from relay_client.program import PATIENCE, PROGRAM
 from relay_client.server import Server
@@ -27,6 +29,8 @@ BOARD_EXISTS = refused(2, "BoardExists")
 KEY = "aB3_-9xYzQ0kLmNop"
 SOON = 10  # Seconds within which what happens at once has happened, on a machine that is busy with proofs too.
 LONG = 3600
+# docs/PROTOCOL.md, Connect.
+ALPHABET = b"0123456789_-ABCDEFGHIJKLMNOPQRSTUVWXYZabcdefghijklmnopqrstuvwxyz"
 OPENING = "e2e4 e7e5 g1f3 b8c6 f1b5 a7a6 b5a4 g8f6 d2d3 d7d6 c2c3 b7b5 a4b3 c8g4".split()
 
 
@@ -256,6 +260,19 @@ class TheGrace(Keys):
             other.reset()
             self.is_abandoned(guest, 1, lost)
 
+    def test_nothing_waits_while_one_of_the_key_follows(self):
+        """It came to follow another board before its key had one."""
+        with waits(1) as server:
+            other, follower = owner_of(server, "b2"), guest_of(server, "b2", key=KEY)
+            owner, guest = owner_of(server, key=KEY), guest_of(server)
+            owner.reset()
+            self.assertTrue(says_nothing(guest, 3))
+            other.asks(submits("b2", "e2e4"), played(0))
+            follower.hears(moved("e2e4", 0))
+            lost = time.monotonic()
+            follower.reset()
+            self.is_abandoned(guest, 1, lost)
+
     def test_boards_of_another_key_and_of_none_go_their_own_way(self):
         with waits(LONG) as server:
             keyed, other, plain = owner_of(server, "b1", key=KEY), owner_of(server, "b2", key=new_key()), owner_of(server, "b3")
@@ -377,8 +394,9 @@ class WhoseBoard(Keys):
             guest.hears(over("black resigns"), "close 1000")
 
     def test_a_stranger_and_another_key_are_refused_while_the_owner_is_there_and_while_the_board_waits(self):
-        """A key that differs in one place, or is longer or shorter, is another."""
-        others = [KEY[:-1] + "q", "b" + KEY[1:], KEY[:8] + "y" + KEY[9:], KEY[:-1], KEY + "A", KEY.swapcase(), KEY + KEY]
+        """A key that differs in one place, or is longer or shorter, is another, and so is the digest that is kept of it."""
+        others = [KEY[:-1] + "q", "b" + KEY[1:], KEY[:8] + "y" + KEY[9:], KEY[:-1], KEY + "A", KEY.swapcase(), KEY + KEY,
+                  hashlib.sha256(KEY.encode()).hexdigest()]
         self.assertNotIn(KEY, others)
         with waits(LONG) as server:
             owner = owner_of(server, key=KEY)
@@ -437,26 +455,38 @@ class WhatIsAKey(Keys):
             return answer == played(0)
 
     def test_a_key_has_16_to_64_characters_of_the_alphabet(self):
-        for key in "a" * 16, "Z" * 64, "0123456789_-____", "----------------", "________________":
+        for key in "a" * 16, "Z" * 64, "0123456789_-____", "----------------", "________________", ALPHABET.decode():
             with self.subTest(key):
                 self.assertTrue(self.owns_with(f"/?key={key}", f"/?key={key}"))
+
+    def test_a_key_has_no_other_bytes(self):
+        """At its ends or between them. With some of them the request is none, and is refused 400."""
+        for place in 0, 7, 15:
+            with Server("--grace", str(LONG), "--connections", "512", "--boards", "256") as server:
+                for byte in range(256):
+                    key, board = b"k" * place + bytes([byte]) + b"k" * (15 - place), f"b{byte}"
+                    answered_with(server, key, opens(board))
+                    answer = answered_with(server, key, submits(board, "e2e4"))
+                    with self.subTest(byte=byte, place=place):
+                        self.assertIn(answer, [played(0)] if byte in ALPHABET else [NOT_YOURS, None])
 
     def test_anything_else_is_none(self):
         """Nothing is decoded, and no part of a text is taken for a key."""
         few, enough = "a" * 15, "a" * 16
-        for key in ("", few, "a" * 65, few + ".", few + "~", few + "+a", "%61" + few, enough + "%20", few + "/" + few, enough + ";",
-                    enough + "="):
+        for key in ("", few, "a" * 65, "a" * 1024, few + ".", few + "~", few + "+a", "%61" + few, enough + "%20", few + "/" + few,
+                    enough + ";", enough + "="):
             with self.subTest(key):
                 self.assertFalse(self.owns_with(f"/?key={key}", f"/?key={key}"))
 
     def test_other_queries_are_not_looked_at(self):
         for target in (f"/?Key={KEY}", f"/?xkey={KEY}", f"/?{KEY}", f"/?key:{KEY}", f"/key={KEY}", f"/{KEY}", "/?key", "/?board=b1&name=x",
-                       "/?"):
+                       f"/?a?key={KEY}", f"/?akey={KEY}", "/?"):
             with self.subTest(target):
                 self.assertFalse(self.owns_with(target, target))
 
     def test_the_path_and_other_fields_of_the_query_do_not_matter(self):
-        for target in f"/some/path?key={KEY}", f"/?board=b1&key={KEY}", f"/?key={KEY}&board=b1":
+        for target in (f"/some/path?key={KEY}", f"/?board=b1&key={KEY}", f"/?key={KEY}&board=b1",
+                       f"/operator?a=1&key={KEY}&b=2"):
             with self.subTest(target):
                 self.assertTrue(self.owns_with(f"/?key={KEY}", target))
 
@@ -533,6 +563,15 @@ class WhereTheKeyIsWritten(Keys):
         self.assertIn(ABANDONED.encode(), said)
         for text in said, printed, complained:
             self.assertNotIn(key.encode(), text)
+
+
+def answered_with(server, key, command):
+    """What a connection is answered to a command whose target names these bytes as its key; none, if its request is refused 400."""
+    with socket.create_connection(("127.0.0.1", server.port), timeout=PATIENCE) as peer:
+        head, _, frames = sent_and_heard(peer, request("/?key=KEY").replace(b"KEY", key) + frame(command)).partition(b"\r\n\r\n")
+    if head.startswith(b"HTTP/1.1 400 "):
+        return None
+    return read_frame(io.BytesIO(frames).read)
 
 
 def sent_and_heard(peer, sent):
